@@ -1,0 +1,81 @@
+-- One bit of one octet turned over moves the sum of a row's words by a power of two.
+use Prim.Native.Nat.{ℕ, zero, suc, _+_, _-_, _*_, _/_, _%_, _^_, _≤_, _<_}
+use mathlib.Core.Path.{_≡_, refl, sym, ap, _∙_}
+use mathlib.Core.List.{List, [], _∷_, _++_}
+use mathlib.Core.Logic.{_⊎_, inl, inr, ⊎-elim}
+use native.Mathlib.Omega.{arith}
+use lib.ListN.{length, getD, set}
+use lib.Bits.{bitXor, bitAnd, xor-add-and, and-high, xor-lt}
+use lib.Pow.{pow-pos, pow-mono, pow-add}
+use Rattle.checksum.specs.Below.{Octets}
+use Rattle.checksum.specs.Rfc1071.{words}
+use Rattle.checksum.specs.Techniques.{plainSum}
+use Rattle.checksum.specs.Flip.{flip}
+use Rattle.checksum.proofs.Words.{sum}
+use Rattle.checksum.proofs.Bounded.{below-set}
+
+-- two numbers that are 1 to 65534 apart
+pub record Apart (m n : ℕ) : Type 0 where
+  pub by : ℕ
+  pub positive : 0 < by
+  pub small : by < 65535
+  pub way : (n ≡ m + by) ⊎ (m ≡ n + by)
+
+and-power : (a b : ℕ) → bitAnd a (2 ^ b) ≡ a / 2 ^ b % 2 * 2 ^ b
+and-power a b =
+    let e : 2 ^ (1 + b) - 2 ^ b ≡ 2 ^ b = omega (arith, pow-add 2 1 b) in
+    sym (ap (bitAnd a) e) ∙ and-high a 1 b
+
+by-bit : (x a p q : ℕ) → q < 2 → x + q * p * 2 ≡ a + p → (x ≡ a + p) ⊎ (a ≡ x + p)
+by-bit x a p zero h e = inl (omega arith)
+by-bit x a p (suc zero) h e = inr (omega arith)
+by-bit x a p (suc (suc q)) h e = absurd (omega arith)
+
+pub xor-moves : (a b : ℕ) → (bitXor a (2 ^ b) ≡ a + 2 ^ b) ⊎ (a ≡ bitXor a (2 ^ b) + 2 ^ b)
+xor-moves a b =
+    by-bit (bitXor a (2 ^ b)) a (2 ^ b) (a / 2 ^ b % 2) (omega arith)
+    (ap (λ (n : ℕ). bitXor a (2 ^ b) + n * 2) (sym (and-power a b)) ∙ xor-add-and a (2 ^ b))
+
+pub power-le : (b : ℕ) → b < 8 → 2 ^ b ≤ 128
+power-le b h = pow-mono {i = b} {j = 7} (omega arith)
+
+pub xor-octet : (a b : ℕ) → a < 256 → b < 8 → bitXor a (2 ^ b) < 256
+xor-octet a b h k = xor-lt 8 a (2 ^ b) h (omega (arith, power-le b k))
+
+-- the octet in the high place of a word, and in the low place
+high : (x a b m n : ℕ) → b < 8 → m ≡ x + a * 256 → n ≡ x + bitXor a (2 ^ b) * 256 → Apart m n
+high x a b m n h p q = record {
+  by = 2 ^ b * 256;
+  positive = omega (arith, pow-pos b);
+  small = omega (arith, power-le b h);
+  way = ⊎-elim (λ e. inl (omega arith)) (λ e. inr (omega arith)) (xor-moves a b);
+}
+
+low : (x a b m n : ℕ) → b < 8 → m ≡ x + a → n ≡ x + bitXor a (2 ^ b) → Apart m n
+low x a b m n h p q = record {
+  by = 2 ^ b;
+  positive = pow-pos b;
+  small = omega (arith, power-le b h);
+  way = ⊎-elim (λ e. inl (omega arith)) (λ e. inr (omega arith)) (xor-moves a b);
+}
+
+after : (m n k : ℕ) → Apart m n → Apart (k + m) (k + n)
+after m n k h = record {
+  by = h .by;
+  positive = h .positive;
+  small = h .small;
+  way = ⊎-elim (λ e. inl (omega arith)) (λ e. inr (omega arith)) (h .way);
+}
+
+pub flip-sum : (l : List ℕ) (i b : ℕ) → b < 8 → i < length l → Apart (sum l) (sum (flip l i b))
+unfolding flip words plainSum
+flip-sum [] i b h k = absurd (omega arith)
+flip-sum (a ∷ []) zero b h k = high 0 a b _ _ h (omega arith) (omega arith)
+flip-sum (a ∷ []) (suc i) b h k = absurd (omega arith)
+flip-sum (a ∷ c ∷ l) zero b h k = high (c + sum l) a b _ _ h (omega arith) (omega arith)
+flip-sum (a ∷ c ∷ l) (suc zero) b h k = low (a * 256 + sum l) c b _ _ h (omega arith) (omega arith)
+flip-sum (a ∷ c ∷ l) (suc (suc i)) b h k = after (sum l) (sum (flip l i b)) (a * 256 + c) (flip-sum l i b h (omega arith))
+
+pub flip-octets : (l : List ℕ) (i b : ℕ) → b < 8 → Octets l → Octets (flip l i b)
+unfolding flip
+flip-octets l i b h k = below-set l i _ (xor-octet (getD l i 0) b (k .at i) h) k

@@ -1,0 +1,6 @@
+pub mod Bounded
+pub mod Carry
+pub mod Words
+pub mod Swap
+pub mod Bits
+pub mod Laws

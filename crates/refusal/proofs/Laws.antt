@@ -1,0 +1,105 @@
+-- Laws of the order of the checks, for crates above to cite.
+use Prim.Native.Nat.{ℕ}
+use mathlib.Core.Path.{_≡_, refl, sym, ap, _∙_}
+use mathlib.Core.Bool.{Bool, true, false, cond}
+use mathlib.Core.List.{List, [], _∷_}
+use native.Mathlib.Omega.{arith}
+use borrow.Author.Tests.{eq-eqb}
+use lib.Dec.{eqb}
+use Rattle.refusal.specs.Refusal.{lineOf}
+use Rattle.refusal.specs.Order.{Check, Verdict, accepted, refused, order, orElse, numbered, firstOf, verdict, decide}
+use Rattle.refusal.specs.declared.Refusal.{Refusal}
+use Rattle.refusal.specs.declared.Refusal.the-variants.{Short, Kind, Cut, Setup, Full, Long, Numbers, Counts, State, Time, Roll}
+
+-- no line is true
+abbrev pub Pass : List Check → Type 0
+Pass [] = Prim.Unit {0}
+Pass (c ∷ cs) = (c .fires ≡ false) × Pass cs
+
+-- a call is accepted exactly when no line is true
+first-accepted : (v w : Verdict) → orElse v w ≡ accepted → v ≡ accepted
+unfolding orElse
+first-accepted accepted w e = refl
+first-accepted (refused r) w e = e
+
+second-accepted : (v w : Verdict) → orElse v w ≡ accepted → w ≡ accepted
+unfolding orElse
+second-accepted accepted w e = e
+second-accepted (refused r) w e = let z : _≡_ {A = ℕ} 0 1 = cc in absurd (omega arith)
+
+abbrev EachNumber : List ℕ → List Check → Type 0
+EachNumber [] cs = Prim.Unit {0}
+EachNumber (n ∷ ns) cs = (numbered n cs ≡ accepted) × EachNumber ns cs
+
+each-number : (ns : List ℕ) (cs : List Check) → firstOf ns cs ≡ accepted → EachNumber ns cs
+unfolding firstOf
+each-number [] cs e = tt
+each-number (n ∷ ns) cs e =
+    (first-accepted (numbered n cs) (firstOf ns cs) e, each-number ns cs (second-accepted (numbered n cs) (firstOf ns cs) e))
+
+-- every refusal's number stands in the order
+at-number : (cs : List Check) → verdict cs ≡ accepted → (r : Refusal) → numbered (lineOf r .number) cs ≡ accepted
+unfolding verdict order
+at-number cs e State = each-number order cs e .0
+at-number cs e Counts = each-number order cs e .1 .0
+at-number cs e Time = each-number order cs e .1 .1 .0
+at-number cs e Roll = each-number order cs e .1 .1 .1 .0
+at-number cs e Setup = each-number order cs e .1 .1 .1 .1 .0
+at-number cs e (Short n) = each-number order cs e .1 .1 .1 .1 .1 .0
+at-number cs e (Kind b) = each-number order cs e .1 .1 .1 .1 .1 .1 .0
+at-number cs e (Cut n m) = each-number order cs e .1 .1 .1 .1 .1 .1 .1 .0
+at-number cs e Long = each-number order cs e .1 .1 .1 .1 .1 .1 .1 .1 .0
+at-number cs e Numbers = each-number order cs e .1 .1 .1 .1 .1 .1 .1 .1 .1 .0
+at-number cs e Full = each-number order cs e .1 .1 .1 .1 .1 .1 .1 .1 .1 .1 .0
+
+not-fired : (b : Bool) (r : Refusal) → cond b (refused r) accepted ≡ accepted → b ≡ false
+not-fired false r e = refl
+not-fired true r e = let z : _≡_ {A = ℕ} 0 1 = cc in absurd (omega arith)
+
+each-pass : (cs : List Check) → ((r : Refusal) → numbered (lineOf r .number) cs ≡ accepted) → Pass cs
+unfolding numbered
+each-pass [] h = tt
+each-pass (c ∷ cs) h =
+    let n = lineOf (c .refusal) .number in
+    let e : cond (eqb n n) (cond (c .fires) (refused (c .refusal)) accepted) accepted ≡ accepted = first-accepted _ (numbered n cs) (h (c .refusal)) in
+    (not-fired (c .fires) (c .refusal) (rw (eq-eqb n n refl) at e), each-pass cs (λ r. second-accepted _ (numbered (lineOf r .number) cs) (h r)))
+
+pub accepted-pass : (cs : List Check) → verdict cs ≡ accepted → Pass cs
+accepted-pass cs e = each-pass cs (at-number cs e)
+
+either : (b : Bool) → cond b accepted accepted ≡ accepted
+either true = refl
+either false = refl
+
+numbered-pass : (n : ℕ) (cs : List Check) → Pass cs → numbered n cs ≡ accepted
+unfolding numbered orElse
+numbered-pass n [] h = refl
+numbered-pass n (c ∷ cs) h = rw (h .0, either (eqb (lineOf (c .refusal) .number) n)) (numbered-pass n cs (h .1))
+
+first-pass : (ns : List ℕ) (cs : List Check) → Pass cs → firstOf ns cs ≡ accepted
+unfolding firstOf orElse
+first-pass [] cs h = refl
+first-pass (n ∷ ns) cs h = rw (numbered-pass n cs h) (first-pass ns cs h)
+
+pub pass-accepted : (cs : List Check) → Pass cs → verdict cs ≡ accepted
+unfolding verdict
+pass-accepted cs h = first-pass order cs h
+
+-- what an answer says of the verdict
+pub decide-accepted : {A : Type 0} (v : Verdict) (f : Refusal → A) (a : A) {b : A} → decide v f a ≡ b → ((r : Refusal) → f r ≡ b → ⊥) → v ≡ accepted
+unfolding decide
+decide-accepted accepted f a e h = refl
+decide-accepted (refused r) f a e h = absurd (h r e)
+
+pub decide-refused : {A : Type 0} (v : Verdict) (f : Refusal → A) (a : A) (s : Refusal) → decide v f a ≡ f s → (a ≡ f s → ⊥) → ((r : Refusal) → f r ≡ f s → r ≡ s) → v ≡ refused s
+unfolding decide
+decide-refused accepted f a s e h k = absurd (h e)
+decide-refused (refused r) f a s e h k = ap refused (k r e)
+
+pub on-accepted : {A : Type 0} {v : Verdict} (f : Refusal → A) (a : A) → v ≡ accepted → decide v f a ≡ a
+unfolding decide
+on-accepted f a e = rw e
+
+pub on-refused : {A : Type 0} {v : Verdict} {r : Refusal} (f : Refusal → A) (a : A) → v ≡ refused r → decide v f a ≡ f r
+unfolding decide
+on-refused f a e = rw e

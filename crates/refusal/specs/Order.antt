@@ -1,0 +1,44 @@
+-- Document 01, "Checks go 9, 8, 10, 11, 4, 1, 2, 3, 6, 7, 5": of the lines that are true of a call, the first in this order is answered.
+use Prim.Native.Nat.{ℕ}
+use mathlib.Core.Bool.{Bool, true, false, cond}
+use mathlib.Core.List.{List, [], _∷_}
+use lib.Dec.{eqb}
+use Rattle.refusal.specs.Refusal.{Line, lineOf}
+use Rattle.refusal.specs.declared.Refusal.{Refusal}
+
+unfoldable pub order : List ℕ
+order = 9 ∷ 8 ∷ 10 ∷ 11 ∷ 4 ∷ 1 ∷ 2 ∷ 3 ∷ 6 ∷ 7 ∷ 5 ∷ []
+
+-- whether a line is true of a call, and the refusal that it then gives
+pub record Check : Type 0 where
+  pub fires : Bool
+  pub refusal : Refusal
+
+abbrev pub check : Bool → Refusal → Check
+check b r = record { fires = b; refusal = r }
+
+pub data Verdict : Type 0 where
+  accepted : Verdict
+  refused : Refusal → Verdict
+
+unfoldable pub orElse : Verdict → Verdict → Verdict
+orElse accepted v = v
+orElse (refused r) v = refused r
+
+-- the checks of one number
+unfoldable pub numbered : ℕ → List Check → Verdict
+numbered n [] = accepted
+numbered n (c ∷ cs) = orElse (cond (eqb (lineOf (c .refusal) .number) n) (cond (c .fires) (refused (c .refusal)) accepted) accepted) (numbered n cs)
+
+unfoldable pub firstOf : List ℕ → List Check → Verdict
+firstOf [] cs = accepted
+firstOf (n ∷ ns) cs = orElse (numbered n cs) (firstOf ns cs)
+
+-- the verdict on a call, however its checks are listed
+unfoldable pub verdict : List Check → Verdict
+verdict cs = firstOf order cs
+
+-- what a call gives: after a refusal the one, else the other
+unfoldable pub decide : {A : Type 0} → Verdict → (Refusal → A) → A → A
+decide accepted f a = a
+decide (refused r) f a = f r
