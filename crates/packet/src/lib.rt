@@ -254,7 +254,7 @@ impl Packet {
         let n = payload.len();
         put_header(self, n as u16, out);
         let end = 10 + n;
-        copy(payload, &mut out[10..end]);
+        buffer::copy_unchecked(payload, &mut out[10..end]);
     }
 }
 
@@ -285,16 +285,4 @@ fn put_header(p: Packet, payload_len: u16, out: &mut [u8])
     out[7] = (payload_len % 256) as u8;
     out[8] = (p.checksum >> 8) as u8;
     out[9] = (p.checksum % 256) as u8;
-}
-
-// Copies src over all of dst.
-fn copy(src: &[u8], dst: &mut [u8])
-    requires { ⌜ length (now src) ≡ length (now dst) ⌝ }
-    ensures { λ _. ⌜ now (dst .exit) ≡ now (src .entry) ⌝ }
-{
-    let mut i: usize = 0;
-    while i < src.len() {
-        dst[i] = src[i];
-        i += 1;
-    }
 }

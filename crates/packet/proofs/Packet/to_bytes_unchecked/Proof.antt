@@ -15,17 +15,17 @@ put-header-requires c κs = search needs
 add-end : tie.Need-add-end
 add-end c = search needs
 
-sub-copy : tie.Need-sub-copy
-sub-copy c = search needs
+sub-copy-unchecked : tie.Need-sub-copy-unchecked
+sub-copy-unchecked c = search needs
 
-part-copy-start : tie.Need-part-copy-start
-part-copy-start c = search needs
+part-copy-unchecked-start : tie.Need-part-copy-unchecked-start
+part-copy-unchecked-start c = search needs
 
-part-copy-end : tie.Need-part-copy-end
-part-copy-end c = search needs
+part-copy-unchecked-end : tie.Need-part-copy-unchecked-end
+part-copy-unchecked-end c = search needs
 
-copy-requires : tie.Need-copy-requires
-copy-requires c κs = search needs
+copy-unchecked-requires : tie.Need-copy-unchecked-requires
+copy-unchecked-requires c κs = search needs
 
 same-length : tie.Need-same-length
 same-length c = search needs
@@ -36,7 +36,7 @@ returns c =
     let copied = c .before .before in
     let put = copied .before .before .before .before in
     let a = put .before .before .before .before .args in
-    laid (headerBytes (a .self) (length (a .payload .now)) (a .self .checksum)) (a .payload .now) (copied .copy .last .1 .0) (a .out .now) _ 10 refl (put .put-header .ensures) (copied .copy .ensures)
+    laid (headerBytes (a .self) (length (a .payload .now)) (a .self .checksum)) (a .payload .now) (copied .copy-unchecked .last .1 .0) (a .out .now) _ 10 refl (put .put-header .ensures) (copied .copy-unchecked .ensures)
 
 pub to-bytes-unchecked-spec : {M : Type 1} → statement M
 to-bytes-unchecked-spec =
@@ -45,9 +45,9 @@ to-bytes-unchecked-spec =
     cast-put-header
     put-header-requires
     add-end
-    sub-copy
-    part-copy-start
-    part-copy-end
-    copy-requires
+    sub-copy-unchecked
+    part-copy-unchecked-start
+    part-copy-unchecked-end
+    copy-unchecked-requires
     same-length
     returns)
