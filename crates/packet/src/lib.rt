@@ -1,6 +1,6 @@
 // Packets and their wire format: packet.rs of the reference. The payload lies beside the packet, in the caller's memory.
 ghost use mathlib.Core.Path.{_≡_};
-ghost use Prim.Native.Nat.{_+_, _*_, _≤_};
+ghost use Prim.Native.Nat.{_+_, _≤_};
 ghost use mathlib.Core.List.{_++_};
 ghost use lib.ListN.{length, drop};
 ghost use Rattle.packet.specs.Format.{byteOf, newPacket, isRetransmitted, setRetransmitted, headerBytes, datagram, checksumOf, withChecksum, matches};
@@ -190,16 +190,16 @@ impl Packet {
         let PacketTypeAnswer::Type(pkt_type) = PacketType::try_from(byte) else {
             return PacketAnswer::Refused(Refusal::Kind(byte));
         };
-        let declared = be16(raw[6], raw[7]);
+        let declared = octets::be16(raw[6], raw[7]);
         let present = raw.len() - Packet::HEADER_SIZE;
         if present < declared as usize {
             return PacketAnswer::Refused(Refusal::Cut { declared, present });
         }
         PacketAnswer::Packet(Packet {
-            seq_num: be32(raw[0], raw[1], raw[2], raw[3]),
+            seq_num: octets::be32(raw[0], raw[1], raw[2], raw[3]),
             pkt_type,
             flags: raw[5],
-            checksum: be16(raw[8], raw[9]),
+            checksum: octets::be16(raw[8], raw[9]),
         })
     }
 
@@ -209,7 +209,7 @@ impl Packet {
     {
         match Packet::from_bytes(raw) {
             PacketAnswer::Packet(_) => {
-                let end = Packet::HEADER_SIZE + be16(raw[6], raw[7]) as usize;
+                let end = Packet::HEADER_SIZE + octets::be16(raw[6], raw[7]) as usize;
                 &raw[10..end]
             }
             PacketAnswer::Refused(_) => &raw[..0],
@@ -223,7 +223,7 @@ impl Packet {
         let pkt_type = self.pkt_type;
         let high = (self.seq_num >> 16) as u16;
         let low = (self.seq_num % 65536) as u16;
-        let second = be16(pkt_type.to_byte(), self.flags);
+        let second = octets::be16(pkt_type.to_byte(), self.flags);
         let header = checksum::ones_add(
             checksum::ones_add(checksum::ones_add(high, low), second),
             payload.len() as u16,
@@ -254,20 +254,8 @@ impl Packet {
         let n = payload.len();
         put_header(self, n as u16, out);
         let end = 10 + n;
-        buffer::copy_unchecked(payload, &mut out[10..end]);
+        octets::copy_unchecked(payload, &mut out[10..end]);
     }
-}
-
-fn be16(a: u8, b: u8) -> u16
-    ensures { λ r. ⌜ r ≡ a * 256 + b ⌝ }
-{
-    (a as u16) * 256 + (b as u16)
-}
-
-fn be32(a: u8, b: u8, c: u8, d: u8) -> u32
-    ensures { λ r. ⌜ r ≡ ((a * 256 + b) * 256 + c) * 256 + d ⌝ }
-{
-    (((a as u32) * 256 + (b as u32)) * 256 + (c as u32)) * 256 + (d as u32)
 }
 
 fn put_header(p: Packet, payload_len: u16, out: &mut [u8])

@@ -1,5 +1,6 @@
-// Filling a lent buffer.
+// Octets in lent memory: copies, zeros, and big-endian numbers.
 ghost use mathlib.Core.Path.{_≡_};
+ghost use Prim.Native.Nat.{_+_, _*_};
 ghost use lib.ListN.{length, replicate};
 
 // Copies src over all of dst.
@@ -22,4 +23,16 @@ pub fn zero(dst: &mut [u8])
         dst[i] = 0;
         i += 1;
     }
+}
+
+pub fn be16(a: u8, b: u8) -> u16
+    ensures { λ r. ⌜ r ≡ a * 256 + b ⌝ }
+{
+    (a as u16) * 256 + (b as u16)
+}
+
+pub fn be32(a: u8, b: u8, c: u8, d: u8) -> u32
+    ensures { λ r. ⌜ r ≡ ((a * 256 + b) * 256 + c) * 256 + d ⌝ }
+{
+    (((a as u32) * 256 + (b as u32)) * 256 + (c as u32)) * 256 + (d as u32)
 }

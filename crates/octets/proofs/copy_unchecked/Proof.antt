@@ -5,8 +5,8 @@ use native.Mathlib.Omega.{arith}
 use native.Mathlib.Numerals.{add-one}
 use lib.ListN.{length, take, getD, length-set}
 use lib.Seq.{take-suc, take-suc-set, take-all}
-use Rattle.buffer.proofs.copy_unchecked.Statement.{statement}
-use Rattle.buffer.proofs.copy_unchecked.Tie as tie
+use Rattle.octets.proofs.copy_unchecked.Statement.{statement}
+use Rattle.octets.proofs.copy_unchecked.Tie as tie
 
 abbrev Inv-loop : tie.InvT-loop
 Inv-loop src dst₀ i₀ dst i = (i ≤ length src) × (take i dst ≡ take i src) × (length dst ≡ length dst₀)

@@ -5,8 +5,8 @@ use native.Mathlib.Omega.{arith}
 use native.Mathlib.Numerals.{add-one}
 use lib.ListN.{length, take, replicate, length-set, replicate-append-replicate}
 use lib.Seq.{take-suc-set, take-all}
-use Rattle.buffer.proofs.zero.Statement.{statement}
-use Rattle.buffer.proofs.zero.Tie as tie
+use Rattle.octets.proofs.zero.Statement.{statement}
+use Rattle.octets.proofs.zero.Tie as tie
 
 abbrev Inv-loop : tie.InvT-loop
 Inv-loop dst₀ i₀ dst i = (i ≤ length dst₀) × (take i dst ≡ replicate i 0) × (length dst ≡ length dst₀)
