@@ -15,7 +15,7 @@ pub fn copy_unchecked(src: &[u8], dst: &mut [u8])
     }
 }
 
-pub fn zero(dst: &mut [u8])
+pub fn clear(dst: &mut [u8])
     ensures { λ _. ⌜ now (dst .exit) ≡ replicate (length (now (dst .entry))) 0 ⌝ }
 {
     let mut i: usize = 0;

@@ -1,7 +1,6 @@
 pub mod Types
 pub mod Header
 pub mod Read
-pub mod Write
 pub mod RoundTrip
 pub mod ReceiverCheck
 pub mod FlippedBit

@@ -1,7 +1,7 @@
 use mathlib.Core.Path.{_≡_, refl}
 use lib.ListN.{length}
 use Rattle.packet.specs.Format.{headerBytes, datagram}
-use Rattle.packet.proofs.Write.{laid}
+use Rattle.octets.proofs.Laws.{front-written}
 use borrow.Author.Needs.{needs}
 use Rattle.packet.proofs.Packet.to_bytes_unchecked.Statement.{statement}
 use Rattle.packet.proofs.Packet.to_bytes_unchecked.Tie as tie
@@ -36,7 +36,7 @@ returns c =
     let copied = c .before .before in
     let put = copied .before .before .before .before in
     let a = put .before .before .before .before .args in
-    laid (headerBytes (a .self) (length (a .payload .now)) (a .self .checksum)) (a .payload .now) (copied .copy-unchecked .last .1 .0) (a .out .now) _ 10 refl (put .put-header .ensures) (copied .copy-unchecked .ensures)
+    front-written (headerBytes (a .self) (length (a .payload .now)) (a .self .checksum)) (a .payload .now) (copied .copy-unchecked .last .1 .0) (a .out .now) _ 10 refl (put .put-header .ensures) (copied .copy-unchecked .ensures)
 
 pub to-bytes-unchecked-spec : {M : Type 1} → statement M
 to-bytes-unchecked-spec =

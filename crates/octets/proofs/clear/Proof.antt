@@ -5,8 +5,8 @@ use native.Mathlib.Omega.{arith}
 use native.Mathlib.Numerals.{add-one}
 use lib.ListN.{length, take, replicate, length-set, replicate-append-replicate}
 use lib.Seq.{take-suc-set, take-all}
-use Rattle.octets.proofs.zero.Statement.{statement}
-use Rattle.octets.proofs.zero.Tie as tie
+use Rattle.octets.proofs.clear.Statement.{statement}
+use Rattle.octets.proofs.clear.Tie as tie
 
 abbrev Inv-loop : tie.InvT-loop
 Inv-loop dst₀ i₀ dst i = (i ≤ length dst₀) × (take i dst ≡ replicate i 0) × (length dst ≡ length dst₀)
@@ -45,8 +45,8 @@ returns c =
     let n : l .i ≡ length (c .before .before .args .dst .now) = omega arith in
     sym (take-all (l .i) (l .dst) (omega arith)) ∙ l .inv .1 ∙ ap (λ (k : ℕ). replicate k 0) n
 
-pub zero-spec : {M : Type 1} → statement M
-zero-spec =
+pub clear-spec : {M : Type 1} → statement M
+clear-spec =
     tie.close
     (tie.spec
     Inv-loop

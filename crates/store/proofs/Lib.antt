@@ -1,0 +1,3 @@
+pub mod Write
+pub mod Tests
+pub mod Laws

@@ -1,0 +1,196 @@
+// The lent store of a protocol end: slots of 1,404 bytes, end to end.
+ghost use mathlib.Core.Path.{_≡_};
+ghost use Prim.Native.Nat.{_+_, _*_, _≤_, _<_};
+ghost use lib.ListN.{length, replicate, take, drop};
+ghost use lib.Dec.{ltb};
+ghost use mathlib.Core.Bool.{_&&_};
+ghost use mathlib.Core.List.{_++_};
+ghost use Rattle.store.specs.Sound.{senderSlotBroken, receiverSlotBroken, senderSlotsBroken, receiverSlotsBroken};
+ghost use Rattle.store.specs.Slot.{SlotIn, headBytes, slotBytes, slotAt, lengthOf, markOf, flagsOf, payloadOf, fillSlot, emptySlot, setMark, setFlags};
+
+// Length (2 bytes, big-endian), mark, flags, payload.
+pub const SLOT_SIZE: usize = 1404;
+
+pub fn length_unchecked(store: &[u8], slot: usize) -> u16
+    requires { ⌜ SlotIn (now store) slot ⌝ }
+    ensures { λ r. ⌜ r ≡ lengthOf (slotAt (now (store .entry)) slot) ⌝ }
+{
+    let at = slot * SLOT_SIZE;
+    octets::be16(store[at], store[at + 1])
+}
+
+pub fn mark_unchecked(store: &[u8], slot: usize) -> u8
+    requires { ⌜ SlotIn (now store) slot ⌝ }
+    ensures { λ r. ⌜ r ≡ markOf (slotAt (now (store .entry)) slot) ⌝ }
+{
+    store[slot * SLOT_SIZE + 2]
+}
+
+pub fn flags_unchecked(store: &[u8], slot: usize) -> u8
+    requires { ⌜ SlotIn (now store) slot ⌝ }
+    ensures { λ r. ⌜ r ≡ flagsOf (slotAt (now (store .entry)) slot) ⌝ }
+{
+    store[slot * SLOT_SIZE + 3]
+}
+
+pub fn payload_unchecked(store: &[u8], slot: usize) -> &[u8]
+    requires { ⌜ SlotIn (now store) slot × (lengthOf (slotAt (now store) slot) ≤ 1400) ⌝ }
+    ensures { λ r. ⌜ now r ≡ payloadOf (slotAt (now (store .entry)) slot) ⌝ }
+{
+    let start = slot * SLOT_SIZE + 4;
+    let end = start + length_unchecked(store, slot) as usize;
+    &store[start..end]
+}
+
+pub fn set_mark_unchecked(store: &mut [u8], slot: usize, mark: u8)
+    requires { ⌜ SlotIn (now store) slot ⌝ }
+    ensures { λ _. ⌜ now (store .exit) ≡ setMark (now (store .entry)) slot mark ⌝ }
+{
+    store[slot * SLOT_SIZE + 2] = mark;
+}
+
+pub fn set_flags_unchecked(store: &mut [u8], slot: usize, flags: u8)
+    requires { ⌜ SlotIn (now store) slot ⌝ }
+    ensures { λ _. ⌜ now (store .exit) ≡ setFlags (now (store .entry)) slot flags ⌝ }
+{
+    store[slot * SLOT_SIZE + 3] = flags;
+}
+
+// Writes the whole slot, zeros past the payload.
+pub fn fill_unchecked(store: &mut [u8], slot: usize, payload: &[u8], mark: u8, flags: u8)
+    requires { ⌜ SlotIn (now store) slot × (length (now payload) ≤ 1400) ⌝ }
+    ensures { λ _. ⌜ now (store .exit) ≡ fillSlot (now (store .entry)) slot (now (payload .entry)) mark flags ⌝ }
+{
+    let at = slot * SLOT_SIZE;
+    let end = at + SLOT_SIZE;
+    write_slot(&mut store[at..end], payload, mark, flags);
+}
+
+pub fn empty_unchecked(store: &mut [u8], slot: usize)
+    requires { ⌜ SlotIn (now store) slot ⌝ }
+    ensures { λ _. ⌜ now (store .exit) ≡ emptySlot (now (store .entry)) slot ⌝ }
+{
+    let at = slot * SLOT_SIZE;
+    let end = at + SLOT_SIZE;
+    octets::clear(&mut store[at..end]);
+}
+
+// Empties the first slots of a store; what lies past them is left as it is.
+pub fn empty_all_unchecked(store: &mut [u8], slots: usize)
+    requires { ⌜ slots * 1404 ≤ length (now store) ⌝ }
+    ensures { λ _. ⌜ now (store .exit) ≡ replicate (slots * 1404) 0 ++ drop (slots * 1404) (now (store .entry)) ⌝ }
+{
+    let end = slots * SLOT_SIZE;
+    octets::clear(&mut store[..end]);
+}
+
+// Whether a sender's slots break document 01's line 9, with count numbers from base on outstanding.
+pub fn sender_slots_broken_unchecked(
+    store: &[u8],
+    window: usize,
+    base: u32,
+    count: usize,
+    selective: bool,
+) -> bool
+    requires { ⌜ (0 < window) × (window * 1404 ≤ length (now store)) ⌝ }
+    ensures { λ r. ⌜ r ≡ senderSlotsBroken selective (now (store .entry)) window base count ⌝ }
+{
+    let mut k: usize = 0;
+    while k < window {
+        let slot = (base as usize + k) % window;
+        let may = may_be_acknowledged(selective, k);
+        if sender_slot_broken(
+            k < count,
+            may,
+            length_unchecked(store, slot),
+            mark_unchecked(store, slot),
+        ) {
+            return true;
+        }
+        k += 1;
+    }
+    false
+}
+
+// Whether a receiver's slots break document 01's line 9.
+pub fn receiver_slots_broken_unchecked(store: &[u8], window: usize, base: u32) -> bool
+    requires { ⌜ (0 < window) × (window * 1404 ≤ length (now store)) ⌝ }
+    ensures { λ r. ⌜ r ≡ receiverSlotsBroken (now (store .entry)) window base ⌝ }
+{
+    let mut k: usize = 0;
+    while k < window {
+        let slot = (base as usize + k) % window;
+        if receiver_slot_broken(
+            k == 0,
+            length_unchecked(store, slot),
+            mark_unchecked(store, slot),
+        ) {
+            return true;
+        }
+        k += 1;
+    }
+    false
+}
+
+fn may_be_acknowledged(selective: bool, k: usize) -> bool
+    ensures { λ r. ⌜ r ≡ (selective && ltb 0 k) ⌝ }
+{
+    if selective {
+        return 0 < k;
+    }
+    false
+}
+
+fn sender_slot_broken(outstanding: bool, may: bool, length: u16, mark: u8) -> bool
+    ensures { λ r. ⌜ r ≡ senderSlotBroken outstanding may length mark ⌝ }
+{
+    if 1400 < length {
+        return true;
+    }
+    if 2 < mark {
+        return true;
+    }
+    if !outstanding {
+        return mark != 0;
+    }
+    if mark == 2 {
+        return !may;
+    }
+    mark == 0
+}
+
+fn receiver_slot_broken(is_base: bool, length: u16, mark: u8) -> bool
+    ensures { λ r. ⌜ r ≡ receiverSlotBroken «is_base» length mark ⌝ }
+{
+    if 1400 < length {
+        return true;
+    }
+    if 2 < mark {
+        return true;
+    }
+    if is_base {
+        return mark != 0;
+    }
+    mark == 2
+}
+
+fn write_slot(slot: &mut [u8], payload: &[u8], mark: u8, flags: u8)
+    requires { ⌜ (length (now slot) ≡ 1404) × (length (now payload) ≤ 1400) ⌝ }
+    ensures { λ _. ⌜ now (slot .exit) ≡ slotBytes (now (payload .entry)) mark flags ⌝ }
+{
+    let n = payload.len();
+    write_head(slot, n as u16, mark, flags);
+    let end = 4 + n;
+    octets::copy_unchecked(payload, &mut slot[4..end]);
+    octets::clear(&mut slot[end..]);
+}
+
+fn write_head(slot: &mut [u8], n: u16, mark: u8, flags: u8)
+    requires { ⌜ 4 ≤ length (now slot) ⌝ }
+    ensures { λ _. ⌜ now (slot .exit) ≡ headBytes n mark flags ++ drop 4 (now (slot .entry)) ⌝ }
+{
+    slot[0] = (n >> 8) as u8;
+    slot[1] = (n % 256) as u8;
+    slot[2] = mark;
+    slot[3] = flags;
+}
