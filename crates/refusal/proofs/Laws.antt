@@ -1,13 +1,14 @@
 -- Laws of the order of the checks, for crates above to cite.
 use Prim.Native.Nat.{ℕ}
 use mathlib.Core.Path.{_≡_, refl, sym, ap, _∙_}
-use mathlib.Core.Bool.{Bool, true, false, cond}
+use mathlib.Core.Bool.{Bool, true, false, cond, _||_}
 use mathlib.Core.List.{List, [], _∷_}
 use native.Mathlib.Omega.{arith}
 use borrow.Author.Tests.{eq-eqb}
 use lib.Dec.{eqb}
 use Rattle.refusal.specs.Refusal.{lineOf}
-use Rattle.refusal.specs.Order.{Check, Verdict, accepted, refused, order, orElse, numbered, firstOf, verdict, decide}
+use Rattle.refusal.specs.Clauses.{anyOf}
+use Rattle.refusal.specs.Order.{Check, check, Verdict, accepted, refused, order, orElse, numbered, firstOf, verdict, decide}
 use Rattle.refusal.specs.declared.Refusal.{Refusal}
 use Rattle.refusal.specs.declared.Refusal.the-variants.{Short, Kind, Cut, Setup, Full, Long, Numbers, Counts, State, Time, Roll}
 
@@ -85,6 +86,51 @@ pub pass-accepted : (cs : List Check) → Pass cs → verdict cs ≡ accepted
 unfolding verdict
 pass-accepted cs h = first-pass order cs h
 
+-- a check that is false changes nothing; one that is true beside checks that are false is answered
+skip-numbered : (n : ℕ) (r : Refusal) (cs : List Check) → numbered n (check false r ∷ cs) ≡ numbered n cs
+unfolding numbered orElse
+skip-numbered n r cs = rw (either (eqb (lineOf r .number) n))
+
+skip-first : (ns : List ℕ) (r : Refusal) (cs : List Check) → firstOf ns (check false r ∷ cs) ≡ firstOf ns cs
+unfolding firstOf
+skip-first [] r cs = refl
+skip-first (n ∷ ns) r cs = rw (skip-numbered n r cs, skip-first ns r cs)
+
+pub false-check : (r : Refusal) (cs : List Check) → verdict (check false r ∷ cs) ≡ verdict cs
+unfolding verdict
+false-check r cs = skip-first order r cs
+
+has : ℕ → List ℕ → Bool
+has n [] = false
+has n (m ∷ ms) = cond (eqb n m) true (has n ms)
+
+in-order : (r : Refusal) → has (lineOf r .number) order ≡ true
+unfolding has order
+in-order (Short n) = refl
+in-order (Kind b) = refl
+in-order (Cut n m) = refl
+in-order Setup = refl
+in-order Full = refl
+in-order Long = refl
+in-order Numbers = refl
+in-order Counts = refl
+in-order State = refl
+in-order Time = refl
+in-order Roll = refl
+
+true-first : (ns : List ℕ) (r : Refusal) (cs : List Check) → Pass cs → firstOf ns (check true r ∷ cs) ≡ cond (has (lineOf r .number) ns) (refused r) accepted
+unfolding firstOf numbered orElse has
+true-first [] r cs h = refl
+true-first (n ∷ ns) r cs h = rw (numbered-pass n cs h) (by-number (eqb (lineOf r .number) n) (true-first ns r cs h)) where
+  by-number : (b : Bool) → firstOf ns (check true r ∷ cs) ≡ cond (has (lineOf r .number) ns) (refused r) accepted
+      → orElse (orElse (cond b (refused r) accepted) accepted) (firstOf ns (check true r ∷ cs)) ≡ cond (cond b true (has (lineOf r .number) ns)) (refused r) accepted
+  by-number true e = refl
+  by-number false e = e
+
+pub true-check : (r : Refusal) (cs : List Check) → Pass cs → verdict (check true r ∷ cs) ≡ refused r
+unfolding verdict
+true-check r cs h = true-first order r cs h ∙ rw (in-order r)
+
 -- what an answer says of the verdict
 pub decide-accepted : {A : Type 0} (v : Verdict) (f : Refusal → A) (a : A) {b : A} → decide v f a ≡ b → ((r : Refusal) → f r ≡ b → ⊥) → v ≡ accepted
 unfolding decide
@@ -103,3 +149,22 @@ on-accepted f a e = rw e
 pub on-refused : {A : Type 0} {v : Verdict} {r : Refusal} (f : Refusal → A) (a : A) → v ≡ refused r → decide v f a ≡ f r
 unfolding decide
 on-refused f a e = rw e
+
+-- a line is false exactly when each of its clauses is
+abbrev pub NoneOf : List Bool → Type 0
+NoneOf [] = Prim.Unit {0}
+NoneOf (b ∷ bs) = (b ≡ false) × NoneOf bs
+
+pub or-false : (a b : Bool) → (a || b) ≡ false → (a ≡ false) × (b ≡ false)
+or-false false b e = (refl, e)
+or-false true b e = let z : _≡_ {A = ℕ} 0 1 = cc in absurd (omega arith)
+
+pub none-of : (bs : List Bool) → anyOf bs ≡ false → NoneOf bs
+unfolding anyOf
+none-of [] e = tt
+none-of (b ∷ bs) e = let f = or-false b (anyOf bs) e in (f .0, none-of bs (f .1))
+
+pub any-of-none : (bs : List Bool) → NoneOf bs → anyOf bs ≡ false
+unfolding anyOf
+any-of-none [] h = refl
+any-of-none (b ∷ bs) h = rw (h .0) (any-of-none bs (h .1))

@@ -1,2 +1,3 @@
 pub mod Refusal
+pub mod Clauses
 pub mod Order

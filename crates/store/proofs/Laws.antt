@@ -7,6 +7,7 @@ use native.Mathlib.Omega.{arith}
 use lib.ListN.{length, getD, set, take, drop, replicate, length-append, length-take, length-drop, length-set, length-replicate, List·getD-append}
 use lib.Seq.{getD-take, getD-drop, getD-append-add, getD-set-other, length-take-le, take-at, drop-at, take-append-seam, drop-drop, take-take, ext-getD, take-set-lt, drop-set-add}
 use Rattle.store.specs.Slot.{SlotIn, slotAt, lengthOf, markOf, flagsOf, payloadOf, headBytes, slotBytes, putSlot}
+pub use Rattle.store.proofs.Tests.{slot-in}
 
 -- a byte of a slot
 pub slot-byte : (store : List ℕ) (j i : ℕ) → i < 1404 → getD (slotAt store j) i 0 ≡ getD store (j * 1404 + i) 0

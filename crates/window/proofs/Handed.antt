@@ -1,0 +1,44 @@
+-- A datagram handed over: refused, or read with a payload of at most 1,400 bytes.
+use Prim.Native.Nat.{ℕ, _≤_, _<_}
+use mathlib.Core.Path.{_≡_, refl, sym, ap, _∙_}
+use mathlib.Core.Bool.{Bool, true, false, cond, _&&_}
+use mathlib.Core.List.{List, [], _∷_}
+use borrow.Author.Tests.{lt-ltb, le-ltb}
+use lib.ListN.{length}
+use lib.Dec.{ltb, eqb}
+use Rattle.refusal.specs.declared.Refusal.{Refusal}
+use Rattle.refusal.specs.declared.Refusal.the-variants.{Long}
+use Rattle.refusal.specs.Order.{check, verdict, accepted, refused, decide}
+use Rattle.refusal.proofs.Laws.{false-check, true-check, accepted-pass, pass-accepted, on-accepted, on-refused}
+use Rattle.packet.specs.Format.{byteOf, matches}
+use Rattle.packet.specs.Reading.{readChecks, headerOf, fromBytes, payloadOf}
+use Rattle.packet.specs.declared.Packet.{Packet}
+use Rattle.packet.specs.declared.PacketAnswer.the-variants as packetAnswer
+use Rattle.packet.proofs.Laws.{read-packet, read-refused, read-header, payload-none}
+use Rattle.window.specs.Acknowledgement.{handedChecks, readAck}
+use Rattle.window.specs.declared.AckRead.the-variants as ackRead
+
+pub handed-refused : (raw : List ℕ) (r : Refusal) → fromBytes raw ≡ packetAnswer.Refused r → verdict (handedChecks raw) ≡ refused r
+handed-refused raw r e =
+    let v = read-refused raw r e in
+    let short : ltb 1400 (length (payloadOf raw)) ≡ false = rw (payload-none raw v) in
+    ap (λ (b : Bool). verdict (check b Long ∷ readChecks raw)) short ∙ false-check Long (readChecks raw) ∙ v
+
+pub handed-long : (raw : List ℕ) (p : Packet) → fromBytes raw ≡ packetAnswer.Packet p → 1400 < length (payloadOf raw) → verdict (handedChecks raw) ≡ refused Long
+handed-long raw p e h =
+    ap (λ (b : Bool). verdict (check b Long ∷ readChecks raw)) (lt-ltb _ _ h) ∙ true-check Long (readChecks raw) (accepted-pass (readChecks raw) (read-packet raw p e))
+
+pub handed-accepted : (raw : List ℕ) (p : Packet) → fromBytes raw ≡ packetAnswer.Packet p → length (payloadOf raw) ≤ 1400 → verdict (handedChecks raw) ≡ accepted
+handed-accepted raw p e h = pass-accepted (handedChecks raw) (le-ltb _ _ h, accepted-pass (readChecks raw) (read-packet raw p e))
+
+-- the same of `readAck`
+pub ack-refused : (raw : List ℕ) (r : Refusal) → verdict (handedChecks raw) ≡ refused r → readAck raw ≡ ackRead.Refused r
+unfolding readAck
+ack-refused raw r v = on-refused ackRead.Refused _ v
+
+pub ack-read : (raw : List ℕ) (p : Packet) → fromBytes raw ≡ packetAnswer.Packet p → length (payloadOf raw) ≤ 1400
+    → readAck raw ≡ cond (matches p (payloadOf raw) && eqb (byteOf (p .«pkt_type»)) 2) (ackRead.Ack (p .«seq_num»)) ackRead.Other
+unfolding readAck
+ack-read raw p e h =
+    on-accepted ackRead.Refused _ (handed-accepted raw p e h)
+    ∙ ap (λ (q : Packet). cond (matches q (payloadOf raw) && eqb (byteOf (q .«pkt_type»)) 2) (ackRead.Ack (q .«seq_num»)) ackRead.Other) (read-header raw p e)

@@ -1,0 +1,60 @@
+-- Document 01, "Turned away" and "A full window is an ordinary answer"; arq/gbn.rs and arq/sr.rs, `new` and `send_chunk`.
+use Prim.Native.Nat.{ℕ, _+_, _<_, _≤_}
+use mathlib.Core.List.{List, [], _∷_, _++_}
+use mathlib.Core.Bool.{Bool, true, false, cond, _&&_}
+use lib.ListN.{length, drop}
+use lib.Dec.{ltb, eqb}
+use Rattle.refusal.specs.declared.Refusal.{Refusal}
+use Rattle.refusal.specs.declared.Refusal.the-variants.{State, Counts, Setup, Long, Numbers, Full}
+use Rattle.refusal.specs.Order.{Check, check, verdict, decide}
+use Rattle.window.specs.State.{windowBroken, storeShort, outstanding, stateBroken, countsBroken}
+use Rattle.window.specs.Slots.{Sender, sender, newWindow, fresh, hold, firstDatagram}
+use Rattle.window.specs.declared.SendWindow.{SendWindow}
+use Rattle.window.specs.declared.MakeAnswer.{MakeAnswer}
+use Rattle.window.specs.declared.MakeAnswer.the-variants as makeAnswer
+use Rattle.window.specs.declared.SendAnswer.{SendAnswer}
+use Rattle.window.specs.declared.SendAnswer.the-variants as sendAnswer
+
+-- making: the answer, and the store when the call returns
+pub record Making : Type 0 where
+  pub answer : MakeAnswer
+  pub store : List ℕ
+
+abbrev pub making : MakeAnswer → List ℕ → Making
+making a store = record { answer = a; store = store }
+
+unfoldable pub makeWindow : ℕ → List ℕ → Making
+makeWindow w store =
+    decide (verdict (check (storeShort store w) State ∷ check (windowBroken w) Setup ∷ []))
+    (λ r. making (makeAnswer.Refused r) store)
+    (making (makeAnswer.Window (fresh w store .window)) (fresh w store .store))
+
+-- sending: the answer, and the state, the store and the buffer when the call returns
+pub record Sending : Type 0 where
+  pub answer : SendAnswer
+  pub after : Sender
+  pub out : List ℕ
+
+abbrev pub sending : SendAnswer → Sender → List ℕ → Sending
+sending a v out = record { answer = a; after = v; out = out }
+
+abbrev pub windowFree : SendWindow → Bool
+windowFree s = ltb (outstanding s) (s .«window_size»)
+
+unfoldable pub sendChecks : Bool → Sender → List ℕ → List ℕ → List Check
+sendChecks selective v payload out =
+    check (stateBroken selective (v .window) (v .store)) State
+    ∷ check (countsBroken (v .window)) Counts
+    ∷ check (ltb 1400 (length payload)) Long
+    ∷ check (windowFree (v .window) && eqb (v .window .«next_seq_num») 4294901760) Numbers
+    ∷ check (windowFree (v .window) && ltb (length out) (10 + length payload)) Full
+    ∷ []
+
+-- a full window is an ordinary answer
+unfoldable pub sendChunk : Bool → Sender → List ℕ → List ℕ → Sending
+sendChunk selective v payload out =
+    decide (verdict (sendChecks selective v payload out))
+    (λ r. sending (sendAnswer.Refused r) v out)
+    (cond (windowFree (v .window))
+    (sending (sendAnswer.Sent (10 + length payload)) (hold v payload) (firstDatagram v payload ++ drop (10 + length payload) out))
+    (sending sendAnswer.WindowFull v out))

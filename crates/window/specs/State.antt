@@ -1,0 +1,35 @@
+-- Document 01, "Bounds of a setup" and "Turned away" 8 and 9, of a sender.
+use Prim.Native.Nat.{ℕ, _+_, _-_, _*_, _/_}
+use mathlib.Core.List.{List, [], _∷_}
+use mathlib.Core.Bool.{Bool}
+use lib.ListN.{length}
+use lib.Dec.{ltb, leb}
+use Rattle.refusal.specs.Clauses.{anyOf}
+use Rattle.store.specs.Sound.{senderSlotsBroken}
+use Rattle.window.specs.declared.SendWindow.{SendWindow}
+
+unfoldable pub windowBroken : ℕ → Bool
+windowBroken window = anyOf (ltb window 1 ∷ ltb 32 window ∷ [])
+
+-- the store is shorter than window × 1,404
+unfoldable pub storeShort : List ℕ → ℕ → Bool
+storeShort store window = ltb (length store) (window * 1404)
+
+abbrev pub outstanding : SendWindow → ℕ
+outstanding s = s .«next_seq_num» - s .«send_base»
+
+-- 9: selective is true of a Selective Repeat sender
+unfoldable pub stateBroken : Bool → SendWindow → List ℕ → Bool
+stateBroken selective s store =
+    anyOf
+    (windowBroken (s .«window_size»)
+    ∷ storeShort store (s .«window_size»)
+    ∷ ltb (s .«next_seq_num») (s .«send_base»)
+    ∷ ltb (s .«window_size») (outstanding s)
+    ∷ ltb 4294901760 (s .«next_seq_num»)
+    ∷ senderSlotsBroken selective store (s .«window_size») (s .«send_base») (outstanding s)
+    ∷ [])
+
+-- 8: a counter stands at 2^60 or more
+unfoldable pub countsBroken : SendWindow → Bool
+countsBroken s = anyOf (leb 1152921504606846976 (s .«total_sent») ∷ leb 1152921504606846976 (s .retransmissions) ∷ [])

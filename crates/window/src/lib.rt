@@ -1,0 +1,291 @@
+// The sliding window that the three senders share: the chunks from send_base to next_seq_num - 1 lie in the store's slots.
+ghost use mathlib.Core.Path.{_≡_};
+ghost use Prim.Native.Nat.{_+_, _-_, _*_, _≤_, _<_};
+ghost use mathlib.Core.Bool.{true, false};
+ghost use lib.ListN.{length, drop};
+ghost use mathlib.Core.List.{_++_};
+ghost use Rattle.window.specs.Acknowledgement.{readAck};
+ghost use Rattle.window.specs.Sending.{making, makeWindow, sending, sendChunk};
+ghost use Rattle.window.specs.Slots.{sender, fresh, slotFor, hold, firstDatagram, markAgain, datagramFor, emptyFrom, release};
+ghost use Rattle.store.specs.Slot.{slotAt, lengthOf};
+ghost use Rattle.window.specs.State.{stateBroken, countsBroken, windowBroken, storeShort};
+use packet::Packet;
+use packet::PacketAnswer;
+use packet::PacketType;
+use refusal::Refusal;
+
+pub const MAX_WINDOW_SIZE: usize = 32;
+
+// A chunk never has this number or a higher one.
+pub const SEQ_NUM_LIMIT: u32 = 4_294_901_760;
+
+// A counter at this value is refused.
+pub const COUNT_LIMIT: u64 = 1_152_921_504_606_846_976;
+
+pub struct SendWindow {
+    pub window_size: usize,
+    pub send_base: u32,
+    pub next_seq_num: u32,
+    pub total_sent: u64,
+    pub retransmissions: u64,
+}
+
+pub enum MakeAnswer {
+    Window(SendWindow),
+    Refused(Refusal),
+}
+
+// The length of the datagram that was written.
+pub enum SendAnswer {
+    Sent(usize),
+    WindowFull,
+    Refused(Refusal),
+}
+
+pub struct SendResult {
+    pub window: SendWindow,
+    pub answer: SendAnswer,
+}
+
+// What a datagram handed to a sender is: a valid ACK with its number, or another.
+pub enum AckRead {
+    Ack(u32),
+    Other,
+    Refused(Refusal),
+}
+
+impl SendWindow {
+    pub fn new(window: usize, store: &mut [u8]) -> MakeAnswer
+        ensures { λ r. ⌜ making r (now (store .exit)) ≡ makeWindow window (now (store .entry)) ⌝ }
+    {
+        if store.len() / store::SLOT_SIZE < window {
+            return MakeAnswer::Refused(Refusal::State);
+        }
+        if window_broken(window) {
+            return MakeAnswer::Refused(Refusal::Setup);
+        }
+        MakeAnswer::Window(SendWindow::new_unchecked(window, store))
+    }
+
+    // A chunk into its slot and as a datagram to the start of out.
+    pub fn send_chunk(
+        self,
+        selective: bool,
+        store: &mut [u8],
+        payload: &[u8],
+        out: &mut [u8],
+    ) -> SendResult
+        ensures { λ r. ⌜ sending (r .answer) (sender (r .window) (now (store .exit))) (now (out .exit)) ≡ sendChunk selective (sender self (now (store .entry))) (now (payload .entry)) (now (out .entry)) ⌝ }
+    {
+        let n = payload.len();
+        if self.state_broken(store, selective) {
+            return SendResult {
+                window: self,
+                answer: SendAnswer::Refused(Refusal::State),
+            };
+        }
+        if self.counts_broken() {
+            return SendResult {
+                window: self,
+                answer: SendAnswer::Refused(Refusal::Counts),
+            };
+        }
+        if Packet::MAX_PAYLOAD_SIZE < n {
+            return SendResult {
+                window: self,
+                answer: SendAnswer::Refused(Refusal::Long),
+            };
+        }
+        if self.window_size <= (self.next_seq_num - self.send_base) as usize {
+            return SendResult {
+                window: self,
+                answer: SendAnswer::WindowFull,
+            };
+        }
+        if self.next_seq_num == SEQ_NUM_LIMIT {
+            return SendResult {
+                window: self,
+                answer: SendAnswer::Refused(Refusal::Numbers),
+            };
+        }
+        if out.len() < Packet::HEADER_SIZE + n {
+            return SendResult {
+                window: self,
+                answer: SendAnswer::Refused(Refusal::Full),
+            };
+        }
+        let window = self.send_chunk_unchecked(store, payload, out);
+        SendResult {
+            window,
+            answer: SendAnswer::Sent(Packet::HEADER_SIZE + n),
+        }
+    }
+
+    pub fn new_unchecked(window: usize, store: &mut [u8]) -> SendWindow
+        requires { ⌜ window * 1404 ≤ length (now store) ⌝ }
+        ensures { λ r. ⌜ sender r (now (store .exit)) ≡ fresh window (now (store .entry)) ⌝ }
+    {
+        store::empty_all_unchecked(store, window);
+        SendWindow {
+            window_size: window,
+            send_base: 0,
+            next_seq_num: 0,
+            total_sent: 0,
+            retransmissions: 0,
+        }
+    }
+
+    pub fn send_chunk_unchecked(
+        mut self,
+        store: &mut [u8],
+        payload: &[u8],
+        out: &mut [u8],
+    ) -> SendWindow
+        requires { ⌜ (0 < self .«window_size») × (self .«window_size» * 1404 ≤ length (now store)) ⌝ }
+        requires { ⌜ (self .«next_seq_num» < 4294901760) × (self .«total_sent» < 1152921504606846976) ⌝ }
+        requires { ⌜ (length (now payload) ≤ 1400) × (10 + length (now payload) ≤ length (now out)) ⌝ }
+        ensures { λ r. ⌜ sender r (now (store .exit)) ≡ hold (sender self (now (store .entry))) (now (payload .entry)) ⌝ }
+        ensures { λ r. ⌜ now (out .exit) ≡ firstDatagram (sender self (now (store .entry))) (now (payload .entry)) ++ drop (10 + length (now (payload .entry))) (now (out .entry)) ⌝ }
+    {
+        let next = self.next_seq_num;
+        let slot = next as usize % self.window_size;
+        store::fill_unchecked(store, slot, payload, 1, 0);
+        let packet = Packet::new_data(next).compute_and_set_checksum_unchecked(payload);
+        packet.to_bytes_unchecked(payload, out);
+        self.next_seq_num = next + 1;
+        self.total_sent = self.total_sent + 1;
+        self
+    }
+
+    // Marks a number's slot as sent again and counts it.
+    pub fn mark_again_unchecked(mut self, store: &mut [u8], seq_num: u32) -> SendWindow
+        requires { ⌜ (0 < self .«window_size») × (self .«window_size» * 1404 ≤ length (now store)) ⌝ }
+        requires { ⌜ (self .«total_sent» < 1152921504606846976) × (self .retransmissions < 1152921504606846976) ⌝ }
+        ensures { λ r. ⌜ sender r (now (store .exit)) ≡ markAgain (sender self (now (store .entry))) «seq_num» ⌝ }
+    {
+        let slot = seq_num as usize % self.window_size;
+        let flags = store::flags_unchecked(store, slot) | packet::FLAG_RETRANSMITTED;
+        store::set_flags_unchecked(store, slot, flags);
+        self.total_sent = self.total_sent + 1;
+        self.retransmissions = self.retransmissions + 1;
+        self
+    }
+
+    // Writes a number's datagram, as its slot has it, to the start of out, and answers its length.
+    pub fn write_datagram_unchecked(self, store: &[u8], seq_num: u32, out: &mut [u8]) -> usize
+        requires { ⌜ (0 < self .«window_size») × (self .«window_size» * 1404 ≤ length (now store)) ⌝ }
+        requires { ⌜ (lengthOf (slotAt (now store) (slotFor self «seq_num»)) ≤ 1400) × (10 + lengthOf (slotAt (now store) (slotFor self «seq_num»)) ≤ length (now out)) ⌝ }
+        ensures { λ r. ⌜ r ≡ length (datagramFor (sender self (now (store .entry))) «seq_num») ⌝ }
+        ensures { λ r. ⌜ now (out .exit) ≡ datagramFor (sender self (now (store .entry))) «seq_num» ++ drop (length (datagramFor (sender self (now (store .entry))) «seq_num»)) (now (out .entry)) ⌝ }
+    {
+        let slot = seq_num as usize % self.window_size;
+        let payload = store::payload_unchecked(store, slot);
+        let packet = Packet {
+            seq_num,
+            pkt_type: PacketType::Data,
+            flags: store::flags_unchecked(store, slot),
+            checksum: 0,
+        };
+        packet
+            .compute_and_set_checksum_unchecked(payload)
+            .to_bytes_unchecked(payload, out);
+        Packet::HEADER_SIZE + payload.len()
+    }
+
+    // Empties the slots of the numbers below until and moves send_base there.
+    pub fn release_unchecked(mut self, store: &mut [u8], until: u32) -> SendWindow
+        requires { ⌜ (0 < self .«window_size») × (self .«window_size» * 1404 ≤ length (now store)) ⌝ }
+        requires { ⌜ self .«send_base» ≤ until ⌝ }
+        ensures { λ r. ⌜ sender r (now (store .exit)) ≡ release (sender self (now (store .entry))) until ⌝ }
+    {
+        empty_slots(store, self.window_size, self.send_base, until);
+        self.send_base = until;
+        self
+    }
+
+    // Whether document 01's line 9 is true; selective is set for a Selective Repeat sender.
+    pub fn state_broken(self, store: &[u8], selective: bool) -> bool
+        ensures { λ r. ⌜ r ≡ stateBroken selective self (now (store .entry)) ⌝ }
+    {
+        let window = self.window_size;
+        let base = self.send_base;
+        let next = self.next_seq_num;
+        if window_broken(window) {
+            return true;
+        }
+        if store_short(store, window) {
+            return true;
+        }
+        if next < base {
+            return true;
+        }
+        let count = (next - base) as usize;
+        if window < count {
+            return true;
+        }
+        if SEQ_NUM_LIMIT < next {
+            return true;
+        }
+        store::sender_slots_broken_unchecked(store, window, base, count, selective)
+    }
+
+    // Whether document 01's line 8 is true.
+    pub fn counts_broken(self) -> bool
+        ensures { λ r. ⌜ r ≡ countsBroken self ⌝ }
+    {
+        if COUNT_LIMIT <= self.total_sent {
+            return true;
+        }
+        COUNT_LIMIT <= self.retransmissions
+    }
+}
+
+pub fn window_broken(window: usize) -> bool
+    ensures { λ r. ⌜ r ≡ windowBroken window ⌝ }
+{
+    if window < 1 {
+        return true;
+    }
+    MAX_WINDOW_SIZE < window
+}
+
+pub fn store_short(store: &[u8], window: usize) -> bool
+    ensures { λ r. ⌜ r ≡ storeShort (now (store .entry)) window ⌝ }
+{
+    store.len() / store::SLOT_SIZE < window
+}
+
+// What a datagram handed to a sender is.
+pub fn read_ack(raw: &[u8]) -> AckRead
+    ensures { λ r. ⌜ r ≡ readAck (now (raw .entry)) ⌝ }
+{
+    let packet = match Packet::from_bytes(raw) {
+        PacketAnswer::Packet(p) => p,
+        PacketAnswer::Refused(r) => return AckRead::Refused(r),
+    };
+    let payload = Packet::payload(raw);
+    if Packet::MAX_PAYLOAD_SIZE < payload.len() {
+        return AckRead::Refused(Refusal::Long);
+    }
+    if !packet.is_valid_unchecked(payload) {
+        return AckRead::Other;
+    }
+    let pkt_type = packet.pkt_type;
+    match pkt_type {
+        PacketType::Ack => AckRead::Ack(packet.seq_num),
+        PacketType::Data => AckRead::Other,
+        PacketType::Fin => AckRead::Other,
+    }
+}
+
+// Empties the slots of the numbers from n up to until.
+fn empty_slots(store: &mut [u8], window: usize, from: u32, until: u32)
+    requires { ⌜ (0 < window) × (window * 1404 ≤ length (now store)) × (from ≤ until) ⌝ }
+    ensures { λ _. ⌜ now (store .exit) ≡ emptyFrom (now (store .entry)) window from (until - from) ⌝ }
+{
+    let mut n = from;
+    while n < until {
+        store::empty_unchecked(store, n as usize % window);
+        n += 1;
+    }
+}
