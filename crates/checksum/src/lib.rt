@@ -41,8 +41,10 @@ fn swapped_sum(s: &[u8]) -> u64
     let mut b: u64 = 0;
     let mut c: u64 = 0;
     let mut d: u64 = 0;
-    let mut i: usize = 0;
-    while i + 16 <= s.len() {
+    let blocks = s.len() / 16;
+    let mut n: usize = 0;
+    while n < blocks {
+        let i = n * 16;
         let j = i + 4;
         let k = j + 4;
         let l = k + 4;
@@ -50,9 +52,9 @@ fn swapped_sum(s: &[u8]) -> u64
         b += four_octets(s, j);
         c += four_octets(s, k);
         d += four_octets(s, l);
-        i = l + 4;
+        n += 1;
     }
-    a + b + c + d + last_octets(s, i)
+    a + b + c + d + last_octets(s, blocks * 16)
 }
 
 fn four_octets(s: &[u8], i: usize) -> u64
