@@ -1,3 +1,4 @@
 pub mod Sound
 pub mod Slots
 pub mod Handed
+pub mod Laws

@@ -160,7 +160,7 @@ impl SendWindow {
     // Marks a number's slot as sent again and counts it.
     pub fn mark_again_unchecked(mut self, store: &mut [u8], seq_num: u32) -> SendWindow
         requires { ⌜ (0 < self .«window_size») × (self .«window_size» * 1404 ≤ length (now store)) ⌝ }
-        requires { ⌜ (self .«total_sent» < 1152921504606846976) × (self .retransmissions < 1152921504606846976) ⌝ }
+        requires { ⌜ (self .«total_sent» < 9223372036854775808) × (self .retransmissions < 9223372036854775808) ⌝ }
         ensures { λ r. ⌜ sender r (now (store .exit)) ≡ markAgain (sender self (now (store .entry))) «seq_num» ⌝ }
     {
         let slot = seq_num as usize % self.window_size;

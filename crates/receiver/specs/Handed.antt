@@ -1,0 +1,37 @@
+-- Document 01, "Turned away" 1, 2, 3, 6, 7, and arq/*.rs, `handle_packet`: a datagram handed to a receiver.
+use Prim.Native.Nat.{ℕ}
+use mathlib.Core.List.{List, [], _∷_}
+use mathlib.Core.Bool.{Bool, true, false, cond, _&&_}
+use lib.ListN.{length}
+use lib.Dec.{leb, eqb}
+use Rattle.refusal.specs.declared.Refusal.{Refusal}
+use Rattle.refusal.specs.declared.Refusal.the-variants.{Numbers}
+use Rattle.refusal.specs.Order.{Check, check, verdict, decide}
+use Rattle.packet.specs.Format.{byteOf, matches}
+use Rattle.packet.specs.Reading.{headerOf, payloadOf}
+use Rattle.packet.specs.declared.Packet.{Packet}
+use Rattle.packet.specs.declared.PacketType.{PacketType}
+use Rattle.packet.specs.declared.PacketType.the-variants as packetType
+use Rattle.window.specs.Acknowledgement.{handedChecks}
+use Rattle.receiver.specs.declared.Handed.{Handed}
+use Rattle.receiver.specs.declared.Handed.the-variants as handed
+
+-- a valid packet, by its type
+abbrev pub byType : PacketType → ℕ → Handed
+byType packetType.Data n = handed.Data n
+byType packetType.Ack n = handed.Ack
+byType packetType.Fin n = handed.Fin n
+
+abbrev pub isData : PacketType → Bool
+isData packetType.Data = true
+isData packetType.Ack = false
+isData packetType.Fin = false
+
+-- 7: valid Data with the number 4,294,901,760 or a higher one
+abbrev pub numberHigh : Packet → List ℕ → Bool
+numberHigh p payload = matches p payload && isData (p .«pkt_type») && leb 4294901760 (p .«seq_num»)
+
+unfoldable pub readPacket : List ℕ → Handed
+readPacket raw =
+    decide (verdict (check (numberHigh (headerOf raw) (payloadOf raw)) Numbers ∷ handedChecks raw)) handed.Refused
+    (cond (matches (headerOf raw) (payloadOf raw)) (byType (headerOf raw .«pkt_type») (headerOf raw .«seq_num»)) handed.Corrupted)

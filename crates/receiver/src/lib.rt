@@ -1,0 +1,123 @@
+// What the three receivers share: reading a datagram, delivering a payload into the lent output, writing the ACK.
+ghost use mathlib.Core.Path.{_≡_};
+ghost use Prim.Native.Nat.{_+_, _≤_};
+ghost use lib.ListN.{length};
+ghost use lib.Dec.{ltb};
+ghost use mathlib.Core.Bool.{_&&_};
+ghost use Rattle.receiver.specs.Handed.{readPacket};
+ghost use Rattle.receiver.specs.Reply.{replied, carriedOut, roomMissing, RoomFor, RoomForReply, ackAfter};
+use packet::Packet;
+use packet::PacketAnswer;
+use packet::PacketType;
+use refusal::Refusal;
+use window::SEQ_NUM_LIMIT;
+
+// What a datagram handed to a receiver is.
+pub enum Handed {
+    // Valid, with its number.
+    Data(u32),
+    Fin(u32),
+    // Valid, and nothing for a receiver.
+    Ack,
+    // The checksum doesn't match.
+    Corrupted,
+    Refused(Refusal),
+}
+
+// What a receiver sends back.
+pub enum Reply {
+    Ack(u32),
+    Silent,
+}
+
+// What a receiver decided on a packet, before anything is written.
+pub struct Decision {
+    pub deliver: bool,
+    pub reply: Reply,
+}
+
+pub fn read_packet(raw: &[u8]) -> Handed
+    ensures { λ r. ⌜ r ≡ readPacket (now (raw .entry)) ⌝ }
+{
+    let packet = match Packet::from_bytes(raw) {
+        PacketAnswer::Packet(p) => p,
+        PacketAnswer::Refused(r) => return Handed::Refused(r),
+    };
+    let payload = Packet::payload(raw);
+    if Packet::MAX_PAYLOAD_SIZE < payload.len() {
+        return Handed::Refused(Refusal::Long);
+    }
+    if !packet.is_valid_unchecked(payload) {
+        return Handed::Corrupted;
+    }
+    let seq_num = packet.seq_num;
+    let pkt_type = packet.pkt_type;
+    match pkt_type {
+        PacketType::Data => {
+            if SEQ_NUM_LIMIT <= seq_num {
+                Handed::Refused(Refusal::Numbers)
+            } else {
+                Handed::Data(seq_num)
+            }
+        }
+        PacketType::Ack => Handed::Ack,
+        PacketType::Fin => Handed::Fin(seq_num),
+    }
+}
+
+// Whether a buffer is shorter than what the decision writes: size bytes to the output from its fill mark on, an ACK.
+pub fn room_missing_unchecked(decision: Decision, size: usize, filled: usize, output: &[u8], ack: &[u8]) -> bool
+    requires { ⌜ filled ≤ length (now output) ⌝ }
+    ensures { λ r. ⌜ r ≡ roomMissing decision size filled (now (output .entry)) (now (ack .entry)) ⌝ }
+{
+    if output_missing(decision.deliver, size, output.len() - filled) {
+        return true;
+    }
+    let reply = decision.reply;
+    match reply {
+        Reply::Ack(_) => ack.len() < Packet::HEADER_SIZE,
+        Reply::Silent => false,
+    }
+}
+
+fn output_missing(deliver: bool, size: usize, left: usize) -> bool
+    ensures { λ r. ⌜ r ≡ (deliver && ltb left size) ⌝ }
+{
+    if deliver {
+        return left < size;
+    }
+    false
+}
+
+// Carries a decision out: the payload to the output, the ACK to its buffer. Answers the fill mark.
+pub fn carry_out_unchecked(
+    decision: Decision,
+    payload: &[u8],
+    filled: usize,
+    output: &mut [u8],
+    ack: &mut [u8],
+) -> usize
+    requires { ⌜ RoomFor decision (length (now payload)) filled (now output) (now ack) ⌝ }
+    ensures { λ r. ⌜ replied r (now (output .exit)) (now (ack .exit)) ≡ carriedOut decision (now (payload .entry)) filled (now (output .entry)) (now (ack .entry)) ⌝ }
+{
+    let reply = decision.reply;
+    write_reply(reply, ack);
+    if decision.deliver {
+        let end = filled + payload.len();
+        octets::copy_unchecked(payload, &mut output[filled..end]);
+        return end;
+    }
+    filled
+}
+
+fn write_reply(reply: Reply, ack: &mut [u8])
+    requires { ⌜ RoomForReply reply (now ack) ⌝ }
+    ensures { λ _. ⌜ now (ack .exit) ≡ ackAfter reply (now (ack .entry)) ⌝ }
+{
+    if let Reply::Ack(n) = reply {
+        let none = b"";
+        Packet::new_ack(n)
+            .compute_and_set_checksum_unchecked(none)
+            .to_bytes_unchecked(none, ack);
+    }
+}
