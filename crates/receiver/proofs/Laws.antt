@@ -1,3 +1,3 @@
 -- The laws that crates above may cite.
-pub use Rattle.receiver.proofs.Reading.{before-numbers, packet-high, packet-read}
+pub use Rattle.receiver.proofs.Reading.{before-numbers, packet-high, packet-read, read-refused, read-accepted}
 pub use Rattle.receiver.proofs.Replies.{ack-room, room-ack, room-output, replied-is}

@@ -8,16 +8,18 @@ use lib.ListN.{length}
 use lib.Dec.{leb}
 use Rattle.refusal.specs.declared.Refusal.{Refusal}
 use Rattle.refusal.specs.declared.Refusal.the-variants.{Short, Kind, Cut, Long, Numbers}
-use Rattle.refusal.specs.Order.{check, verdict, accepted, refused, order, orElse, numbered, firstOf}
-use Rattle.refusal.proofs.Laws.{false-check, true-check, accepted-pass, pass-accepted, on-accepted, on-refused}
+use Rattle.refusal.specs.Order.{Verdict, check, verdict, accepted, refused, order, orElse, numbered, firstOf}
+use Rattle.refusal.proofs.Laws.{false-check, true-check, accepted-pass, pass-accepted, on-accepted, on-refused, decide-refused}
 use Rattle.packet.specs.Format.{matches}
 use Rattle.packet.specs.Reading.{readChecks, headerOf, fromBytes, payloadOf}
 use Rattle.packet.specs.declared.Packet.{Packet}
+use Rattle.packet.specs.declared.PacketType.{PacketType}
+use Rattle.packet.specs.declared.PacketType.the-variants as packetType
 use Rattle.packet.specs.declared.PacketAnswer.the-variants as packetAnswer
 use Rattle.packet.proofs.Laws.{read-header}
 use Rattle.window.specs.Acknowledgement.{handedChecks}
 use Rattle.window.proofs.Laws.{handed-accepted}
-use Rattle.receiver.specs.Handed.{byType, isData, numberHigh, readPacket}
+use Rattle.receiver.specs.Handed.{byType, isData, numberHigh, packetChecks, readPacket}
 use Rattle.receiver.specs.declared.Handed.the-variants as handed
 
 -- lines 1, 2, 3 and 6 come before 7
@@ -52,3 +54,22 @@ packet-read raw p e h k =
     (pass-accepted (check (numberHigh (headerOf raw) (payloadOf raw)) Numbers ∷ handedChecks raw)
     (ap (λ (q : Packet). numberHigh q (payloadOf raw)) (read-header raw p e) ∙ k, accepted-pass (handedChecks raw) (handed-accepted raw p e h)))
     ∙ ap (λ (q : Packet). cond (matches q (payloadOf raw)) (byType (q .«pkt_type») (q .«seq_num»)) handed.Corrupted) (read-header raw p e)
+
+-- and back: what a reading says of the verdict
+by-validity : (b : Bool) (t : PacketType) (n : ℕ) (r : Refusal) → cond b (byType t n) handed.Corrupted ≡ handed.Refused r → ⊥
+by-validity false t n r e = let z : _≡_ {A = ℕ} 0 1 = cc in omega arith
+by-validity true packetType.Data n r e = let z : _≡_ {A = ℕ} 0 1 = cc in omega arith
+by-validity true packetType.Ack n r e = let z : _≡_ {A = ℕ} 0 1 = cc in omega arith
+by-validity true packetType.Fin n r e = let z : _≡_ {A = ℕ} 0 1 = cc in omega arith
+
+pub read-refused : (raw : List ℕ) (r : Refusal) → readPacket raw ≡ handed.Refused r → verdict (packetChecks raw) ≡ refused r
+unfolding readPacket
+read-refused raw r e =
+    decide-refused (verdict (packetChecks raw)) handed.Refused _ r e (λ f. by-validity (matches (headerOf raw) (payloadOf raw)) (headerOf raw .«pkt_type») (headerOf raw .«seq_num») r f) (λ s f. cc)
+
+pub read-accepted : (raw : List ℕ) → ((r : Refusal) → readPacket raw ≡ handed.Refused r → ⊥) → verdict (packetChecks raw) ≡ accepted
+unfolding readPacket
+read-accepted raw h = by-verdict (verdict (packetChecks raw)) refl where
+  by-verdict : (v : Verdict) → verdict (packetChecks raw) ≡ v → verdict (packetChecks raw) ≡ accepted
+  by-verdict accepted e = e
+  by-verdict (refused r) e = absurd (h r (on-refused handed.Refused _ e))

@@ -31,7 +31,10 @@ isData packetType.Fin = false
 abbrev pub numberHigh : Packet → List ℕ → Bool
 numberHigh p payload = matches p payload && isData (p .«pkt_type») && leb 4294901760 (p .«seq_num»)
 
+abbrev pub packetChecks : List ℕ → List Check
+packetChecks raw = check (numberHigh (headerOf raw) (payloadOf raw)) Numbers ∷ handedChecks raw
+
 unfoldable pub readPacket : List ℕ → Handed
 readPacket raw =
-    decide (verdict (check (numberHigh (headerOf raw) (payloadOf raw)) Numbers ∷ handedChecks raw)) handed.Refused
+    decide (verdict (packetChecks raw)) handed.Refused
     (cond (matches (headerOf raw) (payloadOf raw)) (byType (headerOf raw .«pkt_type») (headerOf raw .«seq_num»)) handed.Corrupted)

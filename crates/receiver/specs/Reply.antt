@@ -10,6 +10,12 @@ use Rattle.packet.specs.declared.PacketType.the-variants.{Ack}
 use Rattle.receiver.specs.declared.Reply.{Reply}
 use Rattle.receiver.specs.declared.Reply.the-variants as reply
 use Rattle.receiver.specs.declared.Decision.{Decision}
+use Rattle.receiver.specs.declared.ReceiveAnswer.{ReceiveAnswer}
+use Rattle.receiver.specs.declared.ReceiveAnswer.the-variants as answer
+
+abbrev pub answerOf : Reply → ReceiveAnswer
+answerOf (reply.Ack n) = answer.Ack n
+answerOf reply.Silent = answer.Silent
 
 -- the buffer for the ACK after a reply
 unfoldable pub ackAfter : Reply → List ℕ → List ℕ

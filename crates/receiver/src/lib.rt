@@ -5,7 +5,7 @@ ghost use lib.ListN.{length};
 ghost use lib.Dec.{ltb};
 ghost use mathlib.Core.Bool.{_&&_};
 ghost use Rattle.receiver.specs.Handed.{readPacket};
-ghost use Rattle.receiver.specs.Reply.{replied, carriedOut, roomMissing, RoomFor, RoomForReply, ackAfter};
+ghost use Rattle.receiver.specs.Reply.{replied, carriedOut, roomMissing, RoomFor, RoomForReply, ackAfter, answerOf};
 use packet::Packet;
 use packet::PacketAnswer;
 use packet::PacketType;
@@ -34,6 +34,24 @@ pub enum Reply {
 pub struct Decision {
     pub deliver: bool,
     pub reply: Reply,
+}
+
+// The number of the ACK that was written, or none.
+pub enum ReceiveAnswer {
+    Ack(u32),
+    Silent,
+    Refused(Refusal),
+}
+
+impl Reply {
+    pub fn answer(self) -> ReceiveAnswer
+        ensures { λ r. ⌜ r ≡ answerOf self ⌝ }
+    {
+        match self {
+            Reply::Ack(n) => ReceiveAnswer::Ack(n),
+            Reply::Silent => ReceiveAnswer::Silent,
+        }
+    }
 }
 
 pub fn read_packet(raw: &[u8]) -> Handed
