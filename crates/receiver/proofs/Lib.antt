@@ -1,3 +1,4 @@
 pub mod Reading
 pub mod Replies
+pub mod Receiving
 pub mod Laws

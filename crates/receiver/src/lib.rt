@@ -84,7 +84,13 @@ pub fn read_packet(raw: &[u8]) -> Handed
 }
 
 // Whether a buffer is shorter than what the decision writes: size bytes to the output from its fill mark on, an ACK.
-pub fn room_missing_unchecked(decision: Decision, size: usize, filled: usize, output: &[u8], ack: &[u8]) -> bool
+pub fn room_missing_unchecked(
+    decision: Decision,
+    size: usize,
+    filled: usize,
+    output: &[u8],
+    ack: &[u8],
+) -> bool
     requires { ⌜ filled ≤ length (now output) ⌝ }
     ensures { λ r. ⌜ r ≡ roomMissing decision size filled (now (output .entry)) (now (ack .entry)) ⌝ }
 {

@@ -22,7 +22,7 @@ part-copy-unchecked-start : tie.Need-part-copy-unchecked-start
 part-copy-unchecked-start c = search needs
 
 part-copy-unchecked-end : tie.Need-part-copy-unchecked-end
-part-copy-unchecked-end c = 
+part-copy-unchecked-end c =
     let room = room-output (c .before .before .before .before .before .before .before .before .args .decision) (length (c .before .before .before .before .before .before .before .before .args .payload .now)) (c .before .before .before .before .before .before .before .before .args .filled) (c .before .before .before .before .before .before .before .before .args .output .now) (c .before .before .before .before .before .before .before .before .args .ack .now) (c .before .before .before .before .before .before .before .before .pre) (c .if1 .taken) in
     omega arith
 
@@ -37,7 +37,7 @@ same-length-2 c = search needs
 
 returns : tie.Need-returns
 unfolding carriedOut
-returns c = 
+returns c =
     let a = c .before .before .before .before .before .before .before .before .before .before .before .before .args in
     simp (c .before .before .before .before .if1 .taken)
     (replied-is (a .filled + length (a .payload .now)) (part-written (a .output .now) (c .before .before .copy-unchecked .last .1 .0) (a .payload .now) (a .filled) (length (a .payload .now)) (c .before .before .copy-unchecked .ensures)) (c .before .before .before .before .before .before .before .write-reply .ensures))

@@ -35,7 +35,7 @@ is-valid-unchecked-requires : tie.Need-is-valid-unchecked-requires
 is-valid-unchecked-requires c κs = search needs
 
 returns-3 : tie.Need-returns-3
-returns-3 c = 
+returns-3 c =
     let p = c .before .before .before .before .before .p .given .0 .0 in
     let invalid : matches p (payloadOf (c .before .before .before .before .before .before .before .before .before .args .raw .now)) ≡ false = sym (c .before .is-valid-unchecked .ensures ∙ ap (matches (c .before .before .before .before .before .p .given .0 .0)) (c .before .before .before .payload .ensures)) ∙ not-true (c .before .is-valid-unchecked .result) (c .if2 .taken) in
     let high : numberHigh p (payloadOf (c .before .before .before .before .before .before .before .before .before .args .raw .now)) ≡ false = rw invalid in
@@ -51,27 +51,27 @@ enum-told-3 : tie.Need-enum-told-3
 enum-told-3 c = search needs
 
 returns-4 : tie.Need-returns-4
-returns-4 c = 
+returns-4 c =
     let p = c .before .before .before .before .before .before .before .before .p .given .0 .0 in
     let valid : matches p (payloadOf (c .before .before .before .before .before .before .before .before .before .before .before .before .args .raw .now)) ≡ true = sym (c .before .before .before .before .is-valid-unchecked .ensures ∙ ap (matches (c .before .before .before .before .before .before .before .before .p .given .0 .0)) (c .before .before .before .before .before .before .payload .ensures)) ∙ not-false (c .before .before .before .before .is-valid-unchecked .result) (c .before .before .before .if2 .left) in
     sym (packet-high (c .before .before .before .before .before .before .before .before .before .before .before .before .args .raw .now) p (sym (c .before .before .before .before .before .before .before .before .before .before .from-bytes .ensures) ∙ c .before .before .before .before .before .before .before .before .p .given .1) (rw (← (c .before .before .before .before .before .before .payload .ensures)) (c .before .before .before .before .before .if1 .left)) (rw (valid, c .before .enum-told .given .1) (le-leb _ _ (c .if3 .taken))))
 
 returns-5 : tie.Need-returns-5
-returns-5 c = 
+returns-5 c =
     let p = c .before .before .before .before .before .before .before .before .p .given .0 .0 in
     let valid : matches p (payloadOf (c .before .before .before .before .before .before .before .before .before .before .before .before .args .raw .now)) ≡ true = sym (c .before .before .before .before .is-valid-unchecked .ensures ∙ ap (matches (c .before .before .before .before .before .before .before .before .p .given .0 .0)) (c .before .before .before .before .before .before .payload .ensures)) ∙ not-false (c .before .before .before .before .is-valid-unchecked .result) (c .before .before .before .if2 .left) in
     let high : numberHigh p (payloadOf (c .before .before .before .before .before .before .before .before .before .before .before .before .args .raw .now)) ≡ false = rw (valid, c .before .enum-told .given .1) (lt-leb _ _ (c .if3 .left)) in
     simp (packet-read (c .before .before .before .before .before .before .before .before .before .before .before .before .args .raw .now) p (sym (c .before .before .before .before .before .before .before .before .before .before .from-bytes .ensures) ∙ c .before .before .before .before .before .before .before .before .p .given .1) (rw (← (c .before .before .before .before .before .before .payload .ensures)) (c .before .before .before .before .before .if1 .left)) high, valid, c .before .enum-told .given .1)
 
 returns-6 : tie.Need-returns-6
-returns-6 c = 
+returns-6 c =
     let p = c .before .before .before .before .before .before .before .p .given .0 .0 in
     let valid : matches p (payloadOf (c .before .before .before .before .before .before .before .before .before .before .before .args .raw .now)) ≡ true = sym (c .before .before .before .is-valid-unchecked .ensures ∙ ap (matches (c .before .before .before .before .before .before .before .p .given .0 .0)) (c .before .before .before .before .before .payload .ensures)) ∙ not-false (c .before .before .before .is-valid-unchecked .result) (c .before .before .if2 .left) in
     let high : numberHigh p (payloadOf (c .before .before .before .before .before .before .before .before .before .before .before .args .raw .now)) ≡ false = rw (valid, c .enum-told2 .given .1) in
     simp (packet-read (c .before .before .before .before .before .before .before .before .before .before .before .args .raw .now) p (sym (c .before .before .before .before .before .before .before .before .before .from-bytes .ensures) ∙ c .before .before .before .before .before .before .before .p .given .1) (rw (← (c .before .before .before .before .before .payload .ensures)) (c .before .before .before .before .if1 .left)) high, valid, c .enum-told2 .given .1)
 
 returns-7 : tie.Need-returns-7
-returns-7 c = 
+returns-7 c =
     let p = c .before .before .before .before .before .before .before .p .given .0 .0 in
     let valid : matches p (payloadOf (c .before .before .before .before .before .before .before .before .before .before .before .args .raw .now)) ≡ true = sym (c .before .before .before .is-valid-unchecked .ensures ∙ ap (matches (c .before .before .before .before .before .before .before .p .given .0 .0)) (c .before .before .before .before .before .payload .ensures)) ∙ not-false (c .before .before .before .is-valid-unchecked .result) (c .before .before .if2 .left) in
     let high : numberHigh p (payloadOf (c .before .before .before .before .before .before .before .before .before .before .before .args .raw .now)) ≡ false = rw (valid, c .enum-told3 .given .1) in

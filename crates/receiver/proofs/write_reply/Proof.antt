@@ -19,7 +19,7 @@ compute-and-set-checksum-unchecked-requires : tie.Need-compute-and-set-checksum-
 compute-and-set-checksum-unchecked-requires c κs = search needs
 
 to-bytes-unchecked-requires : tie.Need-to-bytes-unchecked-requires
-to-bytes-unchecked-requires c κs = 
+to-bytes-unchecked-requires c κs =
     let room = ack-room (c .before .before .before .before .before .before .before .before .before .before .args .reply) (c .before .before .before .before .before .before .before .reply .given .0 .0) (c .before .before .before .before .before .before .before .before .before .before .args .ack .now) (c .before .before .before .before .before .before .before .reply .given .1) (c .before .before .before .before .before .before .before .before .before .before .pre) in
     (omega arith, omega arith)
 

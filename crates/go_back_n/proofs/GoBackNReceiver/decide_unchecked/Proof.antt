@@ -1,0 +1,69 @@
+use mathlib.Core.Path.{_≡_, refl, sym, ap, _∙_}
+use native.Mathlib.Omega.{arith}
+use Rattle.go_back_n.specs.Receiver.{decision}
+use Rattle.go_back_n.proofs.States.{counts-low}
+use borrow.Author.Needs.{needs}
+use Rattle.go_back_n.proofs.GoBackNReceiver.decide_unchecked.Statement.{statement}
+use Rattle.go_back_n.proofs.GoBackNReceiver.decide_unchecked.Tie as tie
+
+add-self : tie.Need-add-self
+add-self c =
+    let low = counts-low (c .before .args .self) (c .before .pre .0) in
+    omega (arith, low .0)
+
+enum-known-handed : tie.Need-enum-known-handed
+enum-known-handed c = search needs
+
+decide-data-requires : tie.Need-decide-data-requires
+decide-data-requires c κs =
+    let low = counts-low (c .before .before .before .before .args .self) (c .before .before .before .before .pre .0) in
+    (c .before .before .before .before .pre .1, low .1, low .2)
+
+enum-known-handed-2 : tie.Need-enum-known-handed-2
+enum-known-handed-2 c = search needs
+
+enum-told : tie.Need-enum-told
+enum-told c = search needs
+
+enum-told-2 : tie.Need-enum-told-2
+enum-told-2 c = search needs
+
+enum-told-3 : tie.Need-enum-told-3
+enum-told-3 c = search needs
+
+returns : tie.Need-returns
+unfolding decision
+returns c = rw (c .before .before .handed .given .1) (c .decide-data .ensures)
+
+returns-2 : tie.Need-returns-2
+unfolding decision
+returns-2 c = rw (c .before .handed2 .given .1)
+
+returns-3 : tie.Need-returns-3
+unfolding decision
+returns-3 c = rw (c .enum-told .given .1)
+
+returns-4 : tie.Need-returns-4
+unfolding decision
+returns-4 c = rw (c .enum-told2 .given .1)
+
+returns-5 : tie.Need-returns-5
+unfolding decision
+returns-5 c = rw (c .enum-told3 .given .1)
+
+pub decide-unchecked-spec : {M : Type 1} → statement M
+decide-unchecked-spec =
+    tie.close
+    (tie.spec
+    add-self
+    enum-known-handed
+    decide-data-requires
+    enum-known-handed-2
+    enum-told
+    enum-told-2
+    enum-told-3
+    returns
+    returns-2
+    returns-3
+    returns-4
+    returns-5)

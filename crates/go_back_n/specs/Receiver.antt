@@ -1,0 +1,67 @@
+-- arq/gbn.rs, `GoBackNReceiver`; document 01, "Turned away" and "Every receiver acknowledges any valid Fin by its own number".
+use Prim.Native.Nat.{ℕ, _+_, _-_}
+use mathlib.Core.List.{List, [], _∷_}
+use mathlib.Core.Bool.{Bool, true, false, cond}
+use lib.ListN.{length}
+use lib.Dec.{ltb, leb, eqb}
+use Rattle.refusal.specs.Clauses.{anyOf}
+use Rattle.receiver.specs.Handed.{readPacket}
+use Rattle.receiver.specs.Receive.{Receiving, receive}
+use Rattle.receiver.specs.declared.Handed.{Handed}
+use Rattle.receiver.specs.declared.Handed.the-variants as handed
+use Rattle.receiver.specs.declared.Reply.{Reply}
+use Rattle.receiver.specs.declared.Reply.the-variants as reply
+use Rattle.go_back_n.specs.declared.GoBackNReceiver.{GoBackNReceiver}
+use Rattle.go_back_n.specs.declared.GoBackNDecision.{GoBackNDecision}
+
+abbrev pub state : ℕ → ℕ → ℕ → ℕ → ℕ → GoBackNReceiver
+state expected filled received discarded duplicates =
+    record { «expected_seq» = expected; filled = filled; «total_received» = received; «discarded_out_of_order» = discarded; «duplicate_acks_sent» = duplicates }
+
+abbrev pub newReceiver : GoBackNReceiver
+newReceiver = state 0 0 0 0 0
+
+-- 9
+unfoldable pub stateBroken : GoBackNReceiver → List ℕ → Bool
+stateBroken r output = anyOf (ltb 4294901760 (r .«expected_seq») ∷ ltb (length output) (r .filled) ∷ [])
+
+-- 8
+unfoldable pub countsBroken : GoBackNReceiver → Bool
+countsBroken r =
+    anyOf
+    (leb 1152921504606846976 (r .«total_received»)
+    ∷ leb 1152921504606846976 (r .«discarded_out_of_order»)
+    ∷ leb 1152921504606846976 (r .«duplicate_acks_sent»)
+    ∷ [])
+
+abbrev pub decided : GoBackNReceiver → Bool → Reply → GoBackNDecision
+decided r deliver reply = record { receiver = r; decision = record { deliver = deliver; reply = reply } }
+
+-- Data in order is delivered and acknowledged; other Data is discarded and, once something was delivered, answered with the last ACK
+unfoldable pub dataDecision : GoBackNReceiver → ℕ → GoBackNDecision
+dataDecision r n =
+    cond (eqb n (r .«expected_seq»))
+    (decided (state (r .«expected_seq» + 1) (r .filled) (r .«total_received») (r .«discarded_out_of_order») (r .«duplicate_acks_sent»)) true (reply.Ack n))
+    (cond (eqb (r .«expected_seq») 0)
+    (decided (state (r .«expected_seq») (r .filled) (r .«total_received») (r .«discarded_out_of_order» + 1) (r .«duplicate_acks_sent»)) false reply.Silent)
+    (decided (state (r .«expected_seq») (r .filled) (r .«total_received») (r .«discarded_out_of_order» + 1) (r .«duplicate_acks_sent» + 1)) false
+    (reply.Ack (r .«expected_seq» - 1))))
+
+-- every packet is counted; Fin is acknowledged by its own number; an ACK and a corrupted packet are not answered
+abbrev pub byKind : GoBackNReceiver → Handed → GoBackNDecision
+byKind r (handed.Data n) = dataDecision r n
+byKind r (handed.Fin n) = decided r false (reply.Ack n)
+byKind r handed.Ack = decided r false reply.Silent
+byKind r handed.Corrupted = decided r false reply.Silent
+byKind r (handed.Refused s) = decided r false reply.Silent
+
+unfoldable pub decision : GoBackNReceiver → Handed → GoBackNDecision
+decision r h = byKind (state (r .«expected_seq») (r .filled) (r .«total_received» + 1) (r .«discarded_out_of_order») (r .«duplicate_acks_sent»)) h
+
+-- the state with its fill mark
+abbrev pub withMark : GoBackNReceiver → ℕ → GoBackNReceiver
+withMark r filled = state (r .«expected_seq») filled (r .«total_received») (r .«discarded_out_of_order») (r .«duplicate_acks_sent»)
+
+abbrev pub handlePacket : GoBackNReceiver → List ℕ → List ℕ → List ℕ → Receiving GoBackNReceiver
+handlePacket r raw output ack =
+    receive (stateBroken r output) (countsBroken r) r (r .filled) (decision r (readPacket raw) .decision) (withMark (decision r (readPacket raw) .receiver)) raw output ack

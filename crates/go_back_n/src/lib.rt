@@ -1,0 +1,189 @@
+// Go-Back-N: arq/gbn.rs of the reference.
+ghost use mathlib.Core.Path.{_≡_};
+ghost use Prim.Native.Nat.{_+_, _≤_, _<_};
+ghost use mathlib.Core.Bool.{false};
+ghost use lib.ListN.{length};
+ghost use Rattle.go_back_n.specs.Receiver.{newReceiver, stateBroken, countsBroken, dataDecision, decision, handlePacket};
+ghost use Rattle.receiver.specs.Receive.{receiving};
+use packet::Packet;
+use receiver::Decision;
+use receiver::Handed;
+use receiver::ReceiveAnswer;
+use receiver::Reply;
+use refusal::Refusal;
+use window::COUNT_LIMIT;
+use window::SEQ_NUM_LIMIT;
+
+pub struct GoBackNReceiver {
+    pub expected_seq: u32,
+    // How many bytes of the output are filled.
+    pub filled: usize,
+    pub total_received: u64,
+    pub discarded_out_of_order: u64,
+    pub duplicate_acks_sent: u64,
+}
+
+// The state after a packet, and what is to be written; the fill mark is still the old one.
+pub struct GoBackNDecision {
+    pub receiver: GoBackNReceiver,
+    pub decision: Decision,
+}
+
+pub struct GoBackNReceived {
+    pub receiver: GoBackNReceiver,
+    pub answer: ReceiveAnswer,
+}
+
+impl GoBackNReceiver {
+    pub fn new() -> GoBackNReceiver
+        ensures { λ r. ⌜ r ≡ newReceiver ⌝ }
+    {
+        GoBackNReceiver {
+            expected_seq: 0,
+            filled: 0,
+            total_received: 0,
+            discarded_out_of_order: 0,
+            duplicate_acks_sent: 0,
+        }
+    }
+
+    // A datagram, with the lent output and a buffer for the ACK.
+    pub fn handle_packet(self, raw: &[u8], output: &mut [u8], ack: &mut [u8]) -> GoBackNReceived
+        ensures { λ r. ⌜ receiving (r .answer) (r .receiver) (now (output .exit)) (now (ack .exit)) ≡ handlePacket self (now (raw .entry)) (now (output .entry)) (now (ack .entry)) ⌝ }
+    {
+        if self.state_broken(output) {
+            return GoBackNReceived {
+                receiver: self,
+                answer: ReceiveAnswer::Refused(Refusal::State),
+            };
+        }
+        if self.counts_broken() {
+            return GoBackNReceived {
+                receiver: self,
+                answer: ReceiveAnswer::Refused(Refusal::Counts),
+            };
+        }
+        let handed = receiver::read_packet(raw);
+        if let Handed::Refused(r) = handed {
+            return GoBackNReceived {
+                receiver: self,
+                answer: ReceiveAnswer::Refused(r),
+            };
+        }
+        let payload = Packet::payload(raw);
+        let after = self.decide_unchecked(handed);
+        let decision = after.decision;
+        if receiver::room_missing_unchecked(decision, payload.len(), self.filled, output, ack) {
+            return GoBackNReceived {
+                receiver: self,
+                answer: ReceiveAnswer::Refused(Refusal::Full),
+            };
+        }
+        let filled = receiver::carry_out_unchecked(decision, payload, self.filled, output, ack);
+        let reply = decision.reply;
+        let mut receiver = after.receiver;
+        receiver.filled = filled;
+        GoBackNReceived {
+            receiver,
+            answer: reply.answer(),
+        }
+    }
+
+    // What a packet that isn't refused does to the state, and what is to be written.
+    pub fn decide_unchecked(mut self, handed: Handed) -> GoBackNDecision
+        requires { ⌜ countsBroken self ≡ false ⌝ }
+        requires { ⌜ self .«expected_seq» ≤ 4294901760 ⌝ }
+        ensures { λ r. ⌜ r ≡ decision self handed ⌝ }
+    {
+        self.total_received = self.total_received + 1;
+        match handed {
+            Handed::Data(n) => self.decide_data(n),
+            Handed::Fin(n) => GoBackNDecision {
+                receiver: self,
+                decision: Decision {
+                    deliver: false,
+                    reply: Reply::Ack(n),
+                },
+            },
+            Handed::Ack => GoBackNDecision {
+                receiver: self,
+                decision: Decision {
+                    deliver: false,
+                    reply: Reply::Silent,
+                },
+            },
+            Handed::Corrupted => GoBackNDecision {
+                receiver: self,
+                decision: Decision {
+                    deliver: false,
+                    reply: Reply::Silent,
+                },
+            },
+            Handed::Refused(_) => GoBackNDecision {
+                receiver: self,
+                decision: Decision {
+                    deliver: false,
+                    reply: Reply::Silent,
+                },
+            },
+        }
+    }
+
+    fn decide_data(mut self, n: u32) -> GoBackNDecision
+        requires { ⌜ (self .«expected_seq» ≤ 4294901760) × (self .«discarded_out_of_order» < 1152921504606846976) × (self .«duplicate_acks_sent» < 1152921504606846976) ⌝ }
+        ensures { λ r. ⌜ r ≡ dataDecision self n ⌝ }
+    {
+        let expected = self.expected_seq;
+        if n == expected {
+            self.expected_seq = expected + 1;
+            return GoBackNDecision {
+                receiver: self,
+                decision: Decision {
+                    deliver: true,
+                    reply: Reply::Ack(n),
+                },
+            };
+        }
+        self.discarded_out_of_order = self.discarded_out_of_order + 1;
+        if expected == 0 {
+            return GoBackNDecision {
+                receiver: self,
+                decision: Decision {
+                    deliver: false,
+                    reply: Reply::Silent,
+                },
+            };
+        }
+        self.duplicate_acks_sent = self.duplicate_acks_sent + 1;
+        GoBackNDecision {
+            receiver: self,
+            decision: Decision {
+                deliver: false,
+                reply: Reply::Ack(expected - 1),
+            },
+        }
+    }
+
+    // Whether document 01's line 9 is true.
+    pub fn state_broken(self, output: &[u8]) -> bool
+        ensures { λ r. ⌜ r ≡ stateBroken self (now (output .entry)) ⌝ }
+    {
+        if SEQ_NUM_LIMIT < self.expected_seq {
+            return true;
+        }
+        output.len() < self.filled
+    }
+
+    // Whether document 01's line 8 is true.
+    pub fn counts_broken(self) -> bool
+        ensures { λ r. ⌜ r ≡ countsBroken self ⌝ }
+    {
+        if COUNT_LIMIT <= self.total_received {
+            return true;
+        }
+        if COUNT_LIMIT <= self.discarded_out_of_order {
+            return true;
+        }
+        COUNT_LIMIT <= self.duplicate_acks_sent
+    }
+}

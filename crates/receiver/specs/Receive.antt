@@ -1,0 +1,40 @@
+-- Document 01, "Turned away" 9, 8, 1, 2, 3, 6, 7, 5: a datagram handed to a receiver that keeps one state R and holds no packets back.
+use Prim.Native.Nat.{ℕ}
+use mathlib.Core.List.{List, [], _∷_}
+use mathlib.Core.Bool.{Bool}
+use lib.ListN.{length}
+use Rattle.refusal.specs.declared.Refusal.{Refusal}
+use Rattle.refusal.specs.declared.Refusal.the-variants.{State, Counts, Full}
+use Rattle.refusal.specs.Order.{Check, check, verdict, decide}
+use Rattle.packet.specs.Reading.{payloadOf}
+use Rattle.receiver.specs.Handed.{packetChecks}
+use Rattle.receiver.specs.Reply.{roomMissing, answerOf, carriedOut, Replied}
+use Rattle.receiver.specs.declared.Decision.{Decision}
+use Rattle.receiver.specs.declared.ReceiveAnswer.{ReceiveAnswer}
+use Rattle.receiver.specs.declared.ReceiveAnswer.the-variants as answer
+
+-- the answer, and the state, the output and the buffer for the ACK when the call returns
+pub record Receiving (R : Type 0) : Type 0 where
+  pub answer : ReceiveAnswer
+  pub receiver : R
+  pub output : List ℕ
+  pub ack : List ℕ
+
+abbrev pub receiving : {R : Type 0} → ReceiveAnswer → R → List ℕ → List ℕ → Receiving R
+receiving a r output ack = record { answer = a; receiver = r; output = output; ack = ack }
+
+-- a decision carried out, with the fill mark put into the state after it
+abbrev pub carried : {R : Type 0} → (ℕ → R) → Decision → Replied → Receiving R
+carried after d v = receiving (answerOf (d .reply)) (after (v .filled)) (v .output) (v .ack)
+
+-- r the state, filled its fill mark; d and after what a packet that isn't refused does
+unfoldable pub receive : {R : Type 0} → Bool → Bool → R → ℕ → Decision → (ℕ → R) → List ℕ → List ℕ → List ℕ → Receiving R
+receive stateBroken countsBroken r filled d after raw output ack =
+    decide
+    (verdict
+    (check stateBroken State
+    ∷ check countsBroken Counts
+    ∷ check (roomMissing d (length (payloadOf raw)) filled output ack) Full
+    ∷ packetChecks raw))
+    (λ s. receiving (answer.Refused s) r output ack)
+    (carried after d (carriedOut d (payloadOf raw) filled output ack))
