@@ -1,10 +1,9 @@
 -- arq/gbn.rs, `GoBackNReceiver`; document 01, "Turned away" and "Every receiver acknowledges any valid Fin by its own number".
 use Prim.Native.Nat.{ℕ, _+_, _-_}
-use mathlib.Core.List.{List, [], _∷_}
+use mathlib.Core.List.{List}
 use mathlib.Core.Bool.{Bool, true, false, cond}
-use lib.ListN.{length}
-use lib.Dec.{ltb, leb, eqb}
-use Rattle.refusal.specs.Clauses.{anyOf}
+use lib.Dec.{eqb}
+use Rattle.receiver.specs.State.{marksBroken, countsBroken}
 use Rattle.receiver.specs.Handed.{readPacket}
 use Rattle.receiver.specs.Receive.{Receiving, receive}
 use Rattle.receiver.specs.declared.Handed.{Handed}
@@ -20,19 +19,6 @@ state expected filled received discarded duplicates =
 
 abbrev pub newReceiver : GoBackNReceiver
 newReceiver = state 0 0 0 0 0
-
--- 9
-unfoldable pub stateBroken : GoBackNReceiver → List ℕ → Bool
-stateBroken r output = anyOf (ltb 4294901760 (r .«expected_seq») ∷ ltb (length output) (r .filled) ∷ [])
-
--- 8
-unfoldable pub countsBroken : GoBackNReceiver → Bool
-countsBroken r =
-    anyOf
-    (leb 1152921504606846976 (r .«total_received»)
-    ∷ leb 1152921504606846976 (r .«discarded_out_of_order»)
-    ∷ leb 1152921504606846976 (r .«duplicate_acks_sent»)
-    ∷ [])
 
 abbrev pub decided : GoBackNReceiver → Bool → Reply → GoBackNDecision
 decided r deliver reply = record { receiver = r; decision = record { deliver = deliver; reply = reply } }
@@ -64,4 +50,4 @@ withMark r filled = state (r .«expected_seq») filled (r .«total_received») (
 
 abbrev pub handlePacket : GoBackNReceiver → List ℕ → List ℕ → List ℕ → Receiving GoBackNReceiver
 handlePacket r raw output ack =
-    receive (stateBroken r output) (countsBroken r) r (r .filled) (decision r (readPacket raw) .decision) (withMark (decision r (readPacket raw) .receiver)) raw output ack
+    receive (marksBroken (r .«expected_seq») (r .filled) output) (countsBroken (r .«total_received») (r .«discarded_out_of_order») (r .«duplicate_acks_sent»)) r (r .filled) (decision r (readPacket raw) .decision) (withMark (decision r (readPacket raw) .receiver)) raw output ack

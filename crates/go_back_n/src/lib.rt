@@ -1,18 +1,16 @@
 // Go-Back-N: arq/gbn.rs of the reference.
 ghost use mathlib.Core.Path.{_≡_};
-ghost use Prim.Native.Nat.{_+_, _≤_, _<_};
+ghost use Prim.Native.Nat.{_≤_, _<_};
 ghost use mathlib.Core.Bool.{false};
-ghost use lib.ListN.{length};
-ghost use Rattle.go_back_n.specs.Receiver.{newReceiver, stateBroken, countsBroken, dataDecision, decision, handlePacket};
+ghost use Rattle.go_back_n.specs.Receiver.{newReceiver, dataDecision, decision, handlePacket};
 ghost use Rattle.receiver.specs.Receive.{receiving};
+ghost use Rattle.receiver.specs.State.{countsBroken};
 use packet::Packet;
 use receiver::Decision;
 use receiver::Handed;
 use receiver::ReceiveAnswer;
 use receiver::Reply;
 use refusal::Refusal;
-use window::COUNT_LIMIT;
-use window::SEQ_NUM_LIMIT;
 
 pub struct GoBackNReceiver {
     pub expected_seq: u32,
@@ -51,13 +49,17 @@ impl GoBackNReceiver {
     pub fn handle_packet(self, raw: &[u8], output: &mut [u8], ack: &mut [u8]) -> GoBackNReceived
         ensures { λ r. ⌜ receiving (r .answer) (r .receiver) (now (output .exit)) (now (ack .exit)) ≡ handlePacket self (now (raw .entry)) (now (output .entry)) (now (ack .entry)) ⌝ }
     {
-        if self.state_broken(output) {
+        if receiver::marks_broken(self.expected_seq, self.filled, output) {
             return GoBackNReceived {
                 receiver: self,
                 answer: ReceiveAnswer::Refused(Refusal::State),
             };
         }
-        if self.counts_broken() {
+        if receiver::counts_broken(
+            self.total_received,
+            self.discarded_out_of_order,
+            self.duplicate_acks_sent,
+        ) {
             return GoBackNReceived {
                 receiver: self,
                 answer: ReceiveAnswer::Refused(Refusal::Counts),
@@ -91,7 +93,7 @@ impl GoBackNReceiver {
 
     // What a packet that isn't refused does to the state, and what is to be written.
     pub fn decide_unchecked(mut self, handed: Handed) -> GoBackNDecision
-        requires { ⌜ countsBroken self ≡ false ⌝ }
+        requires { ⌜ countsBroken (self .«total_received») (self .«discarded_out_of_order») (self .«duplicate_acks_sent») ≡ false ⌝ }
         requires { ⌜ self .«expected_seq» ≤ 4294901760 ⌝ }
         ensures { λ r. ⌜ r ≡ decision self handed ⌝ }
     {
@@ -162,28 +164,5 @@ impl GoBackNReceiver {
                 reply: Reply::Ack(expected - 1),
             },
         }
-    }
-
-    // Whether document 01's line 9 is true.
-    pub fn state_broken(self, output: &[u8]) -> bool
-        ensures { λ r. ⌜ r ≡ stateBroken self (now (output .entry)) ⌝ }
-    {
-        if SEQ_NUM_LIMIT < self.expected_seq {
-            return true;
-        }
-        output.len() < self.filled
-    }
-
-    // Whether document 01's line 8 is true.
-    pub fn counts_broken(self) -> bool
-        ensures { λ r. ⌜ r ≡ countsBroken self ⌝ }
-    {
-        if COUNT_LIMIT <= self.total_received {
-            return true;
-        }
-        if COUNT_LIMIT <= self.discarded_out_of_order {
-            return true;
-        }
-        COUNT_LIMIT <= self.duplicate_acks_sent
     }
 }

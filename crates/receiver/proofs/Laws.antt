@@ -2,3 +2,4 @@
 pub use Rattle.receiver.proofs.Reading.{before-numbers, packet-high, packet-read, read-refused, read-accepted}
 pub use Rattle.receiver.proofs.Replies.{ack-room, room-ack, room-output, replied-is}
 pub use Rattle.receiver.proofs.Receiving.{not-four, refused-state, refused-counts, refused-reading, refused-full, received}
+pub use Rattle.receiver.proofs.States.{marks-low, counts-low}

@@ -1,3 +1,4 @@
+pub mod States
 pub mod Reading
 pub mod Replies
 pub mod Receiving

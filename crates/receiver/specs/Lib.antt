@@ -1,3 +1,4 @@
+pub mod State
 pub mod Handed
 pub mod Reply
 pub mod Receive

@@ -4,12 +4,14 @@ ghost use Prim.Native.Nat.{_+_, _≤_};
 ghost use lib.ListN.{length};
 ghost use lib.Dec.{ltb};
 ghost use mathlib.Core.Bool.{_&&_};
+ghost use Rattle.receiver.specs.State.{marksBroken, countsBroken};
 ghost use Rattle.receiver.specs.Handed.{readPacket};
 ghost use Rattle.receiver.specs.Reply.{replied, carriedOut, roomMissing, RoomFor, RoomForReply, ackAfter, answerOf};
 use packet::Packet;
 use packet::PacketAnswer;
 use packet::PacketType;
 use refusal::Refusal;
+use window::COUNT_LIMIT;
 use window::SEQ_NUM_LIMIT;
 
 // What a datagram handed to a receiver is.
@@ -144,4 +146,27 @@ fn write_reply(reply: Reply, ack: &mut [u8])
             .compute_and_set_checksum_unchecked(none)
             .to_bytes_unchecked(none, ack);
     }
+}
+
+// Whether document 01's line 9 is true of a receiver's base and fill mark.
+pub fn marks_broken(base: u32, filled: usize, output: &[u8]) -> bool
+    ensures { λ r. ⌜ r ≡ marksBroken base filled (now (output .entry)) ⌝ }
+{
+    if SEQ_NUM_LIMIT < base {
+        return true;
+    }
+    output.len() < filled
+}
+
+// Whether document 01's line 8 is true of a receiver's counters.
+pub fn counts_broken(a: u64, b: u64, c: u64) -> bool
+    ensures { λ r. ⌜ r ≡ countsBroken a b c ⌝ }
+{
+    if COUNT_LIMIT <= a {
+        return true;
+    }
+    if COUNT_LIMIT <= b {
+        return true;
+    }
+    COUNT_LIMIT <= c
 }

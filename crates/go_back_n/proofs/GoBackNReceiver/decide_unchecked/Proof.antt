@@ -1,14 +1,14 @@
 use mathlib.Core.Path.{_≡_, refl, sym, ap, _∙_}
 use native.Mathlib.Omega.{arith}
 use Rattle.go_back_n.specs.Receiver.{decision}
-use Rattle.go_back_n.proofs.States.{counts-low}
+use Rattle.receiver.proofs.Laws.{counts-low}
 use borrow.Author.Needs.{needs}
 use Rattle.go_back_n.proofs.GoBackNReceiver.decide_unchecked.Statement.{statement}
 use Rattle.go_back_n.proofs.GoBackNReceiver.decide_unchecked.Tie as tie
 
 add-self : tie.Need-add-self
 add-self c =
-    let low = counts-low (c .before .args .self) (c .before .pre .0) in
+    let low = counts-low (c .before .args .self .«total_received») (c .before .args .self .«discarded_out_of_order») (c .before .args .self .«duplicate_acks_sent») (c .before .pre .0) in
     omega (arith, low .0)
 
 enum-known-handed : tie.Need-enum-known-handed
@@ -16,7 +16,7 @@ enum-known-handed c = search needs
 
 decide-data-requires : tie.Need-decide-data-requires
 decide-data-requires c κs =
-    let low = counts-low (c .before .before .before .before .args .self) (c .before .before .before .before .pre .0) in
+    let low = counts-low (c .before .before .before .before .args .self .«total_received») (c .before .before .before .before .args .self .«discarded_out_of_order») (c .before .before .before .before .args .self .«duplicate_acks_sent») (c .before .before .before .before .pre .0) in
     (c .before .before .before .before .pre .1, low .1, low .2)
 
 enum-known-handed-2 : tie.Need-enum-known-handed-2

@@ -1,0 +1,24 @@
+-- What a receiver's state that isn't broken is like.
+use Prim.Native.Nat.{ℕ, _≤_, _<_}
+use mathlib.Core.Path.{_≡_, refl, sym, ap, _∙_}
+use mathlib.Core.Bool.{Bool, true, false}
+use mathlib.Core.List.{List, [], _∷_}
+use borrow.Author.Tests.{ltb-false, leb-false}
+use lib.ListN.{length}
+use lib.Dec.{leb}
+use Rattle.refusal.specs.Clauses.{anyOf}
+use Rattle.refusal.proofs.Laws.{none-of}
+use Rattle.window.proofs.Laws.{or-nothing}
+use Rattle.receiver.specs.State.{marksBroken, countsBroken}
+
+pub marks-low : (base filled : ℕ) (output : List ℕ) → marksBroken base filled output ≡ false → (base ≤ 4294901760) × (filled ≤ length output)
+unfolding marksBroken
+marks-low base filled output e = let none = none-of _ e in (ltb-false _ _ (none .0), ltb-false _ _ (none .1 .0))
+
+pub counts-low : (a b c : ℕ) → countsBroken a b c ≡ false → (a < 1152921504606846976) × (b < 1152921504606846976) × (c < 1152921504606846976)
+unfolding countsBroken
+counts-low a b c e = let none = none-of _ e in (leb-false _ _ (none .0), leb-false _ _ (none .1 .0), leb-false _ _ (none .1 .1 .0))
+
+pub last-count : (n a b c : ℕ) → leb n a ≡ false → leb n b ≡ false → leb n c ≡ anyOf (leb n a ∷ leb n b ∷ leb n c ∷ [])
+unfolding anyOf
+last-count n a b c e f = rw (e, f) (sym (or-nothing (leb n c)))
