@@ -1,9 +1,12 @@
 #!/usr/bin/env bash
 # All tests: the layout, the comparison with the Rust where it is at hand, and then the proofs and programs from nothing.
-# usage: bash test.sh [REFERENCE_FOLDER]
+# usage: bash test.sh [REFERENCE_FOLDER]      default: ../shared/docs/src, passed over where it isn't there
 set -euo pipefail
-cd "$(dirname "$0")"
 command -v rt >/dev/null || { echo "test.sh: the Rattle kit's command rt is not on the PATH" >&2; exit 2; }
+if [ $# -gt 0 ]; then
+  set -- "$(realpath "$1")"
+fi
+cd "$(dirname "$0")"
 rt fmt --check
-bash compare/run "${1:-../shared/docs/src}"
+bash compare/run "$@"
 exec rt ci

@@ -8,6 +8,7 @@ use std::time::Instant;
 extern "C" {
     fn packet_compute_checksum(seq: u32, kind: u8, flags: u8, checksum: u16, payload: *const u8, len: usize, answer: *mut u64, n: usize) -> u8;
     fn packet_write(seq: u32, kind: u8, flags: u8, payload: *const u8, len: usize, out: *mut u8, room: usize, answer: *mut u64, n: usize) -> u8;
+    fn packet_to_bytes(seq: u32, kind: u8, flags: u8, checksum: u16, payload: *const u8, len: usize, out: *mut u8, room: usize, answer: *mut u64, n: usize) -> u8;
     fn packet_is_valid(raw: *const u8, len: usize, answer: *mut u64, n: usize) -> u8;
     fn packet_payload_len(raw: *const u8, len: usize) -> usize;
 }
@@ -47,8 +48,9 @@ fn layouts(n: usize, rounds: usize) -> Vec<Vec<(&'static str, f64, f64, usize)>>
         }
         let place = out.as_ptr() as usize % 4096;
         let (pay, data) = (&payload, &raw);
-        let mut a = [[0u64; 4]; 3];
-        let [a0, a1, a2] = &mut a;
+        let (buffer, room) = (out.as_mut_ptr(), out.len());
+        let mut a = [[0u64; 4]; 4];
+        let [a0, a1, a2, a3] = &mut a;
         let mut pairs: Vec<(&'static str, Box<dyn FnMut() -> u64 + '_>, Box<dyn FnMut() -> u64 + '_>)> = vec![
             (
                 "checksum",
@@ -58,7 +60,12 @@ fn layouts(n: usize, rounds: usize) -> Vec<Vec<(&'static str, f64, f64, usize)>>
             (
                 "checksum and write",
                 Box::new(|| { let q = black_box(&mut q); q.compute_and_set_checksum(); black_box(q.to_bytes()).len() as u64 }),
-                Box::new(|| { let s: &[u8] = black_box(pay); unsafe { packet_write(black_box(0x0102_0304), 1, 0, s.as_ptr(), s.len(), out.as_mut_ptr(), out.len(), a1.as_mut_ptr(), 4); } a1[0] }),
+                Box::new(|| { let s: &[u8] = black_box(pay); unsafe { packet_write(black_box(0x0102_0304), 1, 0, s.as_ptr(), s.len(), buffer, room, a1.as_mut_ptr(), 4); } a1[0] }),
+            ),
+            (
+                "write alone",
+                Box::new(|| black_box(black_box(&p).to_bytes()).len() as u64),
+                Box::new(|| { let s: &[u8] = black_box(pay); unsafe { packet_to_bytes(black_box(0x0102_0304), 1, 0, 7, s.as_ptr(), s.len(), buffer, room, a3.as_mut_ptr(), 4); } a3[0] }),
             ),
             (
                 "read and validate",
@@ -93,7 +100,7 @@ fn main() {
     println!("|---|---|---|---|---|---|---|");
     for n in [1400usize, 64, 0] {
         let all = layouts(n, rounds);
-        for k in 0..3 {
+        for k in 0..4 {
             let r = sorted(all.iter().map(|l| l[k].1));
             let o = sorted(all.iter().map(|l| l[k].2));
             let (rm, om) = ((r[3] + r[4]) / 2.0, (o[3] + o[4]) / 2.0);

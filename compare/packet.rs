@@ -221,8 +221,14 @@ fn short(c: &mut Count) {
         for declared in 0..=65535u16 { let mut raw = vec![0; len]; raw[4] = 1; raw[6..8].copy_from_slice(&declared.to_be_bytes()); read(c, &raw); }
         for v in 0..=65535u16 { let mut raw = vec![0; len]; raw[4..6].copy_from_slice(&v.to_be_bytes()); raw[7] = (len > 10) as u8; read(c, &raw); }
     }
-    // Every checksum against one header of each kind.
-    for kind in 1..=3u8 { for v in 0..=65535u16 { let [a, b] = v.to_be_bytes(); read(c, &[0, 0, 0, 0, kind, 0, 0, 0, a, b]); } }
+    // Every checksum against two headers of each kind; of the second, 0 is computed, where RFC 1071 also accepts FFFF.
+    for kind in 1..=3u8 {
+        for v in 0..=65535u16 {
+            let [a, b] = v.to_be_bytes();
+            read(c, &[0, 0, 0, 0, kind, 0, 0, 0, a, b]);
+            read(c, &[0, 0, 0xFF - kind, 0xFF, kind, 0, 0, 0, a, b]);
+        }
+    }
 }
 
 fn random_fields(g: &mut Rng) -> Fields {
@@ -241,6 +247,13 @@ fn boundaries(c: &mut Count, g: &mut Rng) {
         // The reference makes the datagram, of any length that the field can declare.
         let mut p = packet(f, &payload);
         if g.below(4) != 0 { p.compute_and_set_checksum(); }
+        // At times a number for which 0 is computed, with the field FFFF.
+        if g.below(8) == 0 {
+            p.seq_num &= 0xFFFF_0000;
+            let k = p.compute_checksum();
+            p.seq_num |= k as u32;
+            p.checksum = if p.compute_checksum() == 0 { 0xFFFF } else { k };
+        }
         let raw = p.to_bytes();
         read(c, &raw);
         let mut longer = raw.clone();

@@ -1,10 +1,10 @@
 -- One bit of one octet turned over moves the sum of a row's words by a power of two.
 use Prim.Native.Nat.{ℕ, zero, suc, _+_, _-_, _*_, _/_, _%_, _^_, _≤_, _<_}
-use mathlib.Core.Path.{_≡_, refl, sym, ap, _∙_}
-use mathlib.Core.List.{List, [], _∷_, _++_}
+use mathlib.Core.Path.{_≡_, sym, ap, _∙_}
+use mathlib.Core.List.{List, [], _∷_}
 use mathlib.Core.Logic.{_⊎_, inl, inr, ⊎-elim}
 use native.Mathlib.Omega.{arith}
-use lib.ListN.{length, getD, set}
+use lib.ListN.{length, getD}
 use lib.Bits.{bitXor, bitAnd, xor-add-and, and-high, xor-lt}
 use lib.Pow.{pow-pos, pow-mono, pow-add}
 use Rattle.checksum.specs.Below.{Octets}

@@ -1,13 +1,13 @@
 -- Laws of `carried`: RFC 1071, section 2 (1), over plain numbers.
 use Prim.Native.Nat.{ℕ, zero, suc, _+_, _-_, _*_, _/_, _%_, _≤_, _<_}
-use mathlib.Core.Path.{_≡_, refl, sym, ap, _∙_}
+use mathlib.Core.Path.{_≡_, sym, ap, _∙_}
 use native.Mathlib.Omega.{arith}
 use Rattle.checksum.specs.Rfc1071.{onesAdd}
 use Rattle.checksum.specs.Techniques.{carried}
 
 -- one turn of bringing the carries back changes nothing
-pub carried-turn : (n : ℕ) → carried (n % 65536 + n / 65536) ≡ carried n
-carried-turn n = omega arith
+pub carried-fold : (n : ℕ) → carried (n % 65536 + n / 65536) ≡ carried n
+carried-fold n = omega arith
 
 pub carried-small : (n : ℕ) → n < 65536 → carried n ≡ n
 carried-small n h = omega arith

@@ -1,7 +1,7 @@
 -- The laws of RFC 1071 that crates above may cite.
-use Prim.Native.Nat.{ℕ, zero, suc, _+_, _-_, _*_, _/_, _%_, _^_, _≤_, _<_}
+use Prim.Native.Nat.{ℕ, _+_, _-_, _^_, _≤_, _<_}
 use mathlib.Core.Path.{_≡_, refl, sym, ap, _∙_}
-use mathlib.Core.List.{List, [], _∷_, List·Permᴰ, List·Permᴰ·nil, List·Permᴰ·cons, List·Permᴰ·swap, List·Permᴰ·trans}
+use mathlib.Core.List.{List, List·Permᴰ, List·Permᴰ·nil, List·Permᴰ·cons, List·Permᴰ·swap, List·Permᴰ·trans}
 use mathlib.Core.Bool.{Bool, true, false}
 use mathlib.Core.Logic.{_⊎_, inl, inr, ⊎-elim}
 use native.Mathlib.Omega.{arith}
@@ -14,10 +14,11 @@ use Rattle.checksum.specs.Below.{Octets, Integers16}
 use Rattle.checksum.specs.Rfc1071.{words, onesAdd, onesSum, complement}
 use Rattle.checksum.specs.Techniques.{plainSum, carried}
 use Rattle.checksum.specs.Flip.{flip}
-use Rattle.checksum.proofs.Carry.{carried-le, carried-small, carried-apart, add-carried}
+use Rattle.checksum.proofs.Carry.{carried-le, carried-apart, add-carried}
 use Rattle.checksum.proofs.Words.{sum, ones-carried}
 use Rattle.checksum.proofs.Bits.{flip-sum, xor-moves, Apart}
 pub use Rattle.checksum.proofs.Bounded.{below-nil, below-cons, below-head, below-tail, below-append, below-take, below-drop, below-set}
+pub use Rattle.checksum.proofs.Carry.{carried-fold, carried-small}
 pub use Rattle.checksum.proofs.Words.{words-below}
 pub use Rattle.checksum.proofs.Bits.{xor-octet, flip-octets}
 
@@ -62,7 +63,7 @@ pub complement-all-ones : (field others : ℕ) → others ≤ 65535 → field �
 unfolding onesAdd
 complement-all-ones field others l e = omega arith
 
--- section 2 (1): the carries may be deferred
+-- section 2 (1): the carries may be deferred; bringing them back is adding the high half to the low half until it is 0
 pub deferred-carries : (ws : List ℕ) → Integers16 ws → onesSum ws ≡ carried (plainSum ws)
 deferred-carries = ones-carried
 

@@ -1,12 +1,11 @@
 -- Laws of sums with the octets of each word swapped: RFC 1071, section 2 (B).
-use Prim.Native.Nat.{ℕ, zero, suc, _+_, _-_, _*_, _/_, _%_, _≤_, _<_}
-use mathlib.Core.Path.{_≡_, refl, sym, ap, _∙_}
+use Prim.Native.Nat.{ℕ, _+_, _-_, _*_, _%_, _≤_, _<_}
+use mathlib.Core.Path.{_≡_, ap, _∙_}
 use mathlib.Core.List.{List}
 use native.Mathlib.Omega.{arith}
 use native.Mathlib.Nat.{add-mul-mod-self-right}
-use lib.ListN.{length, getD, drop}
-use Rattle.checksum.specs.Rfc1071.{words}
-use Rattle.checksum.specs.Techniques.{plainSum, carried, sumFrom, Swapped}
+use lib.ListN.{length, getD}
+use Rattle.checksum.specs.Techniques.{carried, sumFrom, Swapped}
 use Rattle.checksum.proofs.Carry.{carried-same}
 use Rattle.checksum.proofs.Words.{sum, sum-drop, sum-last, sum-end}
 

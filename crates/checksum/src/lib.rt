@@ -1,6 +1,6 @@
 // The Internet checksum of RFC 1071.
 ghost use mathlib.Core.Path.{_≡_};
-ghost use Prim.Native.Nat.{ℕ, _+_, _*_, _≤_, _<_};
+ghost use Prim.Native.Nat.{_+_, _*_, _≤_, _<_};
 ghost use lib.ListN.{length};
 ghost use Rattle.checksum.specs.Rfc1071.{words, onesAdd, onesSum};
 ghost use Rattle.checksum.specs.Techniques.{plainSum, carried, Swapped};

@@ -1,12 +1,12 @@
 -- One bit of a datagram turned over.
 use Prim.Native.Nat.{ℕ, _+_, _-_, _*_, _/_, _%_, _^_, _≤_, _<_}
-use mathlib.Core.Path.{_≡_, refl, sym, ap, _∙_, subst}
+use mathlib.Core.Path.{_≡_, refl, sym, ap, _∙_}
 use mathlib.Core.Bool.{Bool, true, false}
-use mathlib.Core.List.{List, [], _∷_, _++_, append-nil}
+use mathlib.Core.List.{List, [], append-nil}
 use mathlib.Core.Logic.{_⊎_, inl, inr, ⊎-elim}
 use native.Mathlib.Omega.{arith}
 use borrow.Author.Tests.{ltb-true, ltb-false}
-use lib.ListN.{length, getD, take, length-set}
+use lib.ListN.{length, take, length-set}
 use lib.Seq.{take-all, getD-set-other}
 use lib.Bits.{bitXor}
 use lib.Dec.{ltb}
@@ -15,7 +15,6 @@ use Rattle.checksum.specs.Rfc1071.{words, onesSum}
 use Rattle.checksum.specs.Flip.{flip}
 use Rattle.checksum.proofs.Laws.{flip-changes-sum, flip-octets, xor-differs}
 use Rattle.refusal.specs.Order.{verdict}
-use Rattle.refusal.specs.declared.Refusal.{Refusal}
 use Rattle.refusal.specs.declared.Refusal.the-variants.{Cut}
 use Rattle.refusal.proofs.Laws.{decide-accepted, on-accepted, on-refused}
 use Rattle.packet.specs.Format.{headerBytes, datagram, withChecksum, made}
@@ -26,8 +25,8 @@ use Rattle.packet.specs.declared.ValidityAnswer.the-variants as validity
 use Rattle.packet.proofs.Types.{byte-is-type}
 use Rattle.packet.proofs.Header.{Fits, two-bytes, header-octets, checksum-lt}
 use Rattle.packet.proofs.Read.{read-cut}
-use Rattle.packet.proofs.RoundTrip.{cells, cells-read, cells-payload, read-back, valid-back}
-use Rattle.packet.proofs.ReceiverCheck.{receiverSum, valid-all-ones}
+use Rattle.packet.proofs.RoundTrip.{withLength, withLength-read, withLength-payload, valid-back}
+use Rattle.packet.proofs.ReceiverCheck.{valid-all-ones}
 
 -- a valid datagram can be read
 valid-read : (raw : List ℕ) → validity raw ≡ validityAnswer.Valid → fromBytes raw ≡ packetAnswer.Packet (headerOf raw)
@@ -66,7 +65,7 @@ made-declared : (p : Packet) (payload : List ℕ) → 10 + declared (made p payl
 unfolding datagram headerBytes
 made-declared p payload = omega (arith, two-bytes (length payload))
 
-made-length : (p : Packet) (payload : List ℕ) → length (made p payload) ≡ 10 + length payload
+pub made-length : (p : Packet) (payload : List ℕ) → length (made p payload) ≡ 10 + length payload
 unfolding datagram headerBytes
 made-length p payload = omega arith
 
@@ -86,17 +85,17 @@ pub record Prefix (raw : List ℕ) (p : Packet) (payload : List ℕ) : Type 0 wh
 abbrev pub CutOrPrefix : List ℕ → Packet → List ℕ → Type 0
 CutOrPrefix raw p payload = (fromBytes raw ≡ packetAnswer.Refused (Cut (declared raw) (length payload))) ⊎ Prefix raw p payload
 
-cells-cut : (p : Packet) (hi lo : ℕ) (l : List ℕ) → length l < hi * 256 + lo → fromBytes (cells p hi lo l) ≡ packetAnswer.Refused (Cut (hi * 256 + lo) (length l))
+withLength-cut : (p : Packet) (hi lo : ℕ) (l : List ℕ) → length l < hi * 256 + lo → fromBytes (withLength p hi lo l) ≡ packetAnswer.Refused (Cut (hi * 256 + lo) (length l))
 unfolding fromBytes
-cells-cut p hi lo l h =
-    on-refused packetAnswer.Refused (packetAnswer.Packet (headerOf (cells p hi lo l))) (read-cut (cells p hi lo l) (omega arith) (byte-is-type (p .«pkt_type»)) (omega arith))
-    ∙ let n : present (cells p hi lo l) ≡ length l = omega arith in ap (λ (m : ℕ). packetAnswer.Refused (Cut (hi * 256 + lo) m)) n
+withLength-cut p hi lo l h =
+    on-refused packetAnswer.Refused (packetAnswer.Packet (headerOf (withLength p hi lo l))) (read-cut (withLength p hi lo l) (omega arith) (byte-is-type (p .«pkt_type»)) (omega arith))
+    ∙ let n : present (withLength p hi lo l) ≡ length l = omega arith in ap (λ (m : ℕ). packetAnswer.Refused (Cut (hi * 256 + lo) m)) n
 
-by-length : (p : Packet) (hi lo : ℕ) (l : List ℕ) (t : Bool) → ltb (length l) (hi * 256 + lo) ≡ t → (hi * 256 + lo ≡ length l → ⊥) → CutOrPrefix (cells p hi lo l) p l
-by-length p hi lo l true e n = inl (cells-cut p hi lo l (ltb-true _ _ e))
+by-length : (p : Packet) (hi lo : ℕ) (l : List ℕ) (t : Bool) → ltb (length l) (hi * 256 + lo) ≡ t → (hi * 256 + lo ≡ length l → ⊥) → CutOrPrefix (withLength p hi lo l) p l
+by-length p hi lo l true e n = inl (withLength-cut p hi lo l (ltb-true _ _ e))
 by-length p hi lo l false e n =
     let h = ltb-false _ _ e in
-    inr (record { packet = cells-read p hi lo l h; prefix = cells-payload p hi lo l h; proper = omega arith })
+    inr (record { packet = withLength-read p hi lo l h; prefix = withLength-payload p hi lo l h; proper = omega arith })
 
 at-byte-6 : (p : Packet) (payload : List ℕ) (b : ℕ) → CutOrPrefix (flip (made p payload) 6 b) (withChecksum p payload) payload
 unfolding flip datagram headerBytes

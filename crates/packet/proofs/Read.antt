@@ -1,25 +1,22 @@
 -- Laws of reading a datagram.
-use Prim.Native.Nat.{ℕ, zero, suc, _+_, _-_, _*_, _≤_, _<_}
+use Prim.Native.Nat.{ℕ, _-_, _≤_, _<_}
 use mathlib.Core.Path.{_≡_, refl, sym, ap, _∙_}
 use mathlib.Core.Bool.{Bool, true, false, cond, not}
-use mathlib.Core.List.{List, [], _∷_, _++_}
+use mathlib.Core.List.{List, [], _∷_}
 use native.Mathlib.Omega.{arith}
 use borrow.Author.Tests.{ltb-false, lt-ltb, le-ltb}
 use lib.ListN.{length, getD, take, drop, length-take, length-drop}
-use lib.Dec.{ltb, eqb}
 use Rattle.checksum.specs.Below.{Octets}
 use Rattle.refusal.specs.declared.Refusal.{Refusal}
 use Rattle.refusal.specs.declared.Refusal.the-variants.{Short, Kind, Cut}
-use Rattle.refusal.proofs.Laws.{accepted-pass, decide-accepted, decide-refused, on-accepted, on-refused}
-use Rattle.refusal.specs.Order.{Verdict, accepted, refused, order, orElse, numbered, firstOf, verdict, decide, check}
+use Rattle.refusal.proofs.Laws.{accepted-none-true, decide-accepted, decide-refused, on-accepted, on-refused}
+use Rattle.refusal.specs.Order.{accepted, refused, order, orElse, numbered, firstOf, verdict, decide, check}
 use Rattle.packet.specs.Format.{matches}
 use Rattle.packet.specs.Reading.{isType, typeOf, checkType, tryFrom, declared, present, readChecks, headerOf, payloadPart, fromBytes, payloadOf, validity}
 use Rattle.packet.specs.declared.PacketType.{PacketType}
 use Rattle.packet.specs.declared.Packet.{Packet}
 use Rattle.packet.specs.declared.PacketTypeAnswer.the-variants as typeAnswer
-use Rattle.packet.specs.declared.PacketAnswer.{PacketAnswer}
 use Rattle.packet.specs.declared.PacketAnswer.the-variants as packetAnswer
-use Rattle.packet.specs.declared.ValidityAnswer.{ValidityAnswer}
 use Rattle.packet.specs.declared.ValidityAnswer.the-variants as validityAnswer
 
 -- none of the lines 1, 2, 3 is true
@@ -52,7 +49,7 @@ read-accepted raw r = simp (le-ltb _ _ (r .long), r .known, le-ltb _ _ (r .whole
 pub accepted-readable : (raw : List ℕ) → verdict (readChecks raw) ≡ accepted → Readable raw
 unfolding readChecks
 accepted-readable raw v =
-    let p = accepted-pass (readChecks raw) v in
+    let p = accepted-none-true (readChecks raw) v in
     record { long = ltb-false _ _ (p .0); known = not-is-false (isType (getD raw 4 0)) (p .1 .0); whole = ltb-false _ _ (p .1 .1 .0) }
 
 by-type : (b : ℕ) (r : Refusal) (t : Bool) → isType b ≡ t → decide (verdict (check (not t) (Kind b) ∷ [])) typeAnswer.Refused (typeAnswer.Type (typeOf b)) ≡ typeAnswer.Refused r → isType b ≡ false
@@ -79,7 +76,7 @@ type-accepted b t e =
     let v : verdict (checkType b ∷ []) ≡ accepted =
     decide-accepted (verdict (checkType b ∷ [])) typeAnswer.Refused (typeAnswer.Type (typeOf b)) e (λ r f. let z : _≡_ {A = ℕ} 0 1 = cc in omega arith) in
     let g : tryFrom b ≡ typeAnswer.Type (typeOf b) = on-accepted typeAnswer.Refused (typeAnswer.Type (typeOf b)) v in
-    (not-is-false (isType b) (accepted-pass (checkType b ∷ []) v .0), cc)
+    (not-is-false (isType b) (accepted-none-true (checkType b ∷ []) v .0), cc)
 
 pub type-refused : (b : ℕ) (r : Refusal) → tryFrom b ≡ typeAnswer.Refused r → isType b ≡ false
 unfolding tryFrom verdict firstOf numbered orElse order decide

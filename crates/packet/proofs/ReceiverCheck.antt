@@ -1,18 +1,18 @@
 -- RFC 1071, section 1 (3): the receiver's sum over all octets, the checksum field among them.
-use Prim.Native.Nat.{ℕ, _+_, _-_, _*_, _≤_, _<_}
+use Prim.Native.Nat.{ℕ, _+_, _-_, _≤_, _<_}
 use mathlib.Core.Path.{_≡_, refl, sym, ap, _∙_, subst}
 use mathlib.Core.Bool.{Bool, true, false, cond}
-use mathlib.Core.List.{List, [], _∷_, _++_}
+use mathlib.Core.List.{List}
 use mathlib.Core.Logic.{_⊎_, inl, inr, ⊎-elim}
 use native.Mathlib.Omega.{arith}
 use borrow.Author.Tests.{eq-eqb, ne-eqb, eqb-true}
 use lib.ListN.{length, take, drop}
-use lib.Dec.{eqb, lit<}
+use lib.Dec.{lit<}
 use Rattle.checksum.specs.Below.{Octets}
 use Rattle.checksum.specs.Rfc1071.{words, onesAdd, onesSum}
 use Rattle.checksum.proofs.Laws.{ones-add-assoc, ones-add-comm, ones-add-le, ones-sum-le, all-ones, complement-all-ones, words-below, below-take, below-drop}
 use Rattle.refusal.specs.Order.{verdict, accepted}
-use Rattle.packet.specs.Format.{headerBytes, datagram, checksumOf, matches}
+use Rattle.packet.specs.Format.{datagram, checksumOf, matches}
 use Rattle.packet.specs.Reading.{declared, readChecks, headerOf, fromBytes, payloadOf, validity}
 use Rattle.packet.specs.declared.Packet.{Packet}
 use Rattle.packet.specs.declared.PacketAnswer.the-variants as packetAnswer

@@ -9,12 +9,12 @@ use lib.ListN.{length, getD, take, drop, length-append}
 use lib.Seq.{take-append-seam, take-append-add, drop-cons}
 use Rattle.checksum.specs.Below.{Octets}
 use Rattle.refusal.specs.Order.{order, orElse, numbered, firstOf, verdict, decide}
-use Rattle.refusal.proofs.Laws.{on-accepted}
+use Rattle.refusal.proofs.Laws.{decide-accepted, on-accepted}
 use Rattle.packet.specs.Format.{byteOf, headerBytes, datagram, checksumOf, withChecksum, matches}
 use Rattle.packet.specs.Reading.{declared, headerOf, fromBytes, payloadOf, validity}
-use Rattle.packet.specs.Writing.{toBytes, written}
+use Rattle.packet.specs.Writing.{Written, toBytes, written}
 use Rattle.packet.specs.declared.Packet.{Packet}
-use Rattle.packet.specs.declared.LengthAnswer.the-variants.{Length}
+use Rattle.packet.specs.declared.LengthAnswer.the-variants.{Length, Refused}
 use Rattle.packet.specs.declared.PacketAnswer.the-variants as packetAnswer
 use Rattle.packet.specs.declared.ValidityAnswer.the-variants.{Valid}
 use Rattle.packet.proofs.Types.{type-byte, byte-type, byte-is-type}
@@ -25,35 +25,35 @@ be32-is : (n : ℕ) → ((n / 16777216 * 256 + n / 65536 % 256) * 256 + n / 256 
 be32-is n = omega (arith, high-half n, low-half n)
 
 -- the bytes of a datagram whose length field holds any two bytes
-abbrev pub cells : Packet → ℕ → ℕ → List ℕ → List ℕ
-cells p hi lo l =
+abbrev pub withLength : Packet → ℕ → ℕ → List ℕ → List ℕ
+withLength p hi lo l =
     (p .«seq_num» / 16777216) ∷ (p .«seq_num» / 65536 % 256) ∷ (p .«seq_num» / 256 % 256) ∷ (p .«seq_num» % 256) ∷ byteOf (p .«pkt_type») ∷ p .flags ∷ hi ∷ lo ∷ (p .checksum / 256) ∷ (p .checksum % 256) ∷ l
 
-pub cells-header : (p : Packet) (hi lo : ℕ) (l : List ℕ) → headerOf (cells p hi lo l) ≡ p
+pub withLength-header : (p : Packet) (hi lo : ℕ) (l : List ℕ) → headerOf (withLength p hi lo l) ≡ p
 unfolding headerOf
-cells-header p hi lo l = rw (be32-is (p .«seq_num»), type-byte (p .«pkt_type»), two-bytes (p .checksum))
+withLength-header p hi lo l = rw (be32-is (p .«seq_num»), type-byte (p .«pkt_type»), two-bytes (p .checksum))
 
-cells-readable : (p : Packet) (hi lo : ℕ) (l : List ℕ) → hi * 256 + lo ≤ length l → Readable (cells p hi lo l)
-cells-readable p hi lo l h = record { long = omega arith; known = byte-is-type (p .«pkt_type»); whole = omega arith }
+withLength-readable : (p : Packet) (hi lo : ℕ) (l : List ℕ) → hi * 256 + lo ≤ length l → Readable (withLength p hi lo l)
+withLength-readable p hi lo l h = record { long = omega arith; known = byte-is-type (p .«pkt_type»); whole = omega arith }
 
-pub cells-read : (p : Packet) (hi lo : ℕ) (l : List ℕ) → hi * 256 + lo ≤ length l → fromBytes (cells p hi lo l) ≡ packetAnswer.Packet p
+pub withLength-read : (p : Packet) (hi lo : ℕ) (l : List ℕ) → hi * 256 + lo ≤ length l → fromBytes (withLength p hi lo l) ≡ packetAnswer.Packet p
 unfolding fromBytes
-cells-read p hi lo l h =
-    on-accepted packetAnswer.Refused (packetAnswer.Packet (headerOf (cells p hi lo l))) (read-accepted (cells p hi lo l) (cells-readable p hi lo l h))
-    ∙ ap packetAnswer.Packet (cells-header p hi lo l)
+withLength-read p hi lo l h =
+    on-accepted packetAnswer.Refused (packetAnswer.Packet (headerOf (withLength p hi lo l))) (read-accepted (withLength p hi lo l) (withLength-readable p hi lo l h))
+    ∙ ap packetAnswer.Packet (withLength-header p hi lo l)
 
-pub cells-payload : (p : Packet) (hi lo : ℕ) (l : List ℕ) → hi * 256 + lo ≤ length l → payloadOf (cells p hi lo l) ≡ take (hi * 256 + lo) l
-cells-payload p hi lo l h = payload-is (cells p hi lo l) (read-accepted (cells p hi lo l) (cells-readable p hi lo l h))
+pub withLength-payload : (p : Packet) (hi lo : ℕ) (l : List ℕ) → hi * 256 + lo ≤ length l → payloadOf (withLength p hi lo l) ≡ take (hi * 256 + lo) l
+withLength-payload p hi lo l h = payload-is (withLength p hi lo l) (read-accepted (withLength p hi lo l) (withLength-readable p hi lo l h))
 
 -- what is written is read as the same packet, whatever follows it
 pub read-back : (p : Packet) (payload rest : List ℕ) → fromBytes (datagram p payload ++ rest) ≡ packetAnswer.Packet p
 unfolding datagram headerBytes
-read-back p payload rest = cells-read p (length payload / 256) (length payload % 256) (payload ++ rest) (omega (arith, two-bytes (length payload), length-append payload rest))
+read-back p payload rest = withLength-read p (length payload / 256) (length payload % 256) (payload ++ rest) (omega (arith, two-bytes (length payload), length-append payload rest))
 
 pub payload-back : (p : Packet) (payload rest : List ℕ) → payloadOf (datagram p payload ++ rest) ≡ payload
 unfolding datagram headerBytes
 payload-back p payload rest =
-    cells-payload p (length payload / 256) (length payload % 256) (payload ++ rest) (omega (arith, two-bytes (length payload), length-append payload rest))
+    withLength-payload p (length payload / 256) (length payload % 256) (payload ++ rest) (omega (arith, two-bytes (length payload), length-append payload rest))
     ∙ ap (λ (n : ℕ). take n (payload ++ rest)) (two-bytes (length payload)) ∙ take-append-seam payload rest
 
 checksum-kept : (p : Packet) (payload : List ℕ) → matches (withChecksum p payload) payload ≡ true
@@ -64,6 +64,16 @@ pub valid-back : (p : Packet) (payload rest : List ℕ) → validity (datagram (
 valid-back p payload rest =
     validity-is _ (withChecksum p payload) (read-back (withChecksum p payload) payload rest)
     ∙ rw (payload-back (withChecksum p payload) payload rest, checksum-kept p payload)
+
+-- the same of what the writer leaves in a buffer
+pub written-read : (p : Packet) (payload out : List ℕ) (n : ℕ) (left : List ℕ) → toBytes p payload out ≡ written (Length n) left
+    → (fromBytes left ≡ packetAnswer.Packet p) × (payloadOf left ≡ payload)
+unfolding toBytes
+written-read p payload out n left e =
+    let v = decide-accepted _ _ _ e (λ r f. let g : Refused r ≡ Length n = ap (λ (w : Written). w .answer) f in let z : _≡_ {A = ℕ} 0 1 = cc in omega arith) in
+    let f : written (Length (10 + length payload)) (datagram p payload ++ drop (10 + length payload) out) ≡ written (Length n) left = sym (on-accepted _ _ v) ∙ e in
+    let g : datagram p payload ++ drop (10 + length payload) out ≡ left = ap (λ (w : Written). w .out) f in
+    (rw (← g) (read-back p payload (drop (10 + length payload) out)), rw (← g) (payload-back p payload (drop (10 + length payload) out)))
 
 -- what is accepted, written again, is the datagram up to its declared end
 abbrev firstTen : List ℕ → List ℕ

@@ -1,10 +1,10 @@
 -- Laws of packet types and flags.
-use Prim.Native.Nat.{ℕ, zero, suc, _+_, _*_, _/_, _%_, _≤_, _<_}
-use mathlib.Core.Path.{_≡_, refl, sym, ap, _∙_}
-use mathlib.Core.Bool.{Bool, true, false, not, cond}
+use Prim.Native.Nat.{ℕ, zero, suc, _+_, _*_, _/_, _%_, _<_}
+use mathlib.Core.Path.{_≡_, refl}
+use mathlib.Core.Bool.{true, false, not}
 use native.Mathlib.Omega.{arith}
-use borrow.Author.Tests.{lt-leb, le-leb, leb-true}
-use lib.Dec.{lit<, leb, eqb}
+use borrow.Author.Tests.{lt-leb, le-leb}
+use lib.Dec.{lit<, eqb}
 use lib.Bits.{bitAnd, bitOr, and-mask, or-add-and}
 use Rattle.packet.specs.Format.{byteOf}
 use Rattle.packet.specs.Reading.{isType, typeOf}

@@ -1,5 +1,5 @@
 -- Document 01, `packet.rs`: number 0-3, kind 4, flags 5, payload length 6-7, checksum 8-9, all big-endian, and then the payload.
-use Prim.Native.Nat.{ℕ, _+_, _-_, _*_, _/_, _%_}
+use Prim.Native.Nat.{ℕ, _+_, _*_, _/_, _%_}
 use mathlib.Core.List.{List, [], _∷_, _++_}
 use mathlib.Core.Bool.{Bool}
 use lib.ListN.{length}

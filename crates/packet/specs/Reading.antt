@@ -1,10 +1,9 @@
 -- Document 01, `packet.rs` and "Turned away" 1, 2, 3: what a datagram reads as. Bytes after the declared payload are ignored.
 use Prim.Native.Nat.{ℕ, _+_, _-_, _*_}
 use mathlib.Core.List.{List, [], _∷_}
-use mathlib.Core.Bool.{Bool, true, false, cond, not}
+use mathlib.Core.Bool.{Bool, false, cond, not}
 use lib.ListN.{length, getD, take, drop}
 use lib.Dec.{ltb, leb, eqb}
-use Rattle.refusal.specs.declared.Refusal.{Refusal}
 use Rattle.refusal.specs.declared.Refusal.the-variants.{Short, Kind, Cut}
 use Rattle.refusal.specs.Order.{Check, check, verdict, decide}
 use Rattle.packet.specs.Format.{matches}

@@ -1,10 +1,8 @@
 -- Document 01, `packet.rs` and "Turned away" 5, 6: what is written into a lent buffer.
 use Prim.Native.Nat.{ℕ, _+_}
 use mathlib.Core.List.{List, [], _∷_, _++_}
-use mathlib.Core.Bool.{Bool}
 use lib.ListN.{length, drop}
 use lib.Dec.{ltb}
-use Rattle.refusal.specs.declared.Refusal.{Refusal}
 use Rattle.refusal.specs.declared.Refusal.the-variants.{Long, Full}
 use Rattle.refusal.specs.Order.{Check, check, verdict, decide}
 use Rattle.packet.specs.Format.{datagram, checksumOf, withChecksum}

@@ -31,31 +31,9 @@ fn put_packet(answer: &mut [u64], p: Packet) -> u8 {
     0
 }
 
-// The first value that a refusal's line names, or 0.
-fn first_value(r: Refusal) -> u64 {
-    match r {
-        Refusal::Short(n) => n as u64,
-        Refusal::Kind(b) => b as u64,
-        Refusal::Cut {
-            declared,
-            present: _,
-        } => declared as u64,
-        _ => 0,
-    }
-}
-
-fn second_value(r: Refusal) -> u64 {
-    match r {
-        Refusal::Cut {
-            declared: _,
-            present,
-        } => present as u64,
-        _ => 0,
-    }
-}
-
 fn put_refusal(answer: &mut [u64], r: Refusal) -> u8 {
-    put(answer, first_value(r), second_value(r), 0, 0);
+    let values = r.values();
+    put(answer, values.first, values.second, 0, 0);
     r.number()
 }
 

@@ -251,14 +251,12 @@ fn print_refusal(r: Refusal) {
 }
 
 fn print_values(r: Refusal) {
-    match r {
-        Refusal::Short(n) => print_value(n as u64),
-        Refusal::Kind(b) => print_value(b as u64),
-        Refusal::Cut { declared, present } => {
-            print_value(declared as u64);
-            print_value(present as u64);
-        }
-        _ => {}
+    let values = r.values();
+    if 0 < values.count {
+        print_value(values.first);
+    }
+    if 1 < values.count {
+        print_value(values.second);
     }
 }
 
@@ -342,14 +340,14 @@ fn digit(c: u8) -> u8
 }
 
 fn high(b: u8) -> u8 {
-    glyph(b / 16)
+    hex_digit(b / 16)
 }
 
 fn low(b: u8) -> u8 {
-    glyph(b % 16)
+    hex_digit(b % 16)
 }
 
-fn glyph(d: u8) -> u8
+fn hex_digit(d: u8) -> u8
     requires { ⌜ d < 16 ⌝ }
 {
     if d < 10 { d + 48 } else { d + 87 }

@@ -1,15 +1,14 @@
 -- Laws of a datagram handed to a receiver.
-use Prim.Native.Nat.{ℕ, _≤_, _<_}
-use mathlib.Core.Path.{_≡_, refl, sym, ap, _∙_}
-use mathlib.Core.Bool.{Bool, true, false, cond, _&&_, and-false}
+use Prim.Native.Nat.{ℕ, _≤_}
+use mathlib.Core.Path.{_≡_, refl, ap, _∙_}
+use mathlib.Core.Bool.{Bool, true, false, cond}
 use mathlib.Core.List.{List, [], _∷_}
 use native.Mathlib.Omega.{arith}
 use lib.ListN.{length}
-use lib.Dec.{leb}
 use Rattle.refusal.specs.declared.Refusal.{Refusal}
 use Rattle.refusal.specs.declared.Refusal.the-variants.{Short, Kind, Cut, Long, Numbers}
 use Rattle.refusal.specs.Order.{Verdict, check, verdict, accepted, refused, order, orElse, numbered, firstOf}
-use Rattle.refusal.proofs.Laws.{false-check, true-check, accepted-pass, pass-accepted, on-accepted, on-refused, decide-refused}
+use Rattle.refusal.proofs.Laws.{true-check, accepted-none-true, none-true-accepted, on-accepted, on-refused, decide-refused}
 use Rattle.packet.specs.Format.{matches}
 use Rattle.packet.specs.Reading.{readChecks, headerOf, fromBytes, payloadOf}
 use Rattle.packet.specs.declared.Packet.{Packet}
@@ -19,7 +18,7 @@ use Rattle.packet.specs.declared.PacketAnswer.the-variants as packetAnswer
 use Rattle.packet.proofs.Laws.{read-header}
 use Rattle.window.specs.Acknowledgement.{handedChecks}
 use Rattle.window.proofs.Laws.{handed-accepted}
-use Rattle.receiver.specs.Handed.{byType, isData, numberHigh, packetChecks, readPacket}
+use Rattle.receiver.specs.Handed.{byType, numberHigh, packetChecks, readPacket}
 use Rattle.receiver.specs.declared.Handed.the-variants as handed
 
 -- lines 1, 2, 3 and 6 come before 7
@@ -44,15 +43,15 @@ unfolding readPacket
 packet-high raw p e h k =
     on-refused handed.Refused _
     (ap (λ (b : Bool). verdict (check b Numbers ∷ handedChecks raw)) (ap (λ (q : Packet). numberHigh q (payloadOf raw)) (read-header raw p e) ∙ k)
-    ∙ true-check Numbers (handedChecks raw) (accepted-pass (handedChecks raw) (handed-accepted raw p e h)))
+    ∙ true-check Numbers (handedChecks raw) (accepted-none-true (handedChecks raw) (handed-accepted raw p e h)))
 
 pub packet-read : (raw : List ℕ) (p : Packet) → fromBytes raw ≡ packetAnswer.Packet p → length (payloadOf raw) ≤ 1400 → numberHigh p (payloadOf raw) ≡ false
     → readPacket raw ≡ cond (matches p (payloadOf raw)) (byType (p .«pkt_type») (p .«seq_num»)) handed.Corrupted
 unfolding readPacket
 packet-read raw p e h k =
     on-accepted handed.Refused _
-    (pass-accepted (check (numberHigh (headerOf raw) (payloadOf raw)) Numbers ∷ handedChecks raw)
-    (ap (λ (q : Packet). numberHigh q (payloadOf raw)) (read-header raw p e) ∙ k, accepted-pass (handedChecks raw) (handed-accepted raw p e h)))
+    (none-true-accepted (check (numberHigh (headerOf raw) (payloadOf raw)) Numbers ∷ handedChecks raw)
+    (ap (λ (q : Packet). numberHigh q (payloadOf raw)) (read-header raw p e) ∙ k, accepted-none-true (handedChecks raw) (handed-accepted raw p e h)))
     ∙ ap (λ (q : Packet). cond (matches q (payloadOf raw)) (byType (q .«pkt_type») (q .«seq_num»)) handed.Corrupted) (read-header raw p e)
 
 -- and back: what a reading says of the verdict

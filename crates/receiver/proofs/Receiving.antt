@@ -1,6 +1,6 @@
 -- The answers of `receive`, one law for each.
-use Prim.Native.Nat.{ℕ, _≤_, _<_}
-use mathlib.Core.Path.{_≡_, refl, sym, ap, _∙_}
+use Prim.Native.Nat.{ℕ}
+use mathlib.Core.Path.{_≡_, sym, ap, _∙_}
 use mathlib.Core.Bool.{Bool, true, false}
 use mathlib.Core.List.{List, [], _∷_}
 use mathlib.Core.Logic.{⊎-elim}
@@ -9,12 +9,12 @@ use lib.ListN.{length}
 use types.Run.{OneOf}
 use Rattle.refusal.specs.declared.Refusal.{Refusal}
 use Rattle.refusal.specs.declared.Refusal.the-variants.{State, Counts, Full}
-use Rattle.refusal.specs.Order.{check, verdict, accepted, refused, order, orElse, numbered, firstOf, decide}
-use Rattle.refusal.proofs.Laws.{false-check, true-check, accepted-pass, on-accepted, on-refused}
+use Rattle.refusal.specs.Order.{check, verdict, order, orElse, numbered, firstOf, decide}
+use Rattle.refusal.proofs.Laws.{false-check, true-check, accepted-none-true, on-accepted, on-refused}
 use Rattle.packet.specs.Reading.{readChecks, payloadOf}
 use Rattle.receiver.specs.Handed.{packetChecks, readPacket}
-use Rattle.receiver.specs.Reply.{roomMissing, answerOf, carriedOut, Replied, replied}
-use Rattle.receiver.specs.Receive.{Receiving, receiving, carried, receive}
+use Rattle.receiver.specs.Reply.{roomMissing, answerOf, carriedOut, replied}
+use Rattle.receiver.specs.Receive.{receiving, carried, receive}
 use Rattle.receiver.specs.declared.Decision.{Decision}
 use Rattle.receiver.specs.declared.Handed.the-variants as handed
 use Rattle.receiver.specs.declared.ReceiveAnswer.{ReceiveAnswer}
@@ -49,7 +49,7 @@ module _ {R : Type 0} (broken counts : Bool) (r : R) (filled : ℕ) (d : Decisio
       → roomMissing d (length (payloadOf raw)) filled output ack ≡ true → receiving (answer.Refused Full) r output ack ≡ receive broken counts r filled d after raw output ack
   unfolding receive
   refused-full e f h g =
-      sym (on-refused (λ (s : Refusal). receiving (answer.Refused s) r output ack) _ (beyond e f true g ∙ true-check Full (packetChecks raw) (accepted-pass (packetChecks raw) (read-accepted raw h))))
+      sym (on-refused (λ (s : Refusal). receiving (answer.Refused s) r output ack) _ (beyond e f true g ∙ true-check Full (packetChecks raw) (accepted-none-true (packetChecks raw) (read-accepted raw h))))
 
   -- the functions below carried the decision out on the part of the datagram that is its payload
   pub received : (part written acked : List ℕ) (n : ℕ) (a : ReceiveAnswer) → broken ≡ false → counts ≡ false → ((s : Refusal) → readPacket raw ≡ handed.Refused s → ⊥)

@@ -8,7 +8,7 @@ use lib.ListN.{length}
 use lib.Dec.{leb}
 use Rattle.refusal.specs.Clauses.{anyOf}
 use Rattle.refusal.proofs.Laws.{none-of}
-use Rattle.window.proofs.Laws.{or-nothing}
+use Rattle.window.proofs.Laws.{or-false-right}
 use Rattle.receiver.specs.State.{marksBroken, countsBroken}
 
 pub marks-low : (base filled : ℕ) (output : List ℕ) → marksBroken base filled output ≡ false → (base ≤ 4294901760) × (filled ≤ length output)
@@ -21,4 +21,4 @@ counts-low a b c e = let none = none-of _ e in (leb-false _ _ (none .0), leb-fal
 
 pub last-count : (n a b c : ℕ) → leb n a ≡ false → leb n b ≡ false → leb n c ≡ anyOf (leb n a ∷ leb n b ∷ leb n c ∷ [])
 unfolding anyOf
-last-count n a b c e f = rw (e, f) (sym (or-nothing (leb n c)))
+last-count n a b c e f = rw (e, f) (sym (or-false-right (leb n c)))

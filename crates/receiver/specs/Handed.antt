@@ -1,13 +1,11 @@
 -- Document 01, "Turned away" 1, 2, 3, 6, 7, and arq/*.rs, `handle_packet`: a datagram handed to a receiver.
 use Prim.Native.Nat.{ℕ}
-use mathlib.Core.List.{List, [], _∷_}
+use mathlib.Core.List.{List, _∷_}
 use mathlib.Core.Bool.{Bool, true, false, cond, _&&_}
-use lib.ListN.{length}
-use lib.Dec.{leb, eqb}
-use Rattle.refusal.specs.declared.Refusal.{Refusal}
+use lib.Dec.{leb}
 use Rattle.refusal.specs.declared.Refusal.the-variants.{Numbers}
 use Rattle.refusal.specs.Order.{Check, check, verdict, decide}
-use Rattle.packet.specs.Format.{byteOf, matches}
+use Rattle.packet.specs.Format.{matches}
 use Rattle.packet.specs.Reading.{headerOf, payloadOf}
 use Rattle.packet.specs.declared.Packet.{Packet}
 use Rattle.packet.specs.declared.PacketType.{PacketType}

@@ -1,11 +1,10 @@
 -- Document 01, "Turned away" 9, 8, 1, 2, 3, 6, 7, 5: a datagram handed to a receiver that keeps one state R and holds no packets back.
 use Prim.Native.Nat.{ℕ}
-use mathlib.Core.List.{List, [], _∷_}
+use mathlib.Core.List.{List, _∷_}
 use mathlib.Core.Bool.{Bool}
 use lib.ListN.{length}
-use Rattle.refusal.specs.declared.Refusal.{Refusal}
 use Rattle.refusal.specs.declared.Refusal.the-variants.{State, Counts, Full}
-use Rattle.refusal.specs.Order.{Check, check, verdict, decide}
+use Rattle.refusal.specs.Order.{check, verdict, decide}
 use Rattle.packet.specs.Reading.{payloadOf}
 use Rattle.receiver.specs.Handed.{packetChecks}
 use Rattle.receiver.specs.Reply.{roomMissing, answerOf, carriedOut, Replied}

@@ -1,6 +1,6 @@
 -- Laws of the order of the checks, for crates above to cite.
 use Prim.Native.Nat.{ℕ}
-use mathlib.Core.Path.{_≡_, refl, sym, ap, _∙_}
+use mathlib.Core.Path.{_≡_, refl, ap, _∙_}
 use mathlib.Core.Bool.{Bool, true, false, cond, _||_}
 use mathlib.Core.List.{List, [], _∷_}
 use native.Mathlib.Omega.{arith}
@@ -13,9 +13,9 @@ use Rattle.refusal.specs.declared.Refusal.{Refusal}
 use Rattle.refusal.specs.declared.Refusal.the-variants.{Short, Kind, Cut, Setup, Full, Long, Numbers, Counts, State, Time, Roll}
 
 -- no line is true
-abbrev pub Pass : List Check → Type 0
-Pass [] = Prim.Unit {0}
-Pass (c ∷ cs) = (c .fires ≡ false) × Pass cs
+abbrev pub NoneTrue : List Check → Type 0
+NoneTrue [] = Prim.Unit {0}
+NoneTrue (c ∷ cs) = (c .fires ≡ false) × NoneTrue cs
 
 -- a call is accepted exactly when no line is true
 first-accepted : (v w : Verdict) → orElse v w ≡ accepted → v ≡ accepted
@@ -57,34 +57,34 @@ not-fired : (b : Bool) (r : Refusal) → cond b (refused r) accepted ≡ accepte
 not-fired false r e = refl
 not-fired true r e = let z : _≡_ {A = ℕ} 0 1 = cc in absurd (omega arith)
 
-each-pass : (cs : List Check) → ((r : Refusal) → numbered (lineOf r .number) cs ≡ accepted) → Pass cs
+each-false : (cs : List Check) → ((r : Refusal) → numbered (lineOf r .number) cs ≡ accepted) → NoneTrue cs
 unfolding numbered
-each-pass [] h = tt
-each-pass (c ∷ cs) h =
+each-false [] h = tt
+each-false (c ∷ cs) h =
     let n = lineOf (c .refusal) .number in
     let e : cond (eqb n n) (cond (c .fires) (refused (c .refusal)) accepted) accepted ≡ accepted = first-accepted _ (numbered n cs) (h (c .refusal)) in
-    (not-fired (c .fires) (c .refusal) (rw (eq-eqb n n refl) at e), each-pass cs (λ r. second-accepted _ (numbered (lineOf r .number) cs) (h r)))
+    (not-fired (c .fires) (c .refusal) (rw (eq-eqb n n refl) at e), each-false cs (λ r. second-accepted _ (numbered (lineOf r .number) cs) (h r)))
 
-pub accepted-pass : (cs : List Check) → verdict cs ≡ accepted → Pass cs
-accepted-pass cs e = each-pass cs (at-number cs e)
+pub accepted-none-true : (cs : List Check) → verdict cs ≡ accepted → NoneTrue cs
+accepted-none-true cs e = each-false cs (at-number cs e)
 
 either : (b : Bool) → cond b accepted accepted ≡ accepted
 either true = refl
 either false = refl
 
-numbered-pass : (n : ℕ) (cs : List Check) → Pass cs → numbered n cs ≡ accepted
+numbered-none-true : (n : ℕ) (cs : List Check) → NoneTrue cs → numbered n cs ≡ accepted
 unfolding numbered orElse
-numbered-pass n [] h = refl
-numbered-pass n (c ∷ cs) h = rw (h .0, either (eqb (lineOf (c .refusal) .number) n)) (numbered-pass n cs (h .1))
+numbered-none-true n [] h = refl
+numbered-none-true n (c ∷ cs) h = rw (h .0, either (eqb (lineOf (c .refusal) .number) n)) (numbered-none-true n cs (h .1))
 
-first-pass : (ns : List ℕ) (cs : List Check) → Pass cs → firstOf ns cs ≡ accepted
+first-none-true : (ns : List ℕ) (cs : List Check) → NoneTrue cs → firstOf ns cs ≡ accepted
 unfolding firstOf orElse
-first-pass [] cs h = refl
-first-pass (n ∷ ns) cs h = rw (numbered-pass n cs h) (first-pass ns cs h)
+first-none-true [] cs h = refl
+first-none-true (n ∷ ns) cs h = rw (numbered-none-true n cs h) (first-none-true ns cs h)
 
-pub pass-accepted : (cs : List Check) → Pass cs → verdict cs ≡ accepted
+pub none-true-accepted : (cs : List Check) → NoneTrue cs → verdict cs ≡ accepted
 unfolding verdict
-pass-accepted cs h = first-pass order cs h
+none-true-accepted cs h = first-none-true order cs h
 
 -- a check that is false changes nothing; one that is true beside checks that are false is answered
 skip-numbered : (n : ℕ) (r : Refusal) (cs : List Check) → numbered n (check false r ∷ cs) ≡ numbered n cs
@@ -118,16 +118,16 @@ in-order State = refl
 in-order Time = refl
 in-order Roll = refl
 
-true-first : (ns : List ℕ) (r : Refusal) (cs : List Check) → Pass cs → firstOf ns (check true r ∷ cs) ≡ cond (has (lineOf r .number) ns) (refused r) accepted
+true-first : (ns : List ℕ) (r : Refusal) (cs : List Check) → NoneTrue cs → firstOf ns (check true r ∷ cs) ≡ cond (has (lineOf r .number) ns) (refused r) accepted
 unfolding firstOf numbered orElse has
 true-first [] r cs h = refl
-true-first (n ∷ ns) r cs h = rw (numbered-pass n cs h) (by-number (eqb (lineOf r .number) n) (true-first ns r cs h)) where
+true-first (n ∷ ns) r cs h = rw (numbered-none-true n cs h) (by-number (eqb (lineOf r .number) n) (true-first ns r cs h)) where
   by-number : (b : Bool) → firstOf ns (check true r ∷ cs) ≡ cond (has (lineOf r .number) ns) (refused r) accepted
       → orElse (orElse (cond b (refused r) accepted) accepted) (firstOf ns (check true r ∷ cs)) ≡ cond (cond b true (has (lineOf r .number) ns)) (refused r) accepted
   by-number true e = refl
   by-number false e = e
 
-pub true-check : (r : Refusal) (cs : List Check) → Pass cs → verdict (check true r ∷ cs) ≡ refused r
+pub true-check : (r : Refusal) (cs : List Check) → NoneTrue cs → verdict (check true r ∷ cs) ≡ refused r
 unfolding verdict
 true-check r cs h = true-first order r cs h ∙ rw (in-order r)
 

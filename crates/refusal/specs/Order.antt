@@ -1,9 +1,9 @@
 -- Document 01, "Checks go 9, 8, 10, 11, 4, 1, 2, 3, 6, 7, 5": of the lines that are true of a call, the first in this order is answered.
 use Prim.Native.Nat.{ℕ}
-use mathlib.Core.Bool.{Bool, true, false, cond}
+use mathlib.Core.Bool.{Bool, cond}
 use mathlib.Core.List.{List, [], _∷_}
 use lib.Dec.{eqb}
-use Rattle.refusal.specs.Refusal.{Line, lineOf}
+use Rattle.refusal.specs.Refusal.{lineOf}
 use Rattle.refusal.specs.declared.Refusal.{Refusal}
 
 unfoldable pub order : List ℕ

@@ -1,7 +1,6 @@
 // Why a call is turned away, for every layer: document 01, "Turned away".
 ghost use mathlib.Core.Path.{_≡_};
-ghost use mathlib.Core.List.{List};
-ghost use Rattle.refusal.specs.Refusal.{Line, lineOf};
+ghost use Rattle.refusal.specs.Refusal.{lineOf};
 
 // A case for each line of the table, with the values that its line names.
 pub enum Refusal {
@@ -25,6 +24,13 @@ pub enum Refusal {
 pub struct Word {
     pub len: usize,
     pub bytes: [u8; 7],
+}
+
+// The values that a line names, in its order; 0 past their count.
+pub struct Values {
+    pub count: usize,
+    pub first: u64,
+    pub second: u64,
 }
 
 impl Refusal {
@@ -101,6 +107,68 @@ impl Refusal {
             Refusal::Roll => Word {
                 len: 4,
                 bytes: [b'r', b'o', b'l', b'l', 0, 0, 0],
+            },
+        }
+    }
+
+    pub fn values(self) -> Values
+        ensures { λ r. ⌜ r ≡ lineOf self .values ⌝ }
+    {
+        match self {
+            Refusal::Short(length) => Values {
+                count: 1,
+                first: length as u64,
+                second: 0,
+            },
+            Refusal::Kind(byte) => Values {
+                count: 1,
+                first: byte as u64,
+                second: 0,
+            },
+            Refusal::Cut { declared, present } => Values {
+                count: 2,
+                first: declared as u64,
+                second: present as u64,
+            },
+            Refusal::Setup => Values {
+                count: 0,
+                first: 0,
+                second: 0,
+            },
+            Refusal::Full => Values {
+                count: 0,
+                first: 0,
+                second: 0,
+            },
+            Refusal::Long => Values {
+                count: 0,
+                first: 0,
+                second: 0,
+            },
+            Refusal::Numbers => Values {
+                count: 0,
+                first: 0,
+                second: 0,
+            },
+            Refusal::Counts => Values {
+                count: 0,
+                first: 0,
+                second: 0,
+            },
+            Refusal::State => Values {
+                count: 0,
+                first: 0,
+                second: 0,
+            },
+            Refusal::Time => Values {
+                count: 0,
+                first: 0,
+                second: 0,
+            },
+            Refusal::Roll => Values {
+                count: 0,
+                first: 0,
+                second: 0,
             },
         }
     }

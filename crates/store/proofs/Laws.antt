@@ -1,12 +1,12 @@
 -- The laws of slots, for crates above to cite.
-use Prim.Native.Nat.{ℕ, zero, suc, _+_, _-_, _*_, _/_, _%_, _≤_, _<_}
+use Prim.Native.Nat.{ℕ, _+_, _-_, _*_, _/_, _%_, _≤_, _<_}
 use mathlib.Core.Path.{_≡_, refl, sym, ap, _∙_}
 use mathlib.Core.List.{List, [], _∷_, _++_, append-assoc}
 use mathlib.Core.Logic.{_⊎_, inl, inr, ⊎-elim}
 use native.Mathlib.Omega.{arith}
-use lib.ListN.{length, getD, set, take, drop, replicate, length-append, length-take, length-drop, length-set, length-replicate, List·getD-append}
+use lib.ListN.{length, getD, set, take, drop, replicate, length-append, length-drop, length-set, length-replicate, List·getD-append}
 use lib.Seq.{getD-take, getD-drop, getD-append-add, getD-set-other, length-take-le, take-at, drop-at, take-append-seam, drop-drop, take-take, ext-getD, take-set-lt, drop-set-add}
-use Rattle.store.specs.Slot.{SlotIn, slotAt, lengthOf, markOf, flagsOf, payloadOf, headBytes, slotBytes, putSlot}
+use Rattle.store.specs.Slot.{SlotIn, slotAt, lengthOf, markOf, flagsOf, payloadOf, slotBytes, putSlot}
 pub use Rattle.store.proofs.Tests.{slot-in}
 
 -- a byte of a slot

@@ -1,10 +1,10 @@
 -- A slot written in three parts: its head, its payload, zeros.
 use Prim.Native.Nat.{ℕ, _+_, _-_, _≤_}
-use mathlib.Core.Path.{_≡_, refl, sym, ap, _∙_}
+use mathlib.Core.Path.{_≡_, ap, _∙_}
 use mathlib.Core.List.{List, _++_}
 use native.Mathlib.Omega.{arith}
 use lib.ListN.{length, take, drop, replicate, length-append, length-drop}
-use lib.Seq.{take-at, drop-at, length-take-le}
+use lib.Seq.{take-at, length-take-le}
 use Rattle.octets.proofs.Laws.{tail-written}
 
 pub slot-written : (head payload slot mid part : List ℕ) → mid ≡ head ++ payload ++ drop (4 + length payload) slot → length head ≡ 4 → length slot ≡ 1404 → length payload ≤ 1400

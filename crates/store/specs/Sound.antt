@@ -2,8 +2,8 @@
 -- next - 1; mark 2 elsewhere than in a Selective Repeat sender above base; a receiver's slot for base filled. Filled is mark not 0.
 use Prim.Native.Nat.{ℕ, zero, suc, _+_, _%_}
 use mathlib.Core.List.{List}
-use mathlib.Core.Bool.{Bool, true, false, cond, not, _||_, _&&_}
-use lib.Dec.{ltb, leb, eqb}
+use mathlib.Core.Bool.{Bool, false, cond, not, _||_, _&&_}
+use lib.Dec.{ltb, eqb}
 use Rattle.store.specs.Slot.{slotAt, lengthOf, markOf}
 
 -- the test is true of some number below n

@@ -42,7 +42,7 @@ fn print_reading(name: &[u8], raw: &[u8]) {
         PacketAnswer::Packet(p) => {
             print_number(p.seq_num as u64);
             print_validity(raw);
-            print_number(Packet::payload(raw).len() as u64);
+            print_bytes(Packet::payload(raw));
         }
         PacketAnswer::Refused(r) => print_refusal(r),
     }
@@ -64,15 +64,29 @@ fn print_refusal(r: Refusal) {
     let bytes = word.bytes;
     print(b"\t");
     print_first(&bytes, word.len);
-    match r {
-        Refusal::Short(n) => print_number(n as u64),
-        Refusal::Kind(b) => print_number(b as u64),
-        Refusal::Cut { declared, present } => {
-            print_number(declared as u64);
-            print_number(present as u64);
-        }
-        _ => {}
+    let values = r.values();
+    if 0 < values.count {
+        print_number(values.first);
     }
+    if 1 < values.count {
+        print_number(values.second);
+    }
+}
+
+fn print_bytes(bytes: &[u8]) {
+    print(b"\t");
+    if bytes.len() == 0 {
+        print(b"-");
+    }
+    let mut i: usize = 0;
+    while i < bytes.len() {
+        io::print_hex(STDOUT_FILENO, wide(bytes[i]), 2);
+        i += 1;
+    }
+}
+
+fn wide(byte: u8) -> u64 {
+    byte as u64
 }
 
 fn print_first(text: &[u8], n: usize) {

@@ -1,17 +1,17 @@
 -- A datagram handed over: refused, or read with a payload of at most 1,400 bytes.
 use Prim.Native.Nat.{ℕ, _≤_, _<_}
-use mathlib.Core.Path.{_≡_, refl, sym, ap, _∙_}
-use mathlib.Core.Bool.{Bool, true, false, cond, _&&_}
-use mathlib.Core.List.{List, [], _∷_}
+use mathlib.Core.Path.{_≡_, ap, _∙_}
+use mathlib.Core.Bool.{Bool, false, cond, _&&_}
+use mathlib.Core.List.{List, _∷_}
 use borrow.Author.Tests.{lt-ltb, le-ltb}
 use lib.ListN.{length}
 use lib.Dec.{ltb, eqb}
 use Rattle.refusal.specs.declared.Refusal.{Refusal}
 use Rattle.refusal.specs.declared.Refusal.the-variants.{Long}
-use Rattle.refusal.specs.Order.{check, verdict, accepted, refused, decide}
-use Rattle.refusal.proofs.Laws.{false-check, true-check, accepted-pass, pass-accepted, on-accepted, on-refused}
+use Rattle.refusal.specs.Order.{check, verdict, accepted, refused}
+use Rattle.refusal.proofs.Laws.{false-check, true-check, accepted-none-true, none-true-accepted, on-accepted, on-refused}
 use Rattle.packet.specs.Format.{byteOf, matches}
-use Rattle.packet.specs.Reading.{readChecks, headerOf, fromBytes, payloadOf}
+use Rattle.packet.specs.Reading.{readChecks, fromBytes, payloadOf}
 use Rattle.packet.specs.declared.Packet.{Packet}
 use Rattle.packet.specs.declared.PacketAnswer.the-variants as packetAnswer
 use Rattle.packet.proofs.Laws.{read-packet, read-refused, read-header, payload-none}
@@ -26,10 +26,10 @@ handed-refused raw r e =
 
 pub handed-long : (raw : List ℕ) (p : Packet) → fromBytes raw ≡ packetAnswer.Packet p → 1400 < length (payloadOf raw) → verdict (handedChecks raw) ≡ refused Long
 handed-long raw p e h =
-    ap (λ (b : Bool). verdict (check b Long ∷ readChecks raw)) (lt-ltb _ _ h) ∙ true-check Long (readChecks raw) (accepted-pass (readChecks raw) (read-packet raw p e))
+    ap (λ (b : Bool). verdict (check b Long ∷ readChecks raw)) (lt-ltb _ _ h) ∙ true-check Long (readChecks raw) (accepted-none-true (readChecks raw) (read-packet raw p e))
 
 pub handed-accepted : (raw : List ℕ) (p : Packet) → fromBytes raw ≡ packetAnswer.Packet p → length (payloadOf raw) ≤ 1400 → verdict (handedChecks raw) ≡ accepted
-handed-accepted raw p e h = pass-accepted (handedChecks raw) (le-ltb _ _ h, accepted-pass (readChecks raw) (read-packet raw p e))
+handed-accepted raw p e h = none-true-accepted (handedChecks raw) (le-ltb _ _ h, accepted-none-true (readChecks raw) (read-packet raw p e))
 
 -- the same of `readAck`
 pub ack-refused : (raw : List ℕ) (r : Refusal) → verdict (handedChecks raw) ≡ refused r → readAck raw ≡ ackRead.Refused r

@@ -1,30 +1,21 @@
 -- Laws of what a sender does to its slots.
 use Prim.Native.Nat.{ℕ, zero, suc, _+_, _-_, _*_, _/_, _%_, _≤_, _<_}
-use mathlib.Core.Path.{_≡_, refl, sym, ap, _∙_}
-use mathlib.Core.List.{List, [], _∷_, _++_}
+use mathlib.Core.Path.{_≡_, refl, ap}
+use mathlib.Core.List.{List}
 use native.Mathlib.Omega.{arith}
-use lib.ListN.{length, take, drop, replicate, length-append, length-take, length-drop, length-replicate}
-use lib.Bits.{bitOr, bitAnd, and-mask, or-add-and}
+use lib.ListN.{length, replicate, length-take, length-drop, length-replicate}
 use Rattle.packet.specs.Format.{headerBytes, datagram, made}
 use Rattle.packet.specs.declared.Packet.{Packet}
 use Rattle.store.specs.Slot.{SlotIn, slotAt, lengthOf, payloadOf, emptySlot}
-use Rattle.store.proofs.Laws.{slot-in, slot-length, put-length}
+use Rattle.store.proofs.Laws.{slot-length, put-length}
 use Rattle.window.specs.Slots.{Sender, emptyFrom}
-use Rattle.window.specs.Sending.{Sending, sending}
+use Rattle.window.specs.Sending.{sending}
 use Rattle.window.specs.declared.SendAnswer.{SendAnswer}
-
--- the retransmitted flag set
-pub flags-again : (n : ℕ) → bitOr n 1 ≡ n / 2 * 2 + 1
-flags-again n = omega (arith, or-add-and n 1, and-mask n 1)
 
 -- a slot's payload is as long as its length says
 pub slot-payload-length : (store : List ℕ) (j : ℕ) → SlotIn store j → lengthOf (slotAt store j) ≤ 1400 → length (payloadOf (slotAt store j)) ≡ lengthOf (slotAt store j)
 unfolding payloadOf
 slot-payload-length store j h k = simp (length-take, length-drop) (omega (arith, slot-length store j h))
-
-pub made-length : (p : Packet) (payload : List ℕ) → length (made p payload) ≡ 10 + length payload
-unfolding datagram headerBytes
-made-length p payload = omega arith
 
 -- one slot more emptied
 pub empty-more : (store : List ℕ) (w n k : ℕ) → 0 < k → emptyFrom (emptySlot store (n % w)) w (n + 1) (k - 1) ≡ emptyFrom store w n k

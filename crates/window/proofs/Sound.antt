@@ -1,12 +1,12 @@
 -- What a state that isn't broken is like.
-use Prim.Native.Nat.{ℕ, zero, suc, _+_, _-_, _*_, _/_, _%_, _≤_, _<_}
-use mathlib.Core.Path.{_≡_, refl, sym, ap, _∙_}
-use mathlib.Core.Bool.{Bool, true, false, not, _||_}
+use Prim.Native.Nat.{ℕ, _-_, _*_, _/_, _≤_, _<_}
+use mathlib.Core.Path.{_≡_, refl}
+use mathlib.Core.Bool.{Bool, true, false, _||_}
 use mathlib.Core.List.{List}
 use native.Mathlib.Omega.{arith}
 use borrow.Author.Tests.{ltb-true, ltb-false, leb-false, lt-ltb, le-ltb}
 use lib.ListN.{length}
-use lib.Dec.{ltb, leb}
+use lib.Dec.{ltb}
 use Rattle.refusal.proofs.Laws.{none-of, any-of-none}
 use Rattle.store.specs.Sound.{senderSlotsBroken}
 use Rattle.window.specs.State.{windowBroken, storeShort, outstanding, stateBroken, countsBroken}
@@ -59,9 +59,9 @@ unfolding countsBroken
 counts-low s e = let none = none-of _ e in (leb-false _ _ (none .0), leb-false _ _ (none .1 .0))
 
 -- for the functions that test a state
-pub or-nothing : (a : Bool) → (a || false) ≡ a
-or-nothing true = refl
-or-nothing false = refl
+pub or-false-right : (a : Bool) → (a || false) ≡ a
+or-false-right true = refl
+or-false-right false = refl
 
 pub windows-fit : (store : List ℕ) (window : ℕ) → windowBroken window ≡ false → storeShort store window ≡ false → (0 < window) × (window * 1404 ≤ length store)
 unfolding windowBroken storeShort

@@ -1,14 +1,14 @@
 -- Document 01, "Turned away" and "A full window is an ordinary answer"; arq/gbn.rs and arq/sr.rs, `new` and `send_chunk`.
-use Prim.Native.Nat.{ℕ, _+_, _<_, _≤_}
+use Prim.Native.Nat.{ℕ, _+_}
 use mathlib.Core.List.{List, [], _∷_, _++_}
-use mathlib.Core.Bool.{Bool, true, false, cond, _&&_}
+use mathlib.Core.Bool.{Bool, cond, _&&_}
 use lib.ListN.{length, drop}
 use lib.Dec.{ltb, eqb}
-use Rattle.refusal.specs.declared.Refusal.{Refusal}
-use Rattle.refusal.specs.declared.Refusal.the-variants.{State, Counts, Setup, Long, Numbers, Full}
+use Rattle.refusal.specs.declared.Refusal.the-variants.{State, Counts, Setup, Numbers, Full}
 use Rattle.refusal.specs.Order.{Check, check, verdict, decide}
+use Rattle.packet.specs.Writing.{checkLong}
 use Rattle.window.specs.State.{windowBroken, storeShort, outstanding, stateBroken, countsBroken}
-use Rattle.window.specs.Slots.{Sender, sender, newWindow, fresh, hold, firstDatagram}
+use Rattle.window.specs.Slots.{Sender, fresh, hold, firstDatagram}
 use Rattle.window.specs.declared.SendWindow.{SendWindow}
 use Rattle.window.specs.declared.MakeAnswer.{MakeAnswer}
 use Rattle.window.specs.declared.MakeAnswer.the-variants as makeAnswer
@@ -45,7 +45,7 @@ unfoldable pub sendChecks : Bool → Sender → List ℕ → List ℕ → List C
 sendChecks selective v payload out =
     check (stateBroken selective (v .window) (v .store)) State
     ∷ check (countsBroken (v .window)) Counts
-    ∷ check (ltb 1400 (length payload)) Long
+    ∷ checkLong payload
     ∷ check (windowFree (v .window) && eqb (v .window .«next_seq_num») 4294901760) Numbers
     ∷ check (windowFree (v .window) && ltb (length out) (10 + length payload)) Full
     ∷ []

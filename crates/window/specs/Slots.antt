@@ -1,12 +1,12 @@
 -- Document 01, "What the Rust forms turn into": number n has slot n mod window; and arq/gbn.rs, arq/sr.rs: what a sender does to its
 -- state, its store and a lent buffer.
-use Prim.Native.Nat.{ℕ, zero, suc, _+_, _-_, _*_, _/_, _%_, _≤_, _<_}
-use mathlib.Core.List.{List, [], _∷_, _++_}
-use lib.ListN.{length, drop, replicate}
+use Prim.Native.Nat.{ℕ, zero, suc, _+_, _-_, _*_, _/_, _%_}
+use mathlib.Core.List.{List, _++_}
+use lib.ListN.{drop, replicate}
 use Rattle.packet.specs.Format.{newPacket, made}
 use Rattle.packet.specs.declared.Packet.{Packet}
 use Rattle.packet.specs.declared.PacketType.the-variants.{Data}
-use Rattle.store.specs.Slot.{slotAt, flagsOf, lengthOf, payloadOf, fillSlot, emptySlot, setFlags}
+use Rattle.store.specs.Slot.{slotAt, flagsOf, payloadOf, fillSlot, emptySlot, setFlags}
 use Rattle.window.specs.declared.SendWindow.{SendWindow}
 
 -- a window and its store
@@ -45,8 +45,8 @@ abbrev pub firstDatagram : Sender → List ℕ → List ℕ
 firstDatagram v payload = made (newPacket (v .window .«next_seq_num») Data) payload
 
 -- number n marked as sent again, and counted
-unfoldable pub markAgain : Sender → ℕ → Sender
-markAgain v n =
+unfoldable pub markRetransmitted : Sender → ℕ → Sender
+markRetransmitted v n =
     sender
     (record {
       «window_size» = v .window .«window_size»;

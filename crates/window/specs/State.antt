@@ -1,5 +1,5 @@
 -- Document 01, "Bounds of a setup" and "Turned away" 8 and 9, of a sender.
-use Prim.Native.Nat.{ℕ, _+_, _-_, _*_, _/_}
+use Prim.Native.Nat.{ℕ, _-_, _*_}
 use mathlib.Core.List.{List, [], _∷_}
 use mathlib.Core.Bool.{Bool}
 use lib.ListN.{length}

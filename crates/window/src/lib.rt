@@ -1,12 +1,12 @@
 // The sliding window that the three senders share: the chunks from send_base to next_seq_num - 1 lie in the store's slots.
 ghost use mathlib.Core.Path.{_≡_};
 ghost use Prim.Native.Nat.{_+_, _-_, _*_, _≤_, _<_};
-ghost use mathlib.Core.Bool.{true, false};
+ghost use mathlib.Core.Bool.{true};
 ghost use lib.ListN.{length, drop};
 ghost use mathlib.Core.List.{_++_};
 ghost use Rattle.window.specs.Acknowledgement.{readAck};
 ghost use Rattle.window.specs.Sending.{making, makeWindow, sending, sendChunk};
-ghost use Rattle.window.specs.Slots.{sender, fresh, slotFor, hold, firstDatagram, markAgain, datagramFor, emptyFrom, release};
+ghost use Rattle.window.specs.Slots.{sender, fresh, slotFor, hold, firstDatagram, markRetransmitted, datagramFor, emptyFrom, release};
 ghost use Rattle.store.specs.Slot.{slotAt, lengthOf};
 ghost use Rattle.window.specs.State.{stateBroken, countsBroken, windowBroken, storeShort};
 use packet::Packet;
@@ -58,7 +58,7 @@ impl SendWindow {
     pub fn new(window: usize, store: &mut [u8]) -> MakeAnswer
         ensures { λ r. ⌜ making r (now (store .exit)) ≡ makeWindow window (now (store .entry)) ⌝ }
     {
-        if store.len() / store::SLOT_SIZE < window {
+        if store_short(store, window) {
             return MakeAnswer::Refused(Refusal::State);
         }
         if window_broken(window) {
@@ -158,10 +158,10 @@ impl SendWindow {
     }
 
     // Marks a number's slot as sent again and counts it.
-    pub fn mark_again_unchecked(mut self, store: &mut [u8], seq_num: u32) -> SendWindow
+    pub fn mark_retransmitted_unchecked(mut self, store: &mut [u8], seq_num: u32) -> SendWindow
         requires { ⌜ (0 < self .«window_size») × (self .«window_size» * 1404 ≤ length (now store)) ⌝ }
         requires { ⌜ (self .«total_sent» < 9223372036854775808) × (self .retransmissions < 9223372036854775808) ⌝ }
-        ensures { λ r. ⌜ sender r (now (store .exit)) ≡ markAgain (sender self (now (store .entry))) «seq_num» ⌝ }
+        ensures { λ r. ⌜ sender r (now (store .exit)) ≡ markRetransmitted (sender self (now (store .entry))) «seq_num» ⌝ }
     {
         let slot = seq_num as usize % self.window_size;
         let flags = store::flags_unchecked(store, slot) | packet::FLAG_RETRANSMITTED;
@@ -278,7 +278,7 @@ pub fn read_ack(raw: &[u8]) -> AckRead
     }
 }
 
-// Empties the slots of the numbers from n up to until.
+// Empties the slots of the numbers from `from` up to until.
 fn empty_slots(store: &mut [u8], window: usize, from: u32, until: u32)
     requires { ⌜ (0 < window) × (window * 1404 ≤ length (now store)) × (from ≤ until) ⌝ }
     ensures { λ _. ⌜ now (store .exit) ≡ emptyFrom (now (store .entry)) window from (until - from) ⌝ }

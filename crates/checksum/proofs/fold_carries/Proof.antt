@@ -1,9 +1,9 @@
-use Prim.Native.Nat.{ℕ, _<_}
+use Prim.Native.Nat.{_<_}
 use mathlib.Core.Path.{_≡_, _∙_}
 use native.Mathlib.Omega.{arith}
 use lib.Bits.{and-mask}
 use Rattle.checksum.specs.Techniques.{carried}
-use Rattle.checksum.proofs.Carry.{carried-turn}
+use Rattle.checksum.proofs.Carry.{carried-fold}
 use Rattle.checksum.proofs.fold_carries.Statement.{statement}
 use Rattle.checksum.proofs.fold_carries.Tie as tie
 
@@ -25,7 +25,7 @@ loop-less c = omega (arith, and-mask (c .before .loop .s) 16)
 loop-again : tie.Need-loop-again Inv-loop μ-loop
 loop-again c =
     let m = and-mask (c .before .loop .s) 16 in
-    (omega (arith, m), rw m (carried-turn (c .before .loop .s) ∙ c .before .loop .inv .1))
+    (omega (arith, m), rw m (carried-fold (c .before .loop .s) ∙ c .before .loop .inv .1))
 
 cast-result : tie.Need-cast-result Inv-loop μ-loop
 cast-result c = omega arith

@@ -1,9 +1,9 @@
-use mathlib.Core.Path.{_≡_, refl, sym, ap, _∙_}
-use Prim.Native.Nat.{ℕ, _+_, _-_, _*_, _/_, _%_, _≤_, _<_}
+use mathlib.Core.Path.{refl}
+use Prim.Native.Nat.{_+_, _-_}
 use native.Mathlib.Omega.{arith}
 use lib.ListN.{length}
 use Rattle.octets.proofs.Laws.{part-written}
-use Rattle.receiver.specs.Reply.{replied, carriedOut}
+use Rattle.receiver.specs.Reply.{carriedOut}
 use Rattle.receiver.proofs.Replies.{room-output, room-ack, replied-is}
 use borrow.Author.Needs.{needs}
 use Rattle.receiver.proofs.carry_out_unchecked.Statement.{statement}

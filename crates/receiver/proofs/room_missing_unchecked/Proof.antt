@@ -1,4 +1,4 @@
-use mathlib.Core.Path.{_≡_, refl, sym, ap, _∙_}
+use mathlib.Core.Path.{sym, _∙_}
 use Rattle.receiver.specs.Reply.{roomMissing}
 use borrow.Author.Needs.{needs}
 use Rattle.receiver.proofs.room_missing_unchecked.Statement.{statement}

@@ -1,9 +1,7 @@
-use mathlib.Core.Path.{_≡_, refl, sym, ap, _∙_}
-use Prim.Native.Nat.{ℕ, _+_, _-_, _*_, _/_, _%_, _≤_, _<_}
+use mathlib.Core.Path.{_∙_}
+use Prim.Native.Nat.{_-_}
 use native.Mathlib.Omega.{arith}
-use borrow.Author.Tests.{ltb-false}
-use lib.ListN.{length}
-use Rattle.receiver.specs.Reply.{ackMissing, ackAfter}
+use Rattle.receiver.specs.Reply.{ackAfter}
 use Rattle.receiver.proofs.Replies.{ack-room}
 use borrow.Author.Needs.{needs}
 use Rattle.receiver.proofs.write_reply.Statement.{statement}

@@ -1,7 +1,6 @@
-use mathlib.Core.Path.{_≡_, refl, sym, ap, _∙_}
-use Prim.Native.Nat.{ℕ, _+_, _-_, _*_, _≤_, _<_}
+use Prim.Native.Nat.{_-_, _*_}
 use Rattle.octets.proofs.Laws.{part-written}
-use Rattle.store.specs.Slot.{putSlot, slotBytes}
+use Rattle.store.specs.Slot.{putSlot}
 use borrow.Author.Needs.{needs}
 use Rattle.store.proofs.fill_unchecked.Statement.{statement}
 use Rattle.store.proofs.fill_unchecked.Tie as tie

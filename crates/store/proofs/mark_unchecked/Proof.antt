@@ -1,4 +1,4 @@
-use mathlib.Core.Path.{_≡_, refl, sym, ap, _∙_}
+use mathlib.Core.Path.{sym}
 use lib.Dec.{lit<}
 use Rattle.store.proofs.Laws.{slot-byte}
 use borrow.Author.Needs.{needs}

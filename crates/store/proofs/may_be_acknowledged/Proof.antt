@@ -1,4 +1,3 @@
-use mathlib.Core.Path.{_≡_, refl, sym, ap, _∙_}
 use borrow.Author.Needs.{needs}
 use Rattle.store.proofs.may_be_acknowledged.Statement.{statement}
 use Rattle.store.proofs.may_be_acknowledged.Tie as tie

@@ -1,6 +1,5 @@
-use mathlib.Core.Path.{_≡_, refl, sym, ap, _∙_}
+use mathlib.Core.Path.{sym}
 use borrow.Author.Tests.{lt-ltb, le-ltb}
-use mathlib.Core.Bool.{not}
 use Rattle.store.specs.Sound.{receiverSlotBroken}
 use Rattle.store.proofs.Tests.{filled-or-is-two}
 use Rattle.store.proofs.receiver_slot_broken.Statement.{statement}

@@ -1,4 +1,4 @@
-use mathlib.Core.Path.{_≡_, refl, sym, ap, _∙_}
+use mathlib.Core.Path.{sym}
 use borrow.Author.Tests.{lt-ltb, le-ltb, not-true, not-false, ne-eqb}
 use Rattle.store.specs.Sound.{senderSlotBroken}
 use Rattle.store.proofs.Tests.{filled-or-two, empty-or-not-two}

@@ -1,10 +1,7 @@
-use mathlib.Core.Path.{_≡_, refl, sym, ap, _∙_}
+use mathlib.Core.Path.{sym, _∙_}
 use native.Mathlib.Omega.{arith}
-use Prim.Native.Nat.{ℕ}
-use lib.ListN.{length}
 use borrow.Author.Tests.{not-true, not-false}
 use Rattle.window.proofs.Handed.{handed-refused, handed-long, ack-refused, ack-read}
-use Rattle.packet.proofs.Laws.{read-packet, read-refused, read-header, payload-below}
 use borrow.Author.Needs.{needs}
 use Rattle.window.proofs.read_ack.Statement.{statement}
 use Rattle.window.proofs.read_ack.Tie as tie

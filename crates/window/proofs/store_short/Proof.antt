@@ -1,4 +1,3 @@
-use mathlib.Core.Path.{_≡_, refl, sym, ap, _∙_}
 use lib.ListN.{length}
 use Rattle.window.specs.State.{storeShort}
 use Rattle.window.proofs.Sound.{fewer-slots}

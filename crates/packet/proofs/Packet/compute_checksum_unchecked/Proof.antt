@@ -1,4 +1,4 @@
-use mathlib.Core.Path.{_≡_, sym}
+use mathlib.Core.Path.{sym}
 use native.Mathlib.Omega.{arith}
 use Rattle.checksum.specs.Below.{Octets}
 use Rattle.packet.proofs.Header.{Fits, checksum-is}

@@ -1,7 +1,4 @@
-use mathlib.Core.Path.{_≡_, sym, ap, _∙_}
-use mathlib.Core.Bool.{Bool, cond}
-use Rattle.packet.specs.Format.{matches}
-use Rattle.packet.specs.declared.ValidityAnswer.the-variants as validityAnswer
+use mathlib.Core.Path.{sym, _∙_}
 use Rattle.packet.proofs.Read.{read-packet, read-refused, payload-below, validity-is, validity-none}
 use borrow.Author.Needs.{needs}
 use Rattle.packet.proofs.Packet.is_valid.Statement.{statement}

@@ -1,7 +1,7 @@
-use mathlib.Core.Path.{_≡_, sym, ap, _∙_}
+use mathlib.Core.Path.{sym, _∙_}
 use native.Mathlib.Omega.{arith}
 use native.Mathlib.Nat.{add-sub-cancel-left}
-use Rattle.packet.proofs.Read.{Readable, accepted-readable, read-packet, read-refused, payload-is, payload-none}
+use Rattle.packet.proofs.Read.{accepted-readable, read-packet, read-refused, payload-is, payload-none}
 use borrow.Author.Needs.{needs}
 use Rattle.packet.proofs.Packet.payload.Statement.{statement}
 use Rattle.packet.proofs.Packet.payload.Tie as tie

@@ -1,4 +1,3 @@
-use mathlib.Core.Path.{_≡_, refl}
 use borrow.Author.Tests.{lt-ltb, le-ltb}
 use Rattle.refusal.specs.Order.{order, orElse, numbered, firstOf, verdict, decide}
 use Rattle.packet.specs.Writing.{toBytes}

@@ -1,4 +1,4 @@
-use mathlib.Core.Path.{_≡_, refl}
+use mathlib.Core.Path.{refl}
 use lib.ListN.{length}
 use Rattle.packet.specs.Format.{headerBytes, datagram}
 use Rattle.octets.proofs.Laws.{front-written}

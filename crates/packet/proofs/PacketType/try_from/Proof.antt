@@ -1,4 +1,3 @@
-use mathlib.Core.Path.{_≡_, refl}
 use Rattle.refusal.specs.Order.{order, orElse, numbered, firstOf, verdict, decide}
 use Rattle.packet.specs.Reading.{tryFrom}
 use Rattle.packet.proofs.PacketType.try_from.Statement.{statement}

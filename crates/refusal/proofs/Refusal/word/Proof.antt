@@ -1,8 +1,6 @@
 use borrow.Author.Needs.{needs}
 use Rattle.refusal.proofs.Refusal.word.Statement.{statement}
 use Rattle.refusal.proofs.Refusal.word.Tie as tie
-use Rattle.refusal.proofs.Refusal.word.Reads as reads
-use Rattle.refusal.proofs.Refusal.word.Lts as lts
 
 -- src/lib.rt:55:56
 enum-told : tie.Need-enum-told

@@ -1,4 +1,3 @@
-use mathlib.Core.Path.{_≡_, refl, sym, ap, _∙_}
 use Rattle.window.specs.Slots.{fresh}
 use borrow.Author.Needs.{needs}
 use Rattle.window.proofs.SendWindow.new_unchecked.Statement.{statement}

@@ -1,14 +1,11 @@
 use Rattle.window.proofs.Slots.{sending-is}
-use Prim.Native.Nat.{ℕ, _+_, _-_, _*_, _/_, _%_, _≤_, _<_}
-use mathlib.Core.Path.{_≡_, refl, sym, ap, _∙_}
+use Prim.Native.Nat.{_-_}
+use mathlib.Core.Path.{sym, _∙_}
 use native.Mathlib.Omega.{arith}
-use mathlib.Core.List.{List}
-use mathlib.Core.Bool.{true, false}
 use borrow.Author.Tests.{lt-ltb, le-ltb, eq-eqb, ne-eqb}
 use Rattle.refusal.specs.Order.{order, orElse, numbered, firstOf, verdict, decide}
-use Rattle.window.specs.Slots.{Sender}
-use Rattle.window.specs.Sending.{sending, sendChecks, sendChunk}
-use Rattle.window.proofs.Sound.{Sound, sound, counts-low}
+use Rattle.window.specs.Sending.{sendChecks, sendChunk}
+use Rattle.window.proofs.Sound.{sound, counts-low}
 use borrow.Author.Needs.{needs}
 use Rattle.window.proofs.SendWindow.send_chunk.Statement.{statement}
 use Rattle.window.proofs.SendWindow.send_chunk.Tie as tie

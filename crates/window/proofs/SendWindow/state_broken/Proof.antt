@@ -1,9 +1,8 @@
-use mathlib.Core.Path.{_≡_, refl, sym, ap, _∙_}
-use native.Mathlib.Omega.{arith}
+use mathlib.Core.Path.{sym, _∙_}
 use borrow.Author.Tests.{lt-ltb, le-ltb}
 use Rattle.refusal.specs.Clauses.{anyOf}
 use Rattle.window.specs.State.{stateBroken}
-use Rattle.window.proofs.Sound.{or-nothing, windows-fit}
+use Rattle.window.proofs.Sound.{or-false-right, windows-fit}
 use borrow.Author.Needs.{needs}
 use Rattle.window.proofs.SendWindow.state_broken.Statement.{statement}
 use Rattle.window.proofs.SendWindow.state_broken.Tie as tie
@@ -42,7 +41,7 @@ sender-slots-broken-unchecked-requires c κs = windows-fit _ _ (sym (c .before .
 
 returns-6 : tie.Need-returns-6
 unfolding stateBroken anyOf
-returns-6 c = simp (sym (c .before .before .before .before .before .before .before .window-broken .ensures) ∙ c .before .before .before .before .before .before .if1 .left, sym (c .before .before .before .before .before .store-short .ensures) ∙ c .before .before .before .before .if2 .left, le-ltb _ _ (c .before .before .before .if3 .left), le-ltb _ _ (c .before .before .if4 .left), le-ltb _ _ (c .before .if5 .left)) (c .sender-slots-broken-unchecked .ensures ∙ sym (or-nothing _))
+returns-6 c = simp (sym (c .before .before .before .before .before .before .before .window-broken .ensures) ∙ c .before .before .before .before .before .before .if1 .left, sym (c .before .before .before .before .before .store-short .ensures) ∙ c .before .before .before .before .if2 .left, le-ltb _ _ (c .before .before .before .if3 .left), le-ltb _ _ (c .before .before .if4 .left), le-ltb _ _ (c .before .if5 .left)) (c .sender-slots-broken-unchecked .ensures ∙ sym (or-false-right _))
 
 pub state-broken-spec : {M : Type 1} → statement M
 state-broken-spec =

@@ -1,12 +1,13 @@
-use Prim.Native.Nat.{ℕ, _+_, _-_, _*_, _/_, _%_, _≤_, _<_}
+use Prim.Native.Nat.{ℕ, _+_, _-_}
 use mathlib.Core.List.{List}
-use mathlib.Core.Path.{_≡_, refl, sym, ap, _∙_}
+use mathlib.Core.Path.{sym, ap, _∙_}
 use native.Mathlib.Omega.{arith}
 use Rattle.store.proofs.Laws.{slot-in}
 use lib.ListN.{length}
 use Rattle.store.specs.Slot.{slotAt, payloadOf}
 use Rattle.window.specs.Slots.{slotFor, packetFor, datagramFor, sender}
-use Rattle.window.proofs.Slots.{slot-payload-length, made-length}
+use Rattle.packet.proofs.Laws.{made-length}
+use Rattle.window.proofs.Slots.{slot-payload-length}
 use borrow.Author.Needs.{needs}
 use Rattle.window.proofs.SendWindow.write_datagram_unchecked.Statement.{statement}
 use Rattle.window.proofs.SendWindow.write_datagram_unchecked.Tie as tie

@@ -1,11 +1,10 @@
-use mathlib.Core.Path.{_≡_, refl, sym, ap, _∙_}
 use Rattle.store.proofs.Laws.{slot-in}
 use Rattle.store.specs.Slot.{slotAt, flagsOf}
-use Rattle.window.specs.Slots.{sender, slotFor, markAgain}
-use Rattle.window.proofs.Slots.{flags-again}
+use Rattle.window.specs.Slots.{slotFor, markRetransmitted}
+use Rattle.packet.proofs.Laws.{bit-0-set}
 use borrow.Author.Needs.{needs}
-use Rattle.window.proofs.SendWindow.mark_again_unchecked.Statement.{statement}
-use Rattle.window.proofs.SendWindow.mark_again_unchecked.Tie as tie
+use Rattle.window.proofs.SendWindow.mark_retransmitted_unchecked.Statement.{statement}
+use Rattle.window.proofs.SendWindow.mark_retransmitted_unchecked.Tie as tie
 
 rem-slot : tie.Need-rem-slot
 rem-slot c = search needs
@@ -26,11 +25,11 @@ same-length : tie.Need-same-length
 same-length c = search needs
 
 returns : tie.Need-returns
-unfolding markAgain
-returns c = rw (c .before .before .before .before .set-flags-unchecked .ensures, c .before .before .before .before .before .before .flags-unchecked .ensures, flags-again (flagsOf (slotAt (c .before .before .before .before .before .before .before .before .before .before .args .store .now) (slotFor (c .before .before .before .before .before .before .before .before .before .before .args .self) (c .before .before .before .before .before .before .before .before .before .before .args .seq-num)))))
+unfolding markRetransmitted
+returns c = rw (c .before .before .before .before .set-flags-unchecked .ensures, c .before .before .before .before .before .before .flags-unchecked .ensures, bit-0-set (flagsOf (slotAt (c .before .before .before .before .before .before .before .before .before .before .args .store .now) (slotFor (c .before .before .before .before .before .before .before .before .before .before .args .self) (c .before .before .before .before .before .before .before .before .before .before .args .seq-num)))))
 
-pub mark-again-unchecked-spec : {M : Type 1} → statement M
-mark-again-unchecked-spec =
+pub mark-retransmitted-unchecked-spec : {M : Type 1} → statement M
+mark-retransmitted-unchecked-spec =
     tie.close
     (tie.spec
     rem-slot
