@@ -1,1 +1,2 @@
+pub mod Acknowledging
 pub mod States

@@ -2,6 +2,9 @@
 ghost use mathlib.Core.Path.{_≡_};
 ghost use Prim.Native.Nat.{_≤_, _<_};
 ghost use mathlib.Core.Bool.{false};
+ghost use Rattle.window.specs.Slots.{sender};
+ghost use Rattle.window.specs.Sending.{making, makeWindow, sending, sendChunk};
+ghost use Rattle.go_back_n.specs.Sender.{madeWindow, acknowledging, handleAck};
 ghost use Rattle.go_back_n.specs.Receiver.{newReceiver, dataDecision, decision, handlePacket};
 ghost use Rattle.receiver.specs.Receive.{receiving};
 ghost use Rattle.receiver.specs.State.{countsBroken};
@@ -11,6 +14,103 @@ use receiver::Handed;
 use receiver::ReceiveAnswer;
 use receiver::Reply;
 use refusal::Refusal;
+use window::AckAnswer;
+use window::AckRead;
+use window::MakeAnswer;
+use window::SendAnswer;
+use window::SendWindow;
+
+pub struct GoBackNSender {
+    pub window: SendWindow,
+}
+
+pub enum GoBackNMade {
+    Sender(GoBackNSender),
+    Refused(Refusal),
+}
+
+pub struct GoBackNSent {
+    pub sender: GoBackNSender,
+    pub answer: SendAnswer,
+}
+
+pub struct GoBackNAcknowledged {
+    pub sender: GoBackNSender,
+    pub answer: AckAnswer,
+}
+
+impl GoBackNSender {
+    pub fn new(window_size: usize, store: &mut [u8]) -> GoBackNMade
+        ensures { λ r. ⌜ making (madeWindow r) (now (store .exit)) ≡ makeWindow «window_size» (now (store .entry)) ⌝ }
+    {
+        match SendWindow::new(window_size, store) {
+            MakeAnswer::Window(window) => GoBackNMade::Sender(GoBackNSender { window }),
+            MakeAnswer::Refused(r) => GoBackNMade::Refused(r),
+        }
+    }
+
+    // A chunk into its slot and as a datagram to the start of out.
+    pub fn send_chunk(self, store: &mut [u8], payload: &[u8], out: &mut [u8]) -> GoBackNSent
+        ensures { λ r. ⌜ sending (r .answer) (sender (r .sender .window) (now (store .exit))) (now (out .exit)) ≡ sendChunk false (sender (self .window) (now (store .entry))) (now (payload .entry)) (now (out .entry)) ⌝ }
+    {
+        let window = self.window;
+        let sent = window.send_chunk(false, store, payload, out);
+        let window = sent.window;
+        let answer = sent.answer;
+        GoBackNSent {
+            sender: GoBackNSender { window },
+            answer,
+        }
+    }
+
+    // A datagram as an ACK.
+    pub fn handle_ack(self, store: &mut [u8], raw: &[u8]) -> GoBackNAcknowledged
+        ensures { λ r. ⌜ acknowledging (r .answer) (sender (r .sender .window) (now (store .exit))) ≡ handleAck (sender (self .window) (now (store .entry))) (now (raw .entry)) ⌝ }
+    {
+        let window = self.window;
+        if window.state_broken(store, false) {
+            return GoBackNAcknowledged {
+                sender: self,
+                answer: AckAnswer::Refused(Refusal::State),
+            };
+        }
+        if window.counts_broken() {
+            return GoBackNAcknowledged {
+                sender: self,
+                answer: AckAnswer::Refused(Refusal::Counts),
+            };
+        }
+        match window::read_ack(raw) {
+            AckRead::Refused(r) => GoBackNAcknowledged {
+                sender: self,
+                answer: AckAnswer::Refused(r),
+            },
+            AckRead::Other => GoBackNAcknowledged {
+                sender: self,
+                answer: AckAnswer::NotAccepted,
+            },
+            AckRead::Ack(n) => {
+                if n < window.send_base {
+                    return GoBackNAcknowledged {
+                        sender: self,
+                        answer: AckAnswer::NotAccepted,
+                    };
+                }
+                if window.next_seq_num <= n {
+                    return GoBackNAcknowledged {
+                        sender: self,
+                        answer: AckAnswer::NotAccepted,
+                    };
+                }
+                let window = window.release_unchecked(store, n + 1);
+                GoBackNAcknowledged {
+                    sender: GoBackNSender { window },
+                    answer: AckAnswer::Accepted,
+                }
+            }
+        }
+    }
+}
 
 pub struct GoBackNReceiver {
     pub expected_seq: u32,

@@ -1,17 +1,18 @@
 -- A datagram handed over: refused, or read with a payload of at most 1,400 bytes.
 use Prim.Native.Nat.{ℕ, _≤_, _<_}
-use mathlib.Core.Path.{_≡_, ap, _∙_}
-use mathlib.Core.Bool.{Bool, false, cond, _&&_}
+use mathlib.Core.Path.{_≡_, refl, sym, ap, _∙_}
+use mathlib.Core.Bool.{Bool, true, false, cond, _&&_}
 use mathlib.Core.List.{List, _∷_}
+use native.Mathlib.Omega.{arith}
 use borrow.Author.Tests.{lt-ltb, le-ltb}
 use lib.ListN.{length}
 use lib.Dec.{ltb, eqb}
 use Rattle.refusal.specs.declared.Refusal.{Refusal}
 use Rattle.refusal.specs.declared.Refusal.the-variants.{Long}
-use Rattle.refusal.specs.Order.{check, verdict, accepted, refused}
-use Rattle.refusal.proofs.Laws.{false-check, true-check, accepted-none-true, none-true-accepted, on-accepted, on-refused}
+use Rattle.refusal.specs.Order.{Verdict, check, verdict, accepted, refused}
+use Rattle.refusal.proofs.Laws.{false-check, true-check, accepted-none-true, none-true-accepted, on-accepted, on-refused, decide-refused}
 use Rattle.packet.specs.Format.{byteOf, matches}
-use Rattle.packet.specs.Reading.{readChecks, fromBytes, payloadOf}
+use Rattle.packet.specs.Reading.{readChecks, fromBytes, payloadOf, headerOf}
 use Rattle.packet.specs.declared.Packet.{Packet}
 use Rattle.packet.specs.declared.PacketAnswer.the-variants as packetAnswer
 use Rattle.packet.proofs.Laws.{read-packet, read-refused, read-header, payload-none}
@@ -42,3 +43,19 @@ unfolding readAck
 ack-read raw p e h =
     on-accepted ackRead.Refused _ (handed-accepted raw p e h)
     ∙ ap (λ (q : Packet). cond (matches q (payloadOf raw) && eqb (byteOf (q .«pkt_type»)) 2) (ackRead.Ack (q .«seq_num»)) ackRead.Other) (read-header raw p e)
+
+-- and back: what a reading says of the verdict
+by-ack : (b : Bool) (n : ℕ) (r : Refusal) → cond b (ackRead.Ack n) ackRead.Other ≡ ackRead.Refused r → ⊥
+by-ack true n r e = let z : _≡_ {A = ℕ} 0 1 = cc in omega arith
+by-ack false n r e = let z : _≡_ {A = ℕ} 0 1 = cc in omega arith
+
+pub ack-verdict-refused : (raw : List ℕ) (r : Refusal) → readAck raw ≡ ackRead.Refused r → verdict (handedChecks raw) ≡ refused r
+unfolding readAck
+ack-verdict-refused raw r e = decide-refused (verdict (handedChecks raw)) ackRead.Refused _ r e (λ f. by-ack (matches (headerOf raw) (payloadOf raw) && eqb (byteOf (headerOf raw .«pkt_type»)) 2) (headerOf raw .«seq_num») r f) (λ s f. cc)
+
+pub ack-verdict-accepted : (raw : List ℕ) → ((r : Refusal) → readAck raw ≡ ackRead.Refused r → ⊥) → verdict (handedChecks raw) ≡ accepted
+unfolding readAck
+ack-verdict-accepted raw h = by-verdict (verdict (handedChecks raw)) refl where
+  by-verdict : (v : Verdict) → verdict (handedChecks raw) ≡ v → verdict (handedChecks raw) ≡ accepted
+  by-verdict accepted e = e
+  by-verdict (refused r) e = absurd (h r (on-refused ackRead.Refused _ e))

@@ -54,6 +54,13 @@ pub enum AckRead {
     Refused(Refusal),
 }
 
+// Whether an ACK was accepted: the reference's true or false.
+pub enum AckAnswer {
+    Accepted,
+    NotAccepted,
+    Refused(Refusal),
+}
+
 impl SendWindow {
     pub fn new(window: usize, store: &mut [u8]) -> MakeAnswer
         ensures { λ r. ⌜ making r (now (store .exit)) ≡ makeWindow window (now (store .entry)) ⌝ }
