@@ -1,0 +1,568 @@
+// Compares the channel and the schedule with the reference, and refusals and lent memory with a model of document 01.
+// usage: channel SECONDS [--sample DIR]
+extern crate rand;
+extern crate reference;
+
+#[path = "channel_calls.rs"]
+mod calls;
+
+use calls::{new_channel, process, Ours};
+use reference::channel::scheduler::ChannelScheduler;
+use reference::channel::{Channel, ChannelConfig, Delivery};
+use std::time::{Duration, Instant};
+
+struct Gen(u64);
+
+impl Gen {
+    fn next(&mut self) -> u64 {
+        self.0 = self.0.wrapping_add(0x9E3779B97F4A7C15);
+        let mut z = self.0;
+        z = (z ^ (z >> 30)).wrapping_mul(0xBF58476D1CE4E5B9);
+        z = (z ^ (z >> 27)).wrapping_mul(0x94D049BB133111EB);
+        z ^ (z >> 31)
+    }
+    fn below(&mut self, n: u64) -> u64 {
+        self.next() % n
+    }
+    fn unit(&mut self) -> f64 {
+        (self.next() >> 11) as f64 / 9007199254740992.0
+    }
+    fn roll(&mut self, chance: f64) -> f64 {
+        match self.below(8) {
+            0 => 0.0,
+            1 => f64::from_bits(1.0f64.to_bits() - 1),
+            2 if chance < 1.0 => chance,
+            3 if chance > 0.0 => f64::from_bits(chance.to_bits() - 1),
+            4 => -0.0,
+            5 => f64::from_bits(self.below(1 << 20)),
+            _ => self.unit(),
+        }
+    }
+    fn chance(&mut self) -> f64 {
+        match self.below(6) {
+            0 => 0.0,
+            1 => 1.0,
+            2 => -0.0,
+            3 => 0.5,
+            _ => self.unit(),
+        }
+    }
+    fn delay(&mut self) -> u64 {
+        match self.below(6) {
+            0 => 0,
+            1 => 60000,
+            2 => 2,
+            3 => self.below(10),
+            _ => self.below(60001),
+        }
+    }
+    fn length(&mut self) -> usize {
+        match self.below(8) {
+            0 => 0,
+            1 => 1,
+            2 => 1410,
+            3 => 1409,
+            4 => self.below(20) as usize,
+            _ => self.below(1411) as usize,
+        }
+    }
+    fn bytes(&mut self, n: usize) -> Vec<u8> {
+        (0..n).map(|_| self.next() as u8).collect()
+    }
+}
+
+fn fail(what: &str, input: String) -> ! {
+    println!("DIFFERENCE {what}: {input}");
+    std::process::exit(1);
+}
+
+// The first true line of document 01's order 9, 8, 10, 11, 4, 1, 2, 3, 6, 7, 5, as the ABI codes it.
+fn verdict(lines: &[(u64, bool)]) -> u64 {
+    for n in [9, 8, 10, 11, 4, 1, 2, 3, 6, 7, 5] {
+        if lines.iter().any(|&(m, t)| m == n && t) {
+            return 16 + n;
+        }
+    }
+    0
+}
+
+const J1: f64 = 6004799503160661.0 / 9007199254740992.0;
+
+#[derive(Clone)]
+struct Setup {
+    reals: [f64; 4],
+    delays: [u64; 3],
+}
+
+fn setup(g: &mut Gen) -> Setup {
+    Setup { reals: [g.chance(), g.chance(), g.chance(), g.chance()], delays: [g.delay(), g.delay(), g.delay()] }
+}
+
+fn config(s: &Setup) -> ChannelConfig {
+    ChannelConfig {
+        seed: 0,
+        loss: s.reals[0],
+        duplicate: s.reals[1],
+        reorder: s.reals[2],
+        corrupt: s.reals[3],
+        reorder_extra_ms: s.delays[0],
+        base_delay_ms: s.delays[1],
+        jitter_ms: s.delays[2],
+    }
+}
+
+fn rolls(g: &mut Gen, s: &Setup) -> [f64; 8] {
+    let mut r = [0.0; 8];
+    for (i, chance) in [s.reals[0], s.reals[1], s.reals[2], s.reals[3], 0.5, 0.5, J1, J1].iter().enumerate() {
+        r[i] = g.roll(*chance);
+    }
+    r
+}
+
+fn joined(a: &[f64], b: &[f64]) -> Vec<f64> {
+    a.iter().chain(b).copied().collect()
+}
+
+fn numbers(s: &Setup, stats: &[u64; 6]) -> Vec<u64> {
+    s.delays.iter().chain(stats).copied().collect()
+}
+
+// One packet through both channels; answers our delays.
+fn one_packet(s: &Setup, stats: &mut [u64; 6], reference: &mut Channel, packet: &[u8], r: &[f64; 8], spare: &[u8]) -> (Vec<u64>, Vec<u8>, Vec<Delivery>) {
+    let shown = || format!("setup {:?} {:?} rolls {:?} packet {:?} stats {:?}", s.reals, s.delays, r, packet, stats);
+    rand::feed(r);
+    let theirs = reference.process(packet);
+    if rand::left() != 0 {
+        fail("rolls left", shown());
+    }
+    let mut out: Vec<u8> = spare.to_vec();
+    let a = process(&joined(&s.reals, r), &numbers(s, stats), packet, &mut out);
+    if a[0] != theirs.len() as u64 {
+        fail("copies", format!("{} ours {:?}", shown(), a));
+    }
+    let ours: Vec<u64> = a[1..1 + a[0] as usize].to_vec();
+    if ours != theirs.iter().map(|d| d.delay_ms).collect::<Vec<_>>() {
+        fail("delays", format!("{} ours {:?}", shown(), ours));
+    }
+    for d in &theirs {
+        if d.data != out[..packet.len()] {
+            fail("bytes", shown());
+        }
+    }
+    let kept = if theirs.is_empty() { 0 } else { packet.len() };
+    if out[kept..] != spare[kept..] {
+        fail("buffer past the packet", shown());
+    }
+    let t = &reference.stats;
+    let tallies = [t.packets_seen, t.lost, t.corrupted, t.duplicated, t.reordered, t.copies_delivered];
+    if a[3..9] != tallies {
+        fail("tallies", format!("{} ours {:?} theirs {:?}", shown(), &a[3..9], tallies));
+    }
+    *stats = tallies;
+    (ours, out[..kept].to_vec(), theirs)
+}
+
+fn channel_runs(g: &mut Gen, packets: &mut u64) {
+    let s = setup(g);
+    if new_channel(&s.reals, &s.delays) != 0 {
+        fail("making", format!("{:?} {:?}", s.reals, s.delays));
+    }
+    let mut reference = Channel::new(config(&s));
+    let mut stats = [0u64; 6];
+    for _ in 0..20 {
+        let n = g.length();
+        let packet = g.bytes(n);
+        let r = rolls(g, &s);
+        let spare_len = n + g.below(3) as usize;
+        let spare = g.bytes(spare_len);
+        one_packet(&s, &mut stats, &mut reference, &packet, &r, &spare);
+        *packets += 1;
+    }
+}
+
+// Every byte and bit of short packets, by rolls at the edges of each pick.
+fn every_pick(packets: &mut u64) {
+    let s = Setup { reals: [0.0, 1.0, 1.0, 1.0], delays: [7, 5, 2] };
+    for n in 0..40usize {
+        for k in 0..=n as u64 {
+            for bit in 0..8u64 {
+                let edge = |k: u64, n: u64, up: bool| {
+                    let x = if n == 0 { 0.0 } else { k as f64 / n as f64 };
+                    let y = if up { f64::from_bits(x.to_bits() + 1) } else if x > 0.0 { f64::from_bits(x.to_bits() - 1) } else { x };
+                    if y < 1.0 { y } else { f64::from_bits(1.0f64.to_bits() - 1) }
+                };
+                for up in [false, true] {
+                    let mut reference = Channel::new(config(&s));
+                    let mut stats = [0u64; 6];
+                    let r = [0.0, 0.0, 0.0, 0.0, edge(k, n as u64, up), edge(bit, 8, up), edge(k % 3, 3, up), J1];
+                    one_packet(&s, &mut stats, &mut reference, &vec![0x5A; n], &r, &vec![9; n]);
+                    *packets += 1;
+                }
+            }
+        }
+    }
+}
+
+// Refusals of the channel: several lines made true at once, against the model; nothing changes.
+fn channel_refusals(g: &mut Gen, refusals: &mut u64) {
+    let mut s = setup(g);
+    let mut stats = [g.below(100), 0, 5, 0, (1 << 60) - 1, 3];
+    let mut r = rolls(g, &s);
+    let mut n = g.length();
+    if g.below(3) == 0 {
+        let bad = [f64::NAN, -1e-300, 1.0000000000000002, f64::INFINITY, -1.0][g.below(5) as usize];
+        s.reals[g.below(4) as usize] = bad;
+    }
+    if g.below(3) == 0 {
+        s.delays[g.below(3) as usize] = 60001 + g.below(3);
+    }
+    if g.below(3) == 0 {
+        stats[g.below(6) as usize] = (1 << 60) + g.below(2) * ((1 << 63) - 1);
+    }
+    if g.below(3) == 0 {
+        r[g.below(8) as usize] = [f64::NAN, 1.0, -1e-320, 2.0, f64::NEG_INFINITY][g.below(5) as usize];
+    }
+    if g.below(4) == 0 {
+        n = 1411 + g.below(3) as usize;
+    }
+    let chance = |x: f64| x >= 0.0 && x <= 1.0;
+    let setup_broken = !s.reals.iter().all(|&x| chance(x)) || s.delays.iter().any(|&d| d > 60000);
+    let packet = g.bytes(n);
+    let short = g.below(2) == 0 && n > 0;
+    let spare = g.bytes(if short { n - 1 } else { n });
+    let mut out = spare.clone();
+    let a = process(&joined(&s.reals, &r), &numbers(&s, &stats), &packet, &mut out);
+    let lost = r[0] < s.reals[0];
+    let want = verdict(&[
+        (9, setup_broken),
+        (8, stats.iter().any(|&c| c >= 1 << 60)),
+        (11, !r.iter().all(|&x| x >= 0.0 && x < 1.0)),
+        (6, n > 1410),
+        (5, !lost && spare.len() < n),
+    ]);
+    let shown = format!("{:?} {:?} stats {:?} rolls {:?} n {} out {} ours {:?} want {}", s.reals, s.delays, stats, r, n, spare.len(), a, want);
+    if want == 0 {
+        if a[0] > 2 {
+            fail("refused without a line", shown);
+        }
+    } else {
+        if a[0] != want || out != spare || a[3..9] != stats {
+            fail("refusal", shown);
+        }
+        *refusals += 1;
+    }
+    let want = if setup_broken { 16 + 4 } else { 0 };
+    if new_channel(&s.reals, &s.delays) != want {
+        fail("making", format!("{:?} {:?}", s.reals, s.delays));
+    }
+}
+
+const PLACE: usize = 1410;
+const MAX_TIME: u64 = 172_800_000_000_000;
+
+// Document 01's schedule, written from its text: records, places and the lines 9, 8, 10, 6, 5.
+#[derive(Clone)]
+struct Model {
+    records: Vec<[u64; 4]>,
+    places: Vec<u8>,
+    count: usize,
+    next: u64,
+}
+
+impl Model {
+    fn waiting(&self) -> &[[u64; 4]] {
+        &self.records[..self.count]
+    }
+    fn line9(&self) -> bool {
+        if self.count > self.records.len() {
+            return true;
+        }
+        let w = self.waiting();
+        let n = (self.places.len() / PLACE) as u64;
+        w.windows(2).any(|p| (p[1][0], p[1][1]) < (p[0][0], p[0][1]))
+            || w.iter().any(|r| r[2] > 1410 || r[1] >= self.next || r[3] >= n)
+            || (0..w.len()).any(|i| (0..i).any(|j| w[i][3] == w[j][3]))
+    }
+    fn line8(&self) -> bool {
+        self.next >= 1 << 60
+    }
+    fn held_late(&self) -> bool {
+        self.count <= self.records.len() && self.waiting().iter().any(|r| r[0] > MAX_TIME)
+    }
+    fn free(&self) -> Vec<u64> {
+        (0..(self.places.len() / PLACE) as u64).filter(|p| self.waiting().iter().all(|r| r[3] != *p)).collect()
+    }
+    fn room(&self) -> usize {
+        self.free().len().min(self.records.len() - self.count)
+    }
+    fn schedule_at(&mut self, now: u64, packet: &[u8], delays: &[u64]) -> u64 {
+        let late = |d: u64| d > 180000 || now as u128 + d as u128 * 1000000 > MAX_TIME as u128;
+        let nine = self.line9();
+        let v = verdict(&[
+            (9, nine),
+            (8, self.line8()),
+            (10, now > MAX_TIME || self.held_late() || delays.iter().any(|&d| late(d))),
+            (6, packet.len() > 1410),
+            (5, !nine && self.room() < delays.len()),
+        ]);
+        if v != 0 {
+            return v;
+        }
+        for d in delays {
+            let place = self.free()[0] as usize;
+            let r = [now + d * 1000000, self.next, packet.len() as u64, place as u64];
+            self.places[place * PLACE..(place + 1) * PLACE].fill(0);
+            self.places[place * PLACE..place * PLACE + packet.len()].copy_from_slice(packet);
+            let mut w = self.waiting().to_vec();
+            w.push(r);
+            w.sort_by_key(|r| (r[0], r[1]));
+            self.count += 1;
+            self.records[..self.count].copy_from_slice(&w);
+            self.next += 1;
+        }
+        0
+    }
+    fn pop_ready_at(&mut self, now: u64, out: &mut [u8]) -> (u64, usize) {
+        let nine = self.line9();
+        let due = !nine && self.count > 0 && self.records[0][0] <= now;
+        let v = verdict(&[(9, nine), (8, self.line8()), (10, now > MAX_TIME || self.held_late()), (5, due && (out.len() as u64) < self.records[0][2])]);
+        if v != 0 {
+            return (v, 7);
+        }
+        if !due {
+            return (0, 7);
+        }
+        let r = self.records[0];
+        let (p, n) = (r[3] as usize, r[2] as usize);
+        out[..n].copy_from_slice(&self.places[p * PLACE..p * PLACE + n]);
+        self.places[p * PLACE..(p + 1) * PLACE].fill(0);
+        self.records.copy_within(1..self.count, 0);
+        self.count -= 1;
+        self.records[self.count] = [0; 4];
+        (1, n)
+    }
+}
+
+fn same(what: &str, o: &Ours, m: &Model, shown: &str) {
+    if o.records != m.records || o.places != m.places || o.count != m.count || o.next != m.next {
+        fail(what, format!("{shown}: ours {:?} {} {} model {:?} {} {}", o.records, o.count, o.next, m.records, m.count, m.next));
+    }
+}
+
+// The calls that only read, against the model.
+fn read_check(o: &Ours, m: &Model, shown: &str) {
+    let nine = m.line9();
+    let v = verdict(&[(9, nine), (8, m.line8()), (10, m.held_late())]);
+    let a = o.read();
+    let good = if v != 0 {
+        a[0] == v && a[2] == v && a[4] == v && a[6] == v
+    } else {
+        let deadline = if m.count == 0 { a[0] == 0 } else { a[0] == 1 && a[1] == m.records[0][0] };
+        deadline && a[2] == 1 && a[3] == m.count as u64 && a[4] == 1 && a[5] == m.room() as u64 && a[6] == (m.count == 0) as u64
+    };
+    if !good {
+        fail("reading", format!("{shown}: {:?} verdict {v}", a));
+    }
+}
+
+// Random calls on a small schedule, beside the reference and the model; records and places are compared whole after each call.
+fn schedule_runs(g: &mut Gen, calls: &mut u64, refused: &mut u64) {
+    let large = g.below(200) == 0;
+    let (nr, np) = if large { (60 + g.below(90) as usize, 60 + g.below(90) as usize) } else { (g.below(7) as usize, g.below(7) as usize) };
+    let spare = g.below(PLACE as u64) as usize;
+    let dirty_records = (0..nr).map(|_| [g.next(), g.next(), g.next(), g.next()]).collect();
+    let places_len = np * PLACE + spare;
+    let dirty_places = g.bytes(places_len);
+    let mut cleared = dirty_places.clone();
+    cleared[..np * PLACE].fill(0);
+    let mut ours = Ours::new(dirty_records, dirty_places);
+    let mut model = Model { records: vec![[0; 4]; nr], places: cleared, count: 0, next: 0 };
+    same("making", &ours, &model, "new");
+    let mut theirs = ChannelScheduler::new();
+    let base = Instant::now();
+    let mut now = 0u64;
+    for step in 0..if large { 250 } else { 40 } {
+        let shown = format!("records {nr} places {np} step {step} now {now}");
+        if g.below(if large && step < 150 { 5 } else { 2 }) != 1 {
+            let n = g.length();
+            let packet = g.bytes(n);
+            let delays: Vec<u64> = (0..g.below(3)).map(|_| if g.below(2) == 0 { g.below(3) } else { g.below(180001) }).collect();
+            let a = ours.schedule_at(now, &packet, &delays);
+            let b = model.schedule_at(now, &packet, &delays);
+            if a != b {
+                fail("schedule_at", format!("{shown} delays {delays:?} length {n}: ours {a} model {b}"));
+            }
+            if a == 0 {
+                theirs.schedule_at(base + Duration::from_nanos(now), delays.iter().map(|&d| Delivery { delay_ms: d, data: packet.clone() }).collect());
+            } else {
+                *refused += 1;
+            }
+        } else {
+            let mut out = g.bytes(1412);
+            let before = out.clone();
+            let mut out2 = out.clone();
+            let a = ours.pop_ready_at(now, &mut out);
+            let b = model.pop_ready_at(now, &mut out2);
+            let t = theirs.pop_ready_at(base + Duration::from_nanos(now));
+            if a != b || out != out2 {
+                fail("pop_ready_at", format!("{shown}: ours {a:?} model {b:?}"));
+            }
+            match t {
+                Some(p) => {
+                    if a != (1, p.len()) || out[..p.len()] != p[..] || out[p.len()..] != before[p.len()..] {
+                        fail("pop_ready_at and the reference", shown.clone());
+                    }
+                }
+                None => {
+                    if a.0 != 0 || out != before {
+                        fail("pop_ready_at and the reference, none", shown.clone());
+                    }
+                }
+            }
+        }
+        same("memory", &ours, &model, &shown);
+        read_check(&ours, &model, &shown);
+        let a = ours.read();
+        if a[3] != theirs.len() as u64 || (a[6] == 1) != theirs.is_empty() || (a[0] == 1).then(|| base + Duration::from_nanos(a[1])) != theirs.next_deadline() {
+            fail("reading and the reference", shown);
+        }
+        now += [0, 0, 1, 1_000_000, g.below(200_000_000_000)][g.below(5) as usize];
+        *calls += 1;
+    }
+}
+
+// Damaged states, times and sizes: refusals against the model, nothing changed.
+fn schedule_refusals(g: &mut Gen, calls: &mut u64, refused: &mut u64) {
+    let np = g.below(5) as usize;
+    let nr = g.below(5) as usize;
+    let mut m = Model { records: vec![[0; 4]; nr], places: vec![0; np * PLACE], count: 0, next: 0 };
+    for _ in 0..g.below(5) {
+        let n = g.length();
+        let packet = g.bytes(n);
+        let now = g.below(4) * 1_000_000;
+        let d = g.below(3);
+        m.schedule_at(now, &packet, &[d]);
+    }
+    for _ in 0..g.below(3) {
+        match g.below(9) {
+            0 => m.count = g.below(7) as usize,
+            1 => m.next = [0, 1, (1 << 60) - 1, 1 << 60, u64::MAX][g.below(5) as usize],
+            _ if nr == 0 => m.count += 1,
+            2 => m.records[g.below(nr as u64) as usize][0] = [0, MAX_TIME, MAX_TIME + 1, u64::MAX][g.below(4) as usize],
+            3 => m.records[g.below(nr as u64) as usize][1] = g.below(6),
+            4 => m.records[g.below(nr as u64) as usize][2] = 1409 + g.below(3),
+            5 => m.records[g.below(nr as u64) as usize][2] = [0, u64::MAX][g.below(2) as usize],
+            6 => m.records[g.below(nr as u64) as usize][3] = g.below(6),
+            7 => m.records[g.below(nr as u64) as usize][3] = u64::MAX,
+            _ => {
+                let i = g.below(nr as u64) as usize;
+                let j = g.below(nr as u64) as usize;
+                m.records.swap(i, j);
+            }
+        }
+    }
+    let mut o = Ours { records: m.records.clone(), places: m.places.clone(), count: m.count, next: m.next };
+    let now = [0, 1_000_000, MAX_TIME - 1_000_000, MAX_TIME, MAX_TIME + 1, u64::MAX][g.below(6) as usize];
+    let shown = format!("{:?} count {} next {} places {np} now {now}", m.records, m.count, m.next);
+    read_check(&o, &m, &shown);
+    let n = [0, 1, 1410, 1411, 1412][g.below(5) as usize];
+    let packet = g.bytes(n);
+    let delays: Vec<u64> = (0..g.below(3)).map(|_| [0, 1, 2, 180000, 180001, u64::MAX][g.below(6) as usize]).collect();
+    let (a, b) = (o.schedule_at(now, &packet, &delays), m.schedule_at(now, &packet, &delays));
+    if a != b {
+        fail("schedule_at", format!("{shown} delays {delays:?} length {n}: ours {a} model {b}"));
+    }
+    *refused += (a != 0) as u64;
+    same("memory after schedule_at", &o, &m, &shown);
+    let size = g.length();
+    let mut out = g.bytes(size);
+    let mut out2 = out.clone();
+    let (a, b) = (o.pop_ready_at(now, &mut out), m.pop_ready_at(now, &mut out2));
+    if a != b || out != out2 {
+        fail("pop_ready_at", format!("{shown} buffer {size}: ours {a:?} model {b:?}"));
+    }
+    *refused += (a.0 > 1) as u64;
+    same("memory after pop_ready_at", &o, &m, &shown);
+    *calls += 2;
+}
+
+// Cases for crates/channel_replay: see the head of its stdin.
+fn sample(dir: &str) {
+    use std::fmt::Write;
+    let mut g = Gen(42);
+    let mut stdin = String::new();
+    let mut stdout = String::new();
+    let two53 = 9007199254740992u64;
+    for _ in 0..12 {
+        let chance = |g: &mut Gen| [0, two53, two53 / 2, two53 / 4, g.next() >> 11][g.below(5) as usize];
+        let k = [chance(&mut g) / 4, chance(&mut g), chance(&mut g), chance(&mut g)];
+        let s = Setup { reals: k.map(|x| x as f64 / two53 as f64), delays: [g.delay(), g.delay(), g.delay()] };
+        writeln!(stdin, "1 {} {} {} {} {} {} {}", k[0], k[1], k[2], k[3], s.delays[0], s.delays[1], s.delays[2]).unwrap();
+        writeln!(stdout, "made").unwrap();
+        let mut reference = Channel::new(config(&s));
+        let mut stats = [0u64; 6];
+        let mut theirs = ChannelScheduler::new();
+        let base = Instant::now();
+        let mut now = 0u64;
+        for _ in 0..30 {
+            if g.below(2) == 0 && theirs.len() <= 6 {
+                let (n, seed) = (g.below(64), g.below(256));
+                let packet: Vec<u8> = (0..n).map(|i| ((seed + 7 * i) % 256) as u8).collect();
+                let mut r = [0u64; 8];
+                for x in r.iter_mut() {
+                    *x = [0, two53 - 1, 6004799503160661, g.next() >> 11][g.below(4) as usize];
+                }
+                let rolls: [f64; 8] = r.map(|x| x as f64 / two53 as f64);
+                let (delays, bytes, deliveries) = one_packet(&s, &mut stats, &mut reference, &packet, &rolls, &vec![0; n as usize]);
+                theirs.schedule_at(base + Duration::from_nanos(now), deliveries);
+                write!(stdin, "2 {now} {n} {seed}").unwrap();
+                for x in r {
+                    write!(stdin, " {x}").unwrap();
+                }
+                writeln!(stdin).unwrap();
+                let fold: u64 = bytes.iter().map(|&b| b as u64).sum();
+                write!(stdout, "{}", delays.len()).unwrap();
+                for d in &delays {
+                    write!(stdout, "\t{d}").unwrap();
+                }
+                write!(stdout, "\t{fold}").unwrap();
+                for c in stats {
+                    write!(stdout, "\t{c}").unwrap();
+                }
+                writeln!(stdout, "\t{}", theirs.len()).unwrap();
+            } else {
+                writeln!(stdin, "3 {now}").unwrap();
+                match theirs.pop_ready_at(base + Duration::from_nanos(now)) {
+                    Some(p) => writeln!(stdout, "{}\t{}\t{}", p.len(), p.iter().map(|&b| b as u64).sum::<u64>(), theirs.len()).unwrap(),
+                    None => writeln!(stdout, "none\t{}", theirs.len()).unwrap(),
+                }
+            }
+            now += [0, 1_000_000, 5_000_000_000, g.below(60_000_000_000)][g.below(4) as usize];
+        }
+    }
+    std::fs::create_dir_all(dir).unwrap();
+    std::fs::write(format!("{dir}/stdin"), stdin).unwrap();
+    std::fs::write(format!("{dir}/stdout"), stdout).unwrap();
+}
+
+fn main() {
+    let args: Vec<String> = std::env::args().collect();
+    let seconds: f64 = args.get(1).and_then(|s| s.parse().ok()).unwrap_or(5.0);
+    if let Some(i) = args.iter().position(|a| a == "--sample") {
+        sample(&args[i + 1]);
+        return;
+    }
+    let mut g = Gen(std::env::var("SEED").ok().and_then(|s| s.parse().ok()).unwrap_or(1));
+    let start = Instant::now();
+    let (mut picks, mut packets, mut channel_refused, mut calls, mut schedule_refused) = (0u64, 0u64, 0u64, 0u64, 0u64);
+    every_pick(&mut picks);
+    while start.elapsed().as_secs_f64() < seconds {
+        for _ in 0..20 {
+            channel_runs(&mut g, &mut packets);
+            channel_refusals(&mut g, &mut channel_refused);
+            schedule_runs(&mut g, &mut calls, &mut schedule_refused);
+            schedule_refusals(&mut g, &mut calls, &mut schedule_refused);
+        }
+    }
+    println!("channel: no difference; {picks} picks at edges, {packets} packets, {channel_refused} refused packets, {calls} schedule calls, {schedule_refused} refused");
+}

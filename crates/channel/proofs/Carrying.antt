@@ -1,0 +1,165 @@
+-- What the code does to one packet is what the definitions say, one law a function.
+use mathlib.Core.Path.{_≡_, refl, sym, _∙_, ap}
+use Prim.Native.Nat.{ℕ, _+_, _<_, _≤_}
+use native.Mathlib.Omega.{arith}
+use mathlib.Core.Bool.{Bool, true, false, cond, not, _&&_, true≢false, false≢true}
+use mathlib.Core.List.{List, _++_}
+use lib.ListN.{length, take, drop, length-append}
+use lib.Seq.{take-at, drop-at, length-take-le}
+use lib.Dec.{ltb}
+use lib.Ieee.{lt}
+use borrow.Author.Tests.{ltb-true, ltb-false}
+use Rattle.checksum.specs.Flip.{flip}
+use Rattle.schedule.specs.State.{copies}
+use Rattle.schedule.specs.declared.Deliveries.{Deliveries}
+use Rattle.schedule.specs.declared.Deliveries.the-variants.{Lost, One, Two}
+use Rattle.channel.specs.Faults.{isLost, isDuplicated, isReordered, isCorrupted, byteAt, bitAt, carried, delayOf, deliveriesOf}
+use Rattle.refusal.specs.Order.{verdict, firstOf, numbered, orElse, decide, order}
+use Rattle.refusal.specs.declared.Refusal.the-variants.{State, Counts, Roll, Long, Full}
+use Rattle.channel.specs.Bounds.{configBroken, statsFull, rollsBroken}
+use Rattle.channel.specs.Process.{one, stats6, channelOf, countedDef, transitExit, transitDef, processExit, refusedExit, transited, outShort, processDef, CanProcess}
+use Rattle.channel.specs.declared.Outcome.the-variants as outcome
+use Rattle.channel.specs.declared.ChannelConfig.{ChannelConfig}
+use Rattle.channel.specs.declared.ChannelStats.{ChannelStats}
+use Rattle.channel.specs.declared.Rolls.{Rolls}
+use Rattle.channel.specs.declared.Channel.{Channel}
+use Rattle.channel.specs.declared.Transit.{Transit}
+
+-- ---- tests that are asked only of a packet that isn't lost
+pub unless : (a b : Bool) → a ≡ false → b ≡ (not a && b)
+unless true b h = absurd (true≢false h)
+unless false b h = refl
+
+pub unless-lost : (a b : Bool) → a ≡ true → false ≡ (not a && b)
+unless-lost true b h = refl
+unless-lost false b h = absurd (false≢true h)
+
+-- ---- deliveries
+module _ (c : ChannelConfig) (r : Rolls) where
+  pub deliveries-lost : isLost c r ≡ true → Lost ≡ deliveriesOf c r
+  unfolding deliveriesOf
+  deliveries-lost a = simp a
+
+  pub deliveries-two : {d e : ℕ} → isLost c r ≡ false → isDuplicated c r ≡ true → d ≡ delayOf c r (r .«jitter_roll») → e ≡ delayOf c r (r .«dup_jitter_roll») → Two d e ≡ deliveriesOf c r
+  unfolding deliveriesOf
+  deliveries-two a b p q = picked (isLost c r) (isDuplicated c r) a b p q
+    where
+      picked : (x y : Bool) {d e f g : ℕ} → x ≡ false → y ≡ true → d ≡ f → e ≡ g → Two d e ≡ cond x Lost (cond y (Two f g) (One f))
+      picked x y a b p q = rw (a, b, p, q)
+
+  pub deliveries-one : {d : ℕ} → isLost c r ≡ false → isDuplicated c r ≡ false → d ≡ delayOf c r (r .«jitter_roll») → One d ≡ deliveriesOf c r
+  unfolding deliveriesOf
+  deliveries-one a b p = picked (isLost c r) (isDuplicated c r) (delayOf c r (r .«dup_jitter_roll»)) a b p
+    where
+      picked : (x y : Bool) {d f : ℕ} (g : ℕ) → x ≡ false → y ≡ false → d ≡ f → One d ≡ cond x Lost (cond y (Two f g) (One f))
+      picked x y g a b p = rw (a, b, p)
+
+  -- how many copies the rolls grant
+  pub granted-lost : isLost c r ≡ true → 0 ≡ copies (deliveriesOf c r)
+  granted-lost a = ap copies (deliveries-lost a)
+
+  pub granted-two : isLost c r ≡ false → isDuplicated c r ≡ true → 2 ≡ copies (deliveriesOf c r)
+  granted-two a b = ap copies (deliveries-two a b refl refl)
+
+  pub granted-one : isLost c r ≡ false → isDuplicated c r ≡ false → 1 ≡ copies (deliveriesOf c r)
+  granted-one a b = ap copies (deliveries-one a b refl)
+
+  pub granted-le : copies (deliveriesOf c r) ≤ 2
+  granted-le = go (deliveriesOf c r)
+    where
+      go : (d : Deliveries) → copies d ≤ 2
+      go Lost = omega arith
+      go (One d) = omega arith
+      go (Two d e) = omega arith
+
+-- ---- counters
+pub counted-law : (c : ChannelConfig) (r : Rolls) (n : ℕ) (s : ChannelStats) {a b d e : Bool} {p q u v g : ℕ}
+    → a ≡ isLost c r → p ≡ one a → b ≡ isCorrupted c r n → q ≡ one b → d ≡ isDuplicated c r → u ≡ one d → e ≡ isReordered c r → v ≡ one e → g ≡ copies (deliveriesOf c r)
+    → stats6 (s .«packets_seen» + 1) (s .lost + p) (s .corrupted + q) (s .duplicated + u) (s .reordered + v) (s .«copies_delivered» + g) ≡ countedDef c r n s
+unfolding countedDef
+counted-law c r n s ea ep eb eq ed eu ee ev eg = rw (ep, ea, eq, eb, eu, ed, ev, ee, eg)
+
+-- ---- corruption
+module _ (c : ChannelConfig) (r : Rolls) (n : ℕ) where
+  and-right : (x y : Bool) → (x && y) ≡ true → y ≡ true
+  and-right true y h = h
+  and-right false y h = absurd (false≢true h)
+
+  -- an empty packet has no bit to turn over
+  pub corrupted-some : isCorrupted c r n ≡ true → 0 < n
+  unfolding isCorrupted
+  corrupted-some h = ltb-true 0 n (and-right (lt (r .«corrupt_roll») (c .corrupt)) (ltb 0 n) (and-right (not (isLost c r)) (lt (r .«corrupt_roll») (c .corrupt) && ltb 0 n) h))
+
+module _ (c : ChannelConfig) (r : Rolls) (p : List ℕ) where
+  pub corrupt-law : {i b : ℕ} {o : List ℕ} → isCorrupted c r (length p) ≡ true → i ≡ byteAt r (length p) → b ≡ bitAt r → o ≡ flip p i b → o ≡ carried c r p
+  unfolding carried
+  corrupt-law h q e f = picked (isCorrupted c r (length p)) h q e f
+    where
+      picked : (x : Bool) {i b j d : ℕ} {o : List ℕ} → x ≡ true → i ≡ j → b ≡ d → o ≡ flip p i b → o ≡ cond x (flip p j d) p
+      picked x h q e f = rw (h, ← q, ← e) f
+
+  pub spared-law : isCorrupted c r (length p) ≡ false → p ≡ carried c r p
+  unfolding carried
+  spared-law h = picked (isCorrupted c r (length p)) (flip p (byteAt r (length p)) (bitAt r)) h
+    where
+      picked : (x : Bool) (q : List ℕ) → x ≡ false → p ≡ cond x q p
+      picked x q h = rw h
+
+-- ---- one packet
+-- the packet laid to the front of `out`
+module _ (p out : List ℕ) {q : List ℕ} (e : q ≡ p) where
+  pub laid-fits : length p ≤ length (q ++ drop (length p) out)
+  laid-fits = rw (length-append q (drop (length p) out), e) (omega arith)
+
+  pub laid-size : length (take (length p) (q ++ drop (length p) out)) ≡ length p
+  laid-size = length-take-le (length p) (q ++ drop (length p) out) laid-fits
+
+  pub laid-short : ltb 1410 (length p) ≡ false → length (take (length p) (q ++ drop (length p) out)) ≤ 1410
+  laid-short h = rw laid-size (ltb-false 1410 (length p) h)
+
+module _ (ch : Channel) (p : List ℕ) (r : Rolls) (out : List ℕ) where
+  pub lost-law : {s : ChannelStats} → isLost (ch .config) r ≡ true → s ≡ countedDef (ch .config) r (length p) (ch .stats) → transitExit out (record { channel = channelOf (ch .config) s; deliveries = Lost }) ≡ transitDef ch p r out
+  unfolding transitDef
+  lost-law {s} a e = picked (isLost (ch .config) r) (carried (ch .config) r p ++ drop (length p) out) a e (deliveries-lost (ch .config) r a)
+    where
+      picked : (x : Bool) (u : List ℕ) {s t : ChannelStats} {d e : Deliveries} → x ≡ true → s ≡ t → d ≡ e → transitExit out (record { channel = channelOf (ch .config) s; deliveries = d }) ≡ transitExit (cond x out u) (record { channel = channelOf (ch .config) t; deliveries = e })
+      picked x u a b d = rw (a, b, d)
+
+  pub transit-law : {q d : List ℕ} {s : ChannelStats} {ds : Deliveries} → isLost (ch .config) r ≡ false → s ≡ countedDef (ch .config) r (length p) (ch .stats) → q ≡ p → d ≡ carried (ch .config) r (take (length p) (q ++ drop (length p) out)) → ds ≡ deliveriesOf (ch .config) r
+      → transitExit (d ++ drop (length p) (q ++ drop (length p) out)) (record { channel = channelOf (ch .config) s; deliveries = ds }) ≡ transitDef ch p r out
+  unfolding transitDef
+  transit-law {q} {d} {s} {ds} a e f g h = picked (isLost (ch .config) r) a e (laid ∙ ap (λ (xs : List ℕ). carried (ch .config) r p ++ xs) (ap (λ (xs : List ℕ). drop (length p) (xs ++ drop (length p) out)) f ∙ drop-at p (drop (length p) out) (length p) refl)) h
+    where
+      laid : d ++ drop (length p) (q ++ drop (length p) out) ≡ carried (ch .config) r p ++ drop (length p) (q ++ drop (length p) out)
+      laid = ap (λ (xs : List ℕ). xs ++ drop (length p) (q ++ drop (length p) out)) (g ∙ ap (carried (ch .config) r) (ap (λ (xs : List ℕ). take (length p) (xs ++ drop (length p) out)) f ∙ take-at p (drop (length p) out) (length p) refl))
+
+      picked : (x : Bool) {u v : List ℕ} {s t : ChannelStats} {d e : Deliveries} → x ≡ false → s ≡ t → u ≡ v → d ≡ e → transitExit u (record { channel = channelOf (ch .config) s; deliveries = d }) ≡ transitExit (cond x out v) (record { channel = channelOf (ch .config) t; deliveries = e })
+      picked x a b f d = rw (a, b, f, d)
+
+  -- ---- the checks of `process`
+  pub fits-out : isLost (ch .config) r ≡ false → CanProcess ch p r out → length p ≤ length out
+  fits-out a can = ltb-false (length out) (length p) (sym (ap (λ (b : Bool). not b && ltb (length out) (length p)) a) ∙ can .room)
+
+  pub process-state : configBroken (ch .config) ≡ true → refusedExit ch out (outcome.Refused State) ≡ processDef ch p r out
+  unfolding processDef verdict firstOf numbered orElse decide order
+  process-state a = simp a
+
+  pub process-counts : configBroken (ch .config) ≡ false → statsFull (ch .stats) ≡ true → refusedExit ch out (outcome.Refused Counts) ≡ processDef ch p r out
+  unfolding processDef verdict firstOf numbered orElse decide order
+  process-counts a b = simp (a, b)
+
+  pub process-roll : configBroken (ch .config) ≡ false → statsFull (ch .stats) ≡ false → rollsBroken r ≡ true → refusedExit ch out (outcome.Refused Roll) ≡ processDef ch p r out
+  unfolding processDef verdict firstOf numbered orElse decide order
+  process-roll a b c = simp (a, b, c)
+
+  pub process-long : configBroken (ch .config) ≡ false → statsFull (ch .stats) ≡ false → rollsBroken r ≡ false → ltb 1410 (length p) ≡ true → refusedExit ch out (outcome.Refused Long) ≡ processDef ch p r out
+  unfolding processDef verdict firstOf numbered orElse decide order
+  process-long a b c d = simp (a, b, c, d)
+
+  pub process-full : configBroken (ch .config) ≡ false → statsFull (ch .stats) ≡ false → rollsBroken r ≡ false → ltb 1410 (length p) ≡ false → outShort ch r (length p) (length out) ≡ true → refusedExit ch out (outcome.Refused Full) ≡ processDef ch p r out
+  unfolding processDef verdict firstOf numbered orElse decide order
+  process-full a b c d e = simp (a, b, c, d, e)
+
+  pub process-done : {o : List ℕ} {t : Transit} → CanProcess ch p r out → transitExit o t ≡ transitDef ch p r out → processExit o (record { channel = t .channel; answer = outcome.Delivered (t .deliveries) }) ≡ processDef ch p r out
+  unfolding processDef verdict firstOf numbered orElse decide order
+  process-done can e = simp (can .config, can .counts, can .rolls, can .short, can .room) (ap transited e)

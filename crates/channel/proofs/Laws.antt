@@ -1,0 +1,128 @@
+-- What crates above may cite: where the rolls point, what a corrupted copy is, how long a delay is, and the counters from the history of calls.
+use mathlib.Core.Path.{_≡_, refl, sym, _∙_, ap}
+use mathlib.Core.Logic.{_≢_, ⊎-elim}
+use Prim.Native.Nat.{ℕ, _+_, _^_, _<_, _≤_, _*_, _/_}
+use native.Mathlib.Omega.{arith}
+use mathlib.Core.Bool.{Bool, true, false, cond}
+use mathlib.Core.List.{List}
+use lib.ListN.{length, getD, length-set}
+use lib.Seq.{getD-set-same, getD-set-other}
+use lib.Dec.{T}
+use lib.Pow.{pow-pos}
+use lib.Bits.{bitXor}
+use lib.IntN.{negsuc}
+use lib.Ieee.{Float, fin, binary64, fits}
+use Rattle.checksum.specs.Flip.{flip}
+use Rattle.checksum.proofs.Bits.{xor-moves}
+use Rattle.float.specs.Roll.{rollInBounds, scaled}
+use Rattle.float.proofs.Laws.{scaled-below, j1}
+use Rattle.schedule.specs.State.{copies}
+use Rattle.channel.specs.Bounds.{configBroken, rollsBroken}
+use Rattle.channel.specs.Faults.{isReordered, isCorrupted, byteAt, bitAt, carried, holdOf, delayOf}
+use Rattle.channel.specs.declared.ChannelConfig.{ChannelConfig}
+use Rattle.channel.specs.declared.Rolls.{Rolls}
+use Rattle.channel.proofs.Limits.{delays-within, rolls-within}
+use Rattle.channel.proofs.Carrying.{corrupt-law, spared-law}
+pub use Rattle.channel.proofs.Carrying.{granted-lost, granted-one, granted-two, granted-le}
+pub use Rattle.channel.proofs.Tallies.{refused-same, accepted-counted, history, fresh-history}
+
+-- the rolls of a packet are doubles
+pub record Doubles (r : Rolls) : Type 0 where
+  pub byte : T (fits binary64 (r .«byte_roll»))
+  pub bit : T (fits binary64 (r .«bit_roll»))
+  pub jitter : T (fits binary64 (r .«jitter_roll»))
+  pub dup-jitter : T (fits binary64 (r .«dup_jitter_roll»))
+
+-- ---- where the rolls point: no clamp is needed
+module _ (r : Rolls) (d : Doubles r) (good : rollsBroken r ≡ false) where
+  pub byte-below : (n : ℕ) → 0 < n → n ≤ 1410 → byteAt r n < n
+  byte-below n h k = scaled-below (r .«byte_roll») n (d .byte) (rolls-within r good .byte) h (most n k)
+    where
+      most : (n : ℕ) → n ≤ 1410 → n ≤ 2 ^ 53
+      most n k = omega arith
+
+  pub bit-below : bitAt r < 8
+  bit-below = scaled-below (r .«bit_roll») 8 (d .bit) (rolls-within r good .bit) (omega arith) (omega arith)
+
+-- jitter is at most its setting
+pub jitter-within : (roll : Float) (j : ℕ) → T (fits binary64 roll) → T (rollInBounds roll) → j ≤ 60000 → scaled roll (j + 1) ≤ j
+jitter-within roll j t u h = let b = scaled-below roll (j + 1) t u (omega arith) (most j h) in less (scaled roll (j + 1)) j b
+  where
+    most : (j : ℕ) → j ≤ 60000 → j + 1 ≤ 2 ^ 53
+    most j h = omega arith
+
+    less : (x j : ℕ) → x < j + 1 → x ≤ j
+    less x j h = omega arith
+
+-- a delay is at most 180,000 ms
+pub delay-within : (c : ChannelConfig) (r : Rolls) (roll : Float) → configBroken c ≡ false → T (fits binary64 roll) → T (rollInBounds roll) → delayOf c r roll ≤ 180000
+delay-within c r roll good t u =
+    let w = delays-within c good in
+    let j = jitter-within roll (c .«jitter_ms») t u (w .jitter) in
+    three (c .«base_delay_ms») (scaled roll (c .«jitter_ms» + 1)) (holdOf c r) (w .base) (last (scaled roll (c .«jitter_ms» + 1)) (c .«jitter_ms») j (w .jitter)) (held (isReordered c r) (w .hold))
+  where
+    held : (b : Bool) → c .«reorder_extra_ms» ≤ 60000 → cond b (c .«reorder_extra_ms») 0 ≤ 60000
+    held true h = h
+    held false h = omega arith
+
+    last : (x j : ℕ) → x ≤ j → j ≤ 60000 → x ≤ 60000
+    last x j h k = omega arith
+
+    three : (a b c : ℕ) → a ≤ 60000 → b ≤ 60000 → c ≤ 60000 → a + b + c ≤ 180000
+    three a b c h k l = omega arith
+
+-- ---- the bytes of the copies
+module _ (c : ChannelConfig) (r : Rolls) (p : List ℕ) where
+  pub spared-is : isCorrupted c r (length p) ≡ false → carried c r p ≡ p
+  spared-is h = sym (spared-law c r p h)
+
+  pub corrupted-is : isCorrupted c r (length p) ≡ true → carried c r p ≡ flip p (byteAt r (length p)) (bitAt r)
+  corrupted-is h = sym (corrupt-law c r p h refl refl refl)
+
+-- one bit of one byte: the length and the other bytes are as they were, that byte is not
+pub flip-length : (d : List ℕ) (i b : ℕ) → length (flip d i b) ≡ length d
+unfolding flip
+flip-length d i b = length-set d i (bitXor (getD d i 0) (2 ^ b))
+
+pub flip-other : (d : List ℕ) (i b j : ℕ) → j ≢ i → getD (flip d i b) j 0 ≡ getD d j 0
+unfolding flip
+flip-other d i b j h = getD-set-other d i j (bitXor (getD d i 0) (2 ^ b)) 0 h
+
+pub flip-at : (d : List ℕ) (i b : ℕ) → i < length d → getD (flip d i b) i 0 ≡ bitXor (getD d i 0) (2 ^ b)
+unfolding flip
+flip-at d i b h = getD-set-same d i (bitXor (getD d i 0) (2 ^ b)) 0 h
+
+pub flip-differs : (d : List ℕ) (i b : ℕ) → i < length d → getD (flip d i b) i 0 ≡ getD d i 0 → ⊥
+flip-differs d i b h e = ⊎-elim (λ w. up (bitXor (getD d i 0) (2 ^ b)) (getD d i 0) (2 ^ b) (pow-pos b) (sym (flip-at d i b h) ∙ e) w) (λ w. down (bitXor (getD d i 0) (2 ^ b)) (getD d i 0) (2 ^ b) (pow-pos b) (sym (flip-at d i b h) ∙ e) w) (xor-moves (getD d i 0) b)
+  where
+    up : (x a p : ℕ) → 0 < p → x ≡ a → x ≡ a + p → ⊥
+    up x a p h e w = omega arith
+
+    down : (x a p : ℕ) → 0 < p → x ≡ a → a ≡ x + p → ⊥
+    down x a p h e w = omega arith
+
+-- a copy has the packet's length
+pub carried-length : (c : ChannelConfig) (r : Rolls) (p : List ℕ) → length (carried c r p) ≡ length p
+unfolding carried
+carried-length c r p = go (isCorrupted c r (length p))
+  where
+    go : (t : Bool) → length (cond t (flip p (byteAt r (length p)) (bitAt r)) p) ≡ length p
+    go true = flip-length p (byteAt r (length p)) (bitAt r)
+    go false = refl
+
+-- document 01's proof sheet, J1, as a delay: jitter 2, nothing else
+pub j1-delay : (c : ChannelConfig) (r : Rolls) → c .«jitter_ms» ≡ 2 → c .«base_delay_ms» ≡ 0 → c .«reorder_extra_ms» ≡ 0 → delayOf c r (fin false 6004799503160661 (negsuc 52)) ≡ 2
+j1-delay c r a b h =
+    ap (λ (n : ℕ). c .«base_delay_ms» + scaled (fin false 6004799503160661 (negsuc 52)) (n + 1) + holdOf c r) a
+    ∙ sum (c .«base_delay_ms») (scaled (fin false 6004799503160661 (negsuc 52)) 3) (holdOf c r) b j1 (none (isReordered c r) h)
+  where
+    none : (t : Bool) → c .«reorder_extra_ms» ≡ 0 → cond t (c .«reorder_extra_ms») 0 ≡ 0
+    none true h = h
+    none false h = refl
+
+    sum : (x y z : ℕ) → x ≡ 0 → y ≡ 2 → z ≡ 0 → x + y + z ≡ 2
+    sum x y z a b c = omega arith
+
+-- the exact product at J1, cut, would be 1
+pub j1-exact : 6004799503160661 * 3 / 2 ^ 53 ≡ 1
+j1-exact = refl

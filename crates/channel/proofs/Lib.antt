@@ -1,0 +1,4 @@
+pub mod Limits
+pub mod Carrying
+pub mod Tallies
+pub mod Laws

@@ -1,0 +1,4 @@
+pub mod Bounds
+pub mod Faults
+pub mod Process
+pub mod History

@@ -1,0 +1,2 @@
+-- What crates above may cite.
+pub use Rattle.duration.proofs.RoundTrip.{round-trip, nanos-units, closest-is}

@@ -1,0 +1,9 @@
+pub mod Error
+pub mod Below
+pub mod Sticky
+pub mod Fields
+pub mod Units
+pub mod Magnitude
+pub mod Roll
+pub mod KnownValues
+pub mod Laws

@@ -1,0 +1,173 @@
+-- What the functions below the entry points leave, as the definitions have it.
+use mathlib.Core.Path.{_≡_, refl, sym, ap, ap₂, _∙_, subst}
+use mathlib.Core.Bool.{Bool, true, false, not, cond, _&&_, true≢false}
+use mathlib.Core.Option.{none, some}
+use mathlib.Core.List.{List, [], _∷_, _++_}
+use Prim.Native.Nat.{ℕ, suc, _+_, _-_, _≤_, _<_, min, max, zero-le}
+use native.Mathlib.Nat.{le-refl, le-trans, add-zero, zero-sub, max-eq-right}
+use native.Mathlib.Omega.{arith}
+use lib.Dec.{leb}
+use lib.ListN.{length, getD, take, drop, set, replicate}
+use lib.Seq.{take-at, drop-at, drop-drop}
+use borrow.Author.Tests.{leb-false}
+use Rattle.multi_timer.specs.Map.{Entry, keysOf, deadlinesOf, lookup, isSome, keep, due, pending, least, earliest}
+use Rattle.multi_timer.specs.Search.{searchIn, insertedAt, removedAt, clearedIn, dueIn, Partitioned}
+use Rattle.multi_timer.specs.MultiTimer.{used, laid, after, After, afterPop, timers, nextGeneration, broken, startFull, startUnchecked, cancelUnchecked, popUnchecked, clearUnchecked}
+use Rattle.multi_timer.specs.declared.MultiTimer.{MultiTimer}
+use Rattle.multi_timer.specs.declared.Place.the-variants.{At, Absent}
+use Rattle.multi_timer.proofs.Checks.{Good, good-of}
+use Rattle.multi_timer.proofs.Lists.{rest, rest-cons, rest-nil}
+use Rattle.multi_timer.proofs.Sorted.{length-keys, length-deadlines}
+use Rattle.multi_timer.proofs.Parting.{both, entries-length, next-length}
+use Rattle.multi_timer.proofs.Places.{laid-fewer, at-bound, absent-lookup, absent-bound, kept-keys, kept-deadlines, kept-count, inserted-keys, inserted-deadlines, inserted-count, removed-keys, removed-deadlines, removed-count, same-keys, same-deadlines, same-count}
+
+same-after : {A : Type 0} (a b : A) (ks ls ds es : List ℕ) → a ≡ b → ks ≡ ls → ds ≡ es → after a ks ds ≡ after b ls es
+same-after {A = A} a b ks ls ds es p q r = ap₂ (λ (x : After A) (l : List ℕ). after (x .answer) (x .keys) l) (ap₂ (λ (x : A) (l : List ℕ). after x l ds) p q) r
+
+-- where none were used before
+front : (new old : List ℕ) → laid new 0 old ≡ new ++ drop (length new) old
+unfolding laid
+front new old = ap₂ (λ (k m : ℕ). new ++ (replicate k 0 ++ drop m old)) (zero-sub (length new)) (largest (length new))
+  where
+    largest : (m : ℕ) → max 0 m ≡ m
+    largest m = max-eq-right zero-le
+
+module _ (t : MultiTimer) (ks ds : List ℕ) (b : broken (t .count) ks ds ≡ false) where
+  abbrev g : Good (t .count) ks ds
+  g = good-of (t .count) ks ds b
+
+  pub count-fits : t .count ≤ length ks
+  count-fits = g .within
+
+  pub count-fits-deadlines : t .count ≤ length ds
+  count-fits-deadlines = subst (λ (m : ℕ). t .count ≤ m) (g .same) (g .within)
+
+  pub started-at : (key d p next : ℕ) (ds' : List ℕ) → At p ≡ searchIn key (take (t .count) ks) → next ≡ nextGeneration (t .«global_generation») → ds' ≡ set ds p d → after (timers (t .count) next) ks ds' ≡ startUnchecked t ks ds key d
+  unfolding startUnchecked
+  started-at key d p next ds' e n q =
+      same-after _ _ ks _ ds' _ (ap₂ timers (sym (kept-count (t .count) ks ds g key d p e)) n) (sym (kept-keys (t .count) ks ds g key d p e)) (q ∙ sym (kept-deadlines (t .count) ks ds g key d p e))
+
+  pub started-absent : (key d p next : ℕ) (ks' ds' : List ℕ) → Absent p ≡ searchIn key (take (t .count) ks) → next ≡ nextGeneration (t .«global_generation») → ks' ≡ insertedAt p (t .count) key ks → ds' ≡ insertedAt p (t .count) d ds
+      → after (timers (t .count + 1) next) ks' ds' ≡ startUnchecked t ks ds key d
+  unfolding startUnchecked
+  started-absent key d p next ks' ds' e n q r =
+      same-after _ _ ks' _ ds' _ (ap₂ timers (sym (inserted-count (t .count) ks ds g key d p e)) n) (q ∙ sym (inserted-keys (t .count) ks ds g key d p e)) (r ∙ sym (inserted-deadlines (t .count) ks ds g key d p e))
+
+  pub place-at : (key p : ℕ) → At p ≡ searchIn key (take (t .count) ks) → p < t .count
+  place-at key p e = at-bound (t .count) ks ds g key p e
+
+  pub place-absent : (key p : ℕ) → Absent p ≡ searchIn key (take (t .count) ks) → p ≤ t .count
+  place-absent key p e = absent-bound (t .count) ks ds g key 0 p e
+
+  -- a new key has an unused entry
+  pub unused : (key p : ℕ) → Absent p ≡ searchIn key (take (t .count) ks) → startFull t ks ds key ≡ false → t .count < length ks
+  unused key p e f = go (leb (length ks) (t .count)) (isSome (lookup key (used t ks ds))) (leb-false _ _) (ap isSome (absent-lookup (t .count) ks ds g key p e)) f
+    where
+      go : (a h : Bool) → (a ≡ false → t .count < length ks) → h ≡ false → (a && not h) ≡ false → t .count < length ks
+      go false h p q r = p refl
+      go true true p q r = absurd (true≢false q)
+      go true false p q r = absurd (true≢false r)
+
+  pub unused-deadline : (key p : ℕ) → Absent p ≡ searchIn key (take (t .count) ks) → startFull t ks ds key ≡ false → t .count < length ds
+  unused-deadline key p e f = subst (λ (m : ℕ). t .count < m) (g .same) (unused key p e f)
+
+  pub cancelled-at : (key p n : ℕ) (ks' ds' : List ℕ) → At p ≡ searchIn key (take (t .count) ks) → n ≡ t .count - 1 → ks' ≡ removedAt p (t .count) ks → ds' ≡ removedAt p (t .count) ds → after (timers n (t .«global_generation»)) ks' ds' ≡ cancelUnchecked t ks ds key
+  unfolding cancelUnchecked
+  cancelled-at key p n ks' ds' e m q r =
+      same-after _ _ ks' _ ds' _ (ap (λ (k : ℕ). timers k (t .«global_generation»)) (m ∙ sym (removed-count (t .count) ks ds g key p e))) (q ∙ sym (removed-keys (t .count) ks ds g key p e)) (r ∙ sym (removed-deadlines (t .count) ks ds g key p e))
+
+  pub cancelled-absent : (key p : ℕ) → Absent p ≡ searchIn key (take (t .count) ks) → after t ks ds ≡ cancelUnchecked t ks ds key
+  unfolding cancelUnchecked
+  cancelled-absent key p e =
+      same-after _ _ ks _ ds _ (ap (λ (k : ℕ). timers k (t .«global_generation»)) (sym (same-count (t .count) ks ds g key p e))) (sym (same-keys (t .count) ks ds g key p e)) (sym (same-deadlines (t .count) ks ds g key p e))
+
+  pub cleared-all : (ks' ds' : List ℕ) → ks' ≡ clearedIn 0 (t .count) ks → ds' ≡ clearedIn 0 (t .count) ds → after (timers 0 (t .«global_generation»)) ks' ds' ≡ clearUnchecked t ks ds
+  unfolding clearUnchecked keysOf deadlinesOf
+  cleared-all ks' ds' q r = same-after _ _ ks' _ ds' _ refl (q ∙ sym (laid-fewer [] ks (t .count) zero-le)) (r ∙ sym (laid-fewer [] ds (t .count) zero-le))
+
+  -- ---- what partition leaves, cleared behind it
+  module _ (now left : ℕ) (out ks' ds' out' ks'' ds'' : List ℕ) (p : Partitioned (t .count) now ks ds out left ks' ds' out') where
+    abbrev P : List Entry
+    P = keep (pending now) (used t ks ds)
+
+    pub left-fits : left ≤ t .count
+    left-fits = subst (λ (m : ℕ). m ≤ t .count) (sym (p .count)) (let s = both now (used t ks ds) in let e = entries-length (t .count) ks ds count-fits count-fits-deadlines in omega arith)
+
+    after-parting : (xs xs' new ys : List ℕ) → xs' ≡ new ++ drop left xs → length new ≡ left → left ≤ t .count → ys ≡ clearedIn left (t .count) xs' → ys ≡ laid new (t .count) xs
+    after-parting xs xs' new ys e l h q =
+        q
+        ∙ ap (λ (z : List ℕ). clearedIn left (t .count) z) e
+        ∙ ap₂ (λ (a c : List ℕ). a ++ (replicate (t .count - left) 0 ++ c)) (take-at new (drop left xs) left l) (past l)
+        ∙ ap (λ (m : ℕ). new ++ (replicate (t .count - m) 0 ++ drop (t .count) xs)) (sym l)
+        ∙ sym (laid-fewer new xs (t .count) (subst (λ (m : ℕ). m ≤ t .count) (sym l) h))
+      where
+        sum : (a b : ℕ) → a ≤ b → a + (b - a) ≡ b
+        sum a b h = omega arith
+
+        past : length new ≡ left → drop (t .count) (new ++ drop left xs) ≡ drop (t .count) xs
+        past l =
+            ap (λ (m : ℕ). drop m (new ++ drop left xs)) (sym (sum left (t .count) h))
+            ∙ sym (drop-drop (t .count - left) left (new ++ drop left xs)) ∙ ap (drop (t .count - left)) (drop-at new (drop left xs) left l)
+            ∙ drop-drop (t .count - left) left xs ∙ ap (λ (m : ℕ). drop m xs) (sum left (t .count) h)
+
+    pub parted-keys : length ks' ≡ length ks
+    parted-keys = next-length (keysOf P) ks ks' left (p .keys) (length-keys P ∙ sym (p .count)) (le-trans left-fits count-fits)
+
+    pub parted-deadlines : length ds' ≡ length ds
+    parted-deadlines = next-length (deadlinesOf P) ds ds' left (p .deadlines) (length-deadlines P ∙ sym (p .count)) (le-trans left-fits count-fits-deadlines)
+
+    pub popped-all : ks'' ≡ clearedIn left (t .count) ks' → ds'' ≡ clearedIn left (t .count) ds' → afterPop (after (timers left (t .«global_generation»)) ks'' ds'') out' ≡ popUnchecked t ks ds now out
+    unfolding popUnchecked
+    popped-all q r =
+        let h = left-fits in
+        ap₂ (λ (a : After MultiTimer) (o : List ℕ). afterPop a o)
+        (same-after _ _ ks'' _ ds'' _ (ap (λ (k : ℕ). timers k (t .«global_generation»)) (p .count))
+        (after-parting ks ks' (keysOf P) ks'' (p .keys) (length-keys P ∙ sym (p .count)) h q)
+        (after-parting ds ds' (deadlinesOf P) ds'' (p .deadlines) (length-deadlines P ∙ sym (p .count)) h r))
+        (p .taken ∙ sym (out-laid (keep (due now) (used t ks ds)) out))
+      where
+        out-laid : (es : List Entry) (out : List ℕ) → laid (keysOf es) 0 out ≡ keysOf es ++ drop (length es) out
+        out-laid es out = front (keysOf es) out ∙ ap (λ (m : ℕ). keysOf es ++ drop m out) (length-keys es)
+
+-- ---- the loops that count and that look for the least
+pub due-step : (now n i : ℕ) (ds : List ℕ) (c : ℕ) → i < n → n ≤ length ds → c + cond (leb (getD ds i 0) now) 1 0 + dueIn now (rest n (i + 1) ds) ≡ c + dueIn now (rest n i ds)
+unfolding dueIn
+due-step now n i ds c h l = rw (rest-cons n i ds h l) (go (leb (getD ds i 0) now))
+  where
+    one : (c d : ℕ) → c + 1 + d ≡ c + suc d
+    one c d = omega arith
+
+    none-more : (c d : ℕ) → c + 0 + d ≡ c + d
+    none-more c d = omega arith
+
+    go : (b : Bool) → c + cond b 1 0 + dueIn now (rest n (i + 1) ds) ≡ c + cond b (suc (dueIn now (rest n (i + 1) ds))) (dueIn now (rest n (i + 1) ds))
+    go true = one c (dueIn now (rest n (i + 1) ds))
+    go false = none-more c (dueIn now (rest n (i + 1) ds))
+
+pub due-one-most : (b : Bool) → cond b 1 0 ≤ 1
+due-one-most true = le-refl 1
+due-one-most false = zero-le
+
+pub due-end : (now n i : ℕ) (ds : List ℕ) (c : ℕ) → n ≤ i → n ≤ length ds → c ≡ c + dueIn now (rest n i ds)
+unfolding dueIn
+due-end now n i ds c h l = rw (rest-nil n i ds h l) (sym (add-zero c))
+
+min-assoc : (a b c : ℕ) → min (min a b) c ≡ min a (min b c)
+min-assoc a b c = omega arith
+
+least-min : (m d : ℕ) (xs : List ℕ) → least (min m d) xs ≡ min m (least d xs)
+unfolding least
+least-min m d [] = refl
+least-min m d (x ∷ xs) = min-assoc m d (least x xs)
+
+pub least-step : (n i : ℕ) (ds : List ℕ) (m : ℕ) → i < n → n ≤ length ds → least (min m (getD ds i 0)) (rest n (i + 1) ds) ≡ least m (rest n i ds)
+unfolding least
+least-step n i ds m h l = rw (rest-cons n i ds h l) (least-min m (getD ds i 0) (rest n (i + 1) ds))
+
+pub least-start : (n : ℕ) (ds : List ℕ) → 0 < n → n ≤ length ds → earliest (take n ds) ≡ some (least (getD ds 0 0) (rest n 1 ds))
+unfolding earliest
+least-start n ds h l = ap earliest (rest-cons n 0 ds h l)
+
+pub least-end : (n i : ℕ) (ds : List ℕ) (m : ℕ) → n ≤ i → n ≤ length ds → m ≡ least m (rest n i ds)
+unfolding least
+least-end n i ds m h l = rw (rest-nil n i ds h l)

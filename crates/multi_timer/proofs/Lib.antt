@@ -1,0 +1,9 @@
+pub mod Checks
+pub mod Lists
+pub mod Loops
+pub mod Sorted
+pub mod Parting
+pub mod Places
+pub mod Changes
+pub mod Calls
+pub mod Laws

@@ -1,0 +1,64 @@
+use mathlib.Core.Path.{_≡_, sym, _∙_}
+use mathlib.Core.Bool.{true, false}
+use borrow.Author.Needs.{needs}
+use Rattle.multi_timer.specs.MultiTimer.{broken, heldTooLate}
+use Rattle.multi_timer.proofs.Changes.{count-fits-deadlines}
+use Rattle.multi_timer.proofs.Calls.{clear-state, clear-time, clear-done}
+use Rattle.multi_timer.proofs.MultiTimer.clear.Statement.{statement}
+use Rattle.multi_timer.proofs.MultiTimer.clear.Tie as tie
+
+is-broken-requires : tie.Need-is-broken-requires
+is-broken-requires c κs = search needs
+
+same-length : tie.Need-same-length
+same-length c = search needs
+
+same-length-2 : tie.Need-same-length-2
+same-length-2 c = search needs
+
+returns : tie.Need-returns
+returns c =
+    let s = c .before .before .before .before .before .before in
+    let e1 : broken (s .args .self .count) (s .args .keys .now) (s .args .deadlines .now) ≡ true = sym (c .before .is-broken .ensures) ∙ c .if1 .taken in
+    clear-state (s .args .self) (s .args .keys .now) (s .args .deadlines .now) e1
+
+held-too-late-requires : tie.Need-held-too-late-requires
+held-too-late-requires c κs =
+    let s = c .before .before .before .before .before .before .before in
+    let e1 : broken (s .args .self .count) (s .args .keys .now) (s .args .deadlines .now) ≡ false = sym (c .before .before .is-broken .ensures) ∙ c .before .if1 .left in
+    count-fits-deadlines (s .args .self) (s .args .keys .now) (s .args .deadlines .now) e1
+
+same-length-3 : tie.Need-same-length-3
+same-length-3 c = search needs
+
+same-length-4 : tie.Need-same-length-4
+same-length-4 c = search needs
+
+returns-2 : tie.Need-returns-2
+returns-2 c =
+    let s = c .before .before .before .before .before .before .before .before .before in
+    let e1 : broken (s .args .self .count) (s .args .keys .now) (s .args .deadlines .now) ≡ false = sym (c .before .before .before .before .is-broken .ensures) ∙ c .before .before .before .if1 .left in
+    let e2 : heldTooLate (s .args .self .count) (s .args .deadlines .now) ≡ true = sym (c .before .held-too-late .ensures) ∙ c .if2 .taken in
+    clear-time (s .args .self) (s .args .keys .now) (s .args .deadlines .now) e1 e2
+
+clear-unchecked-requires : tie.Need-clear-unchecked-requires
+clear-unchecked-requires c κs =
+    let s = c .before .before .before .before .before .before .before .before .before .before .before in
+    let e1 : broken (s .args .self .count) (s .args .keys .now) (s .args .deadlines .now) ≡ false = sym (c .before .before .before .before .before .before .is-broken .ensures) ∙ c .before .before .before .before .before .if1 .left in
+    e1
+
+same-length-5 : tie.Need-same-length-5
+same-length-5 c = search needs
+
+same-length-6 : tie.Need-same-length-6
+same-length-6 c = search needs
+
+returns-3 : tie.Need-returns-3
+returns-3 c =
+    let s = c .before .before .before .before .before .before .before .before .before .before .before .before .before .before .before .before in
+    let e1 : broken (s .args .self .count) (s .args .keys .now) (s .args .deadlines .now) ≡ false = sym (c .before .before .before .before .before .before .before .before .before .before .before .is-broken .ensures) ∙ c .before .before .before .before .before .before .before .before .before .before .if1 .left in
+    let e2 : heldTooLate (s .args .self .count) (s .args .deadlines .now) ≡ false = sym (c .before .before .before .before .before .before .before .before .held-too-late .ensures) ∙ c .before .before .before .before .before .before .before .if2 .left in
+    clear-done (s .args .self) (s .args .keys .now) (s .args .deadlines .now) _ _ _ e1 e2 (c .before .before .before .before .clear-unchecked .ensures)
+
+pub clear-spec : {M : Type 1} → statement M
+clear-spec = tie.close (tie.spec is-broken-requires same-length same-length-2 returns held-too-late-requires same-length-3 same-length-4 returns-2 clear-unchecked-requires same-length-5 same-length-6 returns-3)

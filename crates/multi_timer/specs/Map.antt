@@ -1,0 +1,80 @@
+-- Document 01: "`MultiTimer` becomes two lent slices of one length, keys ascending and their deadlines, and a count of the used entries";
+-- the reference's `HashMap` of keys and deadlines, as the list of its entries by ascending key.
+use Prim.Native.Nat.{ℕ, suc, min}
+use mathlib.Core.Bool.{Bool, true, false, not, cond, _&&_}
+use mathlib.Core.List.{List, [], _∷_}
+use mathlib.Core.Option.{Option, none, some}
+use lib.Dec.{leb, ltb, eqb}
+
+pub record Entry : Type 0 where
+  pub key : ℕ
+  pub deadline : ℕ
+
+abbrev pub entry : ℕ → ℕ → Entry
+entry k d = record { key = k; deadline = d }
+
+unfoldable pub entriesOf : List ℕ → List ℕ → List Entry
+entriesOf [] ds = []
+entriesOf (k ∷ ks) [] = []
+entriesOf (k ∷ ks) (d ∷ ds) = entry k d ∷ entriesOf ks ds
+
+unfoldable pub keysOf : List Entry → List ℕ
+keysOf [] = []
+keysOf (e ∷ es) = e .key ∷ keysOf es
+
+unfoldable pub deadlinesOf : List Entry → List ℕ
+deadlinesOf [] = []
+deadlinesOf (e ∷ es) = e .deadline ∷ deadlinesOf es
+
+-- strictly ascending, from a lowest value on
+unfoldable pub ascendingFrom : ℕ → List ℕ → Bool
+ascendingFrom low [] = true
+ascendingFrom low (k ∷ ks) = leb low k && ascendingFrom (suc k) ks
+
+abbrev pub ascending : List ℕ → Bool
+ascending ks = ascendingFrom 0 ks
+
+-- the deadline of a key
+unfoldable pub lookup : ℕ → List Entry → Option ℕ
+lookup k [] = none
+lookup k (e ∷ es) = cond (eqb (e .key) k) (some (e .deadline)) (lookup k es)
+
+abbrev pub isSome : Option ℕ → Bool
+isSome none = false
+isSome (some d) = true
+
+-- the entries that pass a test
+unfoldable pub keep : (Entry → Bool) → List Entry → List Entry
+keep p [] = []
+keep p (e ∷ es) = cond (p e) (e ∷ keep p es) (keep p es)
+
+-- a key's deadline set or replaced
+unfoldable pub put : ℕ → ℕ → List Entry → List Entry
+put k d [] = entry k d ∷ []
+put k d (e ∷ es) = cond (ltb (e .key) k) (e ∷ put k d es) (cond (eqb (e .key) k) (entry k d ∷ es) (entry k d ∷ e ∷ es))
+
+abbrev pub other : ℕ → Entry → Bool
+other k e = not (eqb (e .key) k)
+
+abbrev pub remove : ℕ → List Entry → List Entry
+remove k es = keep (other k) es
+
+-- "Expired when now is at or past the deadline."
+abbrev pub due : ℕ → Entry → Bool
+due now e = leb (e .deadline) now
+
+abbrev pub pending : ℕ → Entry → Bool
+pending now e = ltb now (e .deadline)
+
+abbrev pub dueAt : ℕ → Option ℕ → Bool
+dueAt now none = false
+dueAt now (some d) = leb d now
+
+-- the least of d and ds
+unfoldable pub least : ℕ → List ℕ → ℕ
+least d [] = d
+least d (x ∷ xs) = min d (least x xs)
+
+unfoldable pub earliest : List ℕ → Option ℕ
+earliest [] = none
+earliest (d ∷ ds) = some (least d ds)

@@ -1,0 +1,670 @@
+// A set of timers by key in two lent slices: the reference's MultiTimer on nanoseconds.
+use refusal::Refusal;
+ghost use mathlib.Core.Path.{_≡_};
+ghost use mathlib.Core.Bool.{false, not, cond};
+ghost use lib.Dec.{leb, eqb};
+ghost use mathlib.Core.List.{_∷_, _++_};
+ghost use mathlib.Core.Option.{some};
+ghost use Prim.Native.Nat.{suc, min, _≤_, _<_};
+ghost use lib.ListN.{length, take, drop, set, replicate};
+ghost use Rattle.multi_timer.specs.Map.{entriesOf, ascending, keep, due, pending, lookup, isSome, dueAt, earliest};
+ghost use Rattle.multi_timer.specs.Search.{searchIn, dueIn, Partitioned, insertedAt, removedAt, clearedIn};
+ghost use Rattle.multi_timer.specs.MultiTimer.{used, after, afterPop, broken, heldTooLate, readTooLate, startTooLate, startFull, startUnchecked, cancelUnchecked, popUnchecked, clearUnchecked, earliestAnswer, newDef, startTimerAtDef, cancelTimerDef, isExpiredAtDef, popExpiredAtDef, earliestDeadlineDef, clearDef};
+
+// In nanoseconds: 172,800 s for a time, 86,400 s for a duration.
+const MAX_TIME: u64 = 172800000000000;
+
+const MAX_DURATION: u64 = 86400000000000;
+
+// The first count entries of the lent keys and deadlines are used, by ascending key.
+pub struct MultiTimer {
+    pub count: usize,
+    pub global_generation: u64,
+}
+
+pub enum Making {
+    Made(MultiTimer),
+    Refused(Refusal),
+}
+
+pub enum StartAnswer {
+    Id(u64),
+    Refused(Refusal),
+}
+
+pub struct Started {
+    pub timers: MultiTimer,
+    pub answer: StartAnswer,
+}
+
+pub enum CancelAnswer {
+    // Whether the key had a timer.
+    Existed(bool),
+    Refused(Refusal),
+}
+
+pub struct Cancelled {
+    pub timers: MultiTimer,
+    pub answer: CancelAnswer,
+}
+
+pub enum ExpiredAnswer {
+    Is(bool),
+    Refused(Refusal),
+}
+
+pub enum PopAnswer {
+    // How many expired keys stand in the lent slice.
+    Keys(usize),
+    Refused(Refusal),
+}
+
+pub struct Popped {
+    pub timers: MultiTimer,
+    pub answer: PopAnswer,
+}
+
+pub enum EarliestAnswer {
+    Nothing,
+    At(u64),
+    Refused(Refusal),
+}
+
+pub enum ClearAnswer {
+    Done,
+    Refused(Refusal),
+}
+
+pub struct Cleared {
+    pub timers: MultiTimer,
+    pub answer: ClearAnswer,
+}
+
+// Where a key stands, or where it would.
+pub enum Place {
+    At(usize),
+    Absent(usize),
+}
+
+fn wide(x: u32) -> u64
+    ensures { λ r. ⌜ r ≡ x ⌝ }
+{
+    x as u64
+}
+
+fn is_ascending(count: usize, keys: &[u32]) -> bool
+    requires { ⌜ count ≤ length (now keys) ⌝ }
+    ensures { λ r. ⌜ r ≡ ascending (take count (now (keys .entry))) ⌝ }
+{
+    let mut low: u64 = 0;
+    let mut i = 0;
+    while i < count {
+        let key = wide(keys[i]);
+        if key < low {
+            return false;
+        }
+        low = key + 1;
+        i += 1;
+    }
+    true
+}
+
+fn is_broken(count: usize, keys: &[u32], deadlines: &[u64]) -> bool
+    ensures { λ r. ⌜ r ≡ broken count (now (keys .entry)) (now (deadlines .entry)) ⌝ }
+{
+    if keys.len() != deadlines.len() {
+        return true;
+    }
+    if count > keys.len() {
+        return true;
+    }
+    !is_ascending(count, keys)
+}
+
+fn held_too_late(count: usize, deadlines: &[u64]) -> bool
+    requires { ⌜ count ≤ length (now deadlines) ⌝ }
+    ensures { λ r. ⌜ r ≡ heldTooLate count (now (deadlines .entry)) ⌝ }
+{
+    let mut i = 0;
+    while i < count {
+        if deadlines[i] > MAX_TIME {
+            return true;
+        }
+        i += 1;
+    }
+    false
+}
+
+fn read_too_late(count: usize, deadlines: &[u64], time: u64) -> bool
+    requires { ⌜ count ≤ length (now deadlines) ⌝ }
+    ensures { λ r. ⌜ r ≡ readTooLate count (now (deadlines .entry)) time ⌝ }
+{
+    if held_too_late(count, deadlines) {
+        return true;
+    }
+    time > MAX_TIME
+}
+
+fn start_too_late(count: usize, deadlines: &[u64], time: u64, duration: u64) -> bool
+    requires { ⌜ count ≤ length (now deadlines) ⌝ }
+    ensures { λ r. ⌜ r ≡ startTooLate count (now (deadlines .entry)) time duration ⌝ }
+{
+    if held_too_late(count, deadlines) {
+        return true;
+    }
+    if time > MAX_TIME {
+        return true;
+    }
+    if duration > MAX_DURATION {
+        return true;
+    }
+    time + duration > MAX_TIME
+}
+
+fn search(count: usize, keys: &[u32], key: u32) -> Place
+    requires { ⌜ count ≤ length (now keys) ⌝ }
+    ensures { λ r. ⌜ r ≡ searchIn key (take count (now (keys .entry))) ⌝ }
+{
+    let mut i = 0;
+    while i < count {
+        let k = keys[i];
+        if k >= key {
+            if k == key {
+                return Place::At(i);
+            }
+            return Place::Absent(i);
+        }
+        i += 1;
+    }
+    Place::Absent(i)
+}
+
+fn clear_keys(keys: &mut [u32])
+    ensures { λ _. ⌜ now (keys .exit) ≡ replicate (length (now (keys .entry))) 0 ⌝ }
+{
+    let mut i = 0;
+    while i < keys.len() {
+        keys[i] = 0;
+        i += 1;
+    }
+}
+
+fn clear_deadlines(deadlines: &mut [u64])
+    ensures { λ _. ⌜ now (deadlines .exit) ≡ replicate (length (now (deadlines .entry))) 0 ⌝ }
+{
+    let mut i = 0;
+    while i < deadlines.len() {
+        deadlines[i] = 0;
+        i += 1;
+    }
+}
+
+// The first n move up by one, and key comes first.
+fn insert_key(keys: &mut [u32], n: usize, key: u32)
+    requires { ⌜ n < length (now keys) ⌝ }
+    ensures { λ _. ⌜ now (keys .exit) ≡ key ∷ (take n (now (keys .entry)) ++ drop (suc n) (now (keys .entry))) ⌝ }
+{
+    let mut i = n;
+    while 0 < i {
+        keys[i] = keys[i - 1];
+        i -= 1;
+    }
+    keys[0] = key;
+}
+
+fn insert_deadline(deadlines: &mut [u64], n: usize, deadline: u64)
+    requires { ⌜ n < length (now deadlines) ⌝ }
+    ensures { λ _. ⌜ now (deadlines .exit) ≡ deadline ∷ (take n (now (deadlines .entry)) ++ drop (suc n) (now (deadlines .entry))) ⌝ }
+{
+    let mut i = n;
+    while 0 < i {
+        deadlines[i] = deadlines[i - 1];
+        i -= 1;
+    }
+    deadlines[0] = deadline;
+}
+
+// Of the first n, all but the first move down by one, and a 0 comes last.
+fn remove_key(keys: &mut [u32], n: usize)
+    requires { ⌜ (0 < n) × (n ≤ length (now keys)) ⌝ }
+    ensures { λ _. ⌜ now (keys .exit) ≡ drop 1 (take n (now (keys .entry))) ++ (0 ∷ drop n (now (keys .entry))) ⌝ }
+{
+    let mut moved = 0;
+    let mut i = n;
+    while 0 < i {
+        i -= 1;
+        let key = keys[i];
+        keys[i] = moved;
+        moved = key;
+    }
+}
+
+fn remove_deadline(deadlines: &mut [u64], n: usize)
+    requires { ⌜ (0 < n) × (n ≤ length (now deadlines)) ⌝ }
+    ensures { λ _. ⌜ now (deadlines .exit) ≡ drop 1 (take n (now (deadlines .entry))) ++ (0 ∷ drop n (now (deadlines .entry))) ⌝ }
+{
+    let mut moved = 0;
+    let mut i = n;
+    while 0 < i {
+        i -= 1;
+        let deadline = deadlines[i];
+        deadlines[i] = moved;
+        moved = deadline;
+    }
+}
+
+fn has_key(count: usize, keys: &[u32], deadlines: &[u64], key: u32) -> bool
+    requires { ⌜ broken count (now keys) (now deadlines) ≡ false ⌝ }
+    ensures { λ r. ⌜ r ≡ isSome (lookup key (entriesOf (take count (now (keys .entry))) (take count (now (deadlines .entry))))) ⌝ }
+{
+    let place = search(count, keys, key);
+    match place {
+        Place::At(_) => true,
+        Place::Absent(_) => false,
+    }
+}
+
+fn is_due(count: usize, keys: &[u32], deadlines: &[u64], key: u32, time: u64) -> bool
+    requires { ⌜ broken count (now keys) (now deadlines) ≡ false ⌝ }
+    ensures { λ r. ⌜ r ≡ dueAt time (lookup key (entriesOf (take count (now (keys .entry))) (take count (now (deadlines .entry))))) ⌝ }
+{
+    let place = search(count, keys, key);
+    match place {
+        Place::At(i) => time >= deadlines[i],
+        Place::Absent(_) => false,
+    }
+}
+
+fn start_full(timers: MultiTimer, keys: &[u32], deadlines: &[u64], key: u32) -> bool
+    requires { ⌜ broken (timers .count) (now keys) (now deadlines) ≡ false ⌝ }
+    ensures { λ r. ⌜ r ≡ startFull timers (now (keys .entry)) (now (deadlines .entry)) key ⌝ }
+{
+    let count = timers.count;
+    if keys.len() <= count {
+        return !has_key(count, keys, deadlines, key);
+    }
+    false
+}
+
+fn due_one(deadline: u64, time: u64) -> usize
+    ensures { λ r. ⌜ r ≡ cond (leb deadline time) 1 0 ⌝ }
+{
+    if time >= deadline { 1 } else { 0 }
+}
+
+fn due_count(count: usize, deadlines: &[u64], time: u64) -> usize
+    requires { ⌜ count ≤ length (now deadlines) ⌝ }
+    ensures { λ r. ⌜ r ≡ dueIn time (take count (now (deadlines .entry))) ⌝ }
+{
+    let mut n = 0;
+    let mut i = 0;
+    while i < count {
+        n += due_one(deadlines[i], time);
+        i += 1;
+    }
+    n
+}
+
+fn earlier(a: u64, b: u64) -> u64
+    ensures { λ r. ⌜ r ≡ min a b ⌝ }
+{
+    if a <= b { a } else { b }
+}
+
+fn least_deadline(count: usize, deadlines: &[u64]) -> u64
+    requires { ⌜ (0 < count) × (count ≤ length (now deadlines)) ⌝ }
+    ensures { λ r. ⌜ some r ≡ earliest (take count (now (deadlines .entry))) ⌝ }
+{
+    let mut soonest = deadlines[0];
+    let mut i = 1;
+    while i < count {
+        soonest = earlier(soonest, deadlines[i]);
+        i += 1;
+    }
+    soonest
+}
+
+// The expired keys go to out and the other entries to the front; gives how many are left.
+fn partition(
+    keys: &mut [u32],
+    deadlines: &mut [u64],
+    out: &mut [u32],
+    count: usize,
+    time: u64,
+) -> usize
+    requires { ⌜ (count ≤ length (now keys)) × (count ≤ length (now deadlines)) × (dueIn time (take count (now deadlines)) ≤ length (now out)) ⌝ }
+    ensures { λ r. ⌜ Partitioned count time (now (keys .entry)) (now (deadlines .entry)) (now (out .entry)) r (now (keys .exit)) (now (deadlines .exit)) (now (out .exit)) ⌝ }
+{
+    let mut left = 0;
+    let mut i = 0;
+    while i < count {
+        let key = keys[i];
+        let deadline = deadlines[i];
+        if time >= deadline {
+            out[i - left] = key;
+        } else {
+            keys[left] = key;
+            deadlines[left] = deadline;
+            left += 1;
+        }
+        i += 1;
+    }
+    left
+}
+
+fn insert_key_at(keys: &mut [u32], i: usize, count: usize, key: u32)
+    requires { ⌜ (i ≤ count) × (count < length (now keys)) ⌝ }
+    ensures { λ _. ⌜ now (keys .exit) ≡ insertedAt i count key (now (keys .entry)) ⌝ }
+{
+    insert_key(&mut keys[i..], count - i, key);
+}
+
+fn remove_key_at(keys: &mut [u32], i: usize, count: usize)
+    requires { ⌜ (i < count) × (count ≤ length (now keys)) ⌝ }
+    ensures { λ _. ⌜ now (keys .exit) ≡ removedAt i count (now (keys .entry)) ⌝ }
+{
+    remove_key(&mut keys[i..], count - i);
+}
+
+fn insert_deadline_at(deadlines: &mut [u64], i: usize, count: usize, deadline: u64)
+    requires { ⌜ (i ≤ count) × (count < length (now deadlines)) ⌝ }
+    ensures { λ _. ⌜ now (deadlines .exit) ≡ insertedAt i count deadline (now (deadlines .entry)) ⌝ }
+{
+    insert_deadline(&mut deadlines[i..], count - i, deadline);
+}
+
+fn remove_deadline_at(deadlines: &mut [u64], i: usize, count: usize)
+    requires { ⌜ (i < count) × (count ≤ length (now deadlines)) ⌝ }
+    ensures { λ _. ⌜ now (deadlines .exit) ≡ removedAt i count (now (deadlines .entry)) ⌝ }
+{
+    remove_deadline(&mut deadlines[i..], count - i);
+}
+
+fn set_deadline(deadlines: &mut [u64], i: usize, deadline: u64)
+    requires { ⌜ i < length (now deadlines) ⌝ }
+    ensures { λ _. ⌜ now (deadlines .exit) ≡ set (now (deadlines .entry)) i deadline ⌝ }
+{
+    deadlines[i] = deadline;
+}
+
+fn clear_keys_in(keys: &mut [u32], from: usize, to: usize)
+    requires { ⌜ (from ≤ to) × (to ≤ length (now keys)) ⌝ }
+    ensures { λ _. ⌜ now (keys .exit) ≡ clearedIn from to (now (keys .entry)) ⌝ }
+{
+    clear_keys(&mut keys[from..to]);
+}
+
+fn clear_deadlines_in(deadlines: &mut [u64], from: usize, to: usize)
+    requires { ⌜ (from ≤ to) × (to ≤ length (now deadlines)) ⌝ }
+    ensures { λ _. ⌜ now (deadlines .exit) ≡ clearedIn from to (now (deadlines .entry)) ⌝ }
+{
+    clear_deadlines(&mut deadlines[from..to]);
+}
+
+// Makes an empty set in two slices of one length.
+pub fn new_timers(keys: &mut [u32], deadlines: &mut [u64]) -> Making
+    ensures { λ r. ⌜ after r (now (keys .exit)) (now (deadlines .exit)) ≡ newDef (now (keys .entry)) (now (deadlines .entry)) ⌝ }
+{
+    if keys.len() != deadlines.len() {
+        return Making::Refused(Refusal::State);
+    }
+    clear_keys(keys);
+    clear_deadlines(deadlines);
+    Making::Made(MultiTimer {
+        count: 0,
+        global_generation: 0,
+    })
+}
+
+impl MultiTimer {
+    pub fn start_timer_at_unchecked(
+        self,
+        keys: &mut [u32],
+        deadlines: &mut [u64],
+        key: u32,
+        deadline: u64,
+    ) -> MultiTimer
+        requires { ⌜ (broken (self .count) (now keys) (now deadlines) ≡ false) × (startFull self (now keys) (now deadlines) key ≡ false) ⌝ }
+        ensures { λ r. ⌜ after r (now (keys .exit)) (now (deadlines .exit)) ≡ startUnchecked self (now (keys .entry)) (now (deadlines .entry)) key deadline ⌝ }
+    {
+        let count = self.count;
+        let next = std::num::wrapping_add_u64(self.global_generation, 1);
+        let place = search(count, keys, key);
+        match place {
+            Place::At(i) => {
+                set_deadline(deadlines, i, deadline);
+                MultiTimer {
+                    count,
+                    global_generation: next,
+                }
+            }
+            Place::Absent(i) => {
+                insert_key_at(keys, i, count, key);
+                insert_deadline_at(deadlines, i, count, deadline);
+                MultiTimer {
+                    count: count + 1,
+                    global_generation: next,
+                }
+            }
+        }
+    }
+
+    pub fn cancel_timer_unchecked(
+        self,
+        keys: &mut [u32],
+        deadlines: &mut [u64],
+        key: u32,
+    ) -> MultiTimer
+        requires { ⌜ broken (self .count) (now keys) (now deadlines) ≡ false ⌝ }
+        ensures { λ r. ⌜ after r (now (keys .exit)) (now (deadlines .exit)) ≡ cancelUnchecked self (now (keys .entry)) (now (deadlines .entry)) key ⌝ }
+    {
+        let count = self.count;
+        let place = search(count, keys, key);
+        match place {
+            Place::At(i) => {
+                remove_key_at(keys, i, count);
+                remove_deadline_at(deadlines, i, count);
+                MultiTimer {
+                    count: count - 1,
+                    global_generation: self.global_generation,
+                }
+            }
+            Place::Absent(_) => self,
+        }
+    }
+
+    pub fn pop_expired_at_unchecked(
+        self,
+        keys: &mut [u32],
+        deadlines: &mut [u64],
+        time: u64,
+        out: &mut [u32],
+    ) -> MultiTimer
+        requires { ⌜ (broken (self .count) (now keys) (now deadlines) ≡ false) × (dueIn time (take (self .count) (now deadlines)) ≤ length (now out)) ⌝ }
+        ensures { λ r. ⌜ afterPop (after r (now (keys .exit)) (now (deadlines .exit))) (now (out .exit)) ≡ popUnchecked self (now (keys .entry)) (now (deadlines .entry)) time (now (out .entry)) ⌝ }
+    {
+        let count = self.count;
+        let left = partition(keys, deadlines, out, count, time);
+        clear_keys_in(keys, left, count);
+        clear_deadlines_in(deadlines, left, count);
+        MultiTimer {
+            count: left,
+            global_generation: self.global_generation,
+        }
+    }
+
+    pub fn clear_unchecked(self, keys: &mut [u32], deadlines: &mut [u64]) -> MultiTimer
+        requires { ⌜ broken (self .count) (now keys) (now deadlines) ≡ false ⌝ }
+        ensures { λ r. ⌜ after r (now (keys .exit)) (now (deadlines .exit)) ≡ clearUnchecked self (now (keys .entry)) (now (deadlines .entry)) ⌝ }
+    {
+        let count = self.count;
+        clear_keys_in(keys, 0, count);
+        clear_deadlines_in(deadlines, 0, count);
+        MultiTimer {
+            count: 0,
+            global_generation: self.global_generation,
+        }
+    }
+
+    pub fn len(self) -> usize
+        ensures { λ r. ⌜ r ≡ self .count ⌝ }
+    {
+        self.count
+    }
+
+    pub fn is_empty(self) -> bool
+        ensures { λ r. ⌜ r ≡ eqb (self .count) 0 ⌝ }
+    {
+        self.count == 0
+    }
+
+    // Sets or restarts the timer of a key.
+    pub fn start_timer_at(
+        self,
+        keys: &mut [u32],
+        deadlines: &mut [u64],
+        key: u32,
+        now: u64,
+        duration: u64,
+    ) -> Started
+        ensures { λ r. ⌜ after r (keys .exit .now) (deadlines .exit .now) ≡ startTimerAtDef self (keys .entry .now) (deadlines .entry .now) key now duration ⌝ }
+    {
+        let count = self.count;
+        if is_broken(count, keys, deadlines) {
+            return Started {
+                timers: self,
+                answer: StartAnswer::Refused(Refusal::State),
+            };
+        }
+        if start_too_late(count, deadlines, now, duration) {
+            return Started {
+                timers: self,
+                answer: StartAnswer::Refused(Refusal::Time),
+            };
+        }
+        if start_full(self, keys, deadlines, key) {
+            return Started {
+                timers: self,
+                answer: StartAnswer::Refused(Refusal::Full),
+            };
+        }
+        let t = self.start_timer_at_unchecked(keys, deadlines, key, now + duration);
+        Started {
+            timers: t,
+            answer: StartAnswer::Id(t.global_generation),
+        }
+    }
+
+    pub fn cancel_timer(self, keys: &mut [u32], deadlines: &mut [u64], key: u32) -> Cancelled
+        ensures { λ r. ⌜ after r (now (keys .exit)) (now (deadlines .exit)) ≡ cancelTimerDef self (now (keys .entry)) (now (deadlines .entry)) key ⌝ }
+    {
+        let count = self.count;
+        if is_broken(count, keys, deadlines) {
+            return Cancelled {
+                timers: self,
+                answer: CancelAnswer::Refused(Refusal::State),
+            };
+        }
+        if held_too_late(count, deadlines) {
+            return Cancelled {
+                timers: self,
+                answer: CancelAnswer::Refused(Refusal::Time),
+            };
+        }
+        let existed = has_key(count, keys, deadlines, key);
+        let t = self.cancel_timer_unchecked(keys, deadlines, key);
+        Cancelled {
+            timers: t,
+            answer: CancelAnswer::Existed(existed),
+        }
+    }
+
+    pub fn is_expired_at(self, keys: &[u32], deadlines: &[u64], key: u32, now: u64) -> ExpiredAnswer
+        ensures { λ r. ⌜ r ≡ isExpiredAtDef self (keys .entry .now) (deadlines .entry .now) key now ⌝ }
+    {
+        let count = self.count;
+        if is_broken(count, keys, deadlines) {
+            return ExpiredAnswer::Refused(Refusal::State);
+        }
+        if read_too_late(count, deadlines, now) {
+            return ExpiredAnswer::Refused(Refusal::Time);
+        }
+        ExpiredAnswer::Is(is_due(count, keys, deadlines, key, now))
+    }
+
+    // The expired keys, ascending, go to the front of out.
+    pub fn pop_expired_at(
+        self,
+        keys: &mut [u32],
+        deadlines: &mut [u64],
+        now: u64,
+        out: &mut [u32],
+    ) -> Popped
+        ensures { λ r. ⌜ afterPop (after r (keys .exit .now) (deadlines .exit .now)) (out .exit .now) ≡ popExpiredAtDef self (keys .entry .now) (deadlines .entry .now) now (out .entry .now) ⌝ }
+    {
+        let count = self.count;
+        if is_broken(count, keys, deadlines) {
+            return Popped {
+                timers: self,
+                answer: PopAnswer::Refused(Refusal::State),
+            };
+        }
+        if read_too_late(count, deadlines, now) {
+            return Popped {
+                timers: self,
+                answer: PopAnswer::Refused(Refusal::Time),
+            };
+        }
+        let n = due_count(count, deadlines, now);
+        if n > out.len() {
+            return Popped {
+                timers: self,
+                answer: PopAnswer::Refused(Refusal::Full),
+            };
+        }
+        let t = self.pop_expired_at_unchecked(keys, deadlines, now, out);
+        Popped {
+            timers: t,
+            answer: PopAnswer::Keys(n),
+        }
+    }
+
+    pub fn earliest_deadline(self, keys: &[u32], deadlines: &[u64]) -> EarliestAnswer
+        ensures { λ r. ⌜ r ≡ earliestDeadlineDef self (now (keys .entry)) (now (deadlines .entry)) ⌝ }
+    {
+        let count = self.count;
+        if is_broken(count, keys, deadlines) {
+            return EarliestAnswer::Refused(Refusal::State);
+        }
+        if held_too_late(count, deadlines) {
+            return EarliestAnswer::Refused(Refusal::Time);
+        }
+        if count == 0 {
+            return EarliestAnswer::Nothing;
+        }
+        EarliestAnswer::At(least_deadline(count, deadlines))
+    }
+
+    pub fn clear(self, keys: &mut [u32], deadlines: &mut [u64]) -> Cleared
+        ensures { λ r. ⌜ after r (now (keys .exit)) (now (deadlines .exit)) ≡ clearDef self (now (keys .entry)) (now (deadlines .entry)) ⌝ }
+    {
+        let count = self.count;
+        if is_broken(count, keys, deadlines) {
+            return Cleared {
+                timers: self,
+                answer: ClearAnswer::Refused(Refusal::State),
+            };
+        }
+        if held_too_late(count, deadlines) {
+            return Cleared {
+                timers: self,
+                answer: ClearAnswer::Refused(Refusal::Time),
+            };
+        }
+        let t = self.clear_unchecked(keys, deadlines);
+        Cleared {
+            timers: t,
+            answer: ClearAnswer::Done,
+        }
+    }
+}

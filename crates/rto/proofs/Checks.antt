@@ -1,0 +1,177 @@
+-- The checks of the entry points: their order, and what they let pass.
+use mathlib.Core.Path.{_≡_, refl}
+use mathlib.Core.Bool.{Bool, true, false, not, cond, _||_, _&&_, true≢false, false≢true}
+use mathlib.Core.List.{[], _∷_}
+use Prim.Native.Nat.{ℕ, _≤_, _<_}
+use lib.Dec.{T, leb, ltb}
+use denote.Floats.{passes}
+use borrow.Author.Tests.{leb-true, leb-false, ltb-false, le-leb, lt-leb}
+use Rattle.refusal.specs.Order.{check, verdict, decide, firstOf, numbered, orElse, order}
+use Rattle.refusal.specs.declared.Refusal.{Refusal}
+use Rattle.refusal.specs.declared.Refusal.the-variants.{State, Counts, Time, Setup}
+use Rattle.float.specs.Roll.{chanceInBounds}
+use Rattle.rtt.specs.Rtt.{factorInBounds}
+use Rattle.rto.specs.Rto.{durationsInBounds, factorsInBounds, configInBounds, estimateBroken, stateBroken, countsFull, rttTooLong, heldTooLong, sampleTooLong}
+use Rattle.rto.specs.declared.RtoConfig.{RtoConfig}
+use Rattle.rto.specs.declared.RtoStats.{RtoStats}
+use Rattle.rto.specs.declared.RtoEstimator.{RtoEstimator}
+use Rattle.rto.specs.declared.Rtt.the-variants.{Is}
+
+pub state-counts-time : {A : Type 0} (s n t : Bool) (f : Refusal → A) (a : A) → decide (verdict (check s State ∷ check n Counts ∷ check t Time ∷ [])) f a ≡ cond s (f State) (cond n (f Counts) (cond t (f Time) a))
+unfolding decide verdict firstOf numbered orElse order
+state-counts-time true n t f a = refl
+state-counts-time false true t f a = refl
+state-counts-time false false true f a = refl
+state-counts-time false false false f a = refl
+
+pub setup-only : {A : Type 0} (s : Bool) (f : Refusal → A) (a : A) → decide (verdict (check s Setup ∷ [])) f a ≡ cond s (f Setup) a
+unfolding decide verdict firstOf numbered orElse order
+setup-only true f a = refl
+setup-only false f a = refl
+
+-- ---- Booleans
+pub both-true : (a b : Bool) → (a && b) ≡ true → (a ≡ true) × (b ≡ true)
+both-true true b e = (refl, e)
+both-true false b e = absurd (false≢true e)
+
+pub both-false : (a b : Bool) → (a || b) ≡ false → (a ≡ false) × (b ≡ false)
+both-false false b e = (refl, e)
+both-false true b e = absurd (true≢false e)
+
+pub not-is : (a : Bool) → not a ≡ false → a ≡ true
+not-is true e = refl
+not-is false e = absurd (true≢false e)
+
+-- ---- a setup in bounds
+pub record Config (c : RtoConfig) : Type 0 where
+  pub initial : c .«initial_rto» ≤ 86400000000000
+  pub least : c .«min_rto» ≤ 86400000000000
+  pub most : c .«max_rto» ≤ 86400000000000
+  pub granularity : c .granularity ≤ 1000000000
+  pub ordered : c .«min_rto» ≤ c .«max_rto»
+  pub alpha : T (chanceInBounds (c .alpha))
+  pub beta : T (chanceInBounds (c .beta))
+  pub k : T (factorInBounds (c .k))
+  pub multiplier : T (factorInBounds (c .«rto_multiplier»))
+
+pub config-of : (c : RtoConfig) → configInBounds c ≡ true → Config c
+unfolding configInBounds
+config-of c e =
+    let h = both-true (durationsInBounds c) (factorsInBounds c) e in
+    let d1 = both-true (leb (c .«initial_rto») 86400000000000) _ (h .0) in
+    let d2 = both-true (leb (c .«min_rto») 86400000000000) _ (d1 .1) in
+    let d3 = both-true (leb (c .«max_rto») 86400000000000) _ (d2 .1) in
+    let d4 = both-true (leb (c .granularity) 1000000000) _ (d3 .1) in
+    let f1 = both-true (chanceInBounds (c .alpha)) (chanceInBounds (c .beta) && (factorInBounds (c .k) && factorInBounds (c .«rto_multiplier»))) (h .1) in
+    let f2 = both-true (chanceInBounds (c .beta)) (factorInBounds (c .k) && factorInBounds (c .«rto_multiplier»)) (f1 .1) in
+    let f3 = both-true (factorInBounds (c .k)) (factorInBounds (c .«rto_multiplier»)) (f2 .1) in
+    record {
+      initial = leb-true _ _ (d1 .0);
+      least = leb-true _ _ (d2 .0);
+      most = leb-true _ _ (d3 .0);
+      granularity = leb-true _ _ (d4 .0);
+      ordered = leb-true _ _ (d4 .1);
+      alpha = passes _ (f1 .0);
+      beta = passes _ (f2 .0);
+      k = passes _ (f3 .0);
+      multiplier = passes _ (f3 .1);
+    }
+
+-- ---- counters below 2 ^ 60
+pub record Below (s : RtoStats) : Type 0 where
+  pub sample : s .«sample_count» < 1152921504606846976
+  pub karn : s .«karn_rejected_count» < 1152921504606846976
+  pub timeout : s .«timeout_count» < 1152921504606846976
+  pub backoff : s .«backoff_count» < 1152921504606846976
+
+pub count-below : (s : RtoStats) → countsFull s ≡ false → Below s
+unfolding countsFull
+count-below s e =
+    let a = both-false (leb 1152921504606846976 (s .«sample_count»)) _ e in
+    let b = both-false (leb 1152921504606846976 (s .«karn_rejected_count»)) _ (a .1) in
+    let d = both-false (leb 1152921504606846976 (s .«timeout_count»)) _ (b .1) in
+    record { sample = leb-false _ _ (a .0); karn = leb-false _ _ (b .0); timeout = leb-false _ _ (d .0); backoff = leb-false _ _ (d .1) }
+
+-- ---- held estimates
+pub estimates-fit : (s v : ℕ) → estimateBroken (Is s) (Is v) ≡ false → (s ≤ 86401000000000) × (v ≤ 86401000000000)
+estimates-fit s v e = let h = both-false (ltb 86401000000000 s) (ltb 86401000000000 v) e in (ltb-false _ _ (h .0), ltb-false _ _ (h .1))
+
+-- ---- the tests, one after the other
+module _ (c : RtoConfig) where
+  pub durations-1 : 86400000000000 < c .«initial_rto» → false ≡ durationsInBounds c
+  durations-1 a = simp (lt-leb _ _ a)
+
+  pub durations-2 : c .«initial_rto» ≤ 86400000000000 → 86400000000000 < c .«min_rto» → false ≡ durationsInBounds c
+  durations-2 a b = simp (le-leb _ _ a, lt-leb _ _ b)
+
+  pub durations-3 : c .«initial_rto» ≤ 86400000000000 → c .«min_rto» ≤ 86400000000000 → 86400000000000 < c .«max_rto» → false ≡ durationsInBounds c
+  durations-3 a b d = simp (le-leb _ _ a, le-leb _ _ b, lt-leb _ _ d)
+
+  pub durations-4 : c .«initial_rto» ≤ 86400000000000 → c .«min_rto» ≤ 86400000000000 → c .«max_rto» ≤ 86400000000000 → 1000000000 < c .granularity → false ≡ durationsInBounds c
+  durations-4 a b d e = simp (le-leb _ _ a, le-leb _ _ b, le-leb _ _ d, lt-leb _ _ e)
+
+  pub durations-5 : c .«initial_rto» ≤ 86400000000000 → c .«min_rto» ≤ 86400000000000 → c .«max_rto» ≤ 86400000000000 → c .granularity ≤ 1000000000 → leb (c .«min_rto») (c .«max_rto») ≡ durationsInBounds c
+  durations-5 a b d e = simp (le-leb _ _ a, le-leb _ _ b, le-leb _ _ d, le-leb _ _ e)
+
+-- a conjunction of four, test by test
+module _ (a b d e : Bool) where
+  pub four-1 : a ≡ false → false ≡ (a && (b && (d && e)))
+  four-1 p = simp p
+
+  pub four-2 : a ≡ true → b ≡ false → false ≡ (a && (b && (d && e)))
+  four-2 p q = simp (p, q)
+
+  pub four-3 : a ≡ true → b ≡ true → d ≡ false → false ≡ (a && (b && (d && e)))
+  four-3 p q r = simp (p, q, r)
+
+  pub four-4 : (x : Bool) → a ≡ true → b ≡ true → d ≡ true → x ≡ e → x ≡ (a && (b && (d && e)))
+  four-4 x p q r s = simp (p, q, r, s)
+
+  -- and a disjunction
+  pub or-1 : a ≡ true → true ≡ (a || (b || (d || e)))
+  or-1 p = simp p
+
+  pub or-2 : a ≡ false → b ≡ true → true ≡ (a || (b || (d || e)))
+  or-2 p q = simp (p, q)
+
+  pub or-3 : a ≡ false → b ≡ false → d ≡ true → true ≡ (a || (b || (d || e)))
+  or-3 p q r = simp (p, q, r)
+
+  pub or-4 : a ≡ false → b ≡ false → d ≡ false → e ≡ (a || (b || (d || e)))
+  or-4 p q r = simp (p, q, r)
+
+pub and-stops : (a b : Bool) → a ≡ false → false ≡ (a && b)
+and-stops a b p = simp p
+
+pub and-goes : (a b x : Bool) → a ≡ true → x ≡ b → x ≡ (a && b)
+and-goes a b x p q = simp (p, q)
+
+-- ---- the returns of an entry point
+module _ {A : Type 0} (s n t : Bool) (f : Refusal → A) (a : A) where
+  pub refused-state : s ≡ true → f State ≡ decide (verdict (check s State ∷ check n Counts ∷ check t Time ∷ [])) f a
+  refused-state p = simp (state-counts-time, p)
+
+  pub refused-counts : s ≡ false → n ≡ true → f Counts ≡ decide (verdict (check s State ∷ check n Counts ∷ check t Time ∷ [])) f a
+  refused-counts p q = simp (state-counts-time, p, q)
+
+  pub refused-time : s ≡ false → n ≡ false → t ≡ true → f Time ≡ decide (verdict (check s State ∷ check n Counts ∷ check t Time ∷ [])) f a
+  refused-time p q r = simp (state-counts-time, p, q, r)
+
+  pub accepted-call : (x : A) → s ≡ false → n ≡ false → t ≡ false → x ≡ a → x ≡ decide (verdict (check s State ∷ check n Counts ∷ check t Time ∷ [])) f a
+  accepted-call x p q r e = simp (state-counts-time, p, q, r) e
+
+-- ---- a good state's parts
+pub broken-config : (e : RtoEstimator) → stateBroken e ≡ false → configInBounds (e .config) ≡ true
+unfolding stateBroken
+broken-config e h = not-is (configInBounds (e .config)) (both-false (not (configInBounds (e .config))) (estimateBroken (e .srtt) (e .rttvar)) h .0)
+
+pub broken-estimate : (e : RtoEstimator) → stateBroken e ≡ false → estimateBroken (e .srtt) (e .rttvar) ≡ false
+unfolding stateBroken
+broken-estimate e h = both-false (not (configInBounds (e .config))) (estimateBroken (e .srtt) (e .rttvar)) h .1
+
+pub sample-in-time : (e : RtoEstimator) (sample : ℕ) → sampleTooLong e sample ≡ false → sample ≤ 86400000000000
+sample-in-time e sample h = ltb-false _ _ (both-false (heldTooLong e) (ltb 86400000000000 sample) h .1)
+
+pub rto-in-time : (e : RtoEstimator) → heldTooLong e ≡ false → e .«current_rto» ≤ 86400000000000
+unfolding heldTooLong
+rto-in-time e h = ltb-false _ _ (both-false (ltb 86400000000000 (e .«current_rto»)) (ltb 86400000000000 (e .«base_rto») || (rttTooLong (e .stats .«min_rtt») || (rttTooLong (e .stats .«max_rtt») || rttTooLong (e .stats .«latest_rtt»)))) h .0)

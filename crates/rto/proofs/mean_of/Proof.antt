@@ -1,0 +1,20 @@
+use borrow.Author.Needs.{needs}
+use Rattle.rto.proofs.mean_of.Statement.{statement}
+use Rattle.rto.proofs.mean_of.Tie as tie
+use lib.Ieee.{ofBits}
+use borrow.Author.Tests.{eq-eqb, ne-eqb}
+use Rattle.rto.specs.Rto.{meanMs}
+
+returns : tie.Need-returns
+unfolding meanMs ofBits
+returns c = simp (eq-eqb _ _ (c .if1 .taken))
+
+nearest-u64-to-f64-requires : tie.Need-nearest-u64-to-f64-requires
+nearest-u64-to-f64-requires c κs = search needs
+
+returns-2 : tie.Need-returns-2
+unfolding meanMs
+returns-2 c = simp (ne-eqb _ _ (c .before .before .if1 .left), c .before .nearest-u64-to-f64 .ensures)
+
+pub mean-of-spec : {M : Type 1} → statement M
+mean-of-spec = tie.close (tie.spec returns nearest-u64-to-f64-requires returns-2)

@@ -1,0 +1,99 @@
+-- Document 01, "Invented tallies: .. from the history of calls": what a list of calls says of the estimator's tallies. The latest call stands first.
+use Prim.Native.Nat.{ℕ, suc, max}
+use mathlib.Core.Bool.{Bool, true, false, _&&_}
+use mathlib.Core.List.{List, [], _∷_}
+use lib.Dec.{leb}
+use lib.IntN.{pos}
+use lib.Ieee.{Float, fin, binary64, add}
+use Rattle.duration.specs.Bounds.{maxDuration}
+use Rattle.rtt.specs.Rtt.{toMs}
+use Rattle.rto.specs.declared.RtoConfig.{RtoConfig}
+use Rattle.rto.specs.declared.RtoEstimator.{RtoEstimator}
+use Rattle.rto.specs.declared.Rtt.{Rtt}
+use Rattle.rto.specs.declared.Rtt.the-variants.{Unset, Is}
+use Rattle.rto.specs.Rto.{fresh, updateRttDef, onTimeoutDef, resetBackoffDef, leastRtt, greatestRtt, nextConsecutive}
+
+-- `update_rtt` with the sample and whether it was retransmitted, `on_timeout`, `reset_backoff`
+pub data Call : Type 0 where
+  sample : ℕ → Bool → Call
+  timeout : Call
+  reset : Call
+
+unfoldable pub step : RtoEstimator → Call → RtoEstimator
+step e (sample d again) = updateRttDef e d again .estimator
+step e timeout = onTimeoutDef e .estimator
+step e reset = resetBackoffDef e .estimator
+
+unfoldable pub afterCalls : RtoConfig → List Call → RtoEstimator
+afterCalls c [] = fresh c
+afterCalls c (x ∷ xs) = step (afterCalls c xs) x
+
+-- every sample is within its bound
+unfoldable pub samplesInBounds : List Call → Bool
+samplesInBounds [] = true
+samplesInBounds (sample d again ∷ xs) = leb d maxDuration && samplesInBounds xs
+samplesInBounds (timeout ∷ xs) = samplesInBounds xs
+samplesInBounds (reset ∷ xs) = samplesInBounds xs
+
+unfoldable pub samples : List Call → ℕ
+samples [] = 0
+samples (sample d true ∷ xs) = samples xs
+samples (sample d false ∷ xs) = suc (samples xs)
+samples (timeout ∷ xs) = samples xs
+samples (reset ∷ xs) = samples xs
+
+unfoldable pub rejections : List Call → ℕ
+rejections [] = 0
+rejections (sample d true ∷ xs) = suc (rejections xs)
+rejections (sample d false ∷ xs) = rejections xs
+rejections (timeout ∷ xs) = rejections xs
+rejections (reset ∷ xs) = rejections xs
+
+unfoldable pub timeouts : List Call → ℕ
+timeouts [] = 0
+timeouts (sample d again ∷ xs) = timeouts xs
+timeouts (timeout ∷ xs) = suc (timeouts xs)
+timeouts (reset ∷ xs) = timeouts xs
+
+-- timeouts since the last accepted sample or reset, up to 2 ^ 32 - 1
+unfoldable pub consecutive : List Call → ℕ
+consecutive [] = 0
+consecutive (sample d true ∷ xs) = consecutive xs
+consecutive (sample d false ∷ xs) = 0
+consecutive (timeout ∷ xs) = nextConsecutive (consecutive xs)
+consecutive (reset ∷ xs) = 0
+
+unfoldable pub mostConsecutive : List Call → ℕ
+mostConsecutive [] = 0
+mostConsecutive (sample d again ∷ xs) = mostConsecutive xs
+mostConsecutive (timeout ∷ xs) = max (mostConsecutive xs) (consecutive (timeout ∷ xs))
+mostConsecutive (reset ∷ xs) = mostConsecutive xs
+
+unfoldable pub leastSample : List Call → Rtt
+leastSample [] = Unset
+leastSample (sample d true ∷ xs) = leastSample xs
+leastSample (sample d false ∷ xs) = leastRtt (leastSample xs) d
+leastSample (timeout ∷ xs) = leastSample xs
+leastSample (reset ∷ xs) = leastSample xs
+
+unfoldable pub greatestSample : List Call → Rtt
+greatestSample [] = Unset
+greatestSample (sample d true ∷ xs) = greatestSample xs
+greatestSample (sample d false ∷ xs) = greatestRtt (greatestSample xs) d
+greatestSample (timeout ∷ xs) = greatestSample xs
+greatestSample (reset ∷ xs) = greatestSample xs
+
+unfoldable pub latestSample : List Call → Rtt
+latestSample [] = Unset
+latestSample (sample d true ∷ xs) = latestSample xs
+latestSample (sample d false ∷ xs) = Is d
+latestSample (timeout ∷ xs) = latestSample xs
+latestSample (reset ∷ xs) = latestSample xs
+
+-- the running sum of the samples in ms, from 0.0, first sample first
+unfoldable pub sumOfSamples : List Call → Float
+sumOfSamples [] = fin false 0 (pos 0)
+sumOfSamples (sample d true ∷ xs) = sumOfSamples xs
+sumOfSamples (sample d false ∷ xs) = add binary64 (sumOfSamples xs) (toMs d)
+sumOfSamples (timeout ∷ xs) = sumOfSamples xs
+sumOfSamples (reset ∷ xs) = sumOfSamples xs

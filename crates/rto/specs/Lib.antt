@@ -1,0 +1,2 @@
+pub mod Rto
+pub mod History

@@ -1,0 +1,635 @@
+// The RTO estimator of RFC 6298 by value: the reference's timing/rto.rs on nanoseconds.
+use refusal::Refusal;
+use rtt::Estimate;
+ghost use mathlib.Core.Path.{_≡_};
+ghost use mathlib.Core.Bool.{true, false, not};
+ghost use Prim.Native.Nat.{_+_, _*_, _≤_, _<_, min, max};
+ghost use mathlib.Core.Bool.{_||_};
+ghost use lib.Dec.{leb, ltb};
+ghost use Rattle.rtt.specs.Rtt.{firstEstimate, nextEstimate};
+ghost use Rattle.rto.specs.Rto.{durationsInBounds, factorsInBounds, configInBounds, estimateBroken, stateBroken, countsFull, rttTooLong, heldTooLong, sampleTooLong, defaultConfig, noStats, fresh, limited, estimateFor, leastRtt, greatestRtt, sampled, acceptSample, rejectSample, takeSample, nextConsecutive, backOff, resetBackoff, meanMs, withConfigDef, updateRttDef, onTimeoutDef, resetBackoffDef, retryLimitDef, meanRttMsDef};
+
+// In nanoseconds: 86,400 s, 86,401 s and 1 s.
+const MAX_DURATION: u64 = 86400000000000;
+
+const MAX_ESTIMATE: u64 = 86401000000000;
+
+const MAX_GRANULARITY: u64 = 1000000000;
+// 2^60.
+const COUNT_LIMIT: u64 = 1152921504606846976;
+
+pub struct RtoConfig {
+    pub initial_rto: u64,
+    pub min_rto: u64,
+    pub max_rto: u64,
+    pub granularity: u64,
+    pub alpha: f64,
+    pub beta: f64,
+    pub k: f64,
+    pub rto_multiplier: f64,
+}
+
+// A duration that may be unset.
+pub enum Rtt {
+    Unset,
+    Is(u64),
+}
+
+pub struct RtoStats {
+    pub sample_count: u64,
+    pub karn_rejected_count: u64,
+    pub timeout_count: u64,
+    pub backoff_count: u64,
+    pub min_rtt: Rtt,
+    pub max_rtt: Rtt,
+    pub sum_rtt_millis: f64,
+    pub latest_rtt: Rtt,
+    pub max_consecutive_timeouts: u32,
+}
+
+pub struct RtoEstimator {
+    pub config: RtoConfig,
+    pub srtt: Rtt,
+    pub rttvar: Rtt,
+    pub current_rto: u64,
+    pub base_rto: u64,
+    pub in_backoff: bool,
+    pub consecutive_timeouts: u32,
+    pub stats: RtoStats,
+}
+
+pub enum Making {
+    Made(RtoEstimator),
+    Refused(Refusal),
+}
+
+pub enum UpdateAnswer {
+    // Whether the sample was used.
+    Accepted(bool),
+    Refused(Refusal),
+}
+
+pub struct Updated {
+    pub estimator: RtoEstimator,
+    pub answer: UpdateAnswer,
+}
+
+pub enum TimeoutAnswer {
+    Rto(u64),
+    Refused(Refusal),
+}
+
+pub struct TimedOut {
+    pub estimator: RtoEstimator,
+    pub answer: TimeoutAnswer,
+}
+
+pub enum ResetAnswer {
+    Done,
+    Refused(Refusal),
+}
+
+pub struct BackoffReset {
+    pub estimator: RtoEstimator,
+    pub answer: ResetAnswer,
+}
+
+pub enum LimitAnswer {
+    Exceeded(bool),
+    Refused(Refusal),
+}
+
+pub enum MeanAnswer {
+    Millis(f64),
+    Refused(Refusal),
+}
+
+fn durations_in_bounds(c: RtoConfig) -> bool
+    ensures { λ r. ⌜ r ≡ durationsInBounds c ⌝ }
+{
+    if c.initial_rto > MAX_DURATION {
+        return false;
+    }
+    if c.min_rto > MAX_DURATION {
+        return false;
+    }
+    if c.max_rto > MAX_DURATION {
+        return false;
+    }
+    if c.granularity > MAX_GRANULARITY {
+        return false;
+    }
+    c.min_rto <= c.max_rto
+}
+
+fn factors_in_bounds(c: RtoConfig) -> bool
+    ensures { λ r. ⌜ r ≡ factorsInBounds c ⌝ }
+{
+    if !float::chance_in_bounds(c.alpha) {
+        return false;
+    }
+    if !float::chance_in_bounds(c.beta) {
+        return false;
+    }
+    if !rtt::factor_in_bounds(c.k) {
+        return false;
+    }
+    rtt::factor_in_bounds(c.rto_multiplier)
+}
+
+pub fn config_in_bounds(c: RtoConfig) -> bool
+    ensures { λ r. ⌜ r ≡ configInBounds c ⌝ }
+{
+    if !durations_in_bounds(c) {
+        return false;
+    }
+    factors_in_bounds(c)
+}
+
+fn estimate_broken(srtt: Rtt, rttvar: Rtt) -> bool
+    ensures { λ r. ⌜ r ≡ estimateBroken srtt rttvar ⌝ }
+{
+    match srtt {
+        Rtt::Unset => match rttvar {
+            Rtt::Unset => false,
+            Rtt::Is(_) => true,
+        },
+        Rtt::Is(s) => match rttvar {
+            Rtt::Unset => true,
+            Rtt::Is(v) => too_large(s, v),
+        },
+    }
+}
+
+fn too_large(srtt: u64, rttvar: u64) -> bool
+    ensures { λ r. ⌜ r ≡ ltb 86401000000000 srtt || ltb 86401000000000 rttvar ⌝ }
+{
+    if srtt > MAX_ESTIMATE {
+        return true;
+    }
+    rttvar > MAX_ESTIMATE
+}
+
+fn state_broken(e: RtoEstimator) -> bool
+    ensures { λ r. ⌜ r ≡ stateBroken e ⌝ }
+{
+    let config = e.config;
+    let srtt = e.srtt;
+    let rttvar = e.rttvar;
+    if !config_in_bounds(config) {
+        return true;
+    }
+    estimate_broken(srtt, rttvar)
+}
+
+fn counts_full(s: RtoStats) -> bool
+    ensures { λ r. ⌜ r ≡ countsFull s ⌝ }
+{
+    if s.sample_count >= COUNT_LIMIT {
+        return true;
+    }
+    if s.karn_rejected_count >= COUNT_LIMIT {
+        return true;
+    }
+    if s.timeout_count >= COUNT_LIMIT {
+        return true;
+    }
+    s.backoff_count >= COUNT_LIMIT
+}
+
+fn rtt_too_long(r: Rtt) -> bool
+    ensures { λ b. ⌜ b ≡ rttTooLong r ⌝ }
+{
+    match r {
+        Rtt::Unset => false,
+        Rtt::Is(d) => d > MAX_DURATION,
+    }
+}
+
+fn held_too_long(e: RtoEstimator) -> bool
+    ensures { λ r. ⌜ r ≡ heldTooLong e ⌝ }
+{
+    let stats = e.stats;
+    let min_rtt = stats.min_rtt;
+    let max_rtt = stats.max_rtt;
+    let latest_rtt = stats.latest_rtt;
+    if e.current_rto > MAX_DURATION {
+        return true;
+    }
+    if e.base_rto > MAX_DURATION {
+        return true;
+    }
+    if rtt_too_long(min_rtt) {
+        return true;
+    }
+    if rtt_too_long(max_rtt) {
+        return true;
+    }
+    rtt_too_long(latest_rtt)
+}
+
+fn sample_too_long(e: RtoEstimator, sample: u64) -> bool
+    ensures { λ r. ⌜ r ≡ sampleTooLong e sample ⌝ }
+{
+    if held_too_long(e) {
+        return true;
+    }
+    sample > MAX_DURATION
+}
+
+fn least_rtt(r: Rtt, d: u64) -> Rtt
+    ensures { λ x. ⌜ x ≡ leastRtt r d ⌝ }
+{
+    match r {
+        Rtt::Unset => Rtt::Is(d),
+        Rtt::Is(m) => Rtt::Is(least(m, d)),
+    }
+}
+
+fn greatest_rtt(r: Rtt, d: u64) -> Rtt
+    ensures { λ x. ⌜ x ≡ greatestRtt r d ⌝ }
+{
+    match r {
+        Rtt::Unset => Rtt::Is(d),
+        Rtt::Is(m) => Rtt::Is(greatest(m, d)),
+    }
+}
+
+fn least(a: u64, b: u64) -> u64
+    ensures { λ r. ⌜ r ≡ min a b ⌝ }
+{
+    if a <= b { a } else { b }
+}
+
+fn greatest(a: u64, b: u64) -> u64
+    ensures { λ r. ⌜ r ≡ max a b ⌝ }
+{
+    if a <= b { b } else { a }
+}
+
+fn limit(rto: u64, min_rto: u64, max_rto: u64) -> u64
+    ensures { λ r. ⌜ r ≡ min (max rto «min_rto») «max_rto» ⌝ }
+{
+    least(greatest(rto, min_rto), max_rto)
+}
+
+fn next_consecutive(n: u32) -> u32
+    ensures { λ r. ⌜ r ≡ nextConsecutive n ⌝ }
+{
+    if n < 4294967295 { n + 1 } else { n }
+}
+
+fn most_consecutive(a: u32, b: u32) -> u32
+    ensures { λ r. ⌜ r ≡ max a b ⌝ }
+{
+    if a <= b { b } else { a }
+}
+
+fn stats_with_sample(s: RtoStats, sample: u64) -> RtoStats
+    requires { ⌜ countsFull s ≡ false ⌝ }
+    ensures { λ r. ⌜ r ≡ sampled s sample ⌝ }
+{
+    let min_rtt = s.min_rtt;
+    let max_rtt = s.max_rtt;
+    RtoStats {
+        sample_count: s.sample_count + 1,
+        karn_rejected_count: s.karn_rejected_count,
+        timeout_count: s.timeout_count,
+        backoff_count: s.backoff_count,
+        min_rtt: least_rtt(min_rtt, sample),
+        max_rtt: greatest_rtt(max_rtt, sample),
+        sum_rtt_millis: s.sum_rtt_millis + rtt::to_ms(sample),
+        latest_rtt: Rtt::Is(sample),
+        max_consecutive_timeouts: s.max_consecutive_timeouts,
+    }
+}
+
+fn first_estimate(c: RtoConfig, sample: u64) -> Estimate
+    requires { ⌜ (configInBounds c ≡ true) × (sample ≤ 86400000000000) ⌝ }
+    ensures { λ r. ⌜ r ≡ firstEstimate (c .k) (c .«rto_multiplier») (c .granularity) sample ⌝ }
+{
+    rtt::first_estimate_unchecked(c.k, c.rto_multiplier, c.granularity, sample)
+}
+
+fn next_estimate(c: RtoConfig, srtt: u64, rttvar: u64, sample: u64) -> Estimate
+    requires { ⌜ (configInBounds c ≡ true) × (srtt ≤ 86401000000000) × (rttvar ≤ 86401000000000) × (sample ≤ 86400000000000) ⌝ }
+    ensures { λ r. ⌜ r ≡ nextEstimate (c .alpha) (c .beta) (c .k) (c .«rto_multiplier») (c .granularity) srtt rttvar sample ⌝ }
+{
+    rtt::next_estimate_unchecked(
+        c.alpha,
+        c.beta,
+        c.k,
+        c.rto_multiplier,
+        c.granularity,
+        srtt,
+        rttvar,
+        sample,
+    )
+}
+
+fn estimate_for(c: RtoConfig, srtt: Rtt, rttvar: Rtt, sample: u64) -> Estimate
+    requires { ⌜ (configInBounds c ≡ true) × (estimateBroken srtt rttvar ≡ false) × (sample ≤ 86400000000000) ⌝ }
+    ensures { λ r. ⌜ r ≡ estimateFor c srtt rttvar sample ⌝ }
+{
+    match srtt {
+        Rtt::Unset => first_estimate(c, sample),
+        Rtt::Is(s) => match rttvar {
+            Rtt::Unset => first_estimate(c, sample),
+            Rtt::Is(v) => next_estimate(c, s, v, sample),
+        },
+    }
+}
+
+fn no_stats() -> RtoStats
+    ensures { λ r. ⌜ r ≡ noStats ⌝ }
+{
+    RtoStats {
+        sample_count: 0,
+        karn_rejected_count: 0,
+        timeout_count: 0,
+        backoff_count: 0,
+        min_rtt: Rtt::Unset,
+        max_rtt: Rtt::Unset,
+        sum_rtt_millis: 0.0,
+        latest_rtt: Rtt::Unset,
+        max_consecutive_timeouts: 0,
+    }
+}
+
+// The initial RTO is not clamped.
+fn fresh_estimator(config: RtoConfig) -> RtoEstimator
+    ensures { λ r. ⌜ r ≡ fresh config ⌝ }
+{
+    RtoEstimator {
+        config,
+        srtt: Rtt::Unset,
+        rttvar: Rtt::Unset,
+        current_rto: config.initial_rto,
+        base_rto: config.initial_rto,
+        in_backoff: false,
+        consecutive_timeouts: 0,
+        stats: no_stats(),
+    }
+}
+
+fn accept_sample(e: RtoEstimator, sample: u64) -> RtoEstimator
+    requires { ⌜ (stateBroken e ≡ false) × (countsFull (e .stats) ≡ false) × (sample ≤ 86400000000000) ⌝ }
+    ensures { λ r. ⌜ r ≡ acceptSample e sample ⌝ }
+{
+    let config = e.config;
+    let srtt = e.srtt;
+    let rttvar = e.rttvar;
+    let stats = e.stats;
+    let x = estimate_for(config, srtt, rttvar, sample);
+    let rto = limit(x.rto, config.min_rto, config.max_rto);
+    RtoEstimator {
+        config,
+        srtt: Rtt::Is(x.srtt),
+        rttvar: Rtt::Is(x.rttvar),
+        current_rto: rto,
+        base_rto: rto,
+        in_backoff: false,
+        consecutive_timeouts: 0,
+        stats: stats_with_sample(stats, sample),
+    }
+}
+
+// Karn's algorithm: a retransmitted sample is only counted.
+fn reject_sample(e: RtoEstimator) -> RtoEstimator
+    requires { ⌜ countsFull (e .stats) ≡ false ⌝ }
+    ensures { λ r. ⌜ r ≡ rejectSample e ⌝ }
+{
+    let mut stats = e.stats;
+    stats.karn_rejected_count = stats.karn_rejected_count + 1;
+    let config = e.config;
+    let srtt = e.srtt;
+    let rttvar = e.rttvar;
+    RtoEstimator {
+        config,
+        srtt,
+        rttvar,
+        current_rto: e.current_rto,
+        base_rto: e.base_rto,
+        in_backoff: e.in_backoff,
+        consecutive_timeouts: e.consecutive_timeouts,
+        stats,
+    }
+}
+
+impl RtoConfig {
+    pub fn default() -> RtoConfig
+        ensures { λ r. ⌜ r ≡ defaultConfig ⌝ }
+    {
+        RtoConfig {
+            initial_rto: 1000000000,
+            min_rto: 200000000,
+            max_rto: 60000000000,
+            granularity: 1000000,
+            alpha: 0.125,
+            beta: 0.25,
+            k: 4.0,
+            rto_multiplier: 1.0,
+        }
+    }
+}
+
+impl RtoEstimator {
+    pub fn new() -> RtoEstimator
+        ensures { λ r. ⌜ r ≡ fresh defaultConfig ⌝ }
+    {
+        fresh_estimator(RtoConfig::default())
+    }
+
+    pub fn with_config(config: RtoConfig) -> Making
+        ensures { λ r. ⌜ r ≡ withConfigDef config ⌝ }
+    {
+        if !config_in_bounds(config) {
+            return Making::Refused(Refusal::Setup);
+        }
+        Making::Made(fresh_estimator(config))
+    }
+
+    pub fn update_rtt_unchecked(self, sample: u64, is_retransmission: bool) -> RtoEstimator
+        requires { ⌜ (stateBroken self ≡ false) × (countsFull (self .stats) ≡ false) × (sample ≤ 86400000000000) ⌝ }
+        ensures { λ r. ⌜ r ≡ takeSample self sample «is_retransmission» ⌝ }
+    {
+        if is_retransmission {
+            return reject_sample(self);
+        }
+        accept_sample(self, sample)
+    }
+
+    pub fn on_timeout_unchecked(self) -> RtoEstimator
+        requires { ⌜ (countsFull (self .stats) ≡ false) × (self .«current_rto» ≤ 86400000000000) ⌝ }
+        ensures { λ r. ⌜ r ≡ backOff self ⌝ }
+    {
+        let config = self.config;
+        let srtt = self.srtt;
+        let rttvar = self.rttvar;
+        let mut stats = self.stats;
+        let n = next_consecutive(self.consecutive_timeouts);
+        let most = most_consecutive(stats.max_consecutive_timeouts, n);
+        stats.timeout_count = stats.timeout_count + 1;
+        stats.backoff_count = stats.backoff_count + 1;
+        stats.max_consecutive_timeouts = most;
+        RtoEstimator {
+            config,
+            srtt,
+            rttvar,
+            current_rto: limit(self.current_rto * 2, config.min_rto, config.max_rto),
+            base_rto: self.base_rto,
+            in_backoff: true,
+            consecutive_timeouts: n,
+            stats,
+        }
+    }
+
+    fn with_base_rto(self) -> RtoEstimator
+        ensures { λ r. ⌜ r ≡ resetBackoff self ⌝ }
+    {
+        let config = self.config;
+        let srtt = self.srtt;
+        let rttvar = self.rttvar;
+        let stats = self.stats;
+        RtoEstimator {
+            config,
+            srtt,
+            rttvar,
+            current_rto: self.base_rto,
+            base_rto: self.base_rto,
+            in_backoff: false,
+            consecutive_timeouts: 0,
+            stats,
+        }
+    }
+
+    // Whether the sample was used: a retransmitted one is not.
+    pub fn update_rtt(self, sample: u64, is_retransmission: bool) -> Updated
+        ensures { λ r. ⌜ r ≡ updateRttDef self sample «is_retransmission» ⌝ }
+    {
+        let stats = self.stats;
+        if state_broken(self) {
+            return Updated {
+                estimator: self,
+                answer: UpdateAnswer::Refused(Refusal::State),
+            };
+        }
+        if counts_full(stats) {
+            return Updated {
+                estimator: self,
+                answer: UpdateAnswer::Refused(Refusal::Counts),
+            };
+        }
+        if sample_too_long(self, sample) {
+            return Updated {
+                estimator: self,
+                answer: UpdateAnswer::Refused(Refusal::Time),
+            };
+        }
+        let e = self.update_rtt_unchecked(sample, is_retransmission);
+        Updated {
+            estimator: e,
+            answer: UpdateAnswer::Accepted(!is_retransmission),
+        }
+    }
+
+    // Doubles the RTO, within its limits.
+    pub fn on_timeout(self) -> TimedOut
+        ensures { λ r. ⌜ r ≡ onTimeoutDef self ⌝ }
+    {
+        let stats = self.stats;
+        if state_broken(self) {
+            return TimedOut {
+                estimator: self,
+                answer: TimeoutAnswer::Refused(Refusal::State),
+            };
+        }
+        if counts_full(stats) {
+            return TimedOut {
+                estimator: self,
+                answer: TimeoutAnswer::Refused(Refusal::Counts),
+            };
+        }
+        if held_too_long(self) {
+            return TimedOut {
+                estimator: self,
+                answer: TimeoutAnswer::Refused(Refusal::Time),
+            };
+        }
+        let e = self.on_timeout_unchecked();
+        TimedOut {
+            estimator: e,
+            answer: TimeoutAnswer::Rto(e.current_rto),
+        }
+    }
+
+    // Back to the RTO before any timeout, as it was made: an initial RTO is not clamped here.
+    pub fn reset_backoff(self) -> BackoffReset
+        ensures { λ r. ⌜ r ≡ resetBackoffDef self ⌝ }
+    {
+        let stats = self.stats;
+        if state_broken(self) {
+            return BackoffReset {
+                estimator: self,
+                answer: ResetAnswer::Refused(Refusal::State),
+            };
+        }
+        if counts_full(stats) {
+            return BackoffReset {
+                estimator: self,
+                answer: ResetAnswer::Refused(Refusal::Counts),
+            };
+        }
+        if held_too_long(self) {
+            return BackoffReset {
+                estimator: self,
+                answer: ResetAnswer::Refused(Refusal::Time),
+            };
+        }
+        BackoffReset {
+            estimator: self.with_base_rto(),
+            answer: ResetAnswer::Done,
+        }
+    }
+
+    pub fn has_exceeded_retry_limit(self, max_retries: u32) -> LimitAnswer
+        ensures { λ r. ⌜ r ≡ retryLimitDef self «max_retries» ⌝ }
+    {
+        let stats = self.stats;
+        if state_broken(self) {
+            return LimitAnswer::Refused(Refusal::State);
+        }
+        if counts_full(stats) {
+            return LimitAnswer::Refused(Refusal::Counts);
+        }
+        if held_too_long(self) {
+            return LimitAnswer::Refused(Refusal::Time);
+        }
+        LimitAnswer::Exceeded(self.consecutive_timeouts >= max_retries)
+    }
+
+    pub fn mean_rtt_ms(self) -> MeanAnswer
+        ensures { λ r. ⌜ r ≡ meanRttMsDef self ⌝ }
+    {
+        let stats = self.stats;
+        if state_broken(self) {
+            return MeanAnswer::Refused(Refusal::State);
+        }
+        if counts_full(stats) {
+            return MeanAnswer::Refused(Refusal::Counts);
+        }
+        if held_too_long(self) {
+            return MeanAnswer::Refused(Refusal::Time);
+        }
+        MeanAnswer::Millis(mean_of(stats))
+    }
+}
+
+fn mean_of(s: RtoStats) -> f64
+    ensures { λ r. ⌜ r ≡ meanMs s ⌝ }
+{
+    if s.sample_count == 0 {
+        return 0.0;
+    }
+    s.sum_rtt_millis / std::num::nearest_u64_to_f64(s.sample_count)
+}

@@ -1,0 +1,242 @@
+-- One law a function, over plain values: what its callees give is what its definition says.
+use mathlib.Core.Path.{_≡_, refl, sym, _∙_, ap}
+use Prim.Native.Nat.{ℕ, _+_, _-_, _*_, _/_, _<_, _≤_}
+use native.Mathlib.Omega.{arith}
+use mathlib.Core.Bool.{Bool, true, false, _||_}
+use mathlib.Core.List.{List, [], _∷_, _++_}
+use lib.ListN.{length, take, drop, replicate}
+use lib.Seq.{length-take-le}
+use lib.Dec.{ltb}
+use borrow.Author.Tests.{ltb-false, leb-false, lt-ltb, le-ltb, le-leb, lt-leb}
+use Rattle.schedule.specs.Record.{record4, timeOf, lengthOf, placeOf, vacant, after, inserted, lowestFree}
+use Rattle.schedule.specs.State.{Mem, mem, waitingRecords, brokenFrom, stateBroken, countsBroken, late, heldLate, leavesAt, delayLate, deliveriesLate, copies, unusedPlaces, unusedRecords, lacksRoom, CanPut, CanSchedule}
+use Rattle.schedule.specs.Schedule.{scheduler, newDef, placed, filled, putDef, putAllDef, roomOf, onSchedule, scheduleDef, firstRecord, bytesOf, takenDef, PopExit, popExit, onPop, outShort, takeDef, popDef, CanPop, reading}
+use Rattle.refusal.specs.Order.{Verdict, accepted, refused, check, verdict, firstOf, numbered, orElse, decide, order}
+use Rattle.refusal.specs.declared.Refusal.{Refusal}
+use Rattle.refusal.specs.declared.Refusal.the-variants.{State, Counts, Time, Long, Full}
+use Rattle.schedule.specs.declared.Queued.the-variants as queued
+use Rattle.schedule.specs.declared.Ready.the-variants as ready
+use Rattle.schedule.specs.declared.Held.{Held}
+use Rattle.schedule.specs.declared.Held.the-variants as held
+use Rattle.schedule.specs.declared.ChannelScheduler.{ChannelScheduler}
+use Rattle.schedule.specs.declared.Deliveries.{Deliveries}
+use Rattle.schedule.specs.declared.Deliveries.the-variants.{Lost, One, Two}
+use Rattle.schedule.proofs.Sound.{or-left, or-right}
+use Rattle.schedule.proofs.Memory.{lacks-is, room-for, has-room, put-sound, put-next, put-room, first-inside, first-fine}
+
+pub new-law : (rs : List (List ℕ)) (ps : List ℕ) {rs′ : List (List ℕ)} {q : List ℕ} → rs′ ≡ replicate (length rs) vacant → q ≡ replicate (length (take (length ps / 1410 * 1410) ps)) 0 → mem rs′ (q ++ drop (length ps / 1410 * 1410) ps) (scheduler 0 0) ≡ newDef rs ps
+new-law rs ps p q = rw (p, q, length-take-le (length ps / 1410 * 1410) ps (whole (length ps)))
+  where
+    whole : (n : ℕ) → n / 1410 * 1410 ≤ n
+    whole n = omega arith
+
+-- ---- line 9
+pub broken-by-count : (m : Mem) → length (m .records) < m .scheduler .count → true ≡ stateBroken m
+unfolding stateBroken
+broken-by-count m h = sym (ap (λ (b : Bool). b || brokenFrom (m .scheduler .«next_order») (length (m .places) / 1410) vacant (waitingRecords m)) (lt-ltb (length (m .records)) (m .scheduler .count) h))
+
+pub broken-by-records : (m : Mem) {b : Bool} → m .scheduler .count ≤ length (m .records) → b ≡ brokenFrom (m .scheduler .«next_order») (length (m .places) / 1410) vacant (waitingRecords m) → b ≡ stateBroken m
+unfolding stateBroken
+broken-by-records m h e = e ∙ sym (ap (λ (b : Bool). b || brokenFrom (m .scheduler .«next_order») (length (m .places) / 1410) vacant (waitingRecords m)) (le-ltb (length (m .records)) (m .scheduler .count) h))
+
+-- ---- scheduling
+pub put-law : (rs : List (List ℕ)) (ps : List ℕ) (s : ChannelScheduler) (time : ℕ) (packet : List ℕ) {rs′ : List (List ℕ)} {ps′ : List ℕ} {place : ℕ}
+    → place ≡ lowestFree (length ps / 1410) (take (s .count) rs)
+    → ps′ ≡ placed ps place (filled packet)
+    → rs′ ≡ inserted after (record4 time (s .«next_order») (length packet) place) (take (s .count) rs) ++ drop (s .count + 1) rs
+    → mem rs′ ps′ (scheduler (s .count + 1) (s .«next_order» + 1)) ≡ putDef (mem rs ps s) time packet
+unfolding putDef
+put-law rs ps s time packet p q r = rw (r, q, p)
+
+pub lost-law : (m : Mem) (now : ℕ) (packet : List ℕ) {ds : Deliveries} → ds ≡ Lost → m ≡ putAllDef m now packet ds
+unfolding putAllDef
+lost-law m now packet e = rw e
+
+pub one-law : (m : Mem) (now d : ℕ) (packet : List ℕ) {ds : Deliveries} {m′ : Mem} → ds ≡ One d → m′ ≡ putDef m (now + d * 1000000) packet → m′ ≡ putAllDef m now packet ds
+unfolding putAllDef
+one-law m now d packet e p = rw e p
+
+pub two-law : (m : Mem) (now d e : ℕ) (packet : List ℕ) {ds : Deliveries} {m′ m″ : Mem} → ds ≡ Two d e → m′ ≡ putDef m (now + d * 1000000) packet → m″ ≡ putDef m′ (now + e * 1000000) packet → m″ ≡ putAllDef m now packet ds
+unfolding putAllDef
+two-law m now d e packet q p r = rw (q, ← p) r
+
+-- a delay within its bound
+pub delay-fits : (now d : ℕ) → delayLate now d ≡ false → (d ≤ 180000) × (now + d * 1000000 ≤ 172800000000000)
+delay-fits now d h = (ltb-false 180000 d (or-left (ltb 180000 d) (late (leavesAt now d)) h), ltb-false 172800000000000 (leavesAt now d) (or-right (ltb 180000 d) (late (leavesAt now d)) h))
+
+module _ (m : Mem) (now : ℕ) (packet : List ℕ) {ds : Deliveries} (can : CanSchedule m now packet ds) where
+  pub one-fits : (d : ℕ) → ds ≡ One d → (d ≤ 180000) × (now + d * 1000000 ≤ 172800000000000)
+  one-fits d e = delay-fits now d (sym (ap (deliveriesLate now) e) ∙ can .times)
+
+  pub first-fits : (d e : ℕ) → ds ≡ Two d e → (d ≤ 180000) × (now + d * 1000000 ≤ 172800000000000)
+  first-fits d e q = delay-fits now d (or-left (delayLate now d) (delayLate now e) (sym (ap (deliveriesLate now) q) ∙ can .times))
+
+  pub second-fits : (d e : ℕ) → ds ≡ Two d e → (e ≤ 180000) × (now + e * 1000000 ≤ 172800000000000)
+  second-fits d e q = delay-fits now e (or-right (delayLate now d) (delayLate now e) (sym (ap (deliveriesLate now) q) ∙ can .times))
+
+  few : m .scheduler .«next_order» < 1152921504606846976
+  few = leb-false 1152921504606846976 (m .scheduler .«next_order») (can .counts)
+
+  pub can-one : (d : ℕ) → ds ≡ One d → CanPut m packet
+  can-one d e = record { sound = can .sound; counts = omega (arith, few); short = can .short; room = sym (ap (λ (x : Deliveries). lacksRoom m (copies x)) e) ∙ can .room }
+
+  room-two : (d e : ℕ) → ds ≡ Two d e → lacksRoom m 2 ≡ false
+  room-two d e q = sym (ap (λ (x : Deliveries). lacksRoom m (copies x)) q) ∙ can .room
+
+  pub can-first : (d e : ℕ) → ds ≡ Two d e → CanPut m packet
+  can-first d e q = let r = room-for m 2 (room-two d e q) in record { sound = can .sound; counts = omega (arith, few); short = can .short; room = has-room m 1 (omega (arith, r .0)) (omega (arith, r .1)) }
+
+  pub can-second : (d e time : ℕ) {m′ : Mem} → ds ≡ Two d e → m′ ≡ putDef m time packet → CanPut m′ packet
+  can-second d e time q p =
+      let c = can-first d e q in
+      rw p (record { sound = put-sound m packet c time; counts = rw (put-next m packet c time) (omega (arith, few)); short = can .short; room = put-room m packet c time 1 (room-two d e q) })
+
+-- ---- room, as the code tests it
+pub lacks : (m : Mem) (k : ℕ) {r n : ℕ} → r ≡ roomOf m → n ≡ k → r < n → lacksRoom m k ≡ true
+lacks m k p q h = sym (lacks-is (unusedPlaces m) (unusedRecords m) k) ∙ lt-ltb (roomOf m) k (rw (← p, ← q) h)
+
+pub lacks-not : (m : Mem) (k : ℕ) {r n : ℕ} → r ≡ roomOf m → n ≡ k → n ≤ r → lacksRoom m k ≡ false
+lacks-not m k p q h = sym (lacks-is (unusedPlaces m) (unusedRecords m) k) ∙ le-ltb (roomOf m) k (rw (← p, ← q) h)
+
+-- ---- the checks of `schedule_at`
+module _ (m : Mem) (now : ℕ) (packet : List ℕ) (ds : Deliveries) where
+  abbrev pub timesLate : Bool
+  timesLate = late now || (heldLate (waitingRecords m) || deliveriesLate now ds)
+
+  pub schedule-state : stateBroken m ≡ true → onSchedule m (queued.Refused State) ≡ scheduleDef m now packet ds
+  unfolding scheduleDef verdict firstOf numbered orElse decide order
+  schedule-state a = simp a
+
+  pub schedule-counts : stateBroken m ≡ false → countsBroken m ≡ true → onSchedule m (queued.Refused Counts) ≡ scheduleDef m now packet ds
+  unfolding scheduleDef verdict firstOf numbered orElse decide order
+  schedule-counts a b = simp (a, b)
+
+  pub schedule-time : stateBroken m ≡ false → countsBroken m ≡ false → timesLate ≡ true → onSchedule m (queued.Refused Time) ≡ scheduleDef m now packet ds
+  unfolding scheduleDef verdict firstOf numbered orElse decide order
+  schedule-time a b c = simp (a, b, c)
+
+  pub schedule-long : stateBroken m ≡ false → countsBroken m ≡ false → timesLate ≡ false → ltb 1410 (length packet) ≡ true → onSchedule m (queued.Refused Long) ≡ scheduleDef m now packet ds
+  unfolding scheduleDef verdict firstOf numbered orElse decide order
+  schedule-long a b c d = simp (a, b, c, d)
+
+  pub schedule-full : stateBroken m ≡ false → countsBroken m ≡ false → timesLate ≡ false → ltb 1410 (length packet) ≡ false → lacksRoom m (copies ds) ≡ true → onSchedule m (queued.Refused Full) ≡ scheduleDef m now packet ds
+  unfolding scheduleDef verdict firstOf numbered orElse decide order
+  schedule-full a b c d e = simp (a, b, c, d, e)
+
+  pub schedule-done : {m′ : Mem} → stateBroken m ≡ false → countsBroken m ≡ false → timesLate ≡ false → ltb 1410 (length packet) ≡ false → lacksRoom m (copies ds) ≡ false → m′ ≡ putAllDef m now packet ds → onSchedule m′ queued.Accepted ≡ scheduleDef m now packet ds
+  unfolding scheduleDef verdict firstOf numbered orElse decide order
+  schedule-done a b c d e f = simp (a, b, c, d, e) (ap (λ (x : Mem). onSchedule x queued.Accepted) f)
+
+  pub can-schedule : stateBroken m ≡ false → countsBroken m ≡ false → timesLate ≡ false → ltb 1410 (length packet) ≡ false → lacksRoom m (copies ds) ≡ false → CanSchedule m now packet ds
+  can-schedule a b c d e =
+      record {
+        sound = a;
+        counts = b;
+        times = or-right (heldLate (waitingRecords m)) (deliveriesLate now ds) (or-right (late now) (heldLate (waitingRecords m) || deliveriesLate now ds) c);
+        short = d;
+        room = e;
+      }
+
+-- ---- the checks of a call that only reads
+module _ {A : Type 0} (m : Mem) (f : Refusal → A) (a : A) where
+  pub reading-state : stateBroken m ≡ true → f State ≡ reading m f a
+  unfolding reading verdict firstOf numbered orElse decide order
+  reading-state p = simp p
+
+  pub reading-counts : stateBroken m ≡ false → countsBroken m ≡ true → f Counts ≡ reading m f a
+  unfolding reading verdict firstOf numbered orElse decide order
+  reading-counts p q = simp (p, q)
+
+  pub reading-time : stateBroken m ≡ false → countsBroken m ≡ false → heldLate (waitingRecords m) ≡ true → f Time ≡ reading m f a
+  unfolding reading verdict firstOf numbered orElse decide order
+  reading-time p q r = simp (p, q, r)
+
+  pub reading-done : stateBroken m ≡ false → countsBroken m ≡ false → heldLate (waitingRecords m) ≡ false → a ≡ reading m f a
+  unfolding reading verdict firstOf numbered orElse decide order
+  reading-done p q r = simp (p, q, r)
+
+  decided-refused : (v : Verdict) {h : Held} {r : Refusal} → h ≡ decide v held.Refused held.Sound → h ≡ held.Refused r → f r ≡ decide v f a
+  unfolding decide
+  decided-refused accepted p q = let z : _≡_ {A = ℕ} 0 1 = cc in absurd (omega arith)
+  decided-refused (refused r′) p q = cc
+
+  decided-sound : (v : Verdict) {h : Held} → h ≡ decide v held.Refused held.Sound → h ≡ held.Sound → a ≡ decide v f a
+  unfolding decide
+  decided-sound accepted p q = refl
+  decided-sound (refused r′) p q = let z : _≡_ {A = ℕ} 0 1 = cc in absurd (omega arith)
+
+  -- what `held` found is what the call answers
+  pub reading-refused : {h : Held} {r : Refusal} → h ≡ reading m held.Refused held.Sound → h ≡ held.Refused r → f r ≡ reading m f a
+  unfolding reading
+  reading-refused p q = decided-refused (verdict (check (stateBroken m) State ∷ check (countsBroken m) Counts ∷ check (heldLate (waitingRecords m)) Time ∷ [])) p q
+
+  pub reading-sound : {h : Held} → h ≡ reading m held.Refused held.Sound → h ≡ held.Sound → a ≡ reading m f a
+  unfolding reading
+  reading-sound p q = decided-sound (verdict (check (stateBroken m) State ∷ check (countsBroken m) Counts ∷ check (heldLate (waitingRecords m)) Time ∷ [])) p q
+
+pub found-sound : (m : Mem) {h : Held} → h ≡ reading m held.Refused held.Sound → h ≡ held.Sound → stateBroken m ≡ false
+found-sound m {h} p q = go (stateBroken m) refl
+  where
+    go : (t : Bool) → stateBroken m ≡ t → t ≡ false
+    go false e = refl
+    go true e = let r = reading-state m held.Refused held.Sound e in let z : _≡_ {A = ℕ} 0 1 = cc in absurd (omega arith)
+
+-- ---- taking out
+pub positive : (n : ℕ) → (n ≡ 0 → ⊥) → 0 < n
+positive n h = omega arith
+
+module _ (m : Mem) (now : ℕ) (out : List ℕ) where
+  abbrev first : List ℕ
+  first = firstRecord (m .records)
+
+  pub none-waits : m .scheduler .count ≡ 0 → onPop m out ready.Nothing ≡ takeDef m now out
+  unfolding takeDef
+  none-waits h = simp (le-ltb 0 (m .scheduler .count) (omega arith))
+
+  pub none-due : (m .scheduler .count ≡ 0 → ⊥) → now < timeOf first → onPop m out ready.Nothing ≡ takeDef m now out
+  unfolding takeDef
+  none-due h k = simp (lt-ltb 0 (m .scheduler .count) (omega arith), lt-leb (timeOf first) now k)
+
+  pub taken-law : {rs : List (List ℕ)} {ps o : List ℕ} → (m .scheduler .count ≡ 0 → ⊥) → timeOf first ≤ now
+      → rs ≡ drop 1 (waitingRecords m) ++ vacant ∷ drop (m .scheduler .count) (m .records)
+      → ps ≡ placed (m .places) (placeOf first) (replicate 1410 0)
+      → o ≡ bytesOf (m .places) first ++ drop (lengthOf first) out
+      → popExit rs ps o (record { scheduler = scheduler (m .scheduler .count - 1) (m .scheduler .«next_order»); answer = ready.Packet (lengthOf first) }) ≡ takeDef m now out
+  unfolding takeDef takenDef
+  taken-law h k p q r = simp (lt-ltb 0 (m .scheduler .count) (omega arith), le-leb (timeOf first) now k, p, q, r)
+
+  -- what the packet that is due asks
+  pub can-take : CanPop m now out → (m .scheduler .count ≡ 0 → ⊥) → timeOf first ≤ now → (placeOf first * 1410 + 1410 ≤ length (m .places)) × (lengthOf first ≤ 1410) × (lengthOf first ≤ length out)
+  can-take c h k =
+      let some : 0 < m .scheduler .count = omega arith in
+      (first-inside m (c .sound) some, first-fine m (c .sound) some .short, ltb-false (length out) (lengthOf first) (sym (simp (lt-ltb 0 (m .scheduler .count) some, le-leb (timeOf first) now k)) ∙ c .room))
+
+  -- ---- the checks of `pop_ready_at`
+  abbrev pub popShort : Bool
+  popShort = outShort (m .scheduler .count) (m .records) now (length out)
+
+  pub pop-state : stateBroken m ≡ true → onPop m out (ready.Refused State) ≡ popDef m now out
+  unfolding popDef verdict firstOf numbered orElse decide order
+  pop-state a = simp a
+
+  pub pop-counts : stateBroken m ≡ false → countsBroken m ≡ true → onPop m out (ready.Refused Counts) ≡ popDef m now out
+  unfolding popDef verdict firstOf numbered orElse decide order
+  pop-counts a b = simp (a, b)
+
+  pub pop-time : stateBroken m ≡ false → countsBroken m ≡ false → (late now || heldLate (waitingRecords m)) ≡ true → onPop m out (ready.Refused Time) ≡ popDef m now out
+  unfolding popDef verdict firstOf numbered orElse decide order
+  pop-time a b c = simp (a, b, c)
+
+  pub pop-full : stateBroken m ≡ false → countsBroken m ≡ false → (late now || heldLate (waitingRecords m)) ≡ false → popShort ≡ true → onPop m out (ready.Refused Full) ≡ popDef m now out
+  unfolding popDef verdict firstOf numbered orElse decide order
+  pop-full a b c d = simp (a, b, c, d)
+
+  pub pop-done : {x : PopExit} → stateBroken m ≡ false → countsBroken m ≡ false → (late now || heldLate (waitingRecords m)) ≡ false → popShort ≡ false → x ≡ takeDef m now out → x ≡ popDef m now out
+  unfolding popDef verdict firstOf numbered orElse decide order
+  pop-done a b c d e = simp (a, b, c, d) e
+
+-- with no deliveries the times are these
+pub no-deliveries : (a b : Bool) {t u : Bool} → t ≡ (a || (b || false)) → t ≡ u → (a || b) ≡ u
+no-deliveries true b p q = sym p ∙ q
+no-deliveries false true p q = sym p ∙ q
+no-deliveries false false p q = sym p ∙ q

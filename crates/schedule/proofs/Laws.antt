@@ -1,0 +1,216 @@
+-- What crates above may cite: the schedule is the list of copies that wait. Making gives none, scheduling inserts by time and order, taking removes the first alone.
+use mathlib.Core.Path.{_≡_, refl, sym, _∙_, ap}
+use Prim.Native.Nat.{ℕ, zero, suc, _<_, _≤_, _+_, _-_, min}
+use native.Mathlib.Omega.{arith}
+use mathlib.Core.Bool.{Bool, true, false, cond, _||_, or-true, true≢false}
+use mathlib.Core.List.{List, [], _∷_, _++_, map}
+use lib.ListN.{length, getD, take, drop, replicate, length-replicate, length-map}
+use lib.Dec.{ltb, leb, eqb}
+use native.Mathlib.Numerals.{add-one}
+use native.Mathlib.Nat.{add-zero}
+use borrow.Author.Tests.{ltb-true, ltb-false, leb-true, leb-false, eq-eqb}
+use Rattle.schedule.specs.Record.{record4, timeOf, orderOf, lengthOf, placeOf, vacant, after, inserted, orderedFrom, placeIn, lowestFree}
+use Rattle.schedule.specs.State.{Mem, waitingRecords, placeCount, brokenFrom, stateBroken, copies, leavesAt, CanPut, CanSchedule}
+use Rattle.schedule.specs.Schedule.{newDef, placed, filled, putDef, putAllDef, firstRecord, bytesOf, takenDef, takeDef, onPop, roomOf}
+use Rattle.schedule.specs.Waiting.{Copy, copy, copyAfter, copyOf, waiting, putCopies, nothing, leaves, popCopies}
+use Rattle.schedule.specs.declared.Deliveries.{Deliveries}
+use Rattle.schedule.specs.declared.Deliveries.the-variants.{Lost, One, Two}
+use Rattle.schedule.specs.declared.Ready.the-variants as ready
+use Rattle.schedule.proofs.Ordering.{Order, by-key, first-of, insert-none, insert-here, insert-later, inserted-length}
+use Rattle.schedule.proofs.Sound.{fine, none-broken, place-cons}
+use Rattle.schedule.proofs.Memory.{length-filled, unbroken, in-order, waiting-count, makes-sound, room-is, short, place-free, place-inside, put-records, put-sound, put-next, first-waits, first-fine, first-inside, taken-records, taken-sound}
+use Rattle.schedule.proofs.Calls.{can-one, can-first, can-second}
+use Rattle.schedule.proofs.Bytes.{other-copies, filled-bytes, bytes-length}
+-- tests
+pub use Rattle.schedule.proofs.Sound.{or-left, or-right, or-both, told}
+
+-- ---- making
+pub new-waits : (rs : List (List ℕ)) (ps : List ℕ) → waiting (newDef rs ps) ≡ []
+unfolding waiting
+new-waits rs ps = refl
+
+pub new-sound : (rs : List (List ℕ)) (ps : List ℕ) → stateBroken (newDef rs ps) ≡ false
+new-sound rs ps = makes-sound (newDef rs ps) (omega arith) (none-broken 0 (placeCount (newDef rs ps)) vacant)
+
+-- ---- scheduling
+map-inserted : (ps : List ℕ) (r : List ℕ) (rs : List (List ℕ)) → map (copyOf ps) (inserted after r rs) ≡ inserted copyAfter (copyOf ps r) (map (copyOf ps) rs)
+map-inserted ps r [] = ap (map (copyOf ps)) (insert-none after r) ∙ sym (insert-none copyAfter (copyOf ps r))
+map-inserted ps r (x ∷ xs) = go (after x r) refl (map-inserted ps r xs)
+  where
+    go : (t : Bool) → after x r ≡ t → map (copyOf ps) (inserted after r xs) ≡ inserted copyAfter (copyOf ps r) (map (copyOf ps) xs) → map (copyOf ps) (inserted after r (x ∷ xs)) ≡ inserted copyAfter (copyOf ps r) (copyOf ps x ∷ map (copyOf ps) xs)
+    go true e ih = ap (map (copyOf ps)) (insert-here after r x xs e) ∙ sym (insert-here copyAfter (copyOf ps r) (copyOf ps x) (map (copyOf ps) xs) e)
+    go false e ih = ap (map (copyOf ps)) (insert-later after r x xs e) ∙ ap (λ (cs : List Copy). copyOf ps x ∷ cs) ih ∙ sym (insert-later copyAfter (copyOf ps r) (copyOf ps x) (map (copyOf ps) xs) e)
+
+module _ (m : Mem) (packet : List ℕ) (can : CanPut m packet) (time : ℕ) where
+  -- one copy more, with its bytes; the bytes of the others are as they were
+  pub put-waits : waiting (putDef m time packet) ≡ inserted copyAfter (copy time (m .scheduler .«next_order») packet) (waiting m)
+  unfolding waiting putDef
+  put-waits =
+      let p = lowestFree (placeCount m) (waitingRecords m) in
+      let ps = placed (m .places) p (filled packet) in
+      let r = record4 time (m .scheduler .«next_order») (length packet) p in
+      ap (map (copyOf ps)) (put-records m packet can time)
+      ∙ map-inserted ps r (waitingRecords m)
+      ∙ ap (λ (cs : List Copy). inserted copyAfter (copyOf ps r) cs) (other-copies (m .places) p (filled packet) (place-inside m packet can) (length-filled packet (short m packet can)) (m .scheduler .«next_order») (placeCount m) vacant (waitingRecords m) (unbroken m (can .sound)) (place-free m packet can .1))
+      ∙ ap (λ (xs : List ℕ). inserted copyAfter (copy time (m .scheduler .«next_order») xs) (map (copyOf (m .places)) (waitingRecords m))) (filled-bytes (m .places) p packet (place-inside m packet can) (short m packet can))
+
+pub schedule-waits : (m : Mem) (now : ℕ) (packet : List ℕ) (ds : Deliveries) → CanSchedule m now packet ds → waiting (putAllDef m now packet ds) ≡ putCopies (m .scheduler .«next_order») now packet ds (waiting m)
+unfolding putAllDef putCopies
+schedule-waits m now packet Lost can = refl
+schedule-waits m now packet (One d) can = put-waits m packet (can-one m now packet can d refl) (leavesAt now d)
+schedule-waits m now packet (Two d e) can =
+    let a = can-first m now packet can d e refl in
+    let b = can-second m now packet can d e (leavesAt now d) refl refl in
+    put-waits (putDef m (leavesAt now d) packet) packet b (leavesAt now e)
+    ∙ ap (λ (n : ℕ). inserted copyAfter (copy (leavesAt now e) n packet) (waiting (putDef m (leavesAt now d) packet))) (put-next m packet a (leavesAt now d))
+    ∙ ap (inserted copyAfter (copy (leavesAt now e) (m .scheduler .«next_order» + 1) packet)) (put-waits m packet a (leavesAt now d))
+
+pub schedule-sound : (m : Mem) (now : ℕ) (packet : List ℕ) (ds : Deliveries) → CanSchedule m now packet ds → stateBroken (putAllDef m now packet ds) ≡ false
+unfolding putAllDef
+schedule-sound m now packet Lost can = can .sound
+schedule-sound m now packet (One d) can = put-sound m packet (can-one m now packet can d refl) (leavesAt now d)
+schedule-sound m now packet (Two d e) can = put-sound (putDef m (leavesAt now d) packet) packet (can-second m now packet can d e (leavesAt now d) refl refl) (leavesAt now e)
+
+-- ---- what waits: as many as the count says, in leaving order, numbered below the next order, each in a place of its own
+module _ (m : Mem) (sound : stateBroken m ≡ false) where
+  pub waits-count : length (waiting m) ≡ m .scheduler .count
+  unfolding waiting
+  waits-count = length-map (waitingRecords m) (copyOf (m .places)) ∙ waiting-count m sound
+
+  pub waits-ordered : orderedFrom copyAfter (copy 0 0 []) (waiting m) ≡ true
+  unfolding waiting orderedFrom
+  waits-ordered = same-order (copy 0 0 []) vacant (waitingRecords m) refl refl ∙ in-order m sound
+    where
+      same-order : (c : Copy) (r : List ℕ) (rs : List (List ℕ)) → c .time ≡ timeOf r → c .order ≡ orderOf r → orderedFrom copyAfter c (map (copyOf (m .places)) rs) ≡ orderedFrom after r rs
+      same-order c r [] p q = refl
+      same-order c r (x ∷ xs) p q = rw (p, q, same-order (copyOf (m .places) x) x xs refl refl)
+
+  -- room is left over by what waits
+  pub room-left : roomOf m ≡ min (placeCount m - length (waiting m)) (length (m .records) - length (waiting m))
+  room-left = room-is m sound ∙ ap (λ (n : ℕ). min (placeCount m - n) (length (m .records) - n)) (sym waits-count)
+
+-- ---- taking out
+module _ (m : Mem) (sound : stateBroken m ≡ false) (some : 0 < m .scheduler .count) where
+  -- the first leaves, with its bytes; the others wait as before
+  pub taken-waits : waiting m ≡ copyOf (m .places) (firstRecord (m .records)) ∷ waiting (takenDef m)
+  unfolding waiting takenDef
+  taken-waits =
+      let r = firstRecord (m .records) in
+      let f = first-fine m sound some in
+      ap (map (copyOf (m .places))) (first-waits m sound some)
+      ∙ ap (λ (cs : List Copy). copyOf (m .places) r ∷ cs)
+      (sym (other-copies (m .places) (placeOf r) (replicate 1410 0) (first-inside m sound some) (length-replicate {A = ℕ} 1410 0) (m .scheduler .«next_order») (placeCount m) r (drop 1 (waitingRecords m)) (f .rest) (f .single))
+      ∙ ap (map (copyOf (placed (m .places) (placeOf r) (replicate 1410 0)))) (sym (taken-records m sound some)))
+
+  pub first-length : length (bytesOf (m .places) (firstRecord (m .records))) ≡ lengthOf (firstRecord (m .records))
+  first-length = let f = first-fine m sound some in bytes-length (m .places) (firstRecord (m .records)) (f .short) (f .inside)
+
+none-waiting : (m : Mem) → m .scheduler .count ≡ 0 → waiting m ≡ []
+unfolding waiting
+none-waiting m e = ap (λ (n : ℕ). map (copyOf (m .places)) (take n (m .records))) e
+
+-- what `pop_ready_at` answers and leaves, by the list of what waits
+pub record Pops (m : Mem) (now : ℕ) (out : List ℕ) (c : Copy) (cs : List Copy) : Type 0 where
+  pub answer : takeDef m now out ≡ onPop (takenDef m) (c .bytes ++ drop (length (c .bytes)) out) (ready.Packet (length (c .bytes)))
+  pub rest : waiting (takenDef m) ≡ cs
+  pub sound : stateBroken (takenDef m) ≡ false
+
+first-is : (now : ℕ) (x : Copy) (xs : List Copy) (c : Copy) (cs : List Copy) → popCopies now (x ∷ xs) ≡ leaves c cs → (leb (x .time) now ≡ true) × (x ≡ c) × (xs ≡ cs)
+unfolding popCopies
+first-is now x xs c cs h = go (leb (x .time) now) refl h
+  where
+    go : (t : Bool) → leb (x .time) now ≡ t → cond t (leaves x xs) nothing ≡ leaves c cs → (leb (x .time) now ≡ true) × (x ≡ c) × (xs ≡ cs)
+    go true e h = (e, cc, cc)
+    go false e h = let z : _≡_ {A = ℕ} 0 1 = cc in absurd (omega arith)
+
+not-first : (now : ℕ) (x : Copy) (xs : List Copy) → popCopies now (x ∷ xs) ≡ nothing → leb (x .time) now ≡ false
+unfolding popCopies
+not-first now x xs h = go (leb (x .time) now) refl h
+  where
+    go : (t : Bool) → leb (x .time) now ≡ t → cond t (leaves x xs) nothing ≡ nothing → leb (x .time) now ≡ false
+    go true e h = let z : _≡_ {A = ℕ} 0 1 = cc in absurd (omega arith)
+    go false e h = e
+
+none-pops : (now : ℕ) (c : Copy) (cs : List Copy) → popCopies now [] ≡ leaves c cs → ⊥
+unfolding popCopies
+none-pops now c cs h = let z : _≡_ {A = ℕ} 0 1 = cc in omega arith
+
+pub pop-packet : (m : Mem) (now : ℕ) (out : List ℕ) (c : Copy) (cs : List Copy) → stateBroken m ≡ false → popCopies now (waiting m) ≡ leaves c cs → Pops m now out c cs
+unfolding takeDef
+pop-packet m now out c cs sound h = go (ltb 0 (m .scheduler .count)) refl
+  where
+    same : (x : List ℕ) (k : ℕ) → x ≡ c .bytes → k ≡ length (c .bytes) → onPop (takenDef m) (x ++ drop k out) (ready.Packet k) ≡ onPop (takenDef m) (c .bytes ++ drop (length (c .bytes)) out) (ready.Packet (length (c .bytes)))
+    same x k p q = rw (p, q)
+
+    go : (t : Bool) → ltb 0 (m .scheduler .count) ≡ t → Pops m now out c cs
+    go false e = let l = ltb-false 0 (m .scheduler .count) e in absurd (none-pops now c cs (ap (popCopies now) (sym (none-waiting m (omega arith))) ∙ h))
+    go true e =
+        let some = ltb-true 0 (m .scheduler .count) e in
+        let x = copyOf (m .places) (firstRecord (m .records)) in
+        let f = first-is now x (waiting (takenDef m)) c cs (ap (popCopies now) (sym (taken-waits m sound some)) ∙ h) in
+        let b : bytesOf (m .places) (firstRecord (m .records)) ≡ c .bytes = ap (λ (y : Copy). y .bytes) (f .1) in
+        let n : lengthOf (firstRecord (m .records)) ≡ length (c .bytes) = sym (first-length m sound some) ∙ ap length b in
+        record { answer = simp (e, f .0) (same (bytesOf (m .places) (firstRecord (m .records))) (lengthOf (firstRecord (m .records))) b n); rest = f .2; sound = taken-sound m sound some }
+
+pub pop-nothing : (m : Mem) (now : ℕ) (out : List ℕ) → stateBroken m ≡ false → popCopies now (waiting m) ≡ nothing → takeDef m now out ≡ onPop m out ready.Nothing
+unfolding takeDef
+pop-nothing m now out sound h = go (ltb 0 (m .scheduler .count)) refl
+  where
+    go : (t : Bool) → ltb 0 (m .scheduler .count) ≡ t → takeDef m now out ≡ onPop m out ready.Nothing
+    go false e = simp e
+    go true e =
+        let some = ltb-true 0 (m .scheduler .count) e in
+        let x = copyOf (m .places) (firstRecord (m .records)) in
+        let f = not-first now x (waiting (takenDef m)) (ap (popCopies now) (sym (taken-waits m sound some)) ∙ h) in
+        simp (e, f)
+
+-- ---- the order of leaving
+-- in a list in order nothing leaves before what stands in front of it
+never-before : {A : Type 0} (aft : A → A → Bool) (o : Order aft) (d p : A) (xs : List A) (i : ℕ) → orderedFrom aft p xs ≡ true → i < length xs → aft p (getD xs i d) ≡ false
+never-before aft o d p [] i h l = absurd (omega arith)
+never-before aft o d p (x ∷ xs) zero h l = first-of aft p x xs h .0
+never-before aft o d p (x ∷ xs) (suc i) h l = let f = first-of aft p x xs h in o .chain p x (getD xs i d) (f .0) (never-before aft o d x xs i (f .1) (omega arith))
+
+pub copies-order : Order copyAfter
+copies-order = by-key (λ (c : Copy). c .time) (λ (c : Copy). c .order)
+
+-- the first that waits leaves before no other: it has the least time, and of equal times the least order
+pub first-least : (m : Mem) (c : Copy) (cs : List Copy) (i : ℕ) → stateBroken m ≡ false → waiting m ≡ c ∷ cs → i < length cs → copyAfter c (getD cs i c) ≡ false
+first-least m c cs i sound e l =
+    never-before copyAfter copies-order c c cs i (first-of copyAfter (copy 0 0 []) c cs (ap (orderedFrom copyAfter (copy 0 0 [])) (sym e) ∙ waits-ordered m sound) .1) l
+
+-- the places of waiting records are distinct
+apart-in : (next n : ℕ) (front : List ℕ) (rs : List (List ℕ)) (i j : ℕ) → brokenFrom next n front rs ≡ false → i < j → j < length rs → placeOf (getD rs i []) ≡ placeOf (getD rs j []) → ⊥
+apart-in next n front [] i j h a b e = omega arith
+apart-in next n front (r ∷ rs) i zero h a b e = omega arith
+apart-in next n front (r ∷ rs) zero (suc j) h a b e = true≢false (sym (found (placeOf r) rs j (omega arith) e) ∙ fine next n front r rs h .single)
+  where
+    found : (p : ℕ) (rs : List (List ℕ)) (j : ℕ) → j < length rs → p ≡ placeOf (getD rs j []) → placeIn p rs ≡ true
+    found p [] j l e = absurd (omega arith)
+    found p (x ∷ xs) zero l e = place-cons p x xs ∙ ap (λ (b : Bool). b || placeIn p xs) (eq-eqb p (placeOf x) e)
+    found p (x ∷ xs) (suc j) l e = place-cons p x xs ∙ ap (λ (b : Bool). eqb p (placeOf x) || b) (found p xs j (omega arith) e) ∙ or-true (eqb p (placeOf x))
+apart-in next n front (r ∷ rs) (suc i) (suc j) h a b e = apart-in next n r rs i j (fine next n front r rs h .rest) (omega arith) (omega arith) e
+
+pub places-apart : (m : Mem) (i j : ℕ) → stateBroken m ≡ false → i < j → j < m .scheduler .count → placeOf (getD (waitingRecords m) i []) ≡ placeOf (getD (waitingRecords m) j []) → ⊥
+places-apart m i j sound a b e = apart-in (m .scheduler .«next_order») (placeCount m) vacant (waitingRecords m) i j (unbroken m sound) a (rw (waiting-count m sound) b) e
+
+-- ---- nothing is lost and nothing is added: as many wait as before and were granted; one that leaves was the first
+pub put-count : (next now : ℕ) (packet : List ℕ) (ds : Deliveries) (cs : List Copy) → length (putCopies next now packet ds cs) ≡ length cs + copies ds
+unfolding putCopies
+put-count next now packet Lost cs = sym (add-zero (length cs))
+put-count next now packet (One d) cs = inserted-length copyAfter (copy (leavesAt now d) next packet) cs ∙ sym (add-one (length cs))
+put-count next now packet (Two d e) cs =
+    inserted-length copyAfter (copy (leavesAt now e) (next + 1) packet) (inserted copyAfter (copy (leavesAt now d) next packet) cs)
+    ∙ ap suc (inserted-length copyAfter (copy (leavesAt now d) next packet) cs) ∙ two (length cs)
+  where
+    two : (n : ℕ) → suc (suc n) ≡ n + 2
+    two n = omega arith
+
+pub pop-first : (now : ℕ) (ws : List Copy) (c : Copy) (cs : List Copy) → popCopies now ws ≡ leaves c cs → (ws ≡ c ∷ cs) × (c .time ≤ now)
+pop-first now [] c cs h = absurd (none-pops now c cs h)
+pop-first now (x ∷ xs) c cs h =
+    let f = first-is now x xs c cs h in
+    (ap (λ (y : Copy). y ∷ xs) (f .1) ∙ ap (λ (l : List Copy). c ∷ l) (f .2), rw (← f .1) (leb-true (x .time) now (f .0)))
+
+pub none-due : (now : ℕ) (x : Copy) (xs : List Copy) → popCopies now (x ∷ xs) ≡ nothing → now < x .time
+none-due now x xs h = leb-false (x .time) now (not-first now x xs h)

@@ -1,0 +1,10 @@
+pub mod Lists
+pub mod Ordering
+pub mod Checks
+pub mod Sound
+pub mod Doubled
+pub mod Marks
+pub mod Memory
+pub mod Calls
+pub mod Bytes
+pub mod Laws

@@ -1,0 +1,190 @@
+-- A schedule of which line 9 is false: its counts, and that it stays so where a copy is put in or taken out.
+use mathlib.Core.Path.{_≡_, refl, sym, _∙_, ap}
+use Prim.Native.Nat.{ℕ, suc, _<_, _≤_, _+_, _-_, _*_, _/_, min}
+use native.Mathlib.Omega.{arith}
+use native.Mathlib.Numerals.{add-one}
+use mathlib.Core.Bool.{Bool, true, false, _||_}
+use mathlib.Core.List.{List, [], _∷_, _++_}
+use lib.ListN.{length, take, drop, replicate, length-append, length-replicate, length-drop}
+use lib.Seq.{length-take-le, take-at}
+use lib.Dec.{ltb}
+use borrow.Author.Tests.{ltb-true, ltb-false, lt-ltb, le-ltb}
+use Rattle.schedule.specs.Record.{record4, placeOf, vacant, after, inserted, ordered, placeIn, freePlaces, lowestFree}
+use Rattle.schedule.specs.State.{Mem, waitingRecords, placeCount, brokenFrom, stateBroken, unusedRecords, unusedPlaces, lacksRoom, CanPut}
+use Rattle.schedule.specs.Schedule.{placed, filled, putDef, firstRecord, takenDef, roomOf}
+use Rattle.schedule.proofs.Ordering.{inserted-length, least}
+use Rattle.schedule.proofs.Sound.{or-left, or-right, or-both, Fine, fine, sound-ordered, free-count, free-head, inserted-sound, rest-sound}
+use Rattle.schedule.proofs.Lists.{rest-cons}
+
+-- ---- what line 9 says, false
+module _ (m : Mem) (sound : stateBroken m ≡ false) where
+  pub within : m .scheduler .count ≤ length (m .records)
+  unfolding stateBroken
+  within = ltb-false (length (m .records)) (m .scheduler .count) (or-left (ltb (length (m .records)) (m .scheduler .count)) (brokenFrom (m .scheduler .«next_order») (placeCount m) vacant (waitingRecords m)) sound)
+
+  pub unbroken : brokenFrom (m .scheduler .«next_order») (placeCount m) vacant (waitingRecords m) ≡ false
+  unfolding stateBroken
+  unbroken = or-right (ltb (length (m .records)) (m .scheduler .count)) (brokenFrom (m .scheduler .«next_order») (placeCount m) vacant (waitingRecords m)) sound
+
+  pub in-order : ordered (waitingRecords m) ≡ true
+  in-order = sound-ordered (m .scheduler .«next_order») (placeCount m) vacant (waitingRecords m) unbroken
+
+  pub waiting-count : length (waitingRecords m) ≡ m .scheduler .count
+  waiting-count = length-take-le (m .scheduler .count) (m .records) within
+
+  pub places-count : unusedPlaces m + m .scheduler .count ≡ placeCount m
+  places-count = ap (λ (n : ℕ). unusedPlaces m + n) (sym waiting-count) ∙ free-count (m .scheduler .«next_order») (placeCount m) vacant (waitingRecords m) unbroken
+
+pub makes-sound : (m : Mem) → m .scheduler .count ≤ length (m .records) → brokenFrom (m .scheduler .«next_order») (placeCount m) vacant (waitingRecords m) ≡ false → stateBroken m ≡ false
+unfolding stateBroken
+makes-sound m h k = or-both (ltb (length (m .records)) (m .scheduler .count)) (brokenFrom (m .scheduler .«next_order») (placeCount m) vacant (waitingRecords m)) (le-ltb (length (m .records)) (m .scheduler .count) h) k
+
+-- ---- room
+pub room-for : (m : Mem) (k : ℕ) → lacksRoom m k ≡ false → (k ≤ unusedPlaces m) × (k ≤ unusedRecords m)
+room-for m k h = (ltb-false (unusedPlaces m) k (or-left (ltb (unusedPlaces m) k) (ltb (unusedRecords m) k) h), ltb-false (unusedRecords m) k (or-right (ltb (unusedPlaces m) k) (ltb (unusedRecords m) k) h))
+
+pub has-room : (m : Mem) (k : ℕ) → k ≤ unusedPlaces m → k ≤ unusedRecords m → lacksRoom m k ≡ false
+has-room m k a b = or-both (ltb (unusedPlaces m) k) (ltb (unusedRecords m) k) (le-ltb (unusedPlaces m) k a) (le-ltb (unusedRecords m) k b)
+
+pub lacks-is : (a b k : ℕ) → ltb (min a b) k ≡ (ltb a k || ltb b k)
+lacks-is a b k = go (ltb a k) refl (ltb b k) refl
+  where
+    go : (t : Bool) → ltb a k ≡ t → (u : Bool) → ltb b k ≡ u → ltb (min a b) k ≡ (ltb a k || ltb b k)
+    go true p u q = let l = ltb-true a k p in lt-ltb (min a b) k (omega arith) ∙ sym (ap (λ (x : Bool). x || ltb b k) p)
+    go false p true q = let l = ltb-true b k q in lt-ltb (min a b) k (omega arith) ∙ sym (ap (λ (x : Bool). x || ltb b k) p ∙ q)
+    go false p false q = let l = ltb-false a k p in let j = ltb-false b k q in le-ltb (min a b) k (omega arith) ∙ sym (ap (λ (x : Bool). x || ltb b k) p ∙ q)
+
+-- ---- places
+pub length-filled : (p : List ℕ) → length p ≤ 1410 → length (filled p) ≡ 1410
+length-filled p h = length-append p (replicate (1410 - length p) 0) ∙ rw length-replicate (omega arith)
+
+pub length-placed : (ps : List ℕ) (p : ℕ) (bytes : List ℕ) → p * 1410 + 1410 ≤ length ps → length bytes ≡ 1410 → length (placed ps p bytes) ≡ length ps
+length-placed ps p bytes h e =
+    length-append (take (p * 1410) ps ++ bytes) (drop (p * 1410 + 1410) ps)
+    ∙ ap (λ (n : ℕ). n + length (drop (p * 1410 + 1410) ps)) (length-append (take (p * 1410) ps) bytes ∙ ap (λ (n : ℕ). n + length bytes) (length-take-le (p * 1410) ps (omega arith)))
+    ∙ rw (length-drop, e) (omega arith)
+
+-- a place of the store lies in it
+pub place-within : (n p : ℕ) → p < n / 1410 → p * 1410 + 1410 ≤ n
+place-within n p h = omega arith
+
+-- ---- a copy put in
+module _ (m : Mem) (packet : List ℕ) (can : CanPut m packet) where
+  pub short : length packet ≤ 1410
+  short = ltb-false 1410 (length packet) (can .short)
+
+  pub slot : m .scheduler .count < length (m .records)
+  slot = let r = room-for m 1 (can .room) .1 in let w = within m (can .sound) in omega arith
+
+  pub some-free : 0 < length (freePlaces (placeCount m) (waitingRecords m))
+  some-free = let r = room-for m 1 (can .room) .0 in omega arith
+
+  pub place-free : (lowestFree (placeCount m) (waitingRecords m) < placeCount m) × (placeIn (lowestFree (placeCount m) (waitingRecords m)) (waitingRecords m) ≡ false)
+  place-free = let f = free-head (placeCount m) 0 (waitingRecords m) some-free in (omega (arith, f .0), f .1)
+
+  pub place-inside : lowestFree (placeCount m) (waitingRecords m) * 1410 + 1410 ≤ length (m .places)
+  place-inside = place-within (length (m .places)) (lowestFree (placeCount m) (waitingRecords m)) (place-free .0)
+
+  module _ (time : ℕ) where
+    pub put-records : waitingRecords (putDef m time packet) ≡ inserted after (record4 time (m .scheduler .«next_order») (length packet) (lowestFree (placeCount m) (waitingRecords m))) (waitingRecords m)
+    unfolding putDef
+    put-records =
+        let r = record4 time (m .scheduler .«next_order») (length packet) (lowestFree (placeCount m) (waitingRecords m)) in
+        take-at (inserted after r (waitingRecords m)) (drop (m .scheduler .count + 1) (m .records)) (m .scheduler .count + 1) (inserted-length after r (waitingRecords m) ∙ ap suc (waiting-count m (can .sound)) ∙ sym (add-one (m .scheduler .count)))
+
+    pub put-places : length (putDef m time packet .places) ≡ length (m .places)
+    unfolding putDef
+    put-places = length-placed (m .places) (lowestFree (placeCount m) (waitingRecords m)) (filled packet) place-inside (length-filled packet short)
+
+    pub put-length : length (putDef m time packet .records) ≡ length (m .records)
+    unfolding putDef
+    put-length =
+        let r = record4 time (m .scheduler .«next_order») (length packet) (lowestFree (placeCount m) (waitingRecords m)) in
+        let a = inserted-length after r (waitingRecords m) in
+        let b = waiting-count m (can .sound) in
+        let s = slot in
+        length-append (inserted after r (waitingRecords m)) (drop (m .scheduler .count + 1) (m .records)) ∙ rw length-drop (omega arith)
+
+    pub put-count : putDef m time packet .scheduler .count ≡ m .scheduler .count + 1
+    unfolding putDef
+    put-count = refl
+
+    pub put-next : putDef m time packet .scheduler .«next_order» ≡ m .scheduler .«next_order» + 1
+    unfolding putDef
+    put-next = refl
+
+    pub put-sound : stateBroken (putDef m time packet) ≡ false
+    put-sound =
+        let p = place-free in
+        makes-sound (putDef m time packet) (rw (put-count, put-length) (omega (arith, slot)))
+        (ap (λ (n : ℕ). brokenFrom (putDef m time packet .scheduler .«next_order») (n / 1410) vacant (waitingRecords (putDef m time packet))) put-places
+        ∙ ap (brokenFrom (putDef m time packet .scheduler .«next_order») (placeCount m) vacant) put-records
+        ∙ ap (λ (n : ℕ). brokenFrom n (placeCount m) vacant (inserted after (record4 time (m .scheduler .«next_order») (length packet) (lowestFree (placeCount m) (waitingRecords m))) (waitingRecords m))) put-next
+        ∙ inserted-sound (m .scheduler .«next_order») (placeCount m) vacant (record4 time (m .scheduler .«next_order») (length packet) (lowestFree (placeCount m) (waitingRecords m))) (waitingRecords m) (least time (m .scheduler .«next_order»)) short refl (p .0) (p .1) (unbroken m (can .sound)))
+
+    -- there is room for one less
+    pub put-room : (k : ℕ) → lacksRoom m (k + 1) ≡ false → lacksRoom (putDef m time packet) k ≡ false
+    put-room k h =
+        let r = room-for m (k + 1) h in
+        let a = places-count m (can .sound) in
+        let b = places-count (putDef m time packet) put-sound in
+        let e : placeCount (putDef m time packet) ≡ placeCount m = ap (λ (n : ℕ). n / 1410) put-places in
+        let n = put-count in
+        let l = put-length in
+        has-room (putDef m time packet) k (left (unusedPlaces m) (m .scheduler .count) (unusedPlaces (putDef m time packet)) (putDef m time packet .scheduler .count) k (b ∙ e ∙ sym a) n (r .0)) (rw (n, l) (less (length (m .records)) (m .scheduler .count) k (r .1)))
+      where
+        left : (a c b d k : ℕ) → b + d ≡ a + c → d ≡ c + 1 → k + 1 ≤ a → k ≤ b
+        left a c b d k e f g = omega arith
+
+        less : (l c k : ℕ) → k + 1 ≤ l - c → k ≤ l - (c + 1)
+        less l c k h = omega arith
+
+-- ---- how many copies more there is room for
+pub room-is : (m : Mem) → stateBroken m ≡ false → roomOf m ≡ min (placeCount m - m .scheduler .count) (length (m .records) - m .scheduler .count)
+room-is m sound = let a = places-count m sound in ap (λ (n : ℕ). min n (unusedRecords m)) (less (unusedPlaces m) (m .scheduler .count) (placeCount m) a)
+  where
+    less : (a c n : ℕ) → a + c ≡ n → a ≡ n - c
+    less a c n e = omega arith
+
+-- ---- the first taken out
+module _ (m : Mem) (sound : stateBroken m ≡ false) (some : 0 < m .scheduler .count) where
+  pub first-waits : waitingRecords m ≡ firstRecord (m .records) ∷ drop 1 (waitingRecords m)
+  first-waits = rest-cons [] (m .scheduler .count) 0 (m .records) some (within m sound)
+
+  pub first-fine : Fine (m .scheduler .«next_order») (placeCount m) vacant (firstRecord (m .records)) (drop 1 (waitingRecords m))
+  first-fine = fine (m .scheduler .«next_order») (placeCount m) vacant (firstRecord (m .records)) (drop 1 (waitingRecords m)) (ap (brokenFrom (m .scheduler .«next_order») (placeCount m) vacant) (sym first-waits) ∙ unbroken m sound)
+
+  pub first-inside : placeOf (firstRecord (m .records)) * 1410 + 1410 ≤ length (m .places)
+  first-inside = place-within (length (m .places)) (placeOf (firstRecord (m .records))) (first-fine .inside)
+
+  pub taken-records : waitingRecords (takenDef m) ≡ drop 1 (waitingRecords m)
+  unfolding takenDef
+  taken-records = take-at (drop 1 (waitingRecords m)) (vacant ∷ drop (m .scheduler .count) (m .records)) (m .scheduler .count - 1) (length-drop 1 (waitingRecords m) ∙ ap (λ (n : ℕ). n - 1) (waiting-count m sound))
+
+  pub taken-places : length (takenDef m .places) ≡ length (m .places)
+  unfolding takenDef
+  taken-places = length-placed (m .places) (placeOf (firstRecord (m .records))) (replicate 1410 0) first-inside (length-replicate {A = ℕ} 1410 0)
+
+  pub taken-length : length (takenDef m .records) ≡ length (m .records)
+  unfolding takenDef
+  taken-length =
+      let w = within m sound in
+      let n = waiting-count m sound in
+      length-append (drop 1 (waitingRecords m)) (vacant ∷ drop (m .scheduler .count) (m .records)) ∙ rw (length-drop 1 (waitingRecords m), length-drop (m .scheduler .count) (m .records)) (omega arith)
+
+  pub taken-count : takenDef m .scheduler .count ≡ m .scheduler .count - 1
+  unfolding takenDef
+  taken-count = refl
+
+  pub taken-next : takenDef m .scheduler .«next_order» ≡ m .scheduler .«next_order»
+  unfolding takenDef
+  taken-next = refl
+
+  pub taken-sound : stateBroken (takenDef m) ≡ false
+  taken-sound =
+      let w = within m sound in
+      makes-sound (takenDef m) (rw (taken-count, taken-length) (omega arith))
+      (ap (λ (n : ℕ). brokenFrom (takenDef m .scheduler .«next_order») (n / 1410) vacant (waitingRecords (takenDef m))) taken-places
+      ∙ ap (brokenFrom (takenDef m .scheduler .«next_order») (placeCount m) vacant) taken-records
+      ∙ ap (λ (n : ℕ). brokenFrom n (placeCount m) vacant (drop 1 (waitingRecords m))) taken-next
+      ∙ rest-sound (m .scheduler .«next_order») (placeCount m) (firstRecord (m .records)) (drop 1 (waitingRecords m)) (ap (brokenFrom (m .scheduler .«next_order») (placeCount m) vacant) (sym first-waits) ∙ unbroken m sound))

@@ -1,0 +1,211 @@
+-- Waiting records of which line 9 is false: what that says of each, how many places are free, and that a record put in or taken out keeps it so.
+use mathlib.Core.Path.{_≡_, refl, sym, _∙_, ap, subst}
+use Prim.Native.Nat.{ℕ, zero, suc, _<_, _≤_, _+_, _-_}
+use native.Mathlib.Omega.{arith}
+use native.Mathlib.Nat.{add-zero}
+use mathlib.Core.Bool.{Bool, true, false, cond, _||_, true≢false}
+use mathlib.Core.List.{List, [], _∷_}
+use lib.ListN.{length, getD}
+use lib.Dec.{ltb, leb, eqb}
+use borrow.Author.Tests.{ltb-false, leb-false, le-ltb, lt-leb, eqb-true, eqb-false, ne-eqb}
+use Rattle.schedule.specs.Record.{timeOf, orderOf, lengthOf, placeOf, vacant, after, inserted, orderedFrom, placeIn, freeFrom}
+use Rattle.schedule.specs.State.{recordBroken, brokenFrom}
+use Rattle.schedule.proofs.Ordering.{records, least, none, put-first, insert-none, insert-here, insert-later}
+
+-- ---- tests
+pub or-left : (a b : Bool) → (a || b) ≡ false → a ≡ false
+or-left true b h = h
+or-left false b h = refl
+
+pub or-right : (a b : Bool) → (a || b) ≡ false → b ≡ false
+or-right true b h = absurd (true≢false h)
+or-right false b h = h
+
+pub or-both : (a b : Bool) → a ≡ false → b ≡ false → (a || b) ≡ false
+or-both a b h k = rw (h, k)
+
+-- what a function told, and what the test of it found
+pub told : {a b c : Bool} → a ≡ b → a ≡ c → b ≡ c
+told p q = sym p ∙ q
+
+-- ---- line 9, false of a record and those behind it
+pub record Fine (next n : ℕ) (front r : List ℕ) (rs : List (List ℕ)) : Type 0 where
+  pub behind : after front r ≡ false
+  pub short : lengthOf r ≤ 1410
+  pub below : orderOf r < next
+  pub inside : placeOf r < n
+  pub single : placeIn (placeOf r) rs ≡ false
+  pub rest : brokenFrom next n r rs ≡ false
+
+pub fine : (next n : ℕ) (front r : List ℕ) (rs : List (List ℕ)) → brokenFrom next n front (r ∷ rs) ≡ false → Fine next n front r rs
+unfolding brokenFrom
+fine next n front r rs h =
+    let a = or-left (recordBroken next n front r) (placeIn (placeOf r) rs || brokenFrom next n r rs) h in
+    let b = or-right (recordBroken next n front r) (placeIn (placeOf r) rs || brokenFrom next n r rs) h in
+    let a2 = or-right (after front r) (ltb 1410 (lengthOf r) || (leb next (orderOf r) || leb n (placeOf r))) a in
+    let a3 = or-right (ltb 1410 (lengthOf r)) (leb next (orderOf r) || leb n (placeOf r)) a2 in
+    record {
+      behind = or-left (after front r) (ltb 1410 (lengthOf r) || (leb next (orderOf r) || leb n (placeOf r))) a;
+      short = ltb-false 1410 (lengthOf r) (or-left (ltb 1410 (lengthOf r)) (leb next (orderOf r) || leb n (placeOf r)) a2);
+      below = leb-false next (orderOf r) (or-left (leb next (orderOf r)) (leb n (placeOf r)) a3);
+      inside = leb-false n (placeOf r) (or-right (leb next (orderOf r)) (leb n (placeOf r)) a3);
+      single = or-left (placeIn (placeOf r) rs) (brokenFrom next n r rs) b;
+      rest = or-right (placeIn (placeOf r) rs) (brokenFrom next n r rs) b;
+    }
+
+pub not-broken : (next n : ℕ) (front r : List ℕ) (rs : List (List ℕ)) → Fine next n front r rs → brokenFrom next n front (r ∷ rs) ≡ false
+unfolding brokenFrom
+not-broken next n front r rs f =
+    or-both (recordBroken next n front r) (placeIn (placeOf r) rs || brokenFrom next n r rs)
+    (or-both (after front r) (ltb 1410 (lengthOf r) || (leb next (orderOf r) || leb n (placeOf r))) (f .behind)
+    (or-both (ltb 1410 (lengthOf r)) (leb next (orderOf r) || leb n (placeOf r)) (le-ltb 1410 (lengthOf r) (f .short))
+    (or-both (leb next (orderOf r)) (leb n (placeOf r)) (lt-leb next (orderOf r) (f .below)) (lt-leb n (placeOf r) (f .inside)))))
+    (or-both (placeIn (placeOf r) rs) (brokenFrom next n r rs) (f .single) (f .rest))
+
+pub none-broken : (next n : ℕ) (front : List ℕ) → brokenFrom next n front [] ≡ false
+unfolding brokenFrom
+none-broken next n front = refl
+
+pub sound-ordered : (next n : ℕ) (front : List ℕ) (rs : List (List ℕ)) → brokenFrom next n front rs ≡ false → orderedFrom after front rs ≡ true
+sound-ordered next n front [] h = none after front
+sound-ordered next n front (r ∷ rs) h = let f = fine next n front r rs h in put-first after front r rs (f .behind) (sound-ordered next n r rs (f .rest))
+
+-- ---- places
+pub place-cons : (p : ℕ) (r : List ℕ) (rs : List (List ℕ)) → placeIn p (r ∷ rs) ≡ (eqb p (placeOf r) || placeIn p rs)
+unfolding placeIn
+place-cons p r rs = refl
+
+no-place : (p : ℕ) → placeIn p [] ≡ false
+unfolding placeIn
+no-place p = refl
+
+free-zero : (p : ℕ) (rs : List (List ℕ)) → freeFrom zero p rs ≡ []
+unfolding freeFrom
+free-zero p rs = refl
+
+free-suc : (k p : ℕ) (rs : List (List ℕ)) (t : Bool) → placeIn p rs ≡ t → freeFrom (suc k) p rs ≡ cond t (freeFrom k (suc p) rs) (p ∷ freeFrom k (suc p) rs)
+unfolding freeFrom
+free-suc k p rs t e = ap (λ (b : Bool). cond b (freeFrom k (suc p) rs) (p ∷ freeFrom k (suc p) rs)) e
+
+-- with no records all places are free
+free-all : (k p : ℕ) → length (freeFrom k p []) ≡ k
+free-all zero p = ap length (free-zero p [])
+free-all (suc k) p = ap length (free-suc k p [] false (no-place p)) ∙ ap suc (free-all k (suc p))
+
+-- a record whose place lies below p takes none of the places from p on
+free-outside : (k p : ℕ) (r : List ℕ) (rs : List (List ℕ)) → placeOf r < p → freeFrom k p (r ∷ rs) ≡ freeFrom k p rs
+free-outside zero p r rs h = free-zero p (r ∷ rs) ∙ sym (free-zero p rs)
+free-outside (suc k) p r rs h = go (placeIn p rs) refl (free-outside k (suc p) r rs (omega arith))
+  where
+    other : placeIn p (r ∷ rs) ≡ placeIn p rs
+    other = place-cons p r rs ∙ ap (λ (b : Bool). b || placeIn p rs) (ne-eqb p (placeOf r) (λ e. omega arith))
+
+    go : (t : Bool) → placeIn p rs ≡ t → freeFrom k (suc p) (r ∷ rs) ≡ freeFrom k (suc p) rs → freeFrom (suc k) p (r ∷ rs) ≡ freeFrom (suc k) p rs
+    go true e ih = free-suc k p (r ∷ rs) true (other ∙ e) ∙ ih ∙ sym (free-suc k p rs true e)
+    go false e ih = free-suc k p (r ∷ rs) false (other ∙ e) ∙ ap (λ (l : List ℕ). p ∷ l) ih ∙ sym (free-suc k p rs false e)
+
+-- a record whose place is among them, and is no other's, takes one
+free-one : (k p : ℕ) (r : List ℕ) (rs : List (List ℕ)) → p ≤ placeOf r → placeOf r < p + k → placeIn (placeOf r) rs ≡ false → suc (length (freeFrom k p (r ∷ rs))) ≡ length (freeFrom k p rs)
+free-one zero p r rs h j e = absurd (omega arith)
+free-one (suc k) p r rs h j e = go (λ l m. free-one k (suc p) r rs l m e) (eqb p (placeOf r)) refl (placeIn p rs) refl
+  where
+    go : (suc p ≤ placeOf r → placeOf r < suc p + k → suc (length (freeFrom k (suc p) (r ∷ rs))) ≡ length (freeFrom k (suc p) rs)) → (t : Bool) → eqb p (placeOf r) ≡ t → (u : Bool) → placeIn p rs ≡ u → suc (length (freeFrom (suc k) p (r ∷ rs))) ≡ length (freeFrom (suc k) p rs)
+    go ih true q u v =
+        let same : p ≡ placeOf r = eqb-true p (placeOf r) q in
+        ap (λ (l : List ℕ). suc (length l)) (free-suc k p (r ∷ rs) true (place-cons p r rs ∙ ap (λ (b : Bool). b || placeIn p rs) q))
+        ∙ ap (λ (l : List ℕ). suc (length l)) (free-outside k (suc p) r rs (omega arith))
+        ∙ sym (ap length (free-suc k p rs false (ap (λ (x : ℕ). placeIn x rs) same ∙ e)))
+    go ih false q true v =
+        let apart : p ≡ placeOf r → ⊥ = eqb-false p (placeOf r) q in
+        ap (λ (l : List ℕ). suc (length l)) (free-suc k p (r ∷ rs) true (place-cons p r rs ∙ ap (λ (b : Bool). b || placeIn p rs) q ∙ v))
+        ∙ ih (omega arith) (omega arith)
+        ∙ sym (ap length (free-suc k p rs true v))
+    go ih false q false v =
+        let apart : p ≡ placeOf r → ⊥ = eqb-false p (placeOf r) q in
+        ap (λ (l : List ℕ). suc (length l)) (free-suc k p (r ∷ rs) false (place-cons p r rs ∙ ap (λ (b : Bool). b || placeIn p rs) q ∙ v))
+        ∙ ap suc (ih (omega arith) (omega arith))
+        ∙ sym (ap length (free-suc k p rs false v))
+
+-- free places and waiting records are all the places
+pub free-count : (next n : ℕ) (front : List ℕ) (rs : List (List ℕ)) → brokenFrom next n front rs ≡ false → length (freeFrom n 0 rs) + length rs ≡ n
+free-count next n front [] h = add-zero _ ∙ free-all n 0
+free-count next n front (r ∷ rs) h =
+    let f = fine next n front r rs h in
+    let a = free-count next n r rs (f .rest) in
+    let b = free-one n 0 r rs (omega arith) (omega (arith, f .inside)) (f .single) in
+    omega arith
+
+-- the first free place is one of them, and no record has it
+pub free-head : (k p : ℕ) (rs : List (List ℕ)) → 0 < length (freeFrom k p rs) → (getD (freeFrom k p rs) 0 0 < p + k) × (placeIn (getD (freeFrom k p rs) 0 0) rs ≡ false)
+free-head zero p rs h = absurd (omega (arith, ap length (free-zero p rs)))
+free-head (suc k) p rs h = go (placeIn p rs) refl (free-head k (suc p) rs)
+  where
+    go : (t : Bool) → placeIn p rs ≡ t → (0 < length (freeFrom k (suc p) rs) → (getD (freeFrom k (suc p) rs) 0 0 < suc p + k) × (placeIn (getD (freeFrom k (suc p) rs) 0 0) rs ≡ false)) → (getD (freeFrom (suc k) p rs) 0 0 < p + suc k) × (placeIn (getD (freeFrom (suc k) p rs) 0 0) rs ≡ false)
+    go true e ih =
+        let s : freeFrom (suc k) p rs ≡ freeFrom k (suc p) rs = free-suc k p rs true e in
+        let i = ih (subst (λ (l : List ℕ). 0 < length l) s h) in
+        (rw s (omega (arith, i .0)), rw s (i .1))
+    go false e ih = let s : freeFrom (suc k) p rs ≡ p ∷ freeFrom k (suc p) rs = free-suc k p rs false e in (rw s (omega arith), rw s e)
+
+-- ---- a record put in
+pub place-inserted : (p : ℕ) (r : List ℕ) (rs : List (List ℕ)) → eqb p (placeOf r) ≡ false → placeIn p rs ≡ false → placeIn p (inserted after r rs) ≡ false
+place-inserted p r [] e h = ap (placeIn p) (insert-none after r) ∙ place-cons p r [] ∙ or-both (eqb p (placeOf r)) (placeIn p []) e h
+place-inserted p r (x ∷ xs) e h = go (after x r) refl (place-inserted p r xs e (or-right (eqb p (placeOf x)) (placeIn p xs) (sym (place-cons p x xs) ∙ h)))
+  where
+    go : (t : Bool) → after x r ≡ t → placeIn p (inserted after r xs) ≡ false → placeIn p (inserted after r (x ∷ xs)) ≡ false
+    go true a ih = ap (placeIn p) (insert-here after r x xs a) ∙ place-cons p r (x ∷ xs) ∙ or-both (eqb p (placeOf r)) (placeIn p (x ∷ xs)) e h
+    go false a ih =
+        ap (placeIn p) (insert-later after r x xs a) ∙ place-cons p x (inserted after r xs)
+        ∙ or-both (eqb p (placeOf x)) (placeIn p (inserted after r xs)) (or-left (eqb p (placeOf x)) (placeIn p xs) (sym (place-cons p x xs) ∙ h)) ih
+
+eqb-flip : (a b : ℕ) → eqb a b ≡ false → eqb b a ≡ false
+eqb-flip a b h = let f : a ≡ b → ⊥ = eqb-false a b h in ne-eqb b a (λ e. f (sym e))
+
+-- a larger next order, and another record in front
+pub more-orders : (next n : ℕ) (front : List ℕ) (rs : List (List ℕ)) → brokenFrom next n front rs ≡ false → brokenFrom (next + 1) n front rs ≡ false
+more-orders next n front [] h = none-broken (next + 1) n front
+more-orders next n front (r ∷ rs) h =
+    let f = fine next n front r rs h in
+    not-broken (next + 1) n front r rs (record { behind = f .behind; short = f .short; below = omega (arith, f .below); inside = f .inside; single = f .single; rest = more-orders next n r rs (f .rest) })
+
+pub other-front : (next n : ℕ) (front other : List ℕ) (rs : List (List ℕ)) → ((r : List ℕ) → after front r ≡ false → after other r ≡ false) → brokenFrom next n front rs ≡ false → brokenFrom next n other rs ≡ false
+other-front next n front other [] g h = none-broken next n other
+other-front next n front other (r ∷ rs) g h =
+    let f = fine next n front r rs h in
+    not-broken next n other r rs (record { behind = g r (f .behind); short = f .short; below = f .below; inside = f .inside; single = f .single; rest = f .rest })
+
+pub inserted-sound : (next n : ℕ) (front r : List ℕ) (rs : List (List ℕ)) → after front r ≡ false → lengthOf r ≤ 1410 → orderOf r ≡ next → placeOf r < n → placeIn (placeOf r) rs ≡ false
+    → brokenFrom next n front rs ≡ false → brokenFrom (next + 1) n front (inserted after r rs) ≡ false
+inserted-sound next n front r [] b s o i p h =
+    ap (brokenFrom (next + 1) n front) (insert-none after r)
+    ∙ not-broken (next + 1) n front r [] (record { behind = b; short = s; below = omega arith; inside = i; single = p; rest = none-broken (next + 1) n r })
+inserted-sound next n front r (x ∷ xs) b s o i p h = go (after x r) refl (λ a. inserted-sound next n x r xs a s o i (or-right (eqb (placeOf r) (placeOf x)) (placeIn (placeOf r) xs) (sym (place-cons (placeOf r) x xs) ∙ p)) (fine next n front x xs h .rest))
+  where
+    go : (t : Bool) → after x r ≡ t → (after x r ≡ false → brokenFrom (next + 1) n x (inserted after r xs) ≡ false) → brokenFrom (next + 1) n front (inserted after r (x ∷ xs)) ≡ false
+    go true a ih =
+        ap (brokenFrom (next + 1) n front) (insert-here after r x xs a)
+        ∙ not-broken (next + 1) n front r (x ∷ xs)
+        (record {
+          behind = b;
+          short = s;
+          below = omega arith;
+          inside = i;
+          single = p;
+          rest = more-orders next n r (x ∷ xs) (let f = fine next n front x xs h in not-broken next n r x xs (record { behind = records .asym x r a; short = f .short; below = f .below; inside = f .inside; single = f .single; rest = f .rest }));
+        })
+    go false a ih =
+        let f = fine next n front x xs h in
+        ap (brokenFrom (next + 1) n front) (insert-later after r x xs a)
+        ∙ not-broken (next + 1) n front x (inserted after r xs)
+        (record {
+          behind = f .behind;
+          short = f .short;
+          below = omega (arith, f .below);
+          inside = f .inside;
+          single = place-inserted (placeOf x) r xs (eqb-flip (placeOf r) (placeOf x) (or-left (eqb (placeOf r) (placeOf x)) (placeIn (placeOf r) xs) (sym (place-cons (placeOf r) x xs) ∙ p))) (f .single);
+          rest = ih a;
+        })
+
+-- ---- the first taken out
+pub rest-sound : (next n : ℕ) (r : List ℕ) (rs : List (List ℕ)) → brokenFrom next n vacant (r ∷ rs) ≡ false → brokenFrom next n vacant rs ≡ false
+rest-sound next n r rs h = other-front next n r vacant rs (λ x e. least (timeOf x) (orderOf x)) (fine next n vacant r rs h .rest)

@@ -1,0 +1,30 @@
+use mathlib.Core.Path.{sym, _∙_}
+use lib.ListN.{take}
+use Rattle.schedule.specs.Record.{vacant}
+use Rattle.schedule.proofs.Sound.{told}
+use Rattle.schedule.proofs.Doubled.{alone-broken, alone-doubled, alone-outside}
+use borrow.Author.Needs.{needs}
+use Rattle.schedule.proofs.records_broken.Statement.{statement}
+use Rattle.schedule.proofs.records_broken.Tie as tie
+
+alone-broken-requires : tie.Need-alone-broken-requires
+alone-broken-requires c κs = search needs
+
+returns : tie.Need-returns
+returns c =
+    let a = c .before .before .args in
+    sym (alone-broken (a .next) (a .places) vacant (take (a .count) (a .s .now)) (told (c .before .alone-broken .ensures) (c .if1 .taken)))
+
+place-doubled-requires : tie.Need-place-doubled-requires
+place-doubled-requires c κs =
+    let s = c .before .before in
+    (s .pre .0, s .pre .1, alone-outside (s .args .next) (s .args .places) vacant (take (s .args .count) (s .args .s .now)) (told (c .before .alone-broken .ensures) (c .if1 .left)))
+
+returns-2 : tie.Need-returns-2
+returns-2 c =
+    let a = c .before .before .before .args in
+    c .place-doubled .ensures ∙ sym (alone-doubled (a .next) (a .places) vacant (take (a .count) (a .s .now)) (told (c .before .before .alone-broken .ensures) (c .before .if1 .left)))
+
+pub records-broken-spec : {M : Type 1} → statement M
+records-broken-spec =
+    tie.close (tie.spec alone-broken-requires returns place-doubled-requires returns-2)

@@ -1,0 +1,5 @@
+pub mod Record
+pub mod State
+pub mod Scans
+pub mod Schedule
+pub mod Waiting

@@ -1,0 +1,37 @@
+-- Document 01, "Turned away", line 9, and "What the Rust forms turn into" (BinaryHeap), in the parts that the private scans over records compute.
+use Prim.Native.Nat.{ℕ, zero, suc, _+_}
+use mathlib.Core.Bool.{Bool, true, false, cond, _&&_, _||_}
+use mathlib.Core.List.{List, [], _∷_}
+use lib.Dec.{ltb, leb}
+use Rattle.schedule.specs.Record.{placeOf, placeIn}
+use Rattle.schedule.specs.State.{recordBroken}
+
+-- one of these records is broken, doubled places apart
+unfoldable pub brokenAlone : ℕ → ℕ → List ℕ → List (List ℕ) → Bool
+brokenAlone next n front [] = false
+brokenAlone next n front (r ∷ rs) = recordBroken next n front r || brokenAlone next n r rs
+
+-- a place is doubled
+unfoldable pub doubled : List (List ℕ) → Bool
+doubled [] = false
+doubled (r ∷ rs) = placeIn (placeOf r) rs || doubled rs
+
+-- a place is not below n
+unfoldable pub outside : ℕ → List (List ℕ) → Bool
+outside n [] = false
+outside n (r ∷ rs) = leb n (placeOf r) || outside n rs
+
+-- one of the 64 places from p on is doubled
+unfoldable pub doubledIn : ℕ → List (List ℕ) → Bool
+doubledIn p [] = false
+doubledIn p (r ∷ rs) = ((leb p (placeOf r) && ltb (placeOf r) (p + 64)) && placeIn (placeOf r) rs) || doubledIn p rs
+
+-- which of the n places from p on a record has, as 1 and 0
+unfoldable pub placeMarks : ℕ → ℕ → List (List ℕ) → List ℕ
+placeMarks zero p rs = []
+placeMarks (suc n) p rs = cond (placeIn p rs) 1 0 ∷ placeMarks n (suc p) rs
+
+-- the first of the n places from p on that no record has, or the place behind them
+unfoldable pub firstFree : ℕ → ℕ → List (List ℕ) → ℕ
+firstFree zero p rs = p
+firstFree (suc n) p rs = cond (placeIn p rs) (firstFree n (suc p) rs) p

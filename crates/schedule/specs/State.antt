@@ -1,0 +1,97 @@
+-- Document 01, "Bounds of a setup" and "Turned away", lines 5, 8, 9 and 10, as they speak of a schedule.
+use Prim.Native.Nat.{ℕ, _+_, _-_, _*_, _/_, _<_}
+use mathlib.Core.Path.{_≡_}
+use mathlib.Core.Bool.{Bool, false, _||_}
+use mathlib.Core.List.{List, [], _∷_}
+use lib.ListN.{length, take}
+use lib.Dec.{ltb, leb}
+use Rattle.schedule.specs.Record.{timeOf, orderOf, lengthOf, placeOf, vacant, after, placeIn, freePlaces}
+use Rattle.schedule.specs.declared.ChannelScheduler.{ChannelScheduler}
+use Rattle.schedule.specs.declared.Deliveries.{Deliveries}
+use Rattle.schedule.specs.declared.Deliveries.the-variants.{Lost, One, Two}
+
+-- a schedule: its records, the bytes of its places, and the scheduler
+pub record Mem : Type 0 where
+  pub records : List (List ℕ)
+  pub places : List ℕ
+  pub scheduler : ChannelScheduler
+
+abbrev pub mem : List (List ℕ) → List ℕ → ChannelScheduler → Mem
+mem r p s = record { records = r; places = p; scheduler = s }
+
+-- the records that wait
+abbrev pub waitingRecords : Mem → List (List ℕ)
+waitingRecords m = take (m .scheduler .count) (m .records)
+
+-- how many places the store has; a remainder belongs to none
+abbrev pub placeCount : Mem → ℕ
+placeCount m = length (m .places) / 1410
+
+-- line 9 of a waiting record: it leaves before the one in front of it, is longer than 1,410, has an order not below the next one or a place outside the store
+abbrev pub recordBroken : ℕ → ℕ → List ℕ → List ℕ → Bool
+recordBroken next n front r = after front r || (ltb 1410 (lengthOf r) || (leb next (orderOf r) || leb n (placeOf r)))
+
+-- one of these records is such a record, or a place is doubled; `front` stands in front of them
+unfoldable pub brokenFrom : ℕ → ℕ → List ℕ → List (List ℕ) → Bool
+brokenFrom next n front [] = false
+brokenFrom next n front (r ∷ rs) = recordBroken next n front r || (placeIn (placeOf r) rs || brokenFrom next n r rs)
+
+-- line 9: a count above its slice, or such records
+unfoldable pub stateBroken : Mem → Bool
+stateBroken m = ltb (length (m .records)) (m .scheduler .count) || brokenFrom (m .scheduler .«next_order») (placeCount m) vacant (waitingRecords m)
+
+-- line 8: "at 2^60 or more"
+abbrev pub countsBroken : Mem → Bool
+countsBroken m = leb 1152921504606846976 (m .scheduler .«next_order»)
+
+-- "other times 172,800 s", in nanoseconds
+abbrev pub late : ℕ → Bool
+late t = ltb 172800000000000 t
+
+-- line 10 of the times held
+unfoldable pub heldLate : List (List ℕ) → Bool
+heldLate [] = false
+heldLate (r ∷ rs) = late (timeOf r) || heldLate rs
+
+-- when a copy given a delay in milliseconds leaves
+abbrev pub leavesAt : ℕ → ℕ → ℕ
+leavesAt now delay = now + delay * 1000000
+
+-- line 10 of a delay, "a delivery's 180,000 ms", and of the time to be stored
+abbrev pub delayLate : ℕ → ℕ → Bool
+delayLate now delay = ltb 180000 delay || late (leavesAt now delay)
+
+abbrev pub deliveriesLate : ℕ → Deliveries → Bool
+deliveriesLate now Lost = false
+deliveriesLate now (One d) = delayLate now d
+deliveriesLate now (Two d e) = delayLate now d || delayLate now e
+
+abbrev pub copies : Deliveries → ℕ
+copies Lost = 0
+copies (One d) = 1
+copies (Two d e) = 2
+
+-- unused records and free places
+abbrev pub unusedRecords : Mem → ℕ
+unusedRecords m = length (m .records) - m .scheduler .count
+
+abbrev pub unusedPlaces : Mem → ℕ
+unusedPlaces m = length (freePlaces (placeCount m) (waitingRecords m))
+
+-- line 5: "fewer free places or unused records than copies"
+abbrev pub lacksRoom : Mem → ℕ → Bool
+lacksRoom m k = ltb (unusedPlaces m) k || ltb (unusedRecords m) k
+
+-- what the calls below the entry points take for granted: the checks before them are false
+pub record CanPut (m : Mem) (packet : List ℕ) : Type 0 where
+  pub sound : stateBroken m ≡ false
+  pub counts : m .scheduler .«next_order» < 1152921504606846977
+  pub short : ltb 1410 (length packet) ≡ false
+  pub room : lacksRoom m 1 ≡ false
+
+pub record CanSchedule (m : Mem) (now : ℕ) (packet : List ℕ) (ds : Deliveries) : Type 0 where
+  pub sound : stateBroken m ≡ false
+  pub counts : countsBroken m ≡ false
+  pub times : deliveriesLate now ds ≡ false
+  pub short : ltb 1410 (length packet) ≡ false
+  pub room : lacksRoom m (copies ds) ≡ false

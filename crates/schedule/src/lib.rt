@@ -1,0 +1,653 @@
+// The delivery schedule: waiting copies of packets, handed out at their time. Document 01, `channel/scheduler.rs`.
+ghost use mathlib.Core.Path.{_≡_};
+ghost use mathlib.Core.Bool.{Bool, true, false, _||_};
+ghost use mathlib.Core.List.{List, _∷_, _++_};
+ghost use Prim.Native.Nat.{_+_, _-_, _*_, _/_, _≤_, _<_};
+ghost use lib.ListN.{length, getD, take, drop, replicate};
+ghost use Rattle.schedule.specs.Record.{vacant, after, ordered, inserted, freePlaces, lowestFree};
+ghost use Rattle.schedule.specs.State.{mem, recordBroken, brokenFrom, stateBroken, heldLate, late, delayLate, deliveriesLate, copies, CanPut, CanSchedule};
+ghost use Rattle.schedule.specs.Scans.{brokenAlone, doubled, outside, doubledIn, placeMarks, firstFree};
+ghost use Rattle.schedule.specs.Schedule.{newDef, placed, filled, putDef, putAllDef, scheduleExit, scheduleDef, bytesOf, outShort, popExit, takeDef, popDef, CanPop, reading, firstTime, deadlineDef, lenDef, emptyDef, roomOf, roomDef};
+use refusal::Refusal;
+
+// A record: time in nanoseconds, order, length, place.
+pub type Scheduled = [u64; 4];
+
+// The bytes of a place.
+const PLACE_SIZE: usize = 1410;
+// 172,800 s.
+const MAX_TIME: u64 = 172800000000000;
+
+// The first `count` records wait; `next_order` is the order of the next copy.
+pub struct ChannelScheduler {
+    pub count: usize,
+    pub next_order: u64,
+}
+
+// The delays, in milliseconds, of the copies that the channel makes of one packet.
+pub enum Deliveries {
+    Lost,
+    One(u64),
+    Two(u64, u64),
+}
+
+pub enum Queued {
+    Accepted,
+    Refused(Refusal),
+}
+
+pub struct Scheduling {
+    pub scheduler: ChannelScheduler,
+    pub answer: Queued,
+}
+
+pub enum Ready {
+    // The length of the packet that was written to the lent buffer.
+    Packet(usize),
+    Nothing,
+    Refused(Refusal),
+}
+
+pub struct Popping {
+    pub scheduler: ChannelScheduler,
+    pub answer: Ready,
+}
+
+pub enum Deadline {
+    At(u64),
+    Nothing,
+    Refused(Refusal),
+}
+
+pub enum Amount {
+    Copies(usize),
+    Refused(Refusal),
+}
+
+pub enum Emptiness {
+    Empty(bool),
+    Refused(Refusal),
+}
+
+// What a call that only reads finds: nothing to refuse, or its refusal.
+enum Held {
+    Sound,
+    Refused(Refusal),
+}
+
+fn clear_records(s: &mut [Scheduled])
+    ensures { λ _. ⌜ now (s .exit) ≡ replicate (length (now (s .entry))) vacant ⌝ }
+{
+    let mut i: usize = 0;
+    while i < s.len() {
+        s[i] = [0, 0, 0, 0];
+        i += 1;
+    }
+}
+
+// Whether `p` leaves after `r`.
+pub fn leaves_after(p: Scheduled, r: Scheduled) -> bool
+    ensures { λ b. ⌜ b ≡ after p r ⌝ }
+{
+    let pt = p[0];
+    let rt = r[0];
+    if pt < rt {
+        return false;
+    }
+    if rt < pt {
+        return true;
+    }
+    let po = p[1];
+    let ro = r[1];
+    ro < po
+}
+
+// Puts `r` among the first `count` records: those that leave after it move up by one.
+fn insert(s: &mut [Scheduled], count: usize, r: Scheduled)
+    requires { ⌜ (count < length (now s)) × (ordered (take count (now s)) ≡ true) ⌝ }
+    ensures { λ _. ⌜ now (s .exit) ≡ inserted after r (take count (now (s .entry))) ++ drop (count + 1) (now (s .entry)) ⌝ }
+{
+    let mut i = count;
+    while 0 < i {
+        let p = s[i - 1];
+        if leaves_after(p, r) {
+            s[i] = p;
+            i -= 1;
+        } else {
+            break;
+        }
+    }
+    s[i] = r;
+}
+
+// Moves all but the first of the first `count` records down by one; the record left over becomes zeros.
+fn remove_first(s: &mut [Scheduled], count: usize)
+    requires { ⌜ (0 < count) × (count ≤ length (now s)) ⌝ }
+    ensures { λ _. ⌜ now (s .exit) ≡ drop 1 (take count (now (s .entry))) ++ vacant ∷ drop count (now (s .entry)) ⌝ }
+{
+    let last = count - 1;
+    let mut i: usize = 0;
+    while i < last {
+        let p = s[i + 1];
+        s[i] = p;
+        i += 1;
+    }
+    s[last] = [0, 0, 0, 0];
+}
+
+// Which of the 64 places from `base` on a waiting record has.
+fn used_places(s: &[Scheduled], count: usize, base: u64) -> [u8; 64]
+    requires { ⌜ count ≤ length (now s) ⌝ }
+    ensures { λ r. ⌜ r ≡ placeMarks 64 base (take count (now (s .entry))) ⌝ }
+{
+    let mut used = [0u8; 64];
+    let mut i = count;
+    while 0 < i {
+        i -= 1;
+        let r = s[i];
+        let place = r[3];
+        if base <= place {
+            let k = place - base;
+            if k < 64 {
+                used[k as usize] = 1;
+            }
+        }
+    }
+    used
+}
+
+// The first place from `base` up to `end` that no waiting record has, or `end`.
+fn first_free(s: &[Scheduled], count: usize, base: usize, end: usize) -> usize
+    requires { ⌜ (count ≤ length (now s)) × (base ≤ end) × (end ≤ base + 64) ⌝ }
+    ensures { λ p. ⌜ p ≡ firstFree (end - base) base (take count (now (s .entry))) ⌝ }
+{
+    let used = used_places(s, count, base as u64);
+    let mut p = base;
+    while p < end {
+        if used[p - base] == 0 {
+            return p;
+        }
+        p += 1;
+    }
+    end
+}
+
+// The lowest place that no waiting record has.
+fn lowest_free(s: &[Scheduled], count: usize, places: usize) -> usize
+    requires { ⌜ (count ≤ length (now s)) × (0 < length (freePlaces places (take count (now s)))) ⌝ }
+    ensures { λ p. ⌜ p ≡ lowestFree places (take count (now (s .entry))) ⌝ }
+{
+    let mut base: usize = 0;
+    while 64 <= places - base {
+        let p = first_free(s, count, base, base + 64);
+        if p < base + 64 {
+            return p;
+        }
+        base += 64;
+    }
+    first_free(s, count, base, places)
+}
+
+// Whether two waiting records have the same one of the 64 places from `base` on.
+fn block_doubled(s: &[Scheduled], count: usize, base: u64) -> bool
+    requires { ⌜ (count ≤ length (now s)) × (base < 9223372036854775808) ⌝ }
+    ensures { λ b. ⌜ b ≡ doubledIn base (take count (now (s .entry))) ⌝ }
+{
+    let mut used = [0u8; 64];
+    let mut i = count;
+    while 0 < i {
+        i -= 1;
+        let r = s[i];
+        let place = r[3];
+        if base <= place {
+            let k = place - base;
+            if k < 64 {
+                let at = k as usize;
+                if used[at] == 1 {
+                    return true;
+                }
+                used[at] = 1;
+            }
+        }
+    }
+    false
+}
+
+// Whether two waiting records have the same place, where all places lie below `places`.
+fn place_doubled(s: &[Scheduled], count: usize, places: usize) -> bool
+    requires { ⌜ (count ≤ length (now s)) × (places < 9223372036854775808) × (outside places (take count (now s)) ≡ false) ⌝ }
+    ensures { λ b. ⌜ b ≡ doubled (take count (now (s .entry))) ⌝ }
+{
+    let mut base: usize = 0;
+    while base < places {
+        if block_doubled(s, count, base as u64) {
+            return true;
+        }
+        base += 64;
+    }
+    false
+}
+
+// Whether one of the first `count` records breaks line 9, doubled places apart.
+fn alone_broken(s: &[Scheduled], count: usize, next: u64, places: usize) -> bool
+    requires { ⌜ count ≤ length (now s) ⌝ }
+    ensures { λ b. ⌜ b ≡ brokenAlone next places vacant (take count (now (s .entry))) ⌝ }
+{
+    let mut front = [0u64, 0, 0, 0];
+    let mut i: usize = 0;
+    while i < count {
+        let r = s[i];
+        if record_broken(front, r, next, places as u64) {
+            return true;
+        }
+        i += 1;
+        front = r;
+    }
+    false
+}
+
+// Whether one of the first `count` records breaks line 9.
+fn records_broken(s: &[Scheduled], count: usize, next: u64, places: usize) -> bool
+    requires { ⌜ (count ≤ length (now s)) × (places < 9223372036854775808) ⌝ }
+    ensures { λ b. ⌜ b ≡ brokenFrom next places vacant (take count (now (s .entry))) ⌝ }
+{
+    if alone_broken(s, count, next, places) {
+        return true;
+    }
+    place_doubled(s, count, places)
+}
+
+// Line 9 of a record and the one in front of it.
+fn record_broken(front: Scheduled, r: Scheduled, next: u64, places: u64) -> bool
+    ensures { λ b. ⌜ b ≡ recordBroken next places front r ⌝ }
+{
+    if leaves_after(front, r) {
+        return true;
+    }
+    let len = r[2];
+    if 1410 < len {
+        return true;
+    }
+    let order = r[1];
+    if next <= order {
+        return true;
+    }
+    places <= r[3]
+}
+
+// Whether one of the first `count` records has a time above its bound.
+fn held_late(s: &[Scheduled], count: usize) -> bool
+    requires { ⌜ count ≤ length (now s) ⌝ }
+    ensures { λ b. ⌜ b ≡ heldLate (take count (now (s .entry))) ⌝ }
+{
+    let mut i: usize = 0;
+    while i < count {
+        let r = s[i];
+        if MAX_TIME < r[0] {
+            return true;
+        }
+        i += 1;
+    }
+    false
+}
+
+// Whether a delay or the time that it leads to is above its bound.
+fn delay_late(now: u64, delay: u64) -> bool
+    requires { ⌜ now ≤ 172800000000000 ⌝ }
+    ensures { λ b. ⌜ b ≡ delayLate now delay ⌝ }
+{
+    if 180000 < delay {
+        return true;
+    }
+    MAX_TIME < now + delay * 1000000
+}
+
+fn deliveries_late(now: u64, deliveries: Deliveries) -> bool
+    requires { ⌜ now ≤ 172800000000000 ⌝ }
+    ensures { λ b. ⌜ b ≡ deliveriesLate now deliveries ⌝ }
+{
+    match deliveries {
+        Deliveries::Lost => false,
+        Deliveries::One(d) => delay_late(now, d),
+        Deliveries::Two(d, e) => {
+            if delay_late(now, d) {
+                return true;
+            }
+            delay_late(now, e)
+        }
+    }
+}
+
+fn copies_of(deliveries: Deliveries) -> usize
+    ensures { λ n. ⌜ n ≡ copies deliveries ⌝ }
+{
+    match deliveries {
+        Deliveries::Lost => 0,
+        Deliveries::One(_) => 1,
+        Deliveries::Two(_, _) => 2,
+    }
+}
+
+// Fills a place: the packet, and zeros after it.
+fn fill_place(places: &mut [u8], place: usize, packet: &[u8])
+    requires { ⌜ (place * 1410 + 1410 ≤ length (now places)) × (length (now packet) ≤ 1410) ⌝ }
+    ensures { λ _. ⌜ now (places .exit) ≡ placed (now (places .entry)) place (filled (now (packet .entry))) ⌝ }
+{
+    let from = place * PLACE_SIZE;
+    let end = from + packet.len();
+    let to = from + PLACE_SIZE;
+    octets::copy_unchecked(packet, &mut places[from..end]);
+    octets::clear(&mut places[end..to]);
+}
+
+// Writes the packet of a place to the front of `out`, and clears the place.
+fn take_packet(places: &mut [u8], place: usize, len: usize, out: &mut [u8])
+    requires { ⌜ (place * 1410 + 1410 ≤ length (now places)) × (len ≤ 1410) × (len ≤ length (now out)) ⌝ }
+    ensures { λ _. ⌜ (now (places .exit) ≡ placed (now (places .entry)) place (replicate 1410 0)) × (now (out .exit) ≡ take len (drop (place * 1410) (now (places .entry))) ++ drop len (now (out .entry))) ⌝ }
+{
+    let from = place * PLACE_SIZE;
+    let end = from + len;
+    let to = from + PLACE_SIZE;
+    octets::copy_unchecked(&places[from..end], &mut out[..len]);
+    octets::clear(&mut places[from..to]);
+}
+
+impl ChannelScheduler {
+    // An empty schedule; all records and places become zeros.
+    pub fn new(records: &mut [Scheduled], places: &mut [u8]) -> Self
+        ensures { λ r. ⌜ mem (now (records .exit)) (now (places .exit)) r ≡ newDef (now (records .entry)) (now (places .entry)) ⌝ }
+    {
+        clear_records(records);
+        let end = places.len() / PLACE_SIZE * PLACE_SIZE;
+        octets::clear(&mut places[..end]);
+        ChannelScheduler {
+            count: 0,
+            next_order: 0,
+        }
+    }
+
+    // Line 9.
+    fn state_broken(self, records: &[Scheduled], places: &[u8]) -> bool
+        ensures { λ b. ⌜ b ≡ stateBroken (mem (now (records .entry)) (now (places .entry)) self) ⌝ }
+    {
+        let count = self.count;
+        if records.len() < count {
+            return true;
+        }
+        records_broken(records, count, self.next_order, places.len() / PLACE_SIZE)
+    }
+
+    // Line 10, of the times given and held.
+    fn time_late(self, records: &[Scheduled], now: u64, deliveries: Deliveries) -> bool
+        requires { ⌜ self .count ≤ length (records .now) ⌝ }
+        ensures { λ b. ⌜ b ≡ (late now || (heldLate (take (self .count) (records .entry .now)) || deliveriesLate now deliveries)) ⌝ }
+    {
+        if MAX_TIME < now {
+            return true;
+        }
+        if held_late(records, self.count) {
+            return true;
+        }
+        deliveries_late(now, deliveries)
+    }
+
+    // How many copies more there is room for.
+    pub fn room_unchecked(self, records: &[Scheduled], places: &[u8]) -> usize
+        requires { ⌜ stateBroken (mem (now records) (now places) self) ≡ false ⌝ }
+        ensures { λ n. ⌜ n ≡ roomOf (mem (now (records .entry)) (now (places .entry)) self) ⌝ }
+    {
+        let free_places = places.len() / PLACE_SIZE - self.count;
+        let free_records = records.len() - self.count;
+        if free_places < free_records {
+            return free_places;
+        }
+        free_records
+    }
+
+    // One copy more, to leave at `time`.
+    fn put(self, records: &mut [Scheduled], places: &mut [u8], time: u64, packet: &[u8]) -> Self
+        requires { ⌜ CanPut (mem (now records) (now places) self) (now packet) ⌝ }
+        ensures { λ r. ⌜ mem (now (records .exit)) (now (places .exit)) r ≡ putDef (mem (now (records .entry)) (now (places .entry)) self) time (now (packet .entry)) ⌝ }
+    {
+        let count = self.count;
+        let order = self.next_order;
+        let place = lowest_free(records, count, places.len() / PLACE_SIZE);
+        fill_place(places, place, packet);
+        insert(
+            records,
+            count,
+            [time, order, packet.len() as u64, place as u64],
+        );
+        ChannelScheduler {
+            count: count + 1,
+            next_order: order + 1,
+        }
+    }
+
+    // All copies of one answer of the channel.
+    pub fn schedule_at_unchecked(
+        self,
+        records: &mut [Scheduled],
+        places: &mut [u8],
+        now: u64,
+        packet: &[u8],
+        deliveries: Deliveries,
+    ) -> Self
+        requires { ⌜ CanSchedule (mem (records .now) (places .now) self) now (packet .now) deliveries ⌝ }
+        ensures { λ r. ⌜ mem (records .exit .now) (places .exit .now) r ≡ putAllDef (mem (records .entry .now) (places .entry .now) self) now (packet .entry .now) deliveries ⌝ }
+    {
+        match deliveries {
+            Deliveries::Lost => self,
+            Deliveries::One(d) => self.put(records, places, now + d * 1000000, packet),
+            Deliveries::Two(d, e) => {
+                let first = self.put(records, places, now + d * 1000000, packet);
+                first.put(records, places, now + e * 1000000, packet)
+            }
+        }
+    }
+
+    // Queues the output of the channel, all copies or none.
+    pub fn schedule_at(
+        self,
+        records: &mut [Scheduled],
+        places: &mut [u8],
+        now: u64,
+        packet: &[u8],
+        deliveries: Deliveries,
+    ) -> Scheduling
+        ensures { λ r. ⌜ scheduleExit (records .exit .now) (places .exit .now) r ≡ scheduleDef (mem (records .entry .now) (places .entry .now) self) now (packet .entry .now) deliveries ⌝ }
+    {
+        if self.state_broken(records, places) {
+            return Scheduling {
+                scheduler: self,
+                answer: Queued::Refused(Refusal::State),
+            };
+        }
+        if 1152921504606846976 <= self.next_order {
+            return Scheduling {
+                scheduler: self,
+                answer: Queued::Refused(Refusal::Counts),
+            };
+        }
+        if self.time_late(records, now, deliveries) {
+            return Scheduling {
+                scheduler: self,
+                answer: Queued::Refused(Refusal::Time),
+            };
+        }
+        if 1410 < packet.len() {
+            return Scheduling {
+                scheduler: self,
+                answer: Queued::Refused(Refusal::Long),
+            };
+        }
+        if self.room_unchecked(records, places) < copies_of(deliveries) {
+            return Scheduling {
+                scheduler: self,
+                answer: Queued::Refused(Refusal::Full),
+            };
+        }
+        let next = self.schedule_at_unchecked(records, places, now, packet, deliveries);
+        Scheduling {
+            scheduler: next,
+            answer: Queued::Accepted,
+        }
+    }
+
+    // Line 5 of `pop_ready_at`.
+    fn out_short(self, records: &[Scheduled], now: u64, size: usize) -> bool
+        requires { ⌜ self .count ≤ length (records .now) ⌝ }
+        ensures { λ b. ⌜ b ≡ outShort (self .count) (records .entry .now) now size ⌝ }
+    {
+        let count = self.count;
+        if count == 0 {
+            return false;
+        }
+        let first = records[0];
+        if now < first[0] {
+            return false;
+        }
+        size < first[2] as usize
+    }
+
+    // The earliest packet that is due.
+    pub fn pop_ready_at_unchecked(
+        self,
+        records: &mut [Scheduled],
+        places: &mut [u8],
+        now: u64,
+        out: &mut [u8],
+    ) -> Popping
+        requires { ⌜ CanPop (mem (records .now) (places .now) self) now (out .now) ⌝ }
+        ensures { λ r. ⌜ popExit (records .exit .now) (places .exit .now) (out .exit .now) r ≡ takeDef (mem (records .entry .now) (places .entry .now) self) now (out .entry .now) ⌝ }
+    {
+        let count = self.count;
+        if count == 0 {
+            return Popping {
+                scheduler: self,
+                answer: Ready::Nothing,
+            };
+        }
+        let first = records[0];
+        if now < first[0] {
+            return Popping {
+                scheduler: self,
+                answer: Ready::Nothing,
+            };
+        }
+        let len = first[2] as usize;
+        take_packet(places, first[3] as usize, len, out);
+        remove_first(records, count);
+        Popping {
+            scheduler: ChannelScheduler {
+                count: count - 1,
+                next_order: self.next_order,
+            },
+            answer: Ready::Packet(len),
+        }
+    }
+
+    // Takes out one packet whose time has come, if there is one, and writes it to `out`.
+    pub fn pop_ready_at(
+        self,
+        records: &mut [Scheduled],
+        places: &mut [u8],
+        now: u64,
+        out: &mut [u8],
+    ) -> Popping
+        ensures { λ r. ⌜ popExit (records .exit .now) (places .exit .now) (out .exit .now) r ≡ popDef (mem (records .entry .now) (places .entry .now) self) now (out .entry .now) ⌝ }
+    {
+        if self.state_broken(records, places) {
+            return Popping {
+                scheduler: self,
+                answer: Ready::Refused(Refusal::State),
+            };
+        }
+        if 1152921504606846976 <= self.next_order {
+            return Popping {
+                scheduler: self,
+                answer: Ready::Refused(Refusal::Counts),
+            };
+        }
+        if self.time_late(records, now, Deliveries::Lost) {
+            return Popping {
+                scheduler: self,
+                answer: Ready::Refused(Refusal::Time),
+            };
+        }
+        if self.out_short(records, now, out.len()) {
+            return Popping {
+                scheduler: self,
+                answer: Ready::Refused(Refusal::Full),
+            };
+        }
+        self.pop_ready_at_unchecked(records, places, now, out)
+    }
+
+    // The lines that a call checks which only reads.
+    fn held(self, records: &[Scheduled], places: &[u8]) -> Held
+        ensures { λ r. ⌜ r ≡ reading (mem (now (records .entry)) (now (places .entry)) self) Held.Refused Held.Sound ⌝ }
+    {
+        if self.state_broken(records, places) {
+            return Held::Refused(Refusal::State);
+        }
+        if 1152921504606846976 <= self.next_order {
+            return Held::Refused(Refusal::Counts);
+        }
+        if held_late(records, self.count) {
+            return Held::Refused(Refusal::Time);
+        }
+        Held::Sound
+    }
+
+    pub fn next_deadline_unchecked(self, records: &[Scheduled]) -> Deadline
+        requires { ⌜ self .count ≤ length (now records) ⌝ }
+        ensures { λ r. ⌜ r ≡ firstTime (self .count) (now (records .entry)) ⌝ }
+    {
+        let count = self.count;
+        if count == 0 {
+            return Deadline::Nothing;
+        }
+        let first = records[0];
+        Deadline::At(first[0])
+    }
+
+    // When the next packet may leave.
+    pub fn next_deadline(self, records: &[Scheduled], places: &[u8]) -> Deadline
+        ensures { λ r. ⌜ r ≡ deadlineDef (mem (now (records .entry)) (now (places .entry)) self) ⌝ }
+    {
+        match self.held(records, places) {
+            Held::Refused(r) => Deadline::Refused(r),
+            Held::Sound => self.next_deadline_unchecked(records),
+        }
+    }
+
+    // How many copies wait.
+    pub fn len(self, records: &[Scheduled], places: &[u8]) -> Amount
+        ensures { λ r. ⌜ r ≡ lenDef (mem (now (records .entry)) (now (places .entry)) self) ⌝ }
+    {
+        match self.held(records, places) {
+            Held::Refused(r) => Amount::Refused(r),
+            Held::Sound => Amount::Copies(self.count),
+        }
+    }
+
+    pub fn is_empty(self, records: &[Scheduled], places: &[u8]) -> Emptiness
+        ensures { λ r. ⌜ r ≡ emptyDef (mem (now (records .entry)) (now (places .entry)) self) ⌝ }
+    {
+        match self.held(records, places) {
+            Held::Refused(r) => Emptiness::Refused(r),
+            Held::Sound => Emptiness::Empty(self.count == 0),
+        }
+    }
+
+    // How many copies more there is room for.
+    pub fn room(self, records: &[Scheduled], places: &[u8]) -> Amount
+        ensures { λ r. ⌜ r ≡ roomDef (mem (now (records .entry)) (now (places .entry)) self) ⌝ }
+    {
+        match self.held(records, places) {
+            Held::Refused(r) => Amount::Refused(r),
+            Held::Sound => Amount::Copies(self.room_unchecked(records, places)),
+        }
+    }
+}

@@ -1,0 +1,227 @@
+// The retransmission timer, by value: the reference's timing/timer.rs on nanoseconds.
+use refusal::Refusal;
+ghost use mathlib.Core.Path.{_≡_};
+ghost use mathlib.Core.Bool.{false};
+ghost use Prim.Native.Nat.{_-_};
+ghost use Rattle.timer.specs.Timer.{deadlineTooLate, startTooLate, readTooLate, start, cancel, active, expiredAt, remainingAt, newDef, startedAtDef, cancelledDef, isActiveDef, remainingAtDef, isExpiredAtDef, isExpiredForAtDef};
+
+// In nanoseconds: 172,800 s for a time, 86,400 s for a duration.
+const MAX_TIME: u64 = 172800000000000;
+
+const MAX_DURATION: u64 = 86400000000000;
+
+pub enum Deadline {
+    Unset,
+    At(u64),
+}
+
+pub struct RetransmissionTimer {
+    pub deadline: Deadline,
+    pub generation: u64,
+}
+
+pub enum TimerAnswer {
+    // The timer's new generation.
+    Id(u64),
+    Refused(Refusal),
+}
+
+pub struct TimerChange {
+    pub timer: RetransmissionTimer,
+    pub answer: TimerAnswer,
+}
+
+pub enum TimerTest {
+    Is(bool),
+    Refused(Refusal),
+}
+
+pub enum Remaining {
+    Inactive,
+    For(u64),
+    Refused(Refusal),
+}
+
+fn deadline_too_late(d: Deadline) -> bool
+    ensures { λ r. ⌜ r ≡ deadlineTooLate d ⌝ }
+{
+    match d {
+        Deadline::Unset => false,
+        Deadline::At(t) => t > MAX_TIME,
+    }
+}
+
+fn deadline_expired(d: Deadline, now: u64) -> bool
+    ensures { λ r. ⌜ r ≡ expiredAt d now ⌝ }
+{
+    match d {
+        Deadline::Unset => false,
+        Deadline::At(t) => now >= t,
+    }
+}
+
+fn deadline_set(d: Deadline) -> bool
+    ensures { λ r. ⌜ r ≡ active d ⌝ }
+{
+    match d {
+        Deadline::Unset => false,
+        Deadline::At(_) => true,
+    }
+}
+
+fn time_left(deadline: u64, now: u64) -> u64
+    ensures { λ r. ⌜ r ≡ deadline - now ⌝ }
+{
+    if now >= deadline { 0 } else { deadline - now }
+}
+
+fn deadline_remaining(d: Deadline, now: u64) -> Remaining
+    ensures { λ r. ⌜ r ≡ remainingAt d now ⌝ }
+{
+    match d {
+        Deadline::Unset => Remaining::Inactive,
+        Deadline::At(t) => Remaining::For(time_left(t, now)),
+    }
+}
+
+fn start_too_late(t: RetransmissionTimer, now: u64, duration: u64) -> bool
+    ensures { λ r. ⌜ r ≡ startTooLate t now duration ⌝ }
+{
+    let d = t.deadline;
+    if deadline_too_late(d) {
+        return true;
+    }
+    if now > MAX_TIME {
+        return true;
+    }
+    if duration > MAX_DURATION {
+        return true;
+    }
+    now + duration > MAX_TIME
+}
+
+fn read_too_late(t: RetransmissionTimer, now: u64) -> bool
+    ensures { λ r. ⌜ r ≡ readTooLate t now ⌝ }
+{
+    let d = t.deadline;
+    if deadline_too_late(d) {
+        return true;
+    }
+    now > MAX_TIME
+}
+
+impl RetransmissionTimer {
+    pub fn new() -> RetransmissionTimer
+        ensures { λ r. ⌜ r ≡ newDef ⌝ }
+    {
+        RetransmissionTimer {
+            deadline: Deadline::Unset,
+            generation: 0,
+        }
+    }
+
+    pub fn started_at_unchecked(self, now: u64, duration: u64) -> RetransmissionTimer
+        requires { ⌜ startTooLate self now duration ≡ false ⌝ }
+        ensures { λ r. ⌜ r ≡ start self now duration ⌝ }
+    {
+        RetransmissionTimer {
+            deadline: Deadline::At(now + duration),
+            generation: std::num::wrapping_add_u64(self.generation, 1),
+        }
+    }
+
+    pub fn cancelled_unchecked(self) -> RetransmissionTimer
+        requires { ⌜ deadlineTooLate (self .deadline) ≡ false ⌝ }
+        ensures { λ r. ⌜ r ≡ cancel self ⌝ }
+    {
+        let next = std::num::wrapping_add_u64(self.generation, 1);
+        RetransmissionTimer {
+            deadline: Deadline::Unset,
+            generation: next,
+        }
+    }
+
+    pub fn is_expired_at_unchecked(self, now: u64) -> bool
+        requires { ⌜ readTooLate self now ≡ false ⌝ }
+        ensures { λ r. ⌜ r ≡ expiredAt (self .deadline) now ⌝ }
+    {
+        let d = self.deadline;
+        deadline_expired(d, now)
+    }
+
+    // Starts or restarts the timer.
+    pub fn started_at(self, now: u64, duration: u64) -> TimerChange
+        ensures { λ r. ⌜ r ≡ startedAtDef self now duration ⌝ }
+    {
+        if start_too_late(self, now, duration) {
+            return TimerChange {
+                timer: self,
+                answer: TimerAnswer::Refused(Refusal::Time),
+            };
+        }
+        let t = self.started_at_unchecked(now, duration);
+        TimerChange {
+            timer: t,
+            answer: TimerAnswer::Id(t.generation),
+        }
+    }
+
+    pub fn cancelled(self) -> TimerChange
+        ensures { λ r. ⌜ r ≡ cancelledDef self ⌝ }
+    {
+        let d = self.deadline;
+        if deadline_too_late(d) {
+            return TimerChange {
+                timer: self,
+                answer: TimerAnswer::Refused(Refusal::Time),
+            };
+        }
+        let t = self.cancelled_unchecked();
+        TimerChange {
+            timer: t,
+            answer: TimerAnswer::Id(t.generation),
+        }
+    }
+
+    pub fn is_active(self) -> TimerTest
+        ensures { λ r. ⌜ r ≡ isActiveDef self ⌝ }
+    {
+        let d = self.deadline;
+        if deadline_too_late(d) {
+            return TimerTest::Refused(Refusal::Time);
+        }
+        TimerTest::Is(deadline_set(d))
+    }
+
+    pub fn remaining_at(self, now: u64) -> Remaining
+        ensures { λ r. ⌜ r ≡ remainingAtDef self now ⌝ }
+    {
+        if read_too_late(self, now) {
+            return Remaining::Refused(Refusal::Time);
+        }
+        let d = self.deadline;
+        deadline_remaining(d, now)
+    }
+
+    pub fn is_expired_at(self, now: u64) -> TimerTest
+        ensures { λ r. ⌜ r ≡ isExpiredAtDef self now ⌝ }
+    {
+        if read_too_late(self, now) {
+            return TimerTest::Refused(Refusal::Time);
+        }
+        TimerTest::Is(self.is_expired_at_unchecked(now))
+    }
+
+    // An event of an older generation is stale.
+    pub fn is_expired_for_at(self, expected: u64, now: u64) -> TimerTest
+        ensures { λ r. ⌜ r ≡ isExpiredForAtDef self expected now ⌝ }
+    {
+        if read_too_late(self, now) {
+            return TimerTest::Refused(Refusal::Time);
+        }
+        if self.generation != expected {
+            return TimerTest::Is(false);
+        }
+        TimerTest::Is(self.is_expired_at_unchecked(now))
+    }
+}

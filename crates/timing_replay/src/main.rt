@@ -1,0 +1,374 @@
+// Replays calls of the timing layer from standard input, and writes an answer for each line, as the reference gave it (file `stdout`).
+//
+// A case is a line: a letter, then words of 16 hexadecimal digits each, with nothing between. A line that starts with '#' is a comment.
+//   e INITIAL MIN MAX GRANULARITY ALPHA BETA K MULTIPLIER CALLS   an estimator of this setup; durations in ns, doubles in units of 2^-20
+//       a call is two words: 0 and a sample, 1 and a retransmitted sample, 2 and 0 for a timeout, 3 and 0 for reset_backoff
+//   m ROOM CALLS                                                  a timer set of at most 32 entries
+//       a call is four words: 0, key, now, duration to start; 1, key, 0, 0 to cancel; 2, 0, now, 0 to pop; 3, 0, 0, 0 for the earliest
+// Each call prints its answer and `;`: the RTO, SRTT and RTTVAR after it in ns; a generation; 0 or 1; keys; a deadline; `-` where there is
+// none; or `refused` and the number.
+ghost use mathlib.Core.Path.{_≡_};
+ghost use Prim.Native.Nat.{_≤_, _<_};
+ghost use lib.ListN.{length};
+use libc::STDOUT_FILENO;
+use multi_timer::CancelAnswer;
+use multi_timer::EarliestAnswer;
+use multi_timer::Making;
+use multi_timer::MultiTimer;
+use multi_timer::PopAnswer;
+use multi_timer::StartAnswer;
+use refusal::Refusal;
+use rto::ResetAnswer;
+use rto::RtoConfig;
+use rto::RtoEstimator;
+use rto::Rtt;
+use rto::TimeoutAnswer;
+use rto::UpdateAnswer;
+
+fn main() {
+    let mut text = [0u8; 262144];
+    let n = io::read_full(0, &mut text);
+    replay(&text[..n]);
+}
+
+fn replay(text: &[u8]) {
+    let mut at: usize = 0;
+    while at < text.len() {
+        let end = line_end(text, at);
+        case(&text[at..end]);
+        at = end;
+        if at < text.len() {
+            at += 1;
+        }
+    }
+}
+
+fn line_end(text: &[u8], from: usize) -> usize
+    requires { ⌜ from < length (now text) ⌝ }
+    ensures { λ r. ⌜ (from ≤ r) × (r ≤ length (now (text .entry))) ⌝ }
+{
+    let mut i = from;
+    while i < text.len() {
+        if text[i] == b'\n' {
+            return i;
+        }
+        i += 1;
+    }
+    i
+}
+
+fn case(line: &[u8]) {
+    if line.len() == 0 {
+        return;
+    }
+    let op = line[0];
+    if op == b'e' {
+        estimator_case(&line[1..]);
+        return;
+    }
+    if op == b'm' {
+        timers_case(&line[1..]);
+    }
+}
+
+// The word at place i of the digits; 0 past their end.
+fn word(digits: &[u8], i: usize) -> u64 {
+    if i < digits.len() / 16 {
+        return word_at(digits, i * 16);
+    }
+    0
+}
+
+fn word_at(digits: &[u8], at: usize) -> u64 {
+    let mut x: u64 = 0;
+    let mut i: usize = 0;
+    while i < 16 {
+        x = std::num::wrapping_add_u64(shifted(x), digit(byte(digits, at, i)) as u64);
+        i += 1;
+    }
+    x
+}
+
+fn byte(digits: &[u8], at: usize, i: usize) -> u8 {
+    if at < digits.len() {
+        if i < digits.len() - at {
+            return digits[at + i];
+        }
+    }
+    b'0'
+}
+
+// 16 * x, modulo 2^64.
+fn shifted(x: u64) -> u64 {
+    (x % 1152921504606846976) * 16
+}
+
+fn digit(c: u8) -> u8 {
+    if c < 48 {
+        return 0;
+    }
+    if c < 58 {
+        return c - 48;
+    }
+    if c < 97 {
+        return 0;
+    }
+    if c < 103 {
+        return c - 87;
+    }
+    0
+}
+
+fn double(x: u64) -> f64 {
+    (narrow(x) as f64) / 1048576.0
+}
+
+fn narrow(x: u64) -> u32 {
+    (x % 4294967296) as u32
+}
+
+fn estimator_case(digits: &[u8]) {
+    let c = RtoConfig {
+        initial_rto: word(digits, 0),
+        min_rto: word(digits, 1),
+        max_rto: word(digits, 2),
+        granularity: word(digits, 3),
+        alpha: double(word(digits, 4)),
+        beta: double(word(digits, 5)),
+        k: double(word(digits, 6)),
+        rto_multiplier: double(word(digits, 7)),
+    };
+    match RtoEstimator::with_config(c) {
+        rto::Making::Made(e) => estimator_calls(digits, e),
+        rto::Making::Refused(r) => print_refusal(r),
+    }
+    end_line();
+}
+
+fn estimator_calls(digits: &[u8], first: RtoEstimator) {
+    let mut e = first;
+    let calls = digits.len() / 32;
+    let mut i: usize = 4;
+    while i < calls {
+        e = estimator_call(e, word(digits, 2 * i), word(digits, 2 * i + 1));
+        i += 1;
+    }
+}
+
+fn estimator_call(e: RtoEstimator, op: u64, x: u64) -> RtoEstimator {
+    if op == 2 {
+        return timeout_call(e);
+    }
+    if op == 3 {
+        return reset_call(e);
+    }
+    sample_call(e, x, op == 1)
+}
+
+fn sample_call(e: RtoEstimator, x: u64, again: bool) -> RtoEstimator {
+    let c = e.update_rtt(x, again);
+    let next = c.estimator;
+    let a = c.answer;
+    match a {
+        UpdateAnswer::Accepted(_) => print_estimator(next),
+        UpdateAnswer::Refused(r) => print_refusal(r),
+    }
+    next
+}
+
+fn timeout_call(e: RtoEstimator) -> RtoEstimator {
+    let c = e.on_timeout();
+    let next = c.estimator;
+    let a = c.answer;
+    match a {
+        TimeoutAnswer::Rto(_) => print_estimator(next),
+        TimeoutAnswer::Refused(r) => print_refusal(r),
+    }
+    next
+}
+
+fn reset_call(e: RtoEstimator) -> RtoEstimator {
+    let c = e.reset_backoff();
+    let next = c.estimator;
+    let a = c.answer;
+    match a {
+        ResetAnswer::Done => print_estimator(next),
+        ResetAnswer::Refused(r) => print_refusal(r),
+    }
+    next
+}
+
+fn print_estimator(e: RtoEstimator) {
+    let srtt = e.srtt;
+    let rttvar = e.rttvar;
+    number(e.current_rto);
+    print_rtt(srtt);
+    print_rtt(rttvar);
+    semicolon();
+}
+
+fn print_rtt(r: Rtt) {
+    match r {
+        Rtt::Unset => none(),
+        Rtt::Is(x) => number(x),
+    }
+}
+
+fn timers_case(digits: &[u8]) {
+    let mut keys = [0u32; 32];
+    let mut deadlines = [0u64; 32];
+    timers_in(digits, word(digits, 0), &mut keys, &mut deadlines);
+    end_line();
+}
+
+fn timers_in(digits: &[u8], room: u64, keys: &mut [u32], deadlines: &mut [u64]) {
+    let n = room as usize;
+    if keys.len() < n {
+        return;
+    }
+    if deadlines.len() < n {
+        return;
+    }
+    timers_within(digits, &mut keys[0..n], &mut deadlines[0..n]);
+}
+
+fn timers_within(digits: &[u8], keys: &mut [u32], deadlines: &mut [u64]) {
+    match multi_timer::new_timers(keys, deadlines) {
+        Making::Made(t) => timers_calls(digits, t, keys, deadlines),
+        Making::Refused(r) => print_refusal(r),
+    }
+}
+
+fn timers_calls(digits: &[u8], first: MultiTimer, keys: &mut [u32], deadlines: &mut [u64]) {
+    let mut t = first;
+    let words = digits.len() / 16;
+    let mut i: usize = 1;
+    while i + 3 < words {
+        t = timers_call(
+            t,
+            keys,
+            deadlines,
+            word(digits, i),
+            narrow(word(digits, i + 1)),
+            word(digits, i + 2),
+            word(digits, i + 3),
+        );
+        i += 4;
+    }
+}
+
+fn timers_call(
+    t: MultiTimer,
+    keys: &mut [u32],
+    deadlines: &mut [u64],
+    op: u64,
+    key: u32,
+    now: u64,
+    duration: u64,
+) -> MultiTimer {
+    if op == 0 {
+        return start_call(t, keys, deadlines, key, now, duration);
+    }
+    if op == 1 {
+        return cancel_call(t, keys, deadlines, key);
+    }
+    if op == 2 {
+        return pop_call(t, keys, deadlines, now);
+    }
+    earliest_call(t, keys, deadlines)
+}
+
+fn start_call(
+    t: MultiTimer,
+    keys: &mut [u32],
+    deadlines: &mut [u64],
+    key: u32,
+    now: u64,
+    duration: u64,
+) -> MultiTimer {
+    let c = t.start_timer_at(keys, deadlines, key, now, duration);
+    let next = c.timers;
+    let a = c.answer;
+    match a {
+        StartAnswer::Id(g) => answer(g),
+        StartAnswer::Refused(r) => print_refusal(r),
+    }
+    next
+}
+
+fn cancel_call(t: MultiTimer, keys: &mut [u32], deadlines: &mut [u64], key: u32) -> MultiTimer {
+    let c = t.cancel_timer(keys, deadlines, key);
+    let next = c.timers;
+    let a = c.answer;
+    match a {
+        CancelAnswer::Existed(x) => answer(x as u64),
+        CancelAnswer::Refused(r) => print_refusal(r),
+    }
+    next
+}
+
+fn pop_call(t: MultiTimer, keys: &mut [u32], deadlines: &mut [u64], now: u64) -> MultiTimer {
+    let mut out = [0u32; 32];
+    let c = t.pop_expired_at(keys, deadlines, now, &mut out);
+    let next = c.timers;
+    let a = c.answer;
+    match a {
+        PopAnswer::Keys(n) => print_keys(&out, n),
+        PopAnswer::Refused(r) => print_refusal(r),
+    }
+    next
+}
+
+fn wide(x: u32) -> u64 {
+    x as u64
+}
+
+fn print_keys(out: &[u32], n: usize) {
+    let mut i: usize = 0;
+    while i < out.len() {
+        if i < n {
+            number(wide(out[i]));
+        }
+        i += 1;
+    }
+    semicolon();
+}
+
+fn earliest_call(t: MultiTimer, keys: &[u32], deadlines: &[u64]) -> MultiTimer {
+    match t.earliest_deadline(keys, deadlines) {
+        EarliestAnswer::Nothing => {
+            none();
+            semicolon();
+        }
+        EarliestAnswer::At(x) => answer(x),
+        EarliestAnswer::Refused(r) => print_refusal(r),
+    }
+    t
+}
+
+fn print_refusal(r: Refusal) {
+    io::write_all(STDOUT_FILENO, b"refused ");
+    answer(r.number() as u64);
+}
+
+fn answer(n: u64) {
+    number(n);
+    semicolon();
+}
+
+fn number(n: u64) {
+    io::print_decimal(STDOUT_FILENO, n);
+    io::write_all(STDOUT_FILENO, b" ");
+}
+
+fn none() {
+    io::write_all(STDOUT_FILENO, b"- ");
+}
+
+fn semicolon() {
+    io::write_all(STDOUT_FILENO, b"; ");
+}
+
+fn end_line() {
+    io::write_all(STDOUT_FILENO, b"\n");
+}
