@@ -4,7 +4,6 @@
 // Where document 01 refuses and the reference does not (6: payload above 1,400; 5: buffer too short), the expected answer is document 01's.
 extern crate reference;
 use reference::packet::{self as rust, Packet, PacketError, PacketType};
-use std::convert::TryFrom;
 use std::fmt::Write as _;
 use std::time::{Duration, Instant};
 

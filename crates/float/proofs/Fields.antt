@@ -1,5 +1,4 @@
 -- A normal f64 by the fields of its bit pattern: the digits t and the exponent's field x + 1 stand for (2 ^ 52 + t) * 2 ^ x units.
---
 use mathlib.Core.Path.{_≡_, refl, sym, ap, _∙_, subst}
 use Prim.Native.Nat.{ℕ, zero, suc, _+_, _*_, _/_, _%_, _^_, _≤_, _<_}
 use native.Mathlib.Nat.{le-of-eq, lt-of-le-of-lt, not-le-of-lt, mul-one, mul-lt-mul-of-pos-right, mod-lt, mod-eq-of-lt}

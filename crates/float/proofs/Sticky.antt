@@ -1,5 +1,4 @@
 -- `compare` from an order; and a quotient's rounding, with the digits below the unit's half folded into one sticky digit.
---
 use mathlib.Core.Path.{_≡_, refl, sym, ap, ap₂, _∙_, subst}
 use Prim.Native.Nat.{ℕ, zero, suc, _+_, _*_, _/_, _%_, _≤_, _<_, compare, Ordering, Ordering·lt, Ordering·eq, Ordering·gt}
 use native.Mathlib.Nat.{le-refl, mul-le-mul-right, mod-lt, div-add-mod', mul-pos, mod-eq-of-lt, div-eq-of-lt, zero-lt-suc}
