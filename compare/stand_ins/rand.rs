@@ -2,6 +2,8 @@
 use std::cell::RefCell;
 use std::collections::VecDeque;
 
+include!("rand_traits.rs");
+
 thread_local! {
     static ROLLS: RefCell<VecDeque<f64>> = RefCell::new(VecDeque::new());
 }
@@ -15,35 +17,12 @@ pub fn left() -> usize {
 }
 
 pub mod rngs {
+    #[derive(Default)]
     pub struct StdRng;
 }
 
-pub trait Roll {
-    fn of(x: f64) -> Self;
-}
-
-impl Roll for f64 {
-    fn of(x: f64) -> f64 {
-        x
-    }
-}
-
-pub trait Rng {
-    fn random<T: Roll>(&mut self) -> T;
-}
-
-impl Rng for rngs::StdRng {
-    fn random<T: Roll>(&mut self) -> T {
-        T::of(ROLLS.with(|q| q.borrow_mut().pop_front().expect("no roll left")))
-    }
-}
-
-pub trait SeedableRng {
-    fn seed_from_u64(seed: u64) -> Self;
-}
-
-impl SeedableRng for rngs::StdRng {
-    fn seed_from_u64(_: u64) -> Self {
-        rngs::StdRng
+impl rngs::StdRng {
+    fn next(&mut self) -> f64 {
+        ROLLS.with(|q| q.borrow_mut().pop_front().expect("no roll left"))
     }
 }

@@ -1,5 +1,8 @@
 // Stand-in for the crate `rand` in the benchmark: rolls from a fixed table, so that drawing them costs next to nothing.
+include!("rand_traits.rs");
+
 pub mod rngs {
+    #[derive(Default)]
     pub struct StdRng(pub usize);
 }
 
@@ -7,33 +10,9 @@ pub fn roll(i: usize) -> f64 {
     ((i * 37 + 11) % 64) as f64 / 64.0
 }
 
-pub trait Roll {
-    fn of(x: f64) -> Self;
-}
-
-impl Roll for f64 {
-    fn of(x: f64) -> f64 {
-        x
-    }
-}
-
-pub trait Rng {
-    fn random<T: Roll>(&mut self) -> T;
-}
-
-impl Rng for rngs::StdRng {
-    fn random<T: Roll>(&mut self) -> T {
+impl rngs::StdRng {
+    fn next(&mut self) -> f64 {
         self.0 += 1;
-        T::of(roll(self.0))
-    }
-}
-
-pub trait SeedableRng {
-    fn seed_from_u64(seed: u64) -> Self;
-}
-
-impl SeedableRng for rngs::StdRng {
-    fn seed_from_u64(_: u64) -> Self {
-        rngs::StdRng(0)
+        roll(self.0)
     }
 }

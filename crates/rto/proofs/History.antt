@@ -1,4 +1,4 @@
--- After any list of calls from a fresh estimator the tallies are what the list says, and no call was refused.
+-- After any list of fewer than 2^60 calls with samples in bounds, from a fresh estimator, the tallies are what the list says.
 use mathlib.Core.Path.{_≡_, refl, sym, ap, ap₂, _∙_, subst}
 use mathlib.Core.Bool.{Bool, true, false, not}
 use mathlib.Core.List.{List, [], _∷_}

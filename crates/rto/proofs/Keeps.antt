@@ -1,6 +1,6 @@
 -- A state that a call answers is accepted by the next call.
 use mathlib.Core.Path.{_≡_, refl}
-use mathlib.Core.Bool.{Bool, true, false, _||_}
+use mathlib.Core.Bool.{Bool, true, false, _||_, true≢false}
 use Prim.Native.Nat.{ℕ, _*_, _≤_, min, max}
 use native.Mathlib.Nat.{le-trans}
 use native.Mathlib.Omega.{arith}
@@ -40,16 +40,8 @@ estimate-range c Unset Unset d g f e h =
       first-srtt-range (c .k) (c .«rto_multiplier») (c .granularity) (f .k) (f .multiplier) (g .k) (g .multiplier) (g .granularity) d l,
       first-rttvar-range (c .k) (c .«rto_multiplier») (c .granularity) (f .k) (f .multiplier) (g .k) (g .multiplier) (g .granularity) d l,
     )
-estimate-range c Unset (Is v) d g f e h =
-    let l : d ≤ 86401000000000 = le-trans h (lit≤ tt) in (
-      first-srtt-range (c .k) (c .«rto_multiplier») (c .granularity) (f .k) (f .multiplier) (g .k) (g .multiplier) (g .granularity) d l,
-      first-rttvar-range (c .k) (c .«rto_multiplier») (c .granularity) (f .k) (f .multiplier) (g .k) (g .multiplier) (g .granularity) d l,
-    )
-estimate-range c (Is s) Unset d g f e h =
-    let l : d ≤ 86401000000000 = le-trans h (lit≤ tt) in (
-      first-srtt-range (c .k) (c .«rto_multiplier») (c .granularity) (f .k) (f .multiplier) (g .k) (g .multiplier) (g .granularity) d l,
-      first-rttvar-range (c .k) (c .«rto_multiplier») (c .granularity) (f .k) (f .multiplier) (g .k) (g .multiplier) (g .granularity) d l,
-    )
+estimate-range c Unset (Is v) d g f e h = absurd (true≢false e)
+estimate-range c (Is s) Unset d g f e h = absurd (true≢false e)
 estimate-range c (Is s) (Is v) d g f e h =
     let l : d ≤ 86401000000000 = le-trans h (lit≤ tt) in
     let x = estimates-fit s v e in (

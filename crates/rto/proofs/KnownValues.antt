@@ -3,7 +3,7 @@ use mathlib.Core.Path.{_≡_, refl}
 use mathlib.Core.Bool.{true, false}
 use Prim.Native.Nat.{ℕ}
 use lib.IntN.{pos, negsuc}
-use lib.Ieee.{fin, add, sub, mul, div, ofInt, le, lt}
+use lib.Ieee.{fin, fits, add, sub, mul, div, ofInt, le, lt}
 use Rattle.rtt.specs.Rtt.{firstEstimate, nextEstimate}
 use Rattle.rto.specs.Rto.{configOf, estimatorOf, noStats, fresh, estimateFor, acceptSample, sampled, backOff, configInBounds, defaultConfig, updateRttDef, onTimeoutDef, stateBroken, countsFull, heldTooLong}
 use Rattle.refusal.specs.Order.{verdict, decide, firstOf, numbered, orElse, order}
@@ -11,6 +11,7 @@ use Rattle.rto.specs.declared.UpdateAnswer.the-variants.{Accepted}
 use Rattle.rto.specs.declared.TimeoutAnswer.the-variants.{Rto}
 use Rattle.rto.specs.declared.RtoConfig.{RtoConfig}
 use Rattle.rto.specs.declared.Rtt.the-variants.{Unset}
+use Rattle.rto.proofs.Keeps.{Doubles}
 
 -- k 4, granularity 1 ms, multiplier 1, alpha 1/8, beta 1/4, initial 1 s, and these limits
 abbrev pub limits : ℕ → ℕ → RtoConfig
@@ -35,6 +36,11 @@ r2 = refl
 pub default-in-bounds : configInBounds defaultConfig ≡ true
 unfolding configInBounds defaultConfig le
 default-in-bounds = refl
+
+-- and its doubles are doubles
+pub default-doubles : Doubles defaultConfig
+unfolding defaultConfig fits
+default-doubles = record { alpha = tt; beta = tt; k = tt; multiplier = tt }
 
 -- RFC 6298 (2.3): alpha 1/8, beta 1/4, SRTT 100 ms, RTTVAR 50 ms, sample 200 ms
 pub second-sample : nextEstimate (fin false 1 (negsuc 2)) (fin false 1 (negsuc 1)) (fin false 1 (pos 2)) (fin false 1 (pos 0)) 1000000 100000000 50000000 200000000 .rttvar ≡ 62500000
