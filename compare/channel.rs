@@ -5,25 +5,16 @@ extern crate reference;
 
 #[path = "channel_calls.rs"]
 mod calls;
+#[path = "generator.rs"]
+mod generator;
 
 use calls::{new_channel, process, Ours};
+use generator::{fail, verdict, Gen};
 use reference::channel::scheduler::ChannelScheduler;
 use reference::channel::{Channel, ChannelConfig, Delivery};
 use std::time::{Duration, Instant};
 
-struct Gen(u64);
-
 impl Gen {
-    fn next(&mut self) -> u64 {
-        self.0 = self.0.wrapping_add(0x9E3779B97F4A7C15);
-        let mut z = self.0;
-        z = (z ^ (z >> 30)).wrapping_mul(0xBF58476D1CE4E5B9);
-        z = (z ^ (z >> 27)).wrapping_mul(0x94D049BB133111EB);
-        z ^ (z >> 31)
-    }
-    fn below(&mut self, n: u64) -> u64 {
-        self.next() % n
-    }
     fn unit(&mut self) -> f64 {
         (self.next() >> 11) as f64 / 9007199254740992.0
     }
@@ -66,24 +57,6 @@ impl Gen {
             _ => self.below(1411) as usize,
         }
     }
-    fn bytes(&mut self, n: usize) -> Vec<u8> {
-        (0..n).map(|_| self.next() as u8).collect()
-    }
-}
-
-fn fail(what: &str, input: String) -> ! {
-    println!("DIFFERENCE {what}: {input}");
-    std::process::exit(1);
-}
-
-// The first true line of document 01's order 9, 8, 10, 11, 4, 1, 2, 3, 6, 7, 5, as the ABI codes it.
-fn verdict(lines: &[(u64, bool)]) -> u64 {
-    for n in [9, 8, 10, 11, 4, 1, 2, 3, 6, 7, 5] {
-        if lines.iter().any(|&(m, t)| m == n && t) {
-            return 16 + n;
-        }
-    }
-    0
 }
 
 const J1: f64 = 6004799503160661.0 / 9007199254740992.0;

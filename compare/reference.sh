@@ -6,7 +6,7 @@ reference=$(realpath "$1")
 out=$3
 mkdir -p "$out"
 # The reference's files, as MODULE=FILE.
-modules="packet=packet.rs timer=timing/timer.rs rto=timing/rto.rs channel=channel/mod.rs"
+modules="packet=packet.rs timer=timing/timer.rs rto=timing/rto.rs channel=channel/mod.rs arq=arq/mod.rs"
 {
   echo '#![allow(dead_code)]'
   for m in $modules; do

@@ -397,6 +397,41 @@ fn sample(dir: &str, seed: u64) {
         cases.push('\n');
         answers.push('\n');
     }
+    for _ in 0..40 {
+        cases.push('t');
+        let mut t = RetransmissionTimer::new();
+        for _ in 0..16 {
+            let now = if r.below(20) == 0 { r.of(&[TWO_DAYS, TWO_DAYS + 1, u64::MAX]) } else { r.span() };
+            let op = r.of(&[0u64, 0, 1, 2, 2, 3]);
+            let (x, y) = match op { 0 => (now, r.maybe_out()), 1 => (0, 0), 2 => (now, 0), _ => (t.generation() - r.below(2).min(t.generation()), now) };
+            write!(cases, "{op:016x}{x:016x}{y:016x}").unwrap();
+            match op {
+                0 if x > TWO_DAYS || y > DAY || x + y > TWO_DAYS => answers.push_str("refused 10 ; "),
+                0 => write!(answers, "{} ; ", t.start_at(at(x), Duration::from_nanos(y))).unwrap(),
+                1 => write!(answers, "{} ; ", t.cancel()).unwrap(),
+                2 if x > TWO_DAYS => write!(answers, "{} ; refused 10 ; refused 10 ; ", t.is_active() as u64).unwrap(),
+                2 => write!(answers, "{} ; {} ; {} ; ", t.is_active() as u64, t.is_expired_at(at(x)) as u64, t.remaining_at(at(x)).map_or("-".to_string(), |d| ns(d).to_string())).unwrap(),
+                _ if y > TWO_DAYS => answers.push_str("refused 10 ; "),
+                _ => write!(answers, "{} ; ", t.is_expired_for_at(x, at(y)) as u64).unwrap(),
+            }
+        }
+        cases.push('\n');
+        answers.push('\n');
+    }
+    for _ in 0..40 {
+        cases.push('d');
+        for _ in 0..16 {
+            let x = if r.below(4) == 0 { r.next() } else { r.span() };
+            write!(cases, "{x:016x}").unwrap();
+            let s = Duration::from_nanos(x).as_secs_f64();
+            for y in [s, s / 2.0, s * 1024.0, (x % (1 << 32)) as f64 / 1048576.0] {
+                if y < 17179869184.0 { write!(answers, "{} ", ns(Duration::from_secs_f64(y))).unwrap(); } else { answers.push_str("- "); }
+            }
+            answers.push_str("; ");
+        }
+        cases.push('\n');
+        answers.push('\n');
+    }
     std::fs::write(format!("{dir}/stdin"), cases).unwrap();
     std::fs::write(format!("{dir}/stdout"), answers).unwrap();
 }

@@ -7,8 +7,8 @@ use lib.Dec.{T, ltb}
 use mir.Val.{Fits}
 use mir.Syntax.{w64}
 use borrow.Author.Tests.{ltb-false, leb-false}
+use Rattle.refusal.proofs.Laws.{or-false}
 use Rattle.float.specs.Roll.{rollInBounds}
-use Rattle.schedule.proofs.Laws.{or-left, or-right}
 use Rattle.channel.specs.Bounds.{chancesBroken, delaysBroken, configBroken, countFull, statsFull, fourBroken, rollsBroken}
 use Rattle.channel.specs.Process.{one}
 use Rattle.channel.specs.declared.ChannelConfig.{ChannelConfig}
@@ -23,12 +23,12 @@ pub record DelaysWithin (c : ChannelConfig) : Type 0 where
 pub delays-within : (c : ChannelConfig) → configBroken c ≡ false → DelaysWithin c
 unfolding configBroken
 delays-within c h =
-    let d = or-right (chancesBroken (c .loss) (c .duplicate) (c .reorder) (c .corrupt)) (delaysBroken (c .«reorder_extra_ms») (c .«base_delay_ms») (c .«jitter_ms»)) h in
-    let e = or-right (ltb 60000 (c .«reorder_extra_ms»)) (ltb 60000 (c .«base_delay_ms») || ltb 60000 (c .«jitter_ms»)) d in
+    let d = or-false (chancesBroken (c .loss) (c .duplicate) (c .reorder) (c .corrupt)) (delaysBroken (c .«reorder_extra_ms») (c .«base_delay_ms») (c .«jitter_ms»)) h .1 in
+    let e = or-false (ltb 60000 (c .«reorder_extra_ms»)) (ltb 60000 (c .«base_delay_ms») || ltb 60000 (c .«jitter_ms»)) d .1 in
     record {
-      hold = ltb-false 60000 (c .«reorder_extra_ms») (or-left (ltb 60000 (c .«reorder_extra_ms»)) (ltb 60000 (c .«base_delay_ms») || ltb 60000 (c .«jitter_ms»)) d);
-      base = ltb-false 60000 (c .«base_delay_ms») (or-left (ltb 60000 (c .«base_delay_ms»)) (ltb 60000 (c .«jitter_ms»)) e);
-      jitter = ltb-false 60000 (c .«jitter_ms») (or-right (ltb 60000 (c .«base_delay_ms»)) (ltb 60000 (c .«jitter_ms»)) e);
+      hold = ltb-false 60000 (c .«reorder_extra_ms») (or-false (ltb 60000 (c .«reorder_extra_ms»)) (ltb 60000 (c .«base_delay_ms») || ltb 60000 (c .«jitter_ms»)) d .0);
+      base = ltb-false 60000 (c .«base_delay_ms») (or-false (ltb 60000 (c .«base_delay_ms»)) (ltb 60000 (c .«jitter_ms»)) e .0);
+      jitter = ltb-false 60000 (c .«jitter_ms») (or-false (ltb 60000 (c .«base_delay_ms»)) (ltb 60000 (c .«jitter_ms»)) e .1);
     }
 
 -- ---- rolls
@@ -49,10 +49,10 @@ rolls-within r h =
     let b = rollInBounds (r .«bit_roll») in
     let c = rollInBounds (r .«jitter_roll») in
     let d = rollInBounds (r .«dup_jitter_roll») in
-    let p = or-right (fourBroken (r .«loss_roll») (r .«dup_roll») (r .«reorder_roll») (r .«corrupt_roll»)) (not a || (not b || (not c || not d))) h in
-    let q = or-right (not a) (not b || (not c || not d)) p in
-    let s = or-right (not b) (not c || not d) q in
-    record { byte = holds a (or-left (not a) (not b || (not c || not d)) p); bit = holds b (or-left (not b) (not c || not d) q); jitter = holds c (or-left (not c) (not d) s); dup-jitter = holds d (or-right (not c) (not d) s) }
+    let p = or-false (fourBroken (r .«loss_roll») (r .«dup_roll») (r .«reorder_roll») (r .«corrupt_roll»)) (not a || (not b || (not c || not d))) h .1 in
+    let q = or-false (not a) (not b || (not c || not d)) p .1 in
+    let s = or-false (not b) (not c || not d) q .1 in
+    record { byte = holds a (or-false (not a) (not b || (not c || not d)) p .0); bit = holds b (or-false (not b) (not c || not d) q .0); jitter = holds c (or-false (not c) (not d) s .0); dup-jitter = holds d (or-false (not c) (not d) s .1) }
 
 -- ---- counters
 pub record CountsBelow (s : ChannelStats) : Type 0 where
@@ -75,17 +75,17 @@ counts-below s h =
     let d = countFull (s .duplicated) in
     let e = countFull (s .reordered) in
     let f = countFull (s .«copies_delivered») in
-    let p = or-left (a || (b || c)) (d || (e || f)) h in
-    let q = or-right (a || (b || c)) (d || (e || f)) h in
-    let p2 = or-right a (b || c) p in
-    let q2 = or-right d (e || f) q in
+    let p = or-false (a || (b || c)) (d || (e || f)) h .0 in
+    let q = or-false (a || (b || c)) (d || (e || f)) h .1 in
+    let p2 = or-false a (b || c) p .1 in
+    let q2 = or-false d (e || f) q .1 in
     record {
-      seen = below (s .«packets_seen») (or-left a (b || c) p);
-      lost = below (s .lost) (or-left b c p2);
-      corrupted = below (s .corrupted) (or-right b c p2);
-      duplicated = below (s .duplicated) (or-left d (e || f) q);
-      reordered = below (s .reordered) (or-left e f q2);
-      delivered = below (s .«copies_delivered») (or-right e f q2);
+      seen = below (s .«packets_seen») (or-false a (b || c) p .0);
+      lost = below (s .lost) (or-false b c p2 .0);
+      corrupted = below (s .corrupted) (or-false b c p2 .1);
+      duplicated = below (s .duplicated) (or-false d (e || f) q .0);
+      reordered = below (s .reordered) (or-false e f q2 .0);
+      delivered = below (s .«copies_delivered») (or-false e f q2 .1);
     }
 
 -- a counter below the bound, raised by at most 2

@@ -1,2 +1,3 @@
 -- What crates above may cite.
+pub use Rattle.duration.proofs.Bounds.{start-in-time}
 pub use Rattle.duration.proofs.RoundTrip.{round-trip, nanos-units, closest-is}

@@ -1,4 +1,5 @@
 pub mod Digits
 pub mod RoundTrip
 pub mod KnownValues
+pub mod Bounds
 pub mod Laws

@@ -1,10 +1,30 @@
-// Durations in nanoseconds to and from seconds as a double, as Rust's Duration converts them.
+// Bounds of times in nanoseconds, and durations to and from seconds as a double, as Rust's Duration converts them.
 ghost use mathlib.Core.Path.{_≡_};
 ghost use Prim.Native.Nat.{_^_, _≤_, _<_};
 ghost use lib.Dec.{T};
 ghost use lib.Ieee.Nearest.{closest};
 ghost use Rattle.float.proofs.Sticky.{sticky};
+ghost use Rattle.duration.specs.Bounds.{startLate};
 ghost use Rattle.duration.specs.Duration.{asSecsF64, fromSecsF64, secsInBounds, below21, from21, fromSecsChecked};
+
+// 86,400 s: durations, samples and virtual time.
+pub const MAX_DURATION: u64 = 86400000000000;
+// 172,800 s: other times.
+pub const MAX_TIME: u64 = 172800000000000;
+// 86,401 s: SRTT and RTTVAR.
+pub const MAX_ESTIMATE: u64 = 86401000000000;
+
+pub fn start_late(now: u64, duration: u64) -> bool
+    ensures { λ r. ⌜ r ≡ startLate now duration ⌝ }
+{
+    if now > MAX_TIME {
+        return true;
+    }
+    if duration > MAX_DURATION {
+        return true;
+    }
+    now + duration > MAX_TIME
+}
 
 pub fn as_secs_f64(ns: u64) -> f64
     ensures { λ r. ⌜ r ≡ asSecsF64 ns ⌝ }

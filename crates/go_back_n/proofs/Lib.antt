@@ -1,2 +1,1 @@
-pub mod Acknowledging
 pub mod States

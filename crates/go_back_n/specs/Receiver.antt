@@ -3,6 +3,7 @@ use Prim.Native.Nat.{ℕ, _+_, _-_}
 use mathlib.Core.List.{List}
 use mathlib.Core.Bool.{Bool, true, false, cond}
 use lib.Dec.{eqb}
+use Rattle.packet.specs.Reading.{payloadOf}
 use Rattle.receiver.specs.State.{marksBroken, countsBroken}
 use Rattle.receiver.specs.Handed.{readPacket}
 use Rattle.receiver.specs.Receive.{Receiving, receive}
@@ -50,4 +51,4 @@ withMark r filled = state (r .«expected_seq») filled (r .«total_received») (
 
 abbrev pub handlePacket : GoBackNReceiver → List ℕ → List ℕ → List ℕ → Receiving GoBackNReceiver
 handlePacket r raw output ack =
-    receive (marksBroken (r .«expected_seq») (r .filled) output) (countsBroken (r .«total_received») (r .«discarded_out_of_order») (r .«duplicate_acks_sent»)) r (r .filled) (decision r (readPacket raw) .decision) (withMark (decision r (readPacket raw) .receiver)) raw output ack
+    receive (marksBroken (r .«expected_seq») (r .filled) output) (countsBroken (r .«total_received») (r .«discarded_out_of_order») (r .«duplicate_acks_sent»)) r (r .filled) (decision r (readPacket raw) .decision) (payloadOf raw) (withMark (decision r (readPacket raw) .receiver)) raw output ack

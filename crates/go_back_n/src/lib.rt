@@ -4,7 +4,10 @@ ghost use Prim.Native.Nat.{_≤_, _<_};
 ghost use mathlib.Core.Bool.{false};
 ghost use Rattle.window.specs.Slots.{sender};
 ghost use Rattle.window.specs.Sending.{making, makeWindow, sending, sendChunk};
-ghost use Rattle.go_back_n.specs.Sender.{madeWindow, acknowledging, handleAck};
+ghost use Rattle.window.specs.Acknowledgement.{acknowledging};
+ghost use Rattle.window.specs.Resending.{resending};
+ghost use Rattle.window.specs.Outstanding.{canSend, inFlightCount, hasUnackedPackets};
+ghost use Rattle.go_back_n.specs.Sender.{madeWindow, handleAck, handleTimeout, handleTimeoutEarliest};
 ghost use Rattle.go_back_n.specs.Receiver.{newReceiver, dataDecision, decision, handlePacket};
 ghost use Rattle.receiver.specs.Receive.{receiving};
 ghost use Rattle.receiver.specs.State.{countsBroken};
@@ -15,10 +18,13 @@ use receiver::ReceiveAnswer;
 use receiver::Reply;
 use refusal::Refusal;
 use window::AckAnswer;
-use window::AckRead;
+use window::AckDecision;
 use window::MakeAnswer;
 use window::SendAnswer;
 use window::SendWindow;
+use window::TimeoutAnswer;
+use window::WindowCount;
+use window::WindowTest;
 
 pub struct GoBackNSender {
     pub window: SendWindow,
@@ -37,6 +43,11 @@ pub struct GoBackNSent {
 pub struct GoBackNAcknowledged {
     pub sender: GoBackNSender,
     pub answer: AckAnswer,
+}
+
+pub struct GoBackNTimedOut {
+    pub sender: GoBackNSender,
+    pub answer: TimeoutAnswer,
 }
 
 impl GoBackNSender {
@@ -68,47 +79,73 @@ impl GoBackNSender {
         ensures { λ r. ⌜ acknowledging (r .answer) (sender (r .sender .window) (now (store .exit))) ≡ handleAck (sender (self .window) (now (store .entry))) (now (raw .entry)) ⌝ }
     {
         let window = self.window;
-        if window.state_broken(store, false) {
-            return GoBackNAcknowledged {
-                sender: self,
-                answer: AckAnswer::Refused(Refusal::State),
-            };
-        }
-        if window.counts_broken() {
-            return GoBackNAcknowledged {
-                sender: self,
-                answer: AckAnswer::Refused(Refusal::Counts),
-            };
-        }
-        match window::read_ack(raw) {
-            AckRead::Refused(r) => GoBackNAcknowledged {
-                sender: self,
-                answer: AckAnswer::Refused(r),
-            },
-            AckRead::Other => GoBackNAcknowledged {
-                sender: self,
-                answer: AckAnswer::NotAccepted,
-            },
-            AckRead::Ack(n) => {
-                if n < window.send_base {
-                    return GoBackNAcknowledged {
-                        sender: self,
-                        answer: AckAnswer::NotAccepted,
-                    };
-                }
-                if window.next_seq_num <= n {
-                    return GoBackNAcknowledged {
-                        sender: self,
-                        answer: AckAnswer::NotAccepted,
-                    };
-                }
+        match window.decide_ack(store, false, raw) {
+            AckDecision::Accept(n) => {
                 let window = window.release_unchecked(store, n + 1);
                 GoBackNAcknowledged {
                     sender: GoBackNSender { window },
                     answer: AckAnswer::Accepted,
                 }
             }
+            AckDecision::NotAccepted => GoBackNAcknowledged {
+                sender: self,
+                answer: AckAnswer::NotAccepted,
+            },
+            AckDecision::Refused(r) => GoBackNAcknowledged {
+                sender: self,
+                answer: AckAnswer::Refused(r),
+            },
         }
+    }
+
+    // Every outstanding number again, lowest first.
+    pub fn handle_timeout(self, store: &mut [u8], out: &mut [u8]) -> GoBackNTimedOut
+        ensures { λ r. ⌜ resending (r .answer) (sender (r .sender .window) (now (store .exit))) (now (out .exit)) ≡ handleTimeout (sender (self .window) (now (store .entry))) (now (out .entry)) ⌝ }
+    {
+        let window = self.window;
+        let all = window::MAX_WINDOW_SIZE as u32;
+        let result = window.resend_outstanding(false, store, all, out);
+        let window = result.window;
+        let answer = result.answer;
+        GoBackNTimedOut {
+            sender: GoBackNSender { window },
+            answer,
+        }
+    }
+
+    // Only the number at send_base again: the edition clock's timeout.
+    pub fn handle_timeout_earliest(self, store: &mut [u8], out: &mut [u8]) -> GoBackNTimedOut
+        ensures { λ r. ⌜ resending (r .answer) (sender (r .sender .window) (now (store .exit))) (now (out .exit)) ≡ handleTimeoutEarliest (sender (self .window) (now (store .entry))) (now (out .entry)) ⌝ }
+    {
+        let window = self.window;
+        let result = window.resend_outstanding(false, store, 1, out);
+        let window = result.window;
+        let answer = result.answer;
+        GoBackNTimedOut {
+            sender: GoBackNSender { window },
+            answer,
+        }
+    }
+
+    pub fn can_send(self) -> WindowTest
+        ensures { λ r. ⌜ r ≡ canSend (self .window) ⌝ }
+    {
+        let window = self.window;
+        window.can_send()
+    }
+
+    pub fn in_flight_count(self) -> WindowCount
+        ensures { λ r. ⌜ r ≡ inFlightCount (self .window) ⌝ }
+    {
+        let window = self.window;
+        window.in_flight_count()
+    }
+
+    pub fn has_unacked_packets(self) -> WindowTest
+        ensures { λ r. ⌜ r ≡ hasUnackedPackets (self .window) ⌝ }
+    {
+        let window = self.window;
+        window.has_unacked_packets()
     }
 }
 

@@ -1,37 +1,31 @@
 -- Each return of the entry points, by the checks that led to it.
-use mathlib.Core.Path.{_≡_, sym, ap, _∙_, subst}
-use mathlib.Core.Bool.{Bool, true, false, _||_, true≢false}
+use mathlib.Core.Path.{_≡_, refl, sym, ap, _∙_, subst}
+use mathlib.Core.Bool.{Bool, true, false}
 use mathlib.Core.Option.{some}
 use mathlib.Core.List.{List}
-use Prim.Native.Nat.{ℕ, _+_, _≤_, _<_}
+use Prim.Native.Nat.{ℕ, _+_, _-_, _≤_, _<_}
+use native.Mathlib.Nat.{le-of-eq}
+use native.Mathlib.Omega.{arith}
 use lib.Dec.{ltb}
 use lib.ListN.{length, take}
-use borrow.Author.Tests.{lt-ltb, le-ltb, ltb-false}
+use borrow.Author.Tests.{lt-ltb, le-ltb}
 use Rattle.refusal.specs.declared.Refusal.the-variants.{State, Time, Full}
-use Rattle.multi_timer.specs.Map.{lookup, isSome, keep, due, dueAt, earliest, deadlinesOf}
-use Rattle.multi_timer.specs.Search.{dueIn}
+use Rattle.multi_timer.specs.Map.{lookup, isSome, keep, remove, due, pending, dueAt, earliest, deadlinesOf}
+use Rattle.multi_timer.specs.Search.{searchIn, dueIn}
 use Rattle.multi_timer.specs.MultiTimer.{used, After, AfterPop, after, afterPop, answering, started, cancelled, popped, cleared, broken, heldTooLate, readTooLate, startTooLate, startFull, startUnchecked, cancelUnchecked, popUnchecked, clearUnchecked, earliestAnswer, startTimerAtDef, cancelTimerDef, isExpiredAtDef, popExpiredAtDef, earliestDeadlineDef, clearDef}
 use Rattle.multi_timer.specs.declared.MultiTimer.{MultiTimer}
+use Rattle.multi_timer.specs.declared.Place.{Place}
+use Rattle.multi_timer.specs.declared.Place.the-variants.{At, Absent}
 use Rattle.multi_timer.specs.declared.StartAnswer as St
 use Rattle.multi_timer.specs.declared.CancelAnswer as Ca
 use Rattle.multi_timer.specs.declared.ExpiredAnswer as Ex
 use Rattle.multi_timer.specs.declared.PopAnswer as Po
 use Rattle.multi_timer.specs.declared.EarliestAnswer as Ea
 use Rattle.multi_timer.specs.declared.ClearAnswer as Cl
-use Rattle.multi_timer.proofs.Checks.{good-of, state-time, state-time-full}
-use Rattle.multi_timer.proofs.Places.{one-length}
-use Rattle.multi_timer.proofs.Parting.{due-length}
+use Rattle.multi_timer.proofs.Checks.{Good, good-of, state-time, state-time-full}
+use Rattle.multi_timer.proofs.Places.{one-length, at-bound, at-lookup, absent-lookup, removed-count, same-count}
+use Rattle.multi_timer.proofs.Parting.{due-length, both, entries-length}
 use Rattle.multi_timer.proofs.Sorted.{deadlines-entries}
-
--- what a start that line 10 lets pass stores, fits
-pub start-in-time : (n : ℕ) (ds : List ℕ) (now duration : ℕ) → startTooLate n ds now duration ≡ false → now + duration ≤ 172800000000000
-start-in-time n ds now duration e = go (heldTooLate n ds) (ltb 172800000000000 now) (ltb 86400000000000 duration) (ltb 172800000000000 (now + duration)) (ltb-false _ _) e
-  where
-    go : (a b c d : Bool) → (d ≡ false → now + duration ≤ 172800000000000) → (a || (b || (c || d))) ≡ false → now + duration ≤ 172800000000000
-    go false false false d h e = h e
-    go false false true d h e = absurd (true≢false e)
-    go false true c d h e = absurd (true≢false e)
-    go true b c d h e = absurd (true≢false e)
 
 module _ (t : MultiTimer) (ks ds : List ℕ) where
   module _ (key now duration : ℕ) where
@@ -68,6 +62,21 @@ module _ (t : MultiTimer) (ks ds : List ℕ) where
         simp (state-time, b, l)
         (ap (λ (y : Bool). after (cancelled u (Ca.the-variants.Existed y)) ks' ds') h ∙ ap (λ (a : After MultiTimer). answering (λ (v : MultiTimer). cancelled v (Ca.the-variants.Existed (isSome (lookup key (used t ks ds))))) a) e)
 
+    -- one entry fewer is left where the key had a timer
+    pub existed : (u : MultiTimer) (ks' ds' : List ℕ) → broken (t .count) ks ds ≡ false → after u ks' ds' ≡ cancelUnchecked t ks ds key → ltb (u .count) (t .count) ≡ isSome (lookup key (used t ks ds))
+    unfolding cancelUnchecked
+    existed u ks' ds' b e = ap (λ (a : After MultiTimer). ltb (a .answer .count) (t .count)) e ∙ go (searchIn key (take (t .count) ks)) refl
+      where
+        g : Good (t .count) ks ds
+        g = good-of (t .count) ks ds b
+
+        fewer : (m n p : ℕ) → m ≡ n - 1 → p < n → m < n
+        fewer m n p e h = omega arith
+
+        go : (p : Place) → p ≡ searchIn key (take (t .count) ks) → ltb (length (remove key (used t ks ds))) (t .count) ≡ isSome (lookup key (used t ks ds))
+        go (At p) e = lt-ltb _ _ (fewer (length (remove key (used t ks ds))) (t .count) p (removed-count (t .count) ks ds g key p e) (at-bound (t .count) ks ds g key p e)) ∙ sym (ap isSome (at-lookup (t .count) ks ds g key p e))
+        go (Absent p) e = le-ltb _ _ (le-of-eq (sym (same-count (t .count) ks ds g key p e))) ∙ sym (ap isSome (absent-lookup (t .count) ks ds g key p e))
+
     module _ (now : ℕ) where
       pub expired-state : broken (t .count) ks ds ≡ true → Ex.the-variants.Refused State ≡ isExpiredAtDef t ks ds key now
       unfolding isExpiredAtDef
@@ -93,16 +102,29 @@ module _ (t : MultiTimer) (ks ds : List ℕ) where
     unfolding popExpiredAtDef
     pop-time b l = simp (state-time-full, b, l)
 
-    pub pop-full : (n : ℕ) → broken (t .count) ks ds ≡ false → readTooLate (t .count) ds now ≡ false → n ≡ dueIn now (take (t .count) ds) → length out < n → afterPop (after (popped t (Po.the-variants.Refused Full)) ks ds) out ≡ popExpiredAtDef t ks ds now out
+    pub pop-full : broken (t .count) ks ds ≡ false → readTooLate (t .count) ds now ≡ false → ltb (length out) (dueIn now (take (t .count) ds)) ≡ true → afterPop (after (popped t (Po.the-variants.Refused Full)) ks ds) out ≡ popExpiredAtDef t ks ds now out
     unfolding popExpiredAtDef
-    pop-full n b l e h = simp (state-time-full, b, l, lt-ltb (length out) (length (keep (due now) (used t ks ds))) (subst (λ (m : ℕ). length out < m) (e ∙ sym (due-used now b)) h))
+    pop-full b l f = simp (state-time-full, b, l, due-used now b, f)
 
-    pub pop-done : (u : MultiTimer) (n : ℕ) (ks' ds' out' : List ℕ) → broken (t .count) ks ds ≡ false → readTooLate (t .count) ds now ≡ false → n ≡ dueIn now (take (t .count) ds) → n ≤ length out → afterPop (after u ks' ds') out' ≡ popUnchecked t ks ds now out
+    -- what is left and what is due are all that was held
+    pub popped-count : (u : MultiTimer) (ks' ds' out' : List ℕ) → broken (t .count) ks ds ≡ false → afterPop (after u ks' ds') out' ≡ popUnchecked t ks ds now out → u .count + dueIn now (take (t .count) ds) ≡ t .count
+    unfolding popUnchecked
+    popped-count u ks' ds' out' b q =
+        let g = good-of (t .count) ks ds b in
+        let e : u .count ≡ length (keep (pending now) (used t ks ds)) = ap (λ (a : AfterPop MultiTimer). a .rest .answer .count) q in
+        let d = due-used now b in
+        let s = both now (used t ks ds) in
+        let l = entries-length (t .count) ks ds (g .within) (subst (λ (m : ℕ). t .count ≤ m) (g .same) (g .within)) in
+        omega arith
+
+    pub pop-done : (u : MultiTimer) (n : ℕ) (ks' ds' out' : List ℕ) → broken (t .count) ks ds ≡ false → readTooLate (t .count) ds now ≡ false → ltb (length out) (dueIn now (take (t .count) ds)) ≡ false → n ≡ t .count - u .count → afterPop (after u ks' ds') out' ≡ popUnchecked t ks ds now out
         → afterPop (after (popped u (Po.the-variants.Keys n)) ks' ds') out' ≡ popExpiredAtDef t ks ds now out
     unfolding popExpiredAtDef
-    pop-done u n ks' ds' out' b l e h q =
-        let m : n ≡ length (keep (due now) (used t ks ds)) = e ∙ sym (due-used now b) in
-        simp (state-time-full, b, l, le-ltb (length out) (length (keep (due now) (used t ks ds))) (subst (λ (m : ℕ). m ≤ length out) m h))
+    pop-done u n ks' ds' out' b l f e q =
+        let d = due-used now b in
+        let c = popped-count u ks' ds' out' b q in
+        let m : n ≡ length (keep (due now) (used t ks ds)) = omega arith in
+        simp (state-time-full, b, l, ap (λ (k : ℕ). ltb (length out) k) d ∙ f)
         (ap (λ (k : ℕ). afterPop (after (popped u (Po.the-variants.Keys k)) ks' ds') out') m
         ∙ ap (λ (a : AfterPop MultiTimer). afterPop (answering (λ (v : MultiTimer). popped v (Po.the-variants.Keys (length (keep (due now) (used t ks ds))))) (a .rest)) (a .out)) q)
 

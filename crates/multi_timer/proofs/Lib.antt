@@ -6,4 +6,6 @@ pub mod Parting
 pub mod Places
 pub mod Changes
 pub mod Calls
+pub mod Map
+pub mod History
 pub mod Laws

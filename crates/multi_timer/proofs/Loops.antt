@@ -1,39 +1,58 @@
 -- One turn of each reading loop: what is left to read gives what the whole gives.
-use mathlib.Core.Path.{_≡_, sym, ap}
-use mathlib.Core.Bool.{true, false}
-use Prim.Native.Nat.{ℕ, _+_, _≤_, _<_}
-use native.Mathlib.Nat.{le-of-eq, add-assoc, add-zero, zero-add}
-use native.Mathlib.Numerals.{add-one}
-use mathlib.Core.List.{List}
-use lib.ListN.{length, getD}
-use borrow.Author.Tests.{le-leb, lt-leb, lt-ltb, le-ltb, eq-eqb, ne-eqb}
-use Rattle.multi_timer.specs.Map.{ascendingFrom}
+use mathlib.Core.Path.{_≡_, refl, sym, ap}
+use mathlib.Core.Bool.{Bool, true, false, _&&_}
+use Prim.Native.Nat.{ℕ, zero, suc, zero-le, _+_, _-_, _≤_, _<_}
+use native.Mathlib.Nat.{not-suc-le-zero, le-of-eq, add-assoc, add-zero, zero-add}
+use native.Mathlib.Omega.{arith}
+use mathlib.Core.List.{List, [], _∷_}
+use lib.ListN.{length, getD, take}
+use lib.Dec.{ltb}
+use lib.Bits.{bitAnd, bitOr, or-add-and, and-le-l, and-le-r}
+use borrow.Author.Tests.{le-leb, lt-ltb, le-ltb, eq-eqb, ne-eqb}
+use Rattle.duration.specs.Bounds.{maxTime}
+use Rattle.multi_timer.specs.Map.{ascending, ascendingFrom}
 use Rattle.multi_timer.specs.MultiTimer.{anyLate}
-use Rattle.multi_timer.specs.Search.{searchIn, later}
+use Rattle.multi_timer.specs.Search.{searchIn, later, digitsOf}
 use Rattle.multi_timer.specs.declared.Place.{Place}
 use Rattle.multi_timer.specs.declared.Place.the-variants.{At, Absent}
 use Rattle.multi_timer.proofs.Lists.{rest, rest-cons, rest-nil}
 
 module _ (n i : ℕ) (xs : List ℕ) where
   -- ---- ascending
-  pub ascending-fails : (low key : ℕ) → i < n → n ≤ length xs → key ≡ getD xs i 0 → key < low → false ≡ ascendingFrom low (rest n i xs)
+  pub ascending-step : (sorted : Bool) → i < n → n ≤ length xs → ((sorted && ltb (getD xs (i - 1) 0) (getD xs i 0)) && ascendingFrom (suc (getD xs (i + 1 - 1) 0)) (rest n (i + 1) xs)) ≡ (sorted && ascendingFrom (suc (getD xs (i - 1) 0)) (rest n i xs))
   unfolding ascendingFrom
-  ascending-fails low key h l e k = rw (rest-cons n i xs h l, ← e) (simp (lt-leb _ _ k))
+  ascending-step sorted h l = rw (rest-cons n i xs h l, same i) (in-turn sorted (ltb (getD xs (i - 1) 0) (getD xs i 0)) (ascendingFrom (suc (getD xs i 0)) (rest n (i + 1) xs)))
+    where
+      in-turn : (s a b : Bool) → ((s && a) && b) ≡ (s && (a && b))
+      in-turn true a b = refl
+      in-turn false a b = refl
 
-  pub ascending-step : (low key : ℕ) → i < n → n ≤ length xs → key ≡ getD xs i 0 → low ≤ key → ascendingFrom (key + 1) (rest n (i + 1) xs) ≡ ascendingFrom low (rest n i xs)
-  unfolding ascendingFrom
-  ascending-step low key h l e k = rw (rest-cons n i xs h l, ← e, add-one key) (simp (le-leb _ _ k))
+      same : (i : ℕ) → i + 1 - 1 ≡ i
+      same i = omega arith
 
-  pub ascending-end : (low : ℕ) → n ≤ i → n ≤ length xs → true ≡ ascendingFrom low (rest n i xs)
+  pub ascending-end : (sorted : Bool) → n ≤ i → n ≤ length xs → sorted ≡ (sorted && ascendingFrom (suc (getD xs (i - 1) 0)) (rest n i xs))
   unfolding ascendingFrom
-  ascending-end low h l = rw (rest-nil n i xs h l)
+  ascending-end sorted h l = rw (rest-nil n i xs h l) (alone sorted)
+    where
+      alone : (s : Bool) → s ≡ (s && true)
+      alone true = refl
+      alone false = refl
+
+  -- ---- the digits
+  pub digits-step : (all : ℕ) → i < n → n ≤ length xs → digitsOf (bitOr all (getD xs i 0)) (rest n (i + 1) xs) ≡ digitsOf all (rest n i xs)
+  unfolding digitsOf
+  digits-step all h l = rw (rest-cons n i xs h l)
+
+  pub digits-end : (all : ℕ) → n ≤ i → n ≤ length xs → all ≡ digitsOf all (rest n i xs)
+  unfolding digitsOf
+  digits-end all h l = rw (rest-nil n i xs h l)
 
   -- ---- late
-  pub late-found : i < n → n ≤ length xs → 172800000000000 < getD xs i 0 → true ≡ anyLate (rest n i xs)
+  pub late-found : i < n → n ≤ length xs → maxTime < getD xs i 0 → true ≡ anyLate (rest n i xs)
   unfolding anyLate
   late-found h l k = rw (rest-cons n i xs h l) (simp (lt-ltb _ _ k))
 
-  pub late-step : i < n → n ≤ length xs → getD xs i 0 ≤ 172800000000000 → anyLate (rest n (i + 1) xs) ≡ anyLate (rest n i xs)
+  pub late-step : i < n → n ≤ length xs → getD xs i 0 ≤ maxTime → anyLate (rest n (i + 1) xs) ≡ anyLate (rest n i xs)
   unfolding anyLate
   late-step h l k = rw (rest-cons n i xs h l) (simp (le-ltb _ _ k))
 
@@ -61,6 +80,30 @@ module _ (n i : ℕ) (xs : List ℕ) where
   pub search-end : (key : ℕ) → n ≤ i → n ≤ length xs → Absent i ≡ later i (searchIn key (rest n i xs))
   unfolding searchIn
   search-end key h l = rw (rest-nil n i xs h l) (ap Absent (sym (add-zero i)))
+
+pub ascending-start : (n : ℕ) (xs : List ℕ) → n ≤ length xs → (true && ascendingFrom (suc (getD xs 0 0)) (rest n 1 xs)) ≡ ascending (take n xs)
+unfolding ascendingFrom
+ascending-start zero xs h = refl
+ascending-start (suc n) [] h = absurd (not-suc-le-zero h)
+ascending-start (suc n) (x ∷ xs) h = simp (le-leb 0 x zero-le)
+
+-- where no digit from 2 ^ 47 on is set, no number is late
+pub digits-late : (a : ℕ) (xs : List ℕ) → digitsOf a xs < 140737488355328 → (a < 140737488355328) × (anyLate xs ≡ false)
+unfolding digitsOf anyLate
+digits-late a [] h = (h, refl)
+digits-late a (x ∷ xs) h =
+    let r = digits-late (bitOr a x) xs h in
+    let s = or-add-and a x in
+    let p = and-le-l a x in
+    let q = and-le-r a x in
+    let l : x ≤ maxTime = small a x (r .0) s p in
+    (first a x (r .0) s q, simp (le-ltb maxTime x l, r .1))
+  where
+    first : (a x : ℕ) → bitOr a x < 140737488355328 → bitOr a x + bitAnd a x ≡ a + x → bitAnd a x ≤ x → a < 140737488355328
+    first a x h s q = omega arith
+
+    small : (a x : ℕ) → bitOr a x < 140737488355328 → bitOr a x + bitAnd a x ≡ a + x → bitAnd a x ≤ a → x ≤ maxTime
+    small a x h s q = omega arith
 
 pub later-none : (p : Place) → later 0 p ≡ p
 later-none (At p) = ap At (zero-add p)

@@ -139,6 +139,18 @@ due-before now (suc n) (suc i) (y ∷ ds) h l d = go (leb y now) (due-before now
     go true h = suc-le-suc h
     go false h = h
 
+-- those due among fewer are no more
+due-mono : (now i n : ℕ) (ds : List ℕ) → i ≤ n → dueIn now (take i ds) ≤ dueIn now (take n ds)
+unfolding dueIn
+due-mono now zero n ds h = zero-le
+due-mono now (suc i) n [] h = zero-le
+due-mono now (suc i) zero (y ∷ ds) h = absurd (omega arith)
+due-mono now (suc i) (suc n) (y ∷ ds) h = go (leb y now) (due-mono now i n ds (le-of-suc-le-suc h))
+  where
+    go : (b : Bool) → dueIn now (take i ds) ≤ dueIn now (take n ds) → cond b (suc (dueIn now (take i ds))) (dueIn now (take i ds)) ≤ cond b (suc (dueIn now (take n ds))) (dueIn now (take n ds))
+    go true h = suc-le-suc h
+    go false h = h
+
 -- ---- the turns
 pub parted-none : (now : ℕ) (ks ds out : List ℕ) → Partitioned 0 now ks ds out 0 ks ds out
 unfolding entriesOf keep keysOf deadlinesOf
@@ -151,10 +163,10 @@ module _ (n i now : ℕ) (ks₀ ds₀ out₀ : List ℕ) (left : ℕ) (ks ds out
   abbrev D : List Entry
   D = keep (due now) (first i ks₀ ds₀)
 
-  pub sizes : i ≤ n → left + length D ≡ i
+  sizes : i ≤ n → left + length D ≡ i
   sizes h = ap (λ (m : ℕ). m + length D) (p .count) ∙ both now (first i ks₀ ds₀) ∙ entries-length i ks₀ ds₀ (le-trans h hk) (le-trans h hd)
 
-  pub left-most : i ≤ n → left ≤ i
+  left-most : i ≤ n → left ≤ i
   left-most h = let e : left + length D ≡ i = sizes h in omega arith
 
   keys-size : length (keysOf P) ≡ left
@@ -166,17 +178,17 @@ module _ (n i now : ℕ) (ks₀ ds₀ out₀ : List ℕ) (left : ℕ) (ks ds out
   due-size : i ≤ n → length D ≡ dueIn now (take i ds₀)
   due-size h = due-length now (take i ks₀) (take i ds₀) (length-take-le i ks₀ (le-trans h hk) ∙ sym (length-take-le i ds₀ (le-trans h hd)))
 
-  pub keys-length : i ≤ n → length ks ≡ length ks₀
+  keys-length : i ≤ n → length ks ≡ length ks₀
   keys-length h = next-length (keysOf P) ks₀ ks left (p .keys) keys-size (le-trans (left-most h) (le-trans h hk))
 
-  pub deadlines-length : i ≤ n → length ds ≡ length ds₀
+  deadlines-length : i ≤ n → length ds ≡ length ds₀
   deadlines-length h = next-length (deadlinesOf P) ds₀ ds left (p .deadlines) deadlines-size (le-trans (left-most h) (le-trans h hd))
 
-  due-fits : i ≤ n → dueIn now (take i ds₀) ≤ dueIn now (take n ds₀) → length D ≤ length out₀
-  due-fits h g = le-trans (le-of-eq (due-size h)) (le-trans g ho)
+  out-length : i ≤ n → length out ≡ length out₀
+  out-length h = next-length (keysOf D) out₀ out (length D) (p .taken) (length-keys D) (le-trans (le-of-eq (due-size h)) (le-trans (due-mono now i n ds₀ h) ho))
 
-  pub out-length : i ≤ n → dueIn now (take i ds₀) ≤ dueIn now (take n ds₀) → length out ≡ length out₀
-  out-length h g = next-length (keysOf D) out₀ out (length D) (p .taken) (length-keys D) (due-fits h g)
+  pub turn-sizes : i ≤ n → (length ks ≡ length ks₀) × (length ds ≡ length ds₀) × (length out ≡ length out₀) × (left ≤ i)
+  turn-sizes h = (keys-length h, deadlines-length h, out-length h, left-most h)
 
   module _ (h : i < n) where
     pub key-read : getD ks i 0 ≡ getD ks₀ i 0
@@ -239,17 +251,14 @@ module _ (n i now : ℕ) (ks₀ ds₀ out₀ : List ℕ) (left : ℕ) (ks ds out
           taken = p .taken ∙ ap (λ (es : List Entry). keysOf es ++ drop (length es) out₀) (sym same);
         }
 
--- those due among fewer are no more
-pub due-mono : (now i n : ℕ) (ds : List ℕ) → i ≤ n → dueIn now (take i ds) ≤ dueIn now (take n ds)
+pub due-most : (now : ℕ) (ds : List ℕ) → dueIn now ds ≤ length ds
 unfolding dueIn
-due-mono now zero n ds h = zero-le
-due-mono now (suc i) n [] h = zero-le
-due-mono now (suc i) zero (y ∷ ds) h = absurd (omega arith)
-due-mono now (suc i) (suc n) (y ∷ ds) h = go (leb y now) (due-mono now i n ds (le-of-suc-le-suc h))
+due-most now [] = zero-le
+due-most now (y ∷ ds) = go (leb y now) (due-most now ds)
   where
-    go : (b : Bool) → dueIn now (take i ds) ≤ dueIn now (take n ds) → cond b (suc (dueIn now (take i ds))) (dueIn now (take i ds)) ≤ cond b (suc (dueIn now (take n ds))) (dueIn now (take n ds))
+    go : (b : Bool) → dueIn now ds ≤ length ds → cond b (suc (dueIn now ds)) (dueIn now ds) ≤ suc (length ds)
     go true h = suc-le-suc h
-    go false h = h
+    go false h = omega arith
 
 pub parted-as : (n now : ℕ) (ks ds out : List ℕ) (l l' : ℕ) (a a' b b' c c' : List ℕ) → a ≡ a' → b ≡ b' → c ≡ c' → l ≡ l' → Partitioned n now ks ds out l' a' b' c' → Partitioned n now ks ds out l a b c
 parted-as n now ks ds out l l' a a' b b' c c' p q r s x =

@@ -20,7 +20,7 @@ and-both true b e = (refl, e)
 and-both false b e = absurd (false≢true e)
 
 -- the first key is at least low, and the others are above it
-first-key : (low k : ℕ) (ks : List ℕ) → ascendingFrom low (k ∷ ks) ≡ true → low ≤ k
+pub first-key : (low k : ℕ) (ks : List ℕ) → ascendingFrom low (k ∷ ks) ≡ true → low ≤ k
 unfolding ascendingFrom
 first-key low k ks e = leb-true low k (and-both (leb low k) (ascendingFrom (suc k) ks) e .0)
 

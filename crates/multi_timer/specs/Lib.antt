@@ -1,3 +1,4 @@
 pub mod Map
 pub mod Search
 pub mod MultiTimer
+pub mod History

@@ -70,6 +70,11 @@ abbrev pub dueAt : ℕ → Option ℕ → Bool
 dueAt now none = false
 dueAt now (some d) = leb d now
 
+-- what a pop leaves of a deadline
+abbrev pub stillSet : ℕ → Option ℕ → Option ℕ
+stillSet now none = none
+stillSet now (some d) = cond (ltb now d) (some d) none
+
 -- the least of d and ds
 unfoldable pub least : ℕ → List ℕ → ℕ
 least d [] = d

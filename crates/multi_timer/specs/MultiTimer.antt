@@ -5,7 +5,7 @@ use mathlib.Core.List.{List, [], _∷_, _++_}
 use mathlib.Core.Option.{Option, none, some}
 use lib.Dec.{leb, ltb, eqb}
 use lib.ListN.{length, take, drop, replicate}
-use Rattle.duration.specs.Bounds.{maxDuration, maxTime}
+use Rattle.duration.specs.Bounds.{maxTime, startLate}
 use Rattle.refusal.specs.Order.{check, verdict, decide}
 use Rattle.refusal.specs.declared.Refusal.the-variants.{State, Time, Full}
 use Rattle.multi_timer.specs.declared.MultiTimer.{MultiTimer}
@@ -64,7 +64,7 @@ abbrev pub readTooLate : ℕ → List ℕ → ℕ → Bool
 readTooLate n ds now = heldTooLate n ds || ltb maxTime now
 
 abbrev pub startTooLate : ℕ → List ℕ → ℕ → ℕ → Bool
-startTooLate n ds now duration = heldTooLate n ds || (ltb maxTime now || (ltb maxDuration duration || ltb maxTime (now + duration)))
+startTooLate n ds now duration = heldTooLate n ds || startLate now duration
 
 -- "a new key with no timer entry unused"
 abbrev pub startFull : MultiTimer → List ℕ → List ℕ → ℕ → Bool

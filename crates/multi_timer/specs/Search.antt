@@ -5,6 +5,7 @@ use mathlib.Core.Path.{_≡_}
 use mathlib.Core.List.{List, [], _∷_, _++_}
 use lib.ListN.{length, take, drop, replicate}
 use lib.Dec.{leb, ltb, eqb}
+use lib.Bits.{bitOr}
 use Rattle.multi_timer.specs.Map.{entriesOf, keysOf, deadlinesOf, keep, due, pending}
 use Rattle.multi_timer.specs.declared.Place.{Place}
 use Rattle.multi_timer.specs.declared.Place.the-variants.{At, Absent}
@@ -16,6 +17,11 @@ later i (Absent p) = Absent (i + p)
 unfoldable pub searchIn : ℕ → List ℕ → Place
 searchIn k [] = Absent 0
 searchIn k (x ∷ xs) = cond (ltb x k) (later 1 (searchIn k xs)) (cond (eqb x k) (At 0) (Absent 0))
+
+-- the binary digits that are set in a number or in any of a list
+unfoldable pub digitsOf : ℕ → List ℕ → ℕ
+digitsOf a [] = a
+digitsOf a (x ∷ xs) = digitsOf (bitOr a x) xs
 
 -- how many deadlines are due
 unfoldable pub dueIn : ℕ → List ℕ → ℕ

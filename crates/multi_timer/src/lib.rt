@@ -1,20 +1,16 @@
 // A set of timers by key in two lent slices: the reference's MultiTimer on nanoseconds.
+use duration::MAX_TIME;
 use refusal::Refusal;
 ghost use mathlib.Core.Path.{_≡_};
 ghost use mathlib.Core.Bool.{false, not, cond};
-ghost use lib.Dec.{leb, eqb};
+ghost use lib.Dec.{leb, ltb, eqb};
 ghost use mathlib.Core.List.{_∷_, _++_};
 ghost use mathlib.Core.Option.{some};
 ghost use Prim.Native.Nat.{suc, min, _≤_, _<_};
 ghost use lib.ListN.{length, take, drop, set, replicate};
 ghost use Rattle.multi_timer.specs.Map.{entriesOf, ascending, keep, due, pending, lookup, isSome, dueAt, earliest};
-ghost use Rattle.multi_timer.specs.Search.{searchIn, dueIn, Partitioned, insertedAt, removedAt, clearedIn};
+ghost use Rattle.multi_timer.specs.Search.{searchIn, digitsOf, dueIn, Partitioned, insertedAt, removedAt, clearedIn};
 ghost use Rattle.multi_timer.specs.MultiTimer.{used, after, afterPop, broken, heldTooLate, readTooLate, startTooLate, startFull, startUnchecked, cancelUnchecked, popUnchecked, clearUnchecked, earliestAnswer, newDef, startTimerAtDef, cancelTimerDef, isExpiredAtDef, popExpiredAtDef, earliestDeadlineDef, clearDef};
-
-// In nanoseconds: 172,800 s for a time, 86,400 s for a duration.
-const MAX_TIME: u64 = 172800000000000;
-
-const MAX_DURATION: u64 = 86400000000000;
 
 // The first count entries of the lent keys and deadlines are used, by ascending key.
 pub struct MultiTimer {
@@ -86,27 +82,17 @@ pub enum Place {
     Absent(usize),
 }
 
-fn wide(x: u32) -> u64
-    ensures { λ r. ⌜ r ≡ x ⌝ }
-{
-    x as u64
-}
-
 fn is_ascending(count: usize, keys: &[u32]) -> bool
     requires { ⌜ count ≤ length (now keys) ⌝ }
     ensures { λ r. ⌜ r ≡ ascending (take count (now (keys .entry))) ⌝ }
 {
-    let mut low: u64 = 0;
-    let mut i = 0;
+    let mut sorted = true;
+    let mut i = 1;
     while i < count {
-        let key = wide(keys[i]);
-        if key < low {
-            return false;
-        }
-        low = key + 1;
+        sorted = sorted & (keys[i - 1] < keys[i]);
         i += 1;
     }
-    true
+    sorted
 }
 
 fn is_broken(count: usize, keys: &[u32], deadlines: &[u64]) -> bool
@@ -121,7 +107,32 @@ fn is_broken(count: usize, keys: &[u32], deadlines: &[u64]) -> bool
     !is_ascending(count, keys)
 }
 
+// The binary digits that are set in any of the first count deadlines.
+fn digits_of(count: usize, deadlines: &[u64]) -> u64
+    requires { ⌜ count ≤ length (now deadlines) ⌝ }
+    ensures { λ r. ⌜ r ≡ digitsOf 0 (take count (now (deadlines .entry))) ⌝ }
+{
+    let mut all: u64 = 0;
+    let mut i = 0;
+    while i < count {
+        all = all | deadlines[i];
+        i += 1;
+    }
+    all
+}
+
+// Below 2^47 in all of their digits, all are below the bound.
 fn held_too_late(count: usize, deadlines: &[u64]) -> bool
+    requires { ⌜ count ≤ length (now deadlines) ⌝ }
+    ensures { λ r. ⌜ r ≡ heldTooLate count (now (deadlines .entry)) ⌝ }
+{
+    if digits_of(count, deadlines) < 140737488355328 {
+        return false;
+    }
+    any_late(count, deadlines)
+}
+
+fn any_late(count: usize, deadlines: &[u64]) -> bool
     requires { ⌜ count ≤ length (now deadlines) ⌝ }
     ensures { λ r. ⌜ r ≡ heldTooLate count (now (deadlines .entry)) ⌝ }
 {
@@ -152,13 +163,7 @@ fn start_too_late(count: usize, deadlines: &[u64], time: u64, duration: u64) -> 
     if held_too_late(count, deadlines) {
         return true;
     }
-    if time > MAX_TIME {
-        return true;
-    }
-    if duration > MAX_DURATION {
-        return true;
-    }
-    time + duration > MAX_TIME
+    duration::start_late(time, duration)
 }
 
 fn search(count: usize, keys: &[u32], key: u32) -> Place
@@ -303,6 +308,17 @@ fn due_count(count: usize, deadlines: &[u64], time: u64) -> usize
         i += 1;
     }
     n
+}
+
+// Whether more deadlines are due than a slice of that size holds keys.
+fn pop_full(count: usize, deadlines: &[u64], time: u64, size: usize) -> bool
+    requires { ⌜ count ≤ length (now deadlines) ⌝ }
+    ensures { λ r. ⌜ r ≡ ltb size (dueIn time (take count (now (deadlines .entry)))) ⌝ }
+{
+    if count <= size {
+        return false;
+    }
+    size < due_count(count, deadlines, time)
 }
 
 fn earlier(a: u64, b: u64) -> u64
@@ -571,11 +587,10 @@ impl MultiTimer {
                 answer: CancelAnswer::Refused(Refusal::Time),
             };
         }
-        let existed = has_key(count, keys, deadlines, key);
         let t = self.cancel_timer_unchecked(keys, deadlines, key);
         Cancelled {
             timers: t,
-            answer: CancelAnswer::Existed(existed),
+            answer: CancelAnswer::Existed(t.count < count),
         }
     }
 
@@ -615,8 +630,7 @@ impl MultiTimer {
                 answer: PopAnswer::Refused(Refusal::Time),
             };
         }
-        let n = due_count(count, deadlines, now);
-        if n > out.len() {
+        if pop_full(count, deadlines, now, out.len()) {
             return Popped {
                 timers: self,
                 answer: PopAnswer::Refused(Refusal::Full),
@@ -625,7 +639,7 @@ impl MultiTimer {
         let t = self.pop_expired_at_unchecked(keys, deadlines, now, out);
         Popped {
             timers: t,
-            answer: PopAnswer::Keys(n),
+            answer: PopAnswer::Keys(count - t.count),
         }
     }
 

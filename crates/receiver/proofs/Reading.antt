@@ -4,6 +4,7 @@ use mathlib.Core.Path.{_≡_, refl, ap, _∙_}
 use mathlib.Core.Bool.{Bool, true, false, cond}
 use mathlib.Core.List.{List, [], _∷_}
 use native.Mathlib.Omega.{arith}
+use borrow.Author.Tests.{ltb-false}
 use lib.ListN.{length}
 use Rattle.refusal.specs.declared.Refusal.{Refusal}
 use Rattle.refusal.specs.declared.Refusal.the-variants.{Short, Kind, Cut, Long, Numbers}
@@ -72,3 +73,7 @@ read-accepted raw h = by-verdict (verdict (packetChecks raw)) refl where
   by-verdict : (v : Verdict) → verdict (packetChecks raw) ≡ v → verdict (packetChecks raw) ≡ accepted
   by-verdict accepted e = e
   by-verdict (refused r) e = absurd (h r (on-refused handed.Refused _ e))
+
+-- a packet that isn't refused has a payload of at most 1,400 bytes
+pub read-short : (raw : List ℕ) → ((r : Refusal) → readPacket raw ≡ handed.Refused r → ⊥) → length (payloadOf raw) ≤ 1400
+read-short raw h = ltb-false 1400 (length (payloadOf raw)) (accepted-none-true (packetChecks raw) (read-accepted raw h) .1 .0)

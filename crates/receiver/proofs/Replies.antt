@@ -1,14 +1,17 @@
 -- Laws of carrying a decision out.
 use Prim.Native.Nat.{ℕ, _+_, _-_, _≤_}
-use mathlib.Core.Path.{_≡_}
-use mathlib.Core.Bool.{true, false, _&&_}
-use mathlib.Core.List.{List}
+use mathlib.Core.Path.{_≡_, refl}
+use mathlib.Core.Bool.{Bool, true, false, _||_, _&&_}
+use mathlib.Core.List.{List, [], _++_}
 use native.Mathlib.Omega.{arith}
-use borrow.Author.Tests.{ltb-false}
-use lib.ListN.{length}
+use native.Mathlib.Nat.{add-zero, add-assoc}
+use borrow.Author.Tests.{ltb-false, le-ltb}
+use lib.ListN.{length, length-append}
 use lib.Dec.{ltb}
 use Rattle.refusal.proofs.Laws.{or-false}
-use Rattle.receiver.specs.Reply.{ackMissing, roomMissing, RoomFor, replied}
+use Rattle.store.specs.Numbers.{writtenAt}
+use Rattle.store.proofs.Laws.{written-on, written-none, written-length}
+use Rattle.receiver.specs.Reply.{ackMissing, roomMissing, RoomFor, replied, carriedOut}
 use Rattle.receiver.specs.declared.Reply.{Reply}
 use Rattle.receiver.specs.declared.Reply.the-variants as reply
 use Rattle.receiver.specs.declared.Decision.{Decision}
@@ -30,3 +33,39 @@ room-output d size filled output ack h e =
 
 pub replied-is : (filled : ℕ) {output output′ ack ack′ : List ℕ} → output ≡ output′ → ack ≡ ack′ → replied filled output ack ≡ replied filled output′ ack′
 replied-is filled e f = rw (e, f)
+
+-- room for more is room for less
+pub room-less : (d : Decision) (size less filled : ℕ) (output ack : List ℕ) → RoomFor d size filled output ack → less ≤ size → RoomFor d less filled output ack
+unfolding roomMissing
+room-less d size less filled output ack h few = record { mark = h .mark; room = by-delivery (d .deliver) (ackMissing (d .reply) ack) (h .room) } where
+  by-delivery : (b r : Bool) → ((b && ltb (length output - filled) size) || r) ≡ false → ((b && ltb (length output - filled) less) || r) ≡ false
+  by-delivery false r e = e
+  by-delivery true r e =
+      let none = or-false (ltb (length output - filled) size) r e in
+      let most : size ≤ length output - filled = ltb-false (length output - filled) size (none .0) in
+      let room : ltb (length output - filled) less ≡ false = le-ltb (length output - filled) less (omega arith) in
+      rw room (none .1)
+
+-- a payload delivered, and then more bytes after it
+module _ (d : Decision) (payload more : List ℕ) (filled : ℕ) (output ack : List ℕ) (room : RoomFor d (length (payload ++ more)) filled output ack) (none : d .deliver ≡ false → more ≡ []) where
+  carried-parts : (b : Bool) → d .deliver ≡ b
+      → (carriedOut d payload filled output ack .filled + length more ≤ length (carriedOut d payload filled output ack .output))
+      × (replied (carriedOut d payload filled output ack .filled + length more) (writtenAt (carriedOut d payload filled output ack .output) (carriedOut d payload filled output ack .filled) more) (carriedOut d payload filled output ack .ack) ≡ carriedOut d (payload ++ more) filled output ack)
+  unfolding carriedOut
+  carried-parts true e =
+      let fits = room-output d (length (payload ++ more)) filled output ack room e in
+      let size = length-append payload more in
+      let mark = room .mark in
+      rw e (
+        rw (written-length output payload filled (omega arith)) (omega arith),
+        rw (written-on output payload more filled mark, size, ← add-assoc),
+      )
+  carried-parts false e =
+      let mark = room .mark in
+      rw (e, none e) (rw add-zero mark, rw (written-none output filled [] refl, add-zero))
+
+  pub carried-room : carriedOut d payload filled output ack .filled + length more ≤ length (carriedOut d payload filled output ack .output)
+  carried-room = carried-parts (d .deliver) refl .0
+
+  pub carried-on : replied (carriedOut d payload filled output ack .filled + length more) (writtenAt (carriedOut d payload filled output ack .output) (carriedOut d payload filled output ack .filled) more) (carriedOut d payload filled output ack .ack) ≡ carriedOut d (payload ++ more) filled output ack
+  carried-on = carried-parts (d .deliver) refl .1

@@ -1,11 +1,10 @@
--- Document 01, "Turned away" 9, 8, 1, 2, 3, 6, 7, 5: a datagram handed to a receiver that keeps one state R and holds no packets back.
+-- Document 01, "Turned away" 9, 8, 1, 2, 3, 6, 7, 5: a datagram handed to a receiver with a state R.
 use Prim.Native.Nat.{ℕ}
 use mathlib.Core.List.{List, _∷_}
 use mathlib.Core.Bool.{Bool}
 use lib.ListN.{length}
 use Rattle.refusal.specs.declared.Refusal.the-variants.{State, Counts, Full}
 use Rattle.refusal.specs.Order.{check, verdict, decide}
-use Rattle.packet.specs.Reading.{payloadOf}
 use Rattle.receiver.specs.Handed.{packetChecks}
 use Rattle.receiver.specs.Reply.{roomMissing, answerOf, carriedOut, Replied}
 use Rattle.receiver.specs.declared.Decision.{Decision}
@@ -26,14 +25,14 @@ receiving a r output ack = record { answer = a; receiver = r; output = output; a
 abbrev pub carried : {R : Type 0} → (ℕ → R) → Decision → Replied → Receiving R
 carried after d v = receiving (answerOf (d .reply)) (after (v .filled)) (v .output) (v .ack)
 
--- r the state, filled its fill mark; d and after what a packet that isn't refused does
-unfoldable pub receive : {R : Type 0} → Bool → Bool → R → ℕ → Decision → (ℕ → R) → List ℕ → List ℕ → List ℕ → Receiving R
-receive stateBroken countsBroken r filled d after raw output ack =
+-- r the state, filled its fill mark; d, delivered and after what a packet that isn't refused does
+unfoldable pub receive : {R : Type 0} → Bool → Bool → R → ℕ → Decision → List ℕ → (ℕ → R) → List ℕ → List ℕ → List ℕ → Receiving R
+receive stateBroken countsBroken r filled d delivered after raw output ack =
     decide
     (verdict
     (check stateBroken State
     ∷ check countsBroken Counts
-    ∷ check (roomMissing d (length (payloadOf raw)) filled output ack) Full
+    ∷ check (roomMissing d (length delivered) filled output ack) Full
     ∷ packetChecks raw))
     (λ s. receiving (answer.Refused s) r output ack)
-    (carried after d (carriedOut d (payloadOf raw) filled output ack))
+    (carried after d (carriedOut d delivered filled output ack))

@@ -6,6 +6,8 @@ use Prim.Native.Nat.{ℕ, _≤_, _<_}
 use lib.Dec.{T, leb, ltb}
 use denote.Floats.{passes}
 use borrow.Author.Tests.{leb-true, leb-false, ltb-false, le-leb, lt-leb}
+use Rattle.refusal.proofs.Laws.{or-false}
+use Rattle.duration.specs.Bounds.{maxDuration, maxEstimate}
 use Rattle.refusal.specs.Order.{check, verdict, decide, firstOf, numbered, orElse, order}
 use Rattle.refusal.specs.declared.Refusal.{Refusal}
 use Rattle.refusal.specs.declared.Refusal.the-variants.{State, Counts, Time, Setup}
@@ -34,19 +36,15 @@ pub both-true : (a b : Bool) → (a && b) ≡ true → (a ≡ true) × (b ≡ tr
 both-true true b e = (refl, e)
 both-true false b e = absurd (false≢true e)
 
-pub both-false : (a b : Bool) → (a || b) ≡ false → (a ≡ false) × (b ≡ false)
-both-false false b e = (refl, e)
-both-false true b e = absurd (true≢false e)
-
 pub not-is : (a : Bool) → not a ≡ false → a ≡ true
 not-is true e = refl
 not-is false e = absurd (true≢false e)
 
 -- ---- a setup in bounds
 pub record Config (c : RtoConfig) : Type 0 where
-  pub initial : c .«initial_rto» ≤ 86400000000000
-  pub least : c .«min_rto» ≤ 86400000000000
-  pub most : c .«max_rto» ≤ 86400000000000
+  pub initial : c .«initial_rto» ≤ maxDuration
+  pub least : c .«min_rto» ≤ maxDuration
+  pub most : c .«max_rto» ≤ maxDuration
   pub granularity : c .granularity ≤ 1000000000
   pub ordered : c .«min_rto» ≤ c .«max_rto»
   pub alpha : T (chanceInBounds (c .alpha))
@@ -58,9 +56,9 @@ pub config-of : (c : RtoConfig) → configInBounds c ≡ true → Config c
 unfolding configInBounds
 config-of c e =
     let h = both-true (durationsInBounds c) (factorsInBounds c) e in
-    let d1 = both-true (leb (c .«initial_rto») 86400000000000) _ (h .0) in
-    let d2 = both-true (leb (c .«min_rto») 86400000000000) _ (d1 .1) in
-    let d3 = both-true (leb (c .«max_rto») 86400000000000) _ (d2 .1) in
+    let d1 = both-true (leb (c .«initial_rto») maxDuration) _ (h .0) in
+    let d2 = both-true (leb (c .«min_rto») maxDuration) _ (d1 .1) in
+    let d3 = both-true (leb (c .«max_rto») maxDuration) _ (d2 .1) in
     let d4 = both-true (leb (c .granularity) 1000000000) _ (d3 .1) in
     let f1 = both-true (chanceInBounds (c .alpha)) (chanceInBounds (c .beta) && (factorInBounds (c .k) && factorInBounds (c .«rto_multiplier»))) (h .1) in
     let f2 = both-true (chanceInBounds (c .beta)) (factorInBounds (c .k) && factorInBounds (c .«rto_multiplier»)) (f1 .1) in
@@ -87,30 +85,30 @@ pub record Below (s : RtoStats) : Type 0 where
 pub count-below : (s : RtoStats) → countsFull s ≡ false → Below s
 unfolding countsFull
 count-below s e =
-    let a = both-false (leb 1152921504606846976 (s .«sample_count»)) _ e in
-    let b = both-false (leb 1152921504606846976 (s .«karn_rejected_count»)) _ (a .1) in
-    let d = both-false (leb 1152921504606846976 (s .«timeout_count»)) _ (b .1) in
+    let a = or-false (leb 1152921504606846976 (s .«sample_count»)) _ e in
+    let b = or-false (leb 1152921504606846976 (s .«karn_rejected_count»)) _ (a .1) in
+    let d = or-false (leb 1152921504606846976 (s .«timeout_count»)) _ (b .1) in
     record { sample = leb-false _ _ (a .0); karn = leb-false _ _ (b .0); timeout = leb-false _ _ (d .0); backoff = leb-false _ _ (d .1) }
 
 -- ---- held estimates
-pub estimates-fit : (s v : ℕ) → estimateBroken (Is s) (Is v) ≡ false → (s ≤ 86401000000000) × (v ≤ 86401000000000)
-estimates-fit s v e = let h = both-false (ltb 86401000000000 s) (ltb 86401000000000 v) e in (ltb-false _ _ (h .0), ltb-false _ _ (h .1))
+pub estimates-fit : (s v : ℕ) → estimateBroken (Is s) (Is v) ≡ false → (s ≤ maxEstimate) × (v ≤ maxEstimate)
+estimates-fit s v e = let h = or-false (ltb maxEstimate s) (ltb maxEstimate v) e in (ltb-false _ _ (h .0), ltb-false _ _ (h .1))
 
 -- ---- the tests, one after the other
 module _ (c : RtoConfig) where
-  pub durations-1 : 86400000000000 < c .«initial_rto» → false ≡ durationsInBounds c
+  pub durations-1 : maxDuration < c .«initial_rto» → false ≡ durationsInBounds c
   durations-1 a = simp (lt-leb _ _ a)
 
-  pub durations-2 : c .«initial_rto» ≤ 86400000000000 → 86400000000000 < c .«min_rto» → false ≡ durationsInBounds c
+  pub durations-2 : c .«initial_rto» ≤ maxDuration → maxDuration < c .«min_rto» → false ≡ durationsInBounds c
   durations-2 a b = simp (le-leb _ _ a, lt-leb _ _ b)
 
-  pub durations-3 : c .«initial_rto» ≤ 86400000000000 → c .«min_rto» ≤ 86400000000000 → 86400000000000 < c .«max_rto» → false ≡ durationsInBounds c
+  pub durations-3 : c .«initial_rto» ≤ maxDuration → c .«min_rto» ≤ maxDuration → maxDuration < c .«max_rto» → false ≡ durationsInBounds c
   durations-3 a b d = simp (le-leb _ _ a, le-leb _ _ b, lt-leb _ _ d)
 
-  pub durations-4 : c .«initial_rto» ≤ 86400000000000 → c .«min_rto» ≤ 86400000000000 → c .«max_rto» ≤ 86400000000000 → 1000000000 < c .granularity → false ≡ durationsInBounds c
+  pub durations-4 : c .«initial_rto» ≤ maxDuration → c .«min_rto» ≤ maxDuration → c .«max_rto» ≤ maxDuration → 1000000000 < c .granularity → false ≡ durationsInBounds c
   durations-4 a b d e = simp (le-leb _ _ a, le-leb _ _ b, le-leb _ _ d, lt-leb _ _ e)
 
-  pub durations-5 : c .«initial_rto» ≤ 86400000000000 → c .«min_rto» ≤ 86400000000000 → c .«max_rto» ≤ 86400000000000 → c .granularity ≤ 1000000000 → leb (c .«min_rto») (c .«max_rto») ≡ durationsInBounds c
+  pub durations-5 : c .«initial_rto» ≤ maxDuration → c .«min_rto» ≤ maxDuration → c .«max_rto» ≤ maxDuration → c .granularity ≤ 1000000000 → leb (c .«min_rto») (c .«max_rto») ≡ durationsInBounds c
   durations-5 a b d e = simp (le-leb _ _ a, le-leb _ _ b, le-leb _ _ d, le-leb _ _ e)
 
 -- a conjunction of four, test by test
@@ -163,15 +161,15 @@ module _ {A : Type 0} (s n t : Bool) (f : Refusal → A) (a : A) where
 -- ---- a good state's parts
 pub broken-config : (e : RtoEstimator) → stateBroken e ≡ false → configInBounds (e .config) ≡ true
 unfolding stateBroken
-broken-config e h = not-is (configInBounds (e .config)) (both-false (not (configInBounds (e .config))) (estimateBroken (e .srtt) (e .rttvar)) h .0)
+broken-config e h = not-is (configInBounds (e .config)) (or-false (not (configInBounds (e .config))) (estimateBroken (e .srtt) (e .rttvar)) h .0)
 
 pub broken-estimate : (e : RtoEstimator) → stateBroken e ≡ false → estimateBroken (e .srtt) (e .rttvar) ≡ false
 unfolding stateBroken
-broken-estimate e h = both-false (not (configInBounds (e .config))) (estimateBroken (e .srtt) (e .rttvar)) h .1
+broken-estimate e h = or-false (not (configInBounds (e .config))) (estimateBroken (e .srtt) (e .rttvar)) h .1
 
-pub sample-in-time : (e : RtoEstimator) (sample : ℕ) → sampleTooLong e sample ≡ false → sample ≤ 86400000000000
-sample-in-time e sample h = ltb-false _ _ (both-false (heldTooLong e) (ltb 86400000000000 sample) h .1)
+pub sample-in-time : (e : RtoEstimator) (sample : ℕ) → sampleTooLong e sample ≡ false → sample ≤ maxDuration
+sample-in-time e sample h = ltb-false _ _ (or-false (heldTooLong e) (ltb maxDuration sample) h .1)
 
-pub rto-in-time : (e : RtoEstimator) → heldTooLong e ≡ false → e .«current_rto» ≤ 86400000000000
+pub rto-in-time : (e : RtoEstimator) → heldTooLong e ≡ false → e .«current_rto» ≤ maxDuration
 unfolding heldTooLong
-rto-in-time e h = ltb-false _ _ (both-false (ltb 86400000000000 (e .«current_rto»)) (ltb 86400000000000 (e .«base_rto») || (rttTooLong (e .stats .«min_rtt») || (rttTooLong (e .stats .«max_rtt») || rttTooLong (e .stats .«latest_rtt»)))) h .0)
+rto-in-time e h = ltb-false _ _ (or-false (ltb maxDuration (e .«current_rto»)) (ltb maxDuration (e .«base_rto») || (rttTooLong (e .stats .«min_rtt») || (rttTooLong (e .stats .«max_rtt») || rttTooLong (e .stats .«latest_rtt»)))) h .0)

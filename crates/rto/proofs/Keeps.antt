@@ -7,6 +7,8 @@ use native.Mathlib.Omega.{arith}
 use lib.Dec.{T, ltb, lit≤}
 use lib.Ieee.{binary64, fits}
 use borrow.Author.Tests.{le-ltb, ltb-false}
+use Rattle.refusal.proofs.Laws.{or-false}
+use Rattle.duration.specs.Bounds.{maxDuration, maxEstimate}
 use Rattle.rtt.proofs.Range.{first-srtt-range, first-rttvar-range, next-srtt-range, next-rttvar-range}
 use Rattle.rto.specs.Rto.{configInBounds, estimateBroken, stateBroken, rttTooLong, heldTooLong, limited, noStats, fresh, estimateFor, leastRtt, greatestRtt, sampled, acceptSample, rejectSample, backOff, resetBackoff, estimatorOf}
 use Rattle.rto.specs.declared.RtoConfig.{RtoConfig}
@@ -14,7 +16,7 @@ use Rattle.rto.specs.declared.RtoStats.{RtoStats}
 use Rattle.rto.specs.declared.RtoEstimator.{RtoEstimator}
 use Rattle.rto.specs.declared.Rtt.{Rtt}
 use Rattle.rto.specs.declared.Rtt.the-variants.{Unset, Is}
-use Rattle.rto.proofs.Checks.{Config, config-of, estimates-fit, both-false, broken-config, broken-estimate}
+use Rattle.rto.proofs.Checks.{Config, config-of, estimates-fit, broken-config, broken-estimate}
 
 -- the doubles of a setup are doubles
 pub record Doubles (c : RtoConfig) : Type 0 where
@@ -33,33 +35,33 @@ unfolding stateBroken
 state-good c s v rto base b n st p q = simp (p, q)
 
 -- SRTT and RTTVAR stay within 86,401 s
-pub estimate-range : (c : RtoConfig) (s v : Rtt) (d : ℕ) → Config c → Doubles c → estimateBroken s v ≡ false → d ≤ 86400000000000 → (estimateFor c s v d .srtt ≤ 86401000000000) × (estimateFor c s v d .rttvar ≤ 86401000000000)
+pub estimate-range : (c : RtoConfig) (s v : Rtt) (d : ℕ) → Config c → Doubles c → estimateBroken s v ≡ false → d ≤ maxDuration → (estimateFor c s v d .srtt ≤ maxEstimate) × (estimateFor c s v d .rttvar ≤ maxEstimate)
 unfolding estimateFor
 estimate-range c Unset Unset d g f e h =
-    let l : d ≤ 86401000000000 = le-trans h (lit≤ tt) in (
+    let l : d ≤ maxEstimate = le-trans h (lit≤ tt) in (
       first-srtt-range (c .k) (c .«rto_multiplier») (c .granularity) (f .k) (f .multiplier) (g .k) (g .multiplier) (g .granularity) d l,
       first-rttvar-range (c .k) (c .«rto_multiplier») (c .granularity) (f .k) (f .multiplier) (g .k) (g .multiplier) (g .granularity) d l,
     )
 estimate-range c Unset (Is v) d g f e h = absurd (true≢false e)
 estimate-range c (Is s) Unset d g f e h = absurd (true≢false e)
 estimate-range c (Is s) (Is v) d g f e h =
-    let l : d ≤ 86401000000000 = le-trans h (lit≤ tt) in
+    let l : d ≤ maxEstimate = le-trans h (lit≤ tt) in
     let x = estimates-fit s v e in (
       next-srtt-range (c .k) (c .«rto_multiplier») (c .granularity) (f .k) (f .multiplier) (g .k) (g .multiplier) (g .granularity) (c .alpha) (c .beta) (f .alpha) (f .beta) (g .alpha) (g .beta) s v d (x .0) (x .1) l,
       next-rttvar-range (c .k) (c .«rto_multiplier») (c .granularity) (f .k) (f .multiplier) (g .k) (g .multiplier) (g .granularity) (c .alpha) (c .beta) (f .alpha) (f .beta) (g .alpha) (g .beta) s v d (x .0) (x .1) l,
     )
 
-fits-both : (s v : ℕ) → s ≤ 86401000000000 → v ≤ 86401000000000 → estimateBroken (Is s) (Is v) ≡ false
-fits-both s v p q = simp (le-ltb 86401000000000 s p, le-ltb 86401000000000 v q)
+fits-both : (s v : ℕ) → s ≤ maxEstimate → v ≤ maxEstimate → estimateBroken (Is s) (Is v) ≡ false
+fits-both s v p q = simp (le-ltb maxEstimate s p, le-ltb maxEstimate v q)
 
 -- ---- line 10
-times-good : (c : RtoConfig) (s v : Rtt) (rto base : ℕ) (b : Bool) (n : ℕ) (st : RtoStats) → rto ≤ 86400000000000 → base ≤ 86400000000000 → rttTooLong (st .«min_rtt») ≡ false → rttTooLong (st .«max_rtt») ≡ false → rttTooLong (st .«latest_rtt») ≡ false → heldTooLong (estimatorOf c s v rto base b n st) ≡ false
+times-good : (c : RtoConfig) (s v : Rtt) (rto base : ℕ) (b : Bool) (n : ℕ) (st : RtoStats) → rto ≤ maxDuration → base ≤ maxDuration → rttTooLong (st .«min_rtt») ≡ false → rttTooLong (st .«max_rtt») ≡ false → rttTooLong (st .«latest_rtt») ≡ false → heldTooLong (estimatorOf c s v rto base b n st) ≡ false
 unfolding heldTooLong
-times-good c s v rto base b n st p q x y z = simp (le-ltb 86400000000000 rto p, le-ltb 86400000000000 base q, x, y, z)
+times-good c s v rto base b n st p q x y z = simp (le-ltb maxDuration rto p, le-ltb maxDuration base q, x, y, z)
 
 pub record Times (e : RtoEstimator) : Type 0 where
-  pub current : e .«current_rto» ≤ 86400000000000
-  pub base : e .«base_rto» ≤ 86400000000000
+  pub current : e .«current_rto» ≤ maxDuration
+  pub base : e .«base_rto» ≤ maxDuration
   pub least : rttTooLong (e .stats .«min_rtt») ≡ false
   pub most : rttTooLong (e .stats .«max_rtt») ≡ false
   pub latest : rttTooLong (e .stats .«latest_rtt») ≡ false
@@ -70,24 +72,24 @@ times-of e h =
     let x = rttTooLong (e .stats .«min_rtt») in
     let y = rttTooLong (e .stats .«max_rtt») in
     let z = rttTooLong (e .stats .«latest_rtt») in
-    let a = both-false (ltb 86400000000000 (e .«current_rto»)) (ltb 86400000000000 (e .«base_rto») || (x || (y || z))) h in
-    let b = both-false (ltb 86400000000000 (e .«base_rto»)) (x || (y || z)) (a .1) in
-    let d = both-false x (y || z) (b .1) in
-    let l = both-false y z (d .1) in
+    let a = or-false (ltb maxDuration (e .«current_rto»)) (ltb maxDuration (e .«base_rto») || (x || (y || z))) h in
+    let b = or-false (ltb maxDuration (e .«base_rto»)) (x || (y || z)) (a .1) in
+    let d = or-false x (y || z) (b .1) in
+    let l = or-false y z (d .1) in
     record { current = ltb-false _ _ (a .0); base = ltb-false _ _ (b .0); least = d .0; most = l .0; latest = l .1 }
 
-least-in : (r : Rtt) (d : ℕ) → rttTooLong r ≡ false → d ≤ 86400000000000 → rttTooLong (leastRtt r d) ≡ false
+least-in : (r : Rtt) (d : ℕ) → rttTooLong r ≡ false → d ≤ maxDuration → rttTooLong (leastRtt r d) ≡ false
 least-in Unset d p h = le-ltb _ _ h
-least-in (Is m) d p h = le-ltb 86400000000000 (min m d) (smaller m d h)
+least-in (Is m) d p h = le-ltb maxDuration (min m d) (smaller m d h)
   where
-    smaller : (m d : ℕ) → d ≤ 86400000000000 → min m d ≤ 86400000000000
+    smaller : (m d : ℕ) → d ≤ maxDuration → min m d ≤ maxDuration
     smaller m d h = omega arith
 
-greatest-in : (r : Rtt) (d : ℕ) → rttTooLong r ≡ false → d ≤ 86400000000000 → rttTooLong (greatestRtt r d) ≡ false
+greatest-in : (r : Rtt) (d : ℕ) → rttTooLong r ≡ false → d ≤ maxDuration → rttTooLong (greatestRtt r d) ≡ false
 greatest-in Unset d p h = le-ltb _ _ h
-greatest-in (Is m) d p h = le-ltb 86400000000000 (max m d) (larger m d (ltb-false _ _ p) h)
+greatest-in (Is m) d p h = le-ltb maxDuration (max m d) (larger m d (ltb-false _ _ p) h)
   where
-    larger : (m d : ℕ) → m ≤ 86400000000000 → d ≤ 86400000000000 → max m d ≤ 86400000000000
+    larger : (m d : ℕ) → m ≤ maxDuration → d ≤ maxDuration → max m d ≤ maxDuration
     larger m d g h = omega arith
 
 -- (2.4) and (2.5): within the limits
@@ -112,7 +114,7 @@ fresh-good c h =
       times = times-good c Unset Unset _ _ _ _ _ (config-of c h .initial) (config-of c h .initial) refl refl refl;
     }
 
-pub accept-good : (e : RtoEstimator) (d : ℕ) → Doubles (e .config) → Good e → d ≤ 86400000000000 → Good (acceptSample e d)
+pub accept-good : (e : RtoEstimator) (d : ℕ) → Doubles (e .config) → Good e → d ≤ maxDuration → Good (acceptSample e d)
 unfolding acceptSample sampled
 accept-good e d f g h =
     let c = e .config in
@@ -120,7 +122,7 @@ accept-good e d f g h =
     let t = times-of e (g .times) in
     let x = estimateFor c (e .srtt) (e .rttvar) d in
     let r = estimate-range c (e .srtt) (e .rttvar) d cfg f (broken-estimate e (g .state)) h in
-    let l : limited c (x .rto) ≤ 86400000000000 = le-trans (limited-most c (x .rto)) (cfg .most) in
+    let l : limited c (x .rto) ≤ maxDuration = le-trans (limited-most c (x .rto)) (cfg .most) in
     record {
       state = state-good c (Is (x .srtt)) (Is (x .rttvar)) _ _ _ _ _ (broken-config e (g .state)) (fits-both (x .srtt) (x .rttvar) (r .0) (r .1));
       times = times-good c (Is (x .srtt)) (Is (x .rttvar)) _ _ _ _ _ l l (least-in (e .stats .«min_rtt») d (t .least) h) (greatest-in (e .stats .«max_rtt») d (t .most) h) (le-ltb _ _ h);

@@ -1,16 +1,17 @@
--- Document 01, "Invented tallies: .. from the history of calls": what a list of calls says of the estimator's tallies. The latest call stands first.
+-- Document 01, "Invented tallies: .. from the history of calls": what the accepted calls of any list say of the estimator's tallies. The latest call stands first.
 use Prim.Native.Nat.{ℕ, suc, max}
-use mathlib.Core.Bool.{Bool, true, false, _&&_}
+use mathlib.Core.Bool.{Bool, true, false, cond}
 use mathlib.Core.List.{List, [], _∷_}
-use lib.Dec.{leb}
 use lib.IntN.{pos}
 use lib.Ieee.{Float, fin, binary64, add}
-use Rattle.duration.specs.Bounds.{maxDuration}
 use Rattle.rtt.specs.Rtt.{toMs}
 use Rattle.rto.specs.declared.RtoConfig.{RtoConfig}
 use Rattle.rto.specs.declared.RtoEstimator.{RtoEstimator}
 use Rattle.rto.specs.declared.Rtt.{Rtt}
 use Rattle.rto.specs.declared.Rtt.the-variants.{Unset, Is}
+use Rattle.rto.specs.declared.UpdateAnswer as Up
+use Rattle.rto.specs.declared.TimeoutAnswer as Ti
+use Rattle.rto.specs.declared.ResetAnswer as Re
 use Rattle.rto.specs.Rto.{fresh, updateRttDef, onTimeoutDef, resetBackoffDef, leastRtt, greatestRtt, nextConsecutive}
 
 -- `update_rtt` with the sample and whether it was retransmitted, `on_timeout`, `reset_backoff`
@@ -28,13 +29,30 @@ unfoldable pub afterCalls : RtoConfig → List Call → RtoEstimator
 afterCalls c [] = fresh c
 afterCalls c (x ∷ xs) = step (afterCalls c xs) x
 
--- every sample is within its bound
-unfoldable pub samplesInBounds : List Call → Bool
-samplesInBounds [] = true
-samplesInBounds (sample d again ∷ xs) = leb d maxDuration && samplesInBounds xs
-samplesInBounds (timeout ∷ xs) = samplesInBounds xs
-samplesInBounds (reset ∷ xs) = samplesInBounds xs
+-- whether an answer is a refusal
+abbrev pub updateRefused : Up.UpdateAnswer → Bool
+updateRefused (Up.the-variants.Accepted b) = false
+updateRefused (Up.the-variants.Refused r) = true
 
+abbrev pub timeoutRefused : Ti.TimeoutAnswer → Bool
+timeoutRefused (Ti.the-variants.Rto n) = false
+timeoutRefused (Ti.the-variants.Refused r) = true
+
+abbrev pub resetRefused : Re.ResetAnswer → Bool
+resetRefused Re.the-variants.Done = false
+resetRefused (Re.the-variants.Refused r) = true
+
+unfoldable pub isRefused : RtoEstimator → Call → Bool
+isRefused e (sample d again) = updateRefused (updateRttDef e d again .answer)
+isRefused e timeout = timeoutRefused (onTimeoutDef e .answer)
+isRefused e reset = resetRefused (resetBackoffDef e .answer)
+
+-- the calls that were not refused
+unfoldable pub accepted : RtoConfig → List Call → List Call
+accepted c [] = []
+accepted c (x ∷ xs) = cond (isRefused (afterCalls c xs) x) (accepted c xs) (x ∷ accepted c xs)
+
+-- ---- the tallies of a list of accepted calls
 unfoldable pub samples : List Call → ℕ
 samples [] = 0
 samples (sample d true ∷ xs) = samples xs

@@ -6,7 +6,7 @@ use lib.Dec.{leb, ltb, eqb}
 use lib.IntN.{pos, negsuc}
 use lib.Ieee.{Float, fin, binary64, add, div, ofInt}
 use Rattle.float.specs.Roll.{chanceInBounds}
-use Rattle.duration.specs.Bounds.{maxDuration}
+use Rattle.duration.specs.Bounds.{maxDuration, maxEstimate}
 use Rattle.rtt.specs.Rtt.{factorInBounds, toMs, firstEstimate, nextEstimate}
 use Rattle.rtt.specs.declared.Estimate.{Estimate}
 use Rattle.refusal.specs.Order.{check, verdict, decide}
@@ -29,12 +29,9 @@ use Rattle.rto.specs.declared.LimitAnswer.{LimitAnswer}
 use Rattle.rto.specs.declared.MeanAnswer as Me
 use Rattle.rto.specs.declared.MeanAnswer.{MeanAnswer}
 
--- ---- bounds: granularity 1 s, SRTT and RTTVAR 86,401 s, counters below 2 ^ 60
+-- ---- bounds: granularity 1 s, counters below 2 ^ 60
 abbrev pub maxGranularity : ℕ
 maxGranularity = 1000000000
-
-abbrev pub maxEstimate : ℕ
-maxEstimate = 86401000000000
 
 abbrev pub countLimit : ℕ
 countLimit = 1152921504606846976

@@ -1,4 +1,6 @@
 // The RTO estimator of RFC 6298 by value: the reference's timing/rto.rs on nanoseconds.
+use duration::MAX_DURATION;
+use duration::MAX_ESTIMATE;
 use refusal::Refusal;
 use rtt::Estimate;
 ghost use mathlib.Core.Path.{_≡_};
@@ -6,14 +8,11 @@ ghost use mathlib.Core.Bool.{true, false, not};
 ghost use Prim.Native.Nat.{_+_, _*_, _≤_, _<_, min, max};
 ghost use mathlib.Core.Bool.{_||_};
 ghost use lib.Dec.{leb, ltb};
+ghost use Rattle.duration.specs.Bounds.{maxEstimate, maxDuration};
 ghost use Rattle.rtt.specs.Rtt.{firstEstimate, nextEstimate};
 ghost use Rattle.rto.specs.Rto.{durationsInBounds, factorsInBounds, configInBounds, estimateBroken, stateBroken, countsFull, rttTooLong, heldTooLong, sampleTooLong, defaultConfig, noStats, fresh, limited, estimateFor, leastRtt, greatestRtt, sampled, acceptSample, rejectSample, takeSample, nextConsecutive, backOff, resetBackoff, meanMs, withConfigDef, updateRttDef, onTimeoutDef, resetBackoffDef, retryLimitDef, meanRttMsDef};
 
-// In nanoseconds: 86,400 s, 86,401 s and 1 s.
-const MAX_DURATION: u64 = 86400000000000;
-
-const MAX_ESTIMATE: u64 = 86401000000000;
-
+// 1 s in nanoseconds.
 const MAX_GRANULARITY: u64 = 1000000000;
 // 2^60.
 const COUNT_LIMIT: u64 = 1152921504606846976;
@@ -162,7 +161,7 @@ fn estimate_broken(srtt: Rtt, rttvar: Rtt) -> bool
 }
 
 fn too_large(srtt: u64, rttvar: u64) -> bool
-    ensures { λ r. ⌜ r ≡ ltb 86401000000000 srtt || ltb 86401000000000 rttvar ⌝ }
+    ensures { λ r. ⌜ r ≡ ltb maxEstimate srtt || ltb maxEstimate rttvar ⌝ }
 {
     if srtt > MAX_ESTIMATE {
         return true;
@@ -305,14 +304,14 @@ fn stats_with_sample(s: RtoStats, sample: u64) -> RtoStats
 }
 
 fn first_estimate(c: RtoConfig, sample: u64) -> Estimate
-    requires { ⌜ (configInBounds c ≡ true) × (sample ≤ 86400000000000) ⌝ }
+    requires { ⌜ (configInBounds c ≡ true) × (sample ≤ maxDuration) ⌝ }
     ensures { λ r. ⌜ r ≡ firstEstimate (c .k) (c .«rto_multiplier») (c .granularity) sample ⌝ }
 {
     rtt::first_estimate_unchecked(c.k, c.rto_multiplier, c.granularity, sample)
 }
 
 fn next_estimate(c: RtoConfig, srtt: u64, rttvar: u64, sample: u64) -> Estimate
-    requires { ⌜ (configInBounds c ≡ true) × (srtt ≤ 86401000000000) × (rttvar ≤ 86401000000000) × (sample ≤ 86400000000000) ⌝ }
+    requires { ⌜ (configInBounds c ≡ true) × (srtt ≤ maxEstimate) × (rttvar ≤ maxEstimate) × (sample ≤ maxDuration) ⌝ }
     ensures { λ r. ⌜ r ≡ nextEstimate (c .alpha) (c .beta) (c .k) (c .«rto_multiplier») (c .granularity) srtt rttvar sample ⌝ }
 {
     rtt::next_estimate_unchecked(
@@ -328,7 +327,7 @@ fn next_estimate(c: RtoConfig, srtt: u64, rttvar: u64, sample: u64) -> Estimate
 }
 
 fn estimate_for(c: RtoConfig, srtt: Rtt, rttvar: Rtt, sample: u64) -> Estimate
-    requires { ⌜ (configInBounds c ≡ true) × (estimateBroken srtt rttvar ≡ false) × (sample ≤ 86400000000000) ⌝ }
+    requires { ⌜ (configInBounds c ≡ true) × (estimateBroken srtt rttvar ≡ false) × (sample ≤ maxDuration) ⌝ }
     ensures { λ r. ⌜ r ≡ estimateFor c srtt rttvar sample ⌝ }
 {
     match srtt {
@@ -373,7 +372,7 @@ fn fresh_estimator(config: RtoConfig) -> RtoEstimator
 }
 
 fn accept_sample(e: RtoEstimator, sample: u64) -> RtoEstimator
-    requires { ⌜ (stateBroken e ≡ false) × (countsFull (e .stats) ≡ false) × (sample ≤ 86400000000000) ⌝ }
+    requires { ⌜ (stateBroken e ≡ false) × (countsFull (e .stats) ≡ false) × (sample ≤ maxDuration) ⌝ }
     ensures { λ r. ⌜ r ≡ acceptSample e sample ⌝ }
 {
     let config = e.config;
@@ -450,7 +449,7 @@ impl RtoEstimator {
     }
 
     pub fn update_rtt_unchecked(self, sample: u64, is_retransmission: bool) -> RtoEstimator
-        requires { ⌜ (stateBroken self ≡ false) × (countsFull (self .stats) ≡ false) × (sample ≤ 86400000000000) ⌝ }
+        requires { ⌜ (stateBroken self ≡ false) × (countsFull (self .stats) ≡ false) × (sample ≤ maxDuration) ⌝ }
         ensures { λ r. ⌜ r ≡ takeSample self sample «is_retransmission» ⌝ }
     {
         if is_retransmission {
@@ -460,7 +459,7 @@ impl RtoEstimator {
     }
 
     pub fn on_timeout_unchecked(self) -> RtoEstimator
-        requires { ⌜ (countsFull (self .stats) ≡ false) × (self .«current_rto» ≤ 86400000000000) ⌝ }
+        requires { ⌜ (countsFull (self .stats) ≡ false) × (self .«current_rto» ≤ maxDuration) ⌝ }
         ensures { λ r. ⌜ r ≡ backOff self ⌝ }
     {
         let config = self.config;

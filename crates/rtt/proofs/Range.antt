@@ -13,6 +13,7 @@ use lib.Ieee.Fits.{and-i, and-l, and-r, eq→eqb, down-pos}
 use lib.Ieee.Order.{le-of-values}
 use lib.Ieee.Scale.{finite}
 use lib.Ieee.Nearest.{closest}
+use Rattle.duration.specs.Bounds.{maxEstimate}
 use Rattle.float.specs.Sign.{absolute, unsigned}
 use Rattle.float.proofs.Error.{closest-up}
 use Rattle.float.proofs.Units.{Is, of-whole, mul-units, add-units, sub-units, div-units, units-of, le-units}
@@ -99,13 +100,13 @@ record Part (w p : ℕ) : Type 0 where
   room : w + N ≤ 86401
   fits-in : p ≤ N * 1000000000
 
-part-of : (w p : ℕ) → w * 1000000000 + p ≤ 86401000000000 → p < 1000000000 → Part w p
+part-of : (w p : ℕ) → w * 1000000000 + p ≤ maxEstimate → p < 1000000000 → Part w p
 part-of w p h l = go (eq-zero-or-pos p)
   where
-    all : (w p : ℕ) → w * 1000000000 + p ≤ 86401000000000 → w + 0 ≤ 86401
+    all : (w p : ℕ) → w * 1000000000 + p ≤ maxEstimate → w + 0 ≤ 86401
     all w p h = omega arith
 
-    one-less : (w p : ℕ) → w * 1000000000 + p ≤ 86401000000000 → 0 < p → w + 1 ≤ 86401
+    one-less : (w p : ℕ) → w * 1000000000 + p ≤ maxEstimate → 0 < p → w + 1 ≤ 86401
     one-less w p h q = omega arith
 
     go : (p ≡ 0) ⊎ (0 < p) → Part w p
@@ -128,7 +129,7 @@ record Time (x : Float) (N : ℕ) : Type 0 where
   upto : UpTo x N
   sign : T (unsigned x)
 
-seconds : (ns : ℕ) → ns ≤ 86401000000000 → Time (asSecsF64 ns) 86401
+seconds : (ns : ℕ) → ns ≤ maxEstimate → Time (asSecsF64 ns) 86401
 seconds ns h =
     let w = ns / 1000000000 in
     let p = ns % 1000000000 in
@@ -154,7 +155,7 @@ seconds ns h =
     first : (w N : ℕ) → w + N ≤ 86401 → w ≤ 86401
     first w N h = omega arith
 
-millis : (ns : ℕ) → ns ≤ 86401000000000 → Time (toMs ns) 86401000
+millis : (ns : ℕ) → ns ≤ maxEstimate → Time (toMs ns) 86401000
 millis ns h =
     let s = seconds ns h in
     let m = mul-up (asSecsF64 ns) thousand64 86401 1000 (lit≤ tt) (s .upto) is-thousand in
@@ -209,7 +210,7 @@ blended w x y t h X Y =
     }
 
 -- ---- fromMs to nanoseconds
-back-most : (x : Float) → Blended x → fromMs x ≤ 86401000000000
+back-most : (x : Float) → Blended x → fromMs x ≤ maxEstimate
 back-most x b =
     let L = 2 ^ 1074 in
     let P = 2 ^ 53 in
@@ -338,24 +339,24 @@ module _ (k multiplier : Float) (g : ℕ) (tk : T (fits binary64 k)) (tm : T (fi
         rto = seconds-in (mul binary64 (rtoMs k g s v) multiplier) 47002144000 47002144 (lit≤ tt) (lit< tt) (rto-up s v (up-of s a) (up-of v b));
       }
 
-  first-srtt : (sample : ℕ) → sample ≤ 86401000000000 → Blended (toMs sample)
+  first-srtt : (sample : ℕ) → sample ≤ maxEstimate → Blended (toMs sample)
   first-srtt sample h = blended-of (toMs sample) (millis sample h .upto)
 
-  first-rttvar : (sample : ℕ) → sample ≤ 86401000000000 → Blended (firstRttvarMs sample)
+  first-rttvar : (sample : ℕ) → sample ≤ maxEstimate → Blended (firstRttvarMs sample)
   first-rttvar sample h = blended-of (firstRttvarMs sample) (half-up (toMs sample) (millis sample h .upto))
 
-  pub first-fits : (sample : ℕ) → sample ≤ 86401000000000 → Fits (toMs sample) (firstRttvarMs sample)
+  pub first-fits : (sample : ℕ) → sample ≤ maxEstimate → Fits (toMs sample) (firstRttvarMs sample)
   first-fits sample h = fits-of (toMs sample) (firstRttvarMs sample) (first-srtt sample h) (first-rttvar sample h)
 
-  pub first-srtt-range : (sample : ℕ) → sample ≤ 86401000000000 → firstEstimate k multiplier g sample .srtt ≤ 86401000000000
+  pub first-srtt-range : (sample : ℕ) → sample ≤ maxEstimate → firstEstimate k multiplier g sample .srtt ≤ maxEstimate
   unfolding firstEstimate
   first-srtt-range sample h = back-most (toMs sample) (first-srtt sample h)
 
-  pub first-rttvar-range : (sample : ℕ) → sample ≤ 86401000000000 → firstEstimate k multiplier g sample .rttvar ≤ 86401000000000
+  pub first-rttvar-range : (sample : ℕ) → sample ≤ maxEstimate → firstEstimate k multiplier g sample .rttvar ≤ maxEstimate
   unfolding firstEstimate
   first-rttvar-range sample h = back-most (firstRttvarMs sample) (first-rttvar sample h)
 
-  module _ (alpha beta : Float) (ta : T (fits binary64 alpha)) (tb : T (fits binary64 beta)) (ha : T (chanceInBounds alpha)) (hb : T (chanceInBounds beta)) (srtt rttvar sample : ℕ) (hs : srtt ≤ 86401000000000) (hv : rttvar ≤ 86401000000000) (hp : sample ≤ 86401000000000) where
+  module _ (alpha beta : Float) (ta : T (fits binary64 alpha)) (tb : T (fits binary64 beta)) (ha : T (chanceInBounds alpha)) (hb : T (chanceInBounds beta)) (srtt rttvar sample : ℕ) (hs : srtt ≤ maxEstimate) (hv : rttvar ≤ maxEstimate) (hp : sample ≤ maxEstimate) where
     next-srtt : Blended (nextSrttMs alpha srtt sample)
     next-srtt = blended alpha (toMs srtt) (toMs sample) ta ha (millis srtt hs .upto) (millis sample hp .upto)
 
@@ -365,14 +366,14 @@ module _ (k multiplier : Float) (g : ℕ) (tk : T (fits binary64 k)) (tm : T (fi
     pub next-fits : Fits (nextSrttMs alpha srtt sample) (nextRttvarMs beta rttvar srtt sample)
     next-fits = fits-of (nextSrttMs alpha srtt sample) (nextRttvarMs beta rttvar srtt sample) next-srtt next-rttvar
 
-    pub next-srtt-range : nextEstimate alpha beta k multiplier g srtt rttvar sample .srtt ≤ 86401000000000
+    pub next-srtt-range : nextEstimate alpha beta k multiplier g srtt rttvar sample .srtt ≤ maxEstimate
     unfolding nextEstimate
     next-srtt-range = back-most (nextSrttMs alpha srtt sample) next-srtt
 
-    pub next-rttvar-range : nextEstimate alpha beta k multiplier g srtt rttvar sample .rttvar ≤ 86401000000000
+    pub next-rttvar-range : nextEstimate alpha beta k multiplier g srtt rttvar sample .rttvar ≤ maxEstimate
     unfolding nextEstimate
     next-rttvar-range = back-most (nextRttvarMs beta rttvar srtt sample) next-rttvar
 
 -- a duration in ms has no sign
-pub ms-unsigned : (ns : ℕ) → ns ≤ 86401000000000 → T (unsigned (toMs ns))
+pub ms-unsigned : (ns : ℕ) → ns ≤ maxEstimate → T (unsigned (toMs ns))
 ms-unsigned ns h = millis ns h .sign

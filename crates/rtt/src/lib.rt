@@ -3,6 +3,7 @@ ghost use mathlib.Core.Path.{_≡_};
 ghost use Prim.Native.Nat.{_≤_};
 ghost use lib.Dec.{T};
 ghost use lib.Ieee.{binary64, mul, div};
+ghost use Rattle.duration.specs.Bounds.{maxDuration, maxEstimate};
 ghost use Rattle.float.specs.Sign.{unsigned};
 ghost use Rattle.float.specs.Roll.{chanceInBounds};
 ghost use Rattle.duration.specs.Duration.{secsInBounds};
@@ -85,7 +86,7 @@ fn estimate_from(
 }
 
 pub fn first_estimate_unchecked(k: f64, multiplier: f64, granularity: u64, sample: u64) -> Estimate
-    requires { ⌜ T (factorInBounds k) × T (factorInBounds multiplier) × (granularity ≤ 1000000000) × (sample ≤ 86400000000000) ⌝ }
+    requires { ⌜ T (factorInBounds k) × T (factorInBounds multiplier) × (granularity ≤ 1000000000) × (sample ≤ maxDuration) ⌝ }
     ensures { λ r. ⌜ r ≡ firstEstimate k multiplier granularity sample ⌝ }
 {
     let sample_ms = to_ms(sample);
@@ -103,7 +104,7 @@ pub fn next_estimate_unchecked(
     rttvar: u64,
     sample: u64,
 ) -> Estimate
-    requires { ⌜ T (chanceInBounds alpha) × T (chanceInBounds beta) × T (factorInBounds k) × T (factorInBounds multiplier) × (granularity ≤ 1000000000) × (srtt ≤ 86401000000000) × (rttvar ≤ 86401000000000) × (sample ≤ 86400000000000) ⌝ }
+    requires { ⌜ T (chanceInBounds alpha) × T (chanceInBounds beta) × T (factorInBounds k) × T (factorInBounds multiplier) × (granularity ≤ 1000000000) × (srtt ≤ maxEstimate) × (rttvar ≤ maxEstimate) × (sample ≤ maxDuration) ⌝ }
     ensures { λ r. ⌜ r ≡ nextEstimate alpha beta k multiplier granularity srtt rttvar sample ⌝ }
 {
     let sample_ms = to_ms(sample);

@@ -9,11 +9,12 @@ use lib.ListN.{length, take, drop, replicate, length-append, length-drop}
 use lib.Seq.{length-take-le, take-at, drop-at, drop-drop, take-take, take-append-le, drop-append-le, take-nil}
 use lib.Dec.{eqb, ltb}
 use borrow.Author.Tests.{eqb-false, ltb-true, ltb-false}
+use Rattle.refusal.proofs.Laws.{or-false}
 use Rattle.schedule.specs.Record.{timeOf, orderOf, lengthOf, placeOf, placeIn}
 use Rattle.schedule.specs.State.{brokenFrom}
 use Rattle.schedule.specs.Schedule.{placed, filled, bytesOf}
 use Rattle.schedule.specs.Waiting.{Copy, copyOf}
-use Rattle.schedule.proofs.Sound.{fine, or-left, or-right, place-cons}
+use Rattle.schedule.proofs.Sound.{fine, place-cons}
 use Rattle.schedule.proofs.Memory.{length-filled, place-within}
 
 drop-take : (a k : ℕ) (l : List ℕ) → drop a (take (a + k) l) ≡ take k (drop a l)
@@ -71,9 +72,9 @@ module _ (ps : List ℕ) (p : ℕ) (bytes : List ℕ) (inside : p * 1410 + 1410 
   other-copies next n front (r ∷ rs) h k =
       let f = fine next n front r rs h in
       let apart = sym (place-cons p r rs) ∙ k in
-      let b : bytesOf (placed ps p bytes) r ≡ bytesOf ps r = other-place (placeOf r) (lengthOf r) (eqb-false p (placeOf r) (or-left (eqb p (placeOf r)) (placeIn p rs) apart)) (f .short) in
+      let b : bytesOf (placed ps p bytes) r ≡ bytesOf ps r = other-place (placeOf r) (lengthOf r) (eqb-false p (placeOf r) (or-false (eqb p (placeOf r)) (placeIn p rs) apart .0)) (f .short) in
       ap (λ (xs : List ℕ). record { time = timeOf r; order = orderOf r; bytes = xs } ∷ map (copyOf (placed ps p bytes)) rs) b
-      ∙ ap (λ (cs : List Copy). copyOf ps r ∷ cs) (other-copies next n r rs (f .rest) (or-right (eqb p (placeOf r)) (placeIn p rs) apart))
+      ∙ ap (λ (cs : List Copy). copyOf ps r ∷ cs) (other-copies next n r rs (f .rest) (or-false (eqb p (placeOf r)) (placeIn p rs) apart .1))
 
 -- the packet that a place was filled with
 pub filled-bytes : (ps : List ℕ) (p : ℕ) (packet : List ℕ) → p * 1410 + 1410 ≤ length ps → length packet ≤ 1410 → take (length packet) (drop (p * 1410) (placed ps p (filled packet))) ≡ packet

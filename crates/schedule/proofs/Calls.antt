@@ -8,6 +8,8 @@ use lib.ListN.{length, take, drop, replicate}
 use lib.Seq.{length-take-le}
 use lib.Dec.{ltb}
 use borrow.Author.Tests.{ltb-false, leb-false, lt-ltb, le-ltb, le-leb, lt-leb}
+use Rattle.refusal.proofs.Laws.{or-false}
+use Rattle.duration.specs.Bounds.{maxTime}
 use Rattle.schedule.specs.Record.{record4, timeOf, lengthOf, placeOf, vacant, after, inserted, lowestFree}
 use Rattle.schedule.specs.State.{Mem, mem, waitingRecords, brokenFrom, stateBroken, countsBroken, late, heldLate, leavesAt, delayLate, deliveriesLate, copies, unusedPlaces, unusedRecords, lacksRoom, CanPut, CanSchedule}
 use Rattle.schedule.specs.Schedule.{scheduler, newDef, placed, filled, putDef, putAllDef, roomOf, onSchedule, scheduleDef, firstRecord, bytesOf, takenDef, PopExit, popExit, onPop, outShort, takeDef, popDef, CanPop, reading}
@@ -21,7 +23,6 @@ use Rattle.schedule.specs.declared.Held.the-variants as held
 use Rattle.schedule.specs.declared.ChannelScheduler.{ChannelScheduler}
 use Rattle.schedule.specs.declared.Deliveries.{Deliveries}
 use Rattle.schedule.specs.declared.Deliveries.the-variants.{Lost, One, Two}
-use Rattle.schedule.proofs.Sound.{or-left, or-right}
 use Rattle.schedule.proofs.Memory.{lacks-is, room-for, has-room, put-sound, put-next, put-room, first-inside, first-fine}
 
 pub new-law : (rs : List (List ℕ)) (ps : List ℕ) {rs′ : List (List ℕ)} {q : List ℕ} → rs′ ≡ replicate (length rs) vacant → q ≡ replicate (length (take (length ps / 1410 * 1410) ps)) 0 → mem rs′ (q ++ drop (length ps / 1410 * 1410) ps) (scheduler 0 0) ≡ newDef rs ps
@@ -61,18 +62,18 @@ unfolding putAllDef
 two-law m now d e packet q p r = rw (q, ← p) r
 
 -- a delay within its bound
-pub delay-fits : (now d : ℕ) → delayLate now d ≡ false → (d ≤ 180000) × (now + d * 1000000 ≤ 172800000000000)
-delay-fits now d h = (ltb-false 180000 d (or-left (ltb 180000 d) (late (leavesAt now d)) h), ltb-false 172800000000000 (leavesAt now d) (or-right (ltb 180000 d) (late (leavesAt now d)) h))
+pub delay-fits : (now d : ℕ) → delayLate now d ≡ false → (d ≤ 180000) × (now + d * 1000000 ≤ maxTime)
+delay-fits now d h = (ltb-false 180000 d (or-false (ltb 180000 d) (late (leavesAt now d)) h .0), ltb-false maxTime (leavesAt now d) (or-false (ltb 180000 d) (late (leavesAt now d)) h .1))
 
 module _ (m : Mem) (now : ℕ) (packet : List ℕ) {ds : Deliveries} (can : CanSchedule m now packet ds) where
-  pub one-fits : (d : ℕ) → ds ≡ One d → (d ≤ 180000) × (now + d * 1000000 ≤ 172800000000000)
+  pub one-fits : (d : ℕ) → ds ≡ One d → (d ≤ 180000) × (now + d * 1000000 ≤ maxTime)
   one-fits d e = delay-fits now d (sym (ap (deliveriesLate now) e) ∙ can .times)
 
-  pub first-fits : (d e : ℕ) → ds ≡ Two d e → (d ≤ 180000) × (now + d * 1000000 ≤ 172800000000000)
-  first-fits d e q = delay-fits now d (or-left (delayLate now d) (delayLate now e) (sym (ap (deliveriesLate now) q) ∙ can .times))
+  pub first-fits : (d e : ℕ) → ds ≡ Two d e → (d ≤ 180000) × (now + d * 1000000 ≤ maxTime)
+  first-fits d e q = delay-fits now d (or-false (delayLate now d) (delayLate now e) (sym (ap (deliveriesLate now) q) ∙ can .times) .0)
 
-  pub second-fits : (d e : ℕ) → ds ≡ Two d e → (e ≤ 180000) × (now + e * 1000000 ≤ 172800000000000)
-  second-fits d e q = delay-fits now e (or-right (delayLate now d) (delayLate now e) (sym (ap (deliveriesLate now) q) ∙ can .times))
+  pub second-fits : (d e : ℕ) → ds ≡ Two d e → (e ≤ 180000) × (now + e * 1000000 ≤ maxTime)
+  second-fits d e q = delay-fits now e (or-false (delayLate now d) (delayLate now e) (sym (ap (deliveriesLate now) q) ∙ can .times) .1)
 
   few : m .scheduler .«next_order» < 1152921504606846976
   few = leb-false 1152921504606846976 (m .scheduler .«next_order») (can .counts)
@@ -132,7 +133,7 @@ module _ (m : Mem) (now : ℕ) (packet : List ℕ) (ds : Deliveries) where
       record {
         sound = a;
         counts = b;
-        times = or-right (heldLate (waitingRecords m)) (deliveriesLate now ds) (or-right (late now) (heldLate (waitingRecords m) || deliveriesLate now ds) c);
+        times = or-false (heldLate (waitingRecords m)) (deliveriesLate now ds) (or-false (late now) (heldLate (waitingRecords m) || deliveriesLate now ds) c .1) .1;
         short = d;
         room = e;
       }

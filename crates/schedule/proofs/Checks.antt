@@ -3,16 +3,19 @@ use mathlib.Core.Path.{_≡_, refl, sym, _∙_, ap}
 use Prim.Native.Nat.{ℕ, zero, suc, _<_, _≤_, _+_, _-_}
 use native.Mathlib.Omega.{arith}
 use native.Mathlib.Numerals.{add-one}
-use native.Mathlib.Nat.{add-zero, zero-add, suc-add, add-sub-cancel-left}
+use native.Mathlib.Nat.{le-refl, le-trans, le-of-suc-le-suc, not-suc-le-zero, add-zero, zero-add, suc-add, add-sub-cancel-left}
 use mathlib.Core.Logic.{_⊎_, inl, inr}
 use mathlib.Core.Bool.{Bool, true, false, cond, _||_}
 use mathlib.Core.List.{List, [], _∷_}
-use lib.ListN.{length, getD, set, replicate}
+use lib.ListN.{length, getD, take, set, replicate}
+use lib.Seq.{length-take-le, getD-take}
 use lib.Dec.{eqb, ltb}
-use borrow.Author.Tests.{eq-eqb, ne-eqb, ltb-true, ltb-false}
-use Rattle.schedule.specs.Record.{timeOf, placeOf, placeIn, freeFrom}
-use Rattle.schedule.specs.Scans.{placeMarks, firstFree}
+use borrow.Author.Tests.{eq-eqb, ne-eqb, ltb-true, ltb-false, le-ltb}
+use Rattle.duration.specs.Bounds.{maxTime}
+use Rattle.schedule.specs.Record.{timeOf, orderOf, vacant, after, orderedFrom, ordered, placeOf, placeIn, freeFrom}
+use Rattle.schedule.specs.Scans.{blockSize, placeMarks, firstFree}
 use Rattle.schedule.specs.State.{late, heldLate}
+use Rattle.schedule.proofs.Ordering.{first-of, not-later}
 
 -- a test that goes along a list: what it says of the first, or of the rest
 pub place-none : (p : ℕ) {l : List (List ℕ)} → l ≡ [] → placeIn p l ≡ false
@@ -23,13 +26,50 @@ pub place-first : (p : ℕ) {l rs : List (List ℕ)} {r : List ℕ} {t : Bool} �
 unfolding placeIn
 place-first p {rs = rs} e h = ap (placeIn p) e ∙ ap (λ (b : Bool). b || placeIn p rs) h
 
-pub held-none : {l : List (List ℕ)} → l ≡ [] → heldLate l ≡ false
-unfolding heldLate
-held-none e = ap heldLate e
+-- among records in leaving order the last one's time is the latest
+last : List ℕ → List (List ℕ) → List ℕ
+last r [] = r
+last r (x ∷ xs) = last x xs
 
-pub held-first : {l rs : List (List ℕ)} {r : List ℕ} {t : Bool} → l ≡ r ∷ rs → late (timeOf r) ≡ t → heldLate l ≡ (t || heldLate rs)
+last-at : (r : List ℕ) (rs : List (List ℕ)) → getD (r ∷ rs) (length rs) [] ≡ last r rs
+unfolding last
+last-at r [] = refl
+last-at r (x ∷ xs) = last-at x xs
+
+last-late : (r : List ℕ) (rs : List (List ℕ)) → orderedFrom after r rs ≡ true → (timeOf r ≤ timeOf (last r rs)) × (heldLate (r ∷ rs) ≡ late (timeOf (last r rs)))
+unfolding last heldLate
+last-late r [] h = (le-refl (timeOf r), alone (late (timeOf r)))
+  where
+    alone : (b : Bool) → (b || false) ≡ b
+    alone true = refl
+    alone false = refl
+last-late r (x ∷ xs) h =
+    let f = first-of after r x xs h in
+    let i = last-late x xs (f .1) in
+    let l = le-trans (not-later (timeOf r) (orderOf r) (timeOf x) (orderOf x) (f .0)) (i .0) in
+    (l, ap (λ (b : Bool). late (timeOf r) || b) (i .1) ∙ go (late (timeOf (last x xs))) refl l)
+  where
+    go : (b : Bool) → late (timeOf (last x xs)) ≡ b → timeOf r ≤ timeOf (last x xs) → (late (timeOf r) || late (timeOf (last x xs))) ≡ late (timeOf (last x xs))
+    go true e l = rw e (any (late (timeOf r)))
+      where
+        any : (b : Bool) → (b || true) ≡ true
+        any true = refl
+        any false = refl
+    go false e l = rw (e, le-ltb maxTime (timeOf r) (le-trans l (ltb-false maxTime (timeOf (last x xs)) e)))
+
+pub held-none : (rs : List (List ℕ)) (n : ℕ) → n ≡ 0 → heldLate (take n rs) ≡ false
 unfolding heldLate
-held-first {rs = rs} e h = ap heldLate e ∙ ap (λ (b : Bool). b || heldLate rs) h
+held-none rs n e = ap (λ (k : ℕ). heldLate (take k rs)) e
+
+pub held-last : (rs : List (List ℕ)) (n : ℕ) → (n ≡ 0 → ⊥) → n ≤ length rs → ordered (take n rs) ≡ true → heldLate (take n rs) ≡ late (timeOf (getD rs (n - 1) []))
+held-last rs zero p h o = absurd (p refl)
+held-last [] (suc n) p h o = absurd (not-suc-le-zero h)
+held-last (r ∷ rs) (suc n) p h o =
+    last-late r (take n rs) (first-of after vacant r (take n rs) o .1) .1
+    ∙ ap (λ (x : List ℕ). late (timeOf x)) (sym (last-at r (take n rs)) ∙ ap (λ (k : ℕ). getD (r ∷ take n rs) k []) (length-take-le n rs (le-of-suc-le-suc h)) ∙ getD-take (suc n) (r ∷ rs) n [] (le-refl (suc n)) ∙ ap (λ (k : ℕ). getD (r ∷ rs) k []) (sym (one-less n)))
+  where
+    one-less : (n : ℕ) → suc n - 1 ≡ n
+    one-less n = omega arith
 
 -- ---- marks of places
 marks-next : (n p : ℕ) (rs : List (List ℕ)) → placeMarks (suc n) p rs ≡ cond (placeIn p rs) 1 0 ∷ placeMarks n (suc p) rs
@@ -141,21 +181,21 @@ first-behind (suc k) m p rs h = go (placeIn p rs) refl (λ l. first-behind k m (
         ap (λ (n : ℕ). freeFrom n p rs) (suc-add k m) ∙ free-next (k + m) p rs true t ∙ ih (omega arith) ∙ ap (λ (q : ℕ). freeFrom m q rs) (shift p k)
     go false t ih = let f : firstFree (suc k) p rs ≡ p = first-next k p rs false t in absurd (omega arith)
 
--- the blocks of 64: a free place in one is the lowest; a full one is passed over; the last one has it
-pub block-found : (n base : ℕ) (rs : List (List ℕ)) {q : ℕ} → 64 ≤ n - base → q ≡ firstFree (base + 64 - base) base rs → q < base + 64 → q ≡ getD (freeFrom (n - base) base rs) 0 0
+-- the blocks: a free place in one is the lowest; a full one is passed over; the last one has it
+pub block-found : (n base : ℕ) (rs : List (List ℕ)) {q : ℕ} → blockSize ≤ n - base → q ≡ firstFree (base + blockSize - base) base rs → q < base + blockSize → q ≡ getD (freeFrom (n - base) base rs) 0 0
 block-found n base rs {q} h e l =
-    let f : q ≡ firstFree 64 base rs = e ∙ ap (λ (k : ℕ). firstFree k base rs) (add-sub-cancel-left base 64) in
-    f ∙ sym (ap (λ (k : ℕ). getD (freeFrom k base rs) 0 0) (whole (n - base) h) ∙ first-lowest 64 (n - base - 64) base rs (omega arith))
+    let f : q ≡ firstFree blockSize base rs = e ∙ ap (λ (k : ℕ). firstFree k base rs) (add-sub-cancel-left base blockSize) in
+    f ∙ sym (ap (λ (k : ℕ). getD (freeFrom k base rs) 0 0) (whole (n - base) h) ∙ first-lowest blockSize (n - base - blockSize) base rs (omega arith))
   where
-    whole : (x : ℕ) → 64 ≤ x → x ≡ 64 + (x - 64)
+    whole : (x : ℕ) → blockSize ≤ x → x ≡ blockSize + (x - blockSize)
     whole x h = omega arith
 
-pub block-full : (n base : ℕ) (rs : List (List ℕ)) {q : ℕ} → 64 ≤ n - base → q ≡ firstFree (base + 64 - base) base rs → base + 64 ≤ q → freeFrom (n - (base + 64)) (base + 64) rs ≡ freeFrom (n - base) base rs
+pub block-full : (n base : ℕ) (rs : List (List ℕ)) {q : ℕ} → blockSize ≤ n - base → q ≡ firstFree (base + blockSize - base) base rs → base + blockSize ≤ q → freeFrom (n - (base + blockSize)) (base + blockSize) rs ≡ freeFrom (n - base) base rs
 block-full n base rs {q} h e l =
-    let f : q ≡ firstFree 64 base rs = e ∙ ap (λ (k : ℕ). firstFree k base rs) (add-sub-cancel-left base 64) in
-    sym (ap (λ (k : ℕ). freeFrom k base rs) (whole n base h) ∙ first-behind 64 (n - (base + 64)) base rs (omega arith))
+    let f : q ≡ firstFree blockSize base rs = e ∙ ap (λ (k : ℕ). firstFree k base rs) (add-sub-cancel-left base blockSize) in
+    sym (ap (λ (k : ℕ). freeFrom k base rs) (whole n base h) ∙ first-behind blockSize (n - (base + blockSize)) base rs (omega arith))
   where
-    whole : (n base : ℕ) → 64 ≤ n - base → n - base ≡ 64 + (n - (base + 64))
+    whole : (n base : ℕ) → blockSize ≤ n - base → n - base ≡ blockSize + (n - (base + blockSize))
     whole n base h = omega arith
 
 free-zero : (p : ℕ) (rs : List (List ℕ)) → freeFrom zero p rs ≡ []

@@ -1,16 +1,17 @@
--- Doubled places, looked for 64 places at a time; and line 9 as that and the rest.
+-- Doubled places, looked for in blocks; and line 9 as that and the rest.
 use mathlib.Core.Path.{_≡_, refl, sym, _∙_, ap}
-use Prim.Native.Nat.{ℕ, zero, suc, _<_, _≤_, _+_, _-_}
+use Prim.Native.Nat.{ℕ, zero, suc, _<_, _≤_, _+_}
 use native.Mathlib.Omega.{arith}
 use mathlib.Core.Bool.{Bool, true, false, _&&_, _||_, or-true, and-false}
 use mathlib.Core.List.{List, [], _∷_}
 use lib.ListN.{drop}
 use lib.Dec.{ltb, leb}
 use borrow.Author.Tests.{lt-ltb, le-ltb, le-leb, lt-leb, ltb-false, leb-false}
+use Rattle.refusal.proofs.Laws.{or-false}
 use Rattle.schedule.specs.Record.{orderOf, lengthOf, placeOf, after, placeIn}
-use Rattle.schedule.specs.Scans.{doubled, outside, doubledIn, brokenAlone}
+use Rattle.schedule.specs.Scans.{blockSize, doubled, outside, doubledIn, brokenAlone}
 use Rattle.schedule.specs.State.{recordBroken, brokenFrom}
-use Rattle.schedule.proofs.Sound.{or-left, or-right, or-both}
+use Rattle.schedule.proofs.Sound.{or-both}
 
 -- a place below m is doubled
 unfoldable pub doubledBelow : ℕ → List (List ℕ) → Bool
@@ -18,7 +19,7 @@ doubledBelow m [] = false
 doubledBelow m (r ∷ rs) = (ltb (placeOf r) m && placeIn (placeOf r) rs) || doubledBelow m rs
 
 abbrev pub within : ℕ → List ℕ → Bool
-within p r = leb p (placeOf r) && ltb (placeOf r) (p + 64)
+within p r = leb p (placeOf r) && ltb (placeOf r) (p + blockSize)
 
 -- ---- one block
 pub in-none : (p : ℕ) {l : List (List ℕ)} → l ≡ [] → doubledIn p l ≡ false
@@ -29,8 +30,8 @@ in-cons : (p : ℕ) (r : List ℕ) (rs : List (List ℕ)) → doubledIn p (r ∷
 unfolding doubledIn
 in-cons p r rs = refl
 
-pub in-hit : (p : ℕ) (r : List ℕ) (rs : List (List ℕ)) → p ≤ placeOf r → placeOf r < p + 64 → placeIn (placeOf r) rs ≡ true → doubledIn p (r ∷ rs) ≡ true
-in-hit p r rs a b h = in-cons p r rs ∙ rw (le-leb p (placeOf r) a, lt-ltb (placeOf r) (p + 64) b, h)
+pub in-hit : (p : ℕ) (r : List ℕ) (rs : List (List ℕ)) → p ≤ placeOf r → placeOf r < p + blockSize → placeIn (placeOf r) rs ≡ true → doubledIn p (r ∷ rs) ≡ true
+in-hit p r rs a b h = in-cons p r rs ∙ rw (le-leb p (placeOf r) a, lt-ltb (placeOf r) (p + blockSize) b, h)
 
 pub in-new : (p : ℕ) (r : List ℕ) (rs : List (List ℕ)) → placeIn (placeOf r) rs ≡ false → doubledIn p (r ∷ rs) ≡ doubledIn p rs
 in-new p r rs h = in-cons p r rs ∙ ap (λ (b : Bool). (within p r && b) || doubledIn p rs) h ∙ ap (λ (b : Bool). b || doubledIn p rs) (and-false (within p r))
@@ -38,8 +39,8 @@ in-new p r rs h = in-cons p r rs ∙ ap (λ (b : Bool). (within p r && b) || dou
 pub in-low : (p : ℕ) (r : List ℕ) (rs : List (List ℕ)) → placeOf r < p → doubledIn p (r ∷ rs) ≡ doubledIn p rs
 in-low p r rs h = in-cons p r rs ∙ rw (lt-leb p (placeOf r) h)
 
-pub in-high : (p : ℕ) (r : List ℕ) (rs : List (List ℕ)) → p + 64 ≤ placeOf r → doubledIn p (r ∷ rs) ≡ doubledIn p rs
-in-high p r rs h = in-cons p r rs ∙ ap (λ (b : Bool). ((leb p (placeOf r) && b) && placeIn (placeOf r) rs) || doubledIn p rs) (le-ltb (placeOf r) (p + 64) h) ∙ ap (λ (b : Bool). (b && placeIn (placeOf r) rs) || doubledIn p rs) (and-false (leb p (placeOf r)))
+pub in-high : (p : ℕ) (r : List ℕ) (rs : List (List ℕ)) → p + blockSize ≤ placeOf r → doubledIn p (r ∷ rs) ≡ doubledIn p rs
+in-high p r rs h = in-cons p r rs ∙ ap (λ (b : Bool). ((leb p (placeOf r) && b) && placeIn (placeOf r) rs) || doubledIn p rs) (le-ltb (placeOf r) (p + blockSize) h) ∙ ap (λ (b : Bool). (b && placeIn (placeOf r) rs) || doubledIn p rs) (and-false (leb p (placeOf r)))
 
 -- doubled in a part from the end, doubled in the whole
 pub in-whole : (p j : ℕ) (l : List (List ℕ)) → doubledIn p (drop j l) ≡ true → doubledIn p l ≡ true
@@ -63,28 +64,28 @@ unfolding doubledBelow
 below-zero [] = refl
 below-zero (r ∷ rs) = rw (le-ltb (placeOf r) 0 (omega arith), below-zero rs)
 
-pub below-more : (m : ℕ) (l : List (List ℕ)) → doubledBelow m l ≡ false → doubledIn m l ≡ false → doubledBelow (m + 64) l ≡ false
+pub below-more : (m : ℕ) (l : List (List ℕ)) → doubledBelow m l ≡ false → doubledIn m l ≡ false → doubledBelow (m + blockSize) l ≡ false
 unfolding doubledBelow doubledIn
 below-more m [] h k = refl
 below-more m (r ∷ rs) h k =
-    or-both (ltb (placeOf r) (m + 64) && placeIn (placeOf r) rs) (doubledBelow (m + 64) rs)
-    (go (ltb (placeOf r) m) refl (ltb (placeOf r) (m + 64)) refl (placeIn (placeOf r) rs) (or-left (ltb (placeOf r) m && placeIn (placeOf r) rs) (doubledBelow m rs) h) (or-left (within m r && placeIn (placeOf r) rs) (doubledIn m rs) k))
-    (below-more m rs (or-right (ltb (placeOf r) m && placeIn (placeOf r) rs) (doubledBelow m rs) h) (or-right (within m r && placeIn (placeOf r) rs) (doubledIn m rs) k))
+    or-both (ltb (placeOf r) (m + blockSize) && placeIn (placeOf r) rs) (doubledBelow (m + blockSize) rs)
+    (go (ltb (placeOf r) m) refl (ltb (placeOf r) (m + blockSize)) refl (placeIn (placeOf r) rs) (or-false (ltb (placeOf r) m && placeIn (placeOf r) rs) (doubledBelow m rs) h .0) (or-false (within m r && placeIn (placeOf r) rs) (doubledIn m rs) k .0))
+    (below-more m rs (or-false (ltb (placeOf r) m && placeIn (placeOf r) rs) (doubledBelow m rs) h .1) (or-false (within m r && placeIn (placeOf r) rs) (doubledIn m rs) k .1))
   where
-    go : (a : Bool) → ltb (placeOf r) m ≡ a → (b : Bool) → ltb (placeOf r) (m + 64) ≡ b → (i : Bool) → (ltb (placeOf r) m && i) ≡ false → ((leb m (placeOf r) && ltb (placeOf r) (m + 64)) && i) ≡ false → (ltb (placeOf r) (m + 64) && i) ≡ false
+    go : (a : Bool) → ltb (placeOf r) m ≡ a → (b : Bool) → ltb (placeOf r) (m + blockSize) ≡ b → (i : Bool) → (ltb (placeOf r) m && i) ≡ false → ((leb m (placeOf r) && ltb (placeOf r) (m + blockSize)) && i) ≡ false → (ltb (placeOf r) (m + blockSize) && i) ≡ false
     go a ea false eb i h k = ap (λ (x : Bool). x && i) eb
     go true ea true eb i h k = ap (λ (x : Bool). x && i) (eb ∙ sym ea) ∙ h
-    go false ea true eb i h k = ap (λ (x : Bool). x && i) (eb ∙ sym (ap (λ (x : Bool). x && ltb (placeOf r) (m + 64)) (le-leb m (placeOf r) (ltb-false (placeOf r) m ea)) ∙ eb)) ∙ k
+    go false ea true eb i h k = ap (λ (x : Bool). x && i) (eb ∙ sym (ap (λ (x : Bool). x && ltb (placeOf r) (m + blockSize)) (le-leb m (placeOf r) (ltb-false (placeOf r) m ea)) ∙ eb)) ∙ k
 
 pub below-all : (n m : ℕ) (l : List (List ℕ)) → outside n l ≡ false → n ≤ m → doubledBelow m l ≡ false → doubled l ≡ false
 unfolding doubledBelow doubled outside
 below-all n m [] o h k = refl
 below-all n m (r ∷ rs) o h k =
-    let low = leb-false n (placeOf r) (or-left (leb n (placeOf r)) (outside n rs) o) in
-    let first = or-left (ltb (placeOf r) m && placeIn (placeOf r) rs) (doubledBelow m rs) k in
+    let low = leb-false n (placeOf r) (or-false (leb n (placeOf r)) (outside n rs) o .0) in
+    let first = or-false (ltb (placeOf r) m && placeIn (placeOf r) rs) (doubledBelow m rs) k .0 in
     or-both (placeIn (placeOf r) rs) (doubled rs)
     (sym (ap (λ (b : Bool). b && placeIn (placeOf r) rs) (lt-ltb (placeOf r) m (omega arith))) ∙ first)
-    (below-all n m rs (or-right (leb n (placeOf r)) (outside n rs) o) h (or-right (ltb (placeOf r) m && placeIn (placeOf r) rs) (doubledBelow m rs) k))
+    (below-all n m rs (or-false (leb n (placeOf r)) (outside n rs) o .1) h (or-false (ltb (placeOf r) m && placeIn (placeOf r) rs) (doubledBelow m rs) k .1))
 
 -- ---- line 9: a broken record, or else a doubled place
 pub alone-none : (next n : ℕ) (front : List ℕ) {l : List (List ℕ)} → l ≡ [] → brokenAlone next n front l ≡ false
@@ -99,10 +100,10 @@ pub alone-outside : (next n : ℕ) (front : List ℕ) (l : List (List ℕ)) → 
 unfolding brokenAlone outside
 alone-outside next n front [] h = refl
 alone-outside next n front (r ∷ rs) h =
-    let a = or-left (recordBroken next n front r) (brokenAlone next n r rs) h in
-    let a2 = or-right (after front r) (ltb 1410 (lengthOf r) || (leb next (orderOf r) || leb n (placeOf r))) a in
-    let a3 = or-right (ltb 1410 (lengthOf r)) (leb next (orderOf r) || leb n (placeOf r)) a2 in
-    or-both (leb n (placeOf r)) (outside n rs) (or-right (leb next (orderOf r)) (leb n (placeOf r)) a3) (alone-outside next n r rs (or-right (recordBroken next n front r) (brokenAlone next n r rs) h))
+    let a = or-false (recordBroken next n front r) (brokenAlone next n r rs) h .0 in
+    let a2 = or-false (after front r) (ltb 1410 (lengthOf r) || (leb next (orderOf r) || leb n (placeOf r))) a .1 in
+    let a3 = or-false (ltb 1410 (lengthOf r)) (leb next (orderOf r) || leb n (placeOf r)) a2 .1 in
+    or-both (leb n (placeOf r)) (outside n rs) (or-false (leb next (orderOf r)) (leb n (placeOf r)) a3 .1) (alone-outside next n r rs (or-false (recordBroken next n front r) (brokenAlone next n r rs) h .1))
 
 pub alone-broken : (next n : ℕ) (front : List ℕ) (l : List (List ℕ)) → brokenAlone next n front l ≡ true → brokenFrom next n front l ≡ true
 unfolding brokenAlone brokenFrom
@@ -119,5 +120,5 @@ pub alone-doubled : (next n : ℕ) (front : List ℕ) (l : List (List ℕ)) → 
 unfolding brokenAlone brokenFrom doubled
 alone-doubled next n front [] h = refl
 alone-doubled next n front (r ∷ rs) h =
-    ap (λ (b : Bool). b || (placeIn (placeOf r) rs || brokenFrom next n r rs)) (or-left (recordBroken next n front r) (brokenAlone next n r rs) h)
-    ∙ ap (λ (b : Bool). placeIn (placeOf r) rs || b) (alone-doubled next n r rs (or-right (recordBroken next n front r) (brokenAlone next n r rs) h))
+    ap (λ (b : Bool). b || (placeIn (placeOf r) rs || brokenFrom next n r rs)) (or-false (recordBroken next n front r) (brokenAlone next n r rs) h .0)
+    ∙ ap (λ (b : Bool). placeIn (placeOf r) rs || b) (alone-doubled next n r rs (or-false (recordBroken next n front r) (brokenAlone next n r rs) h .1))

@@ -22,7 +22,7 @@ use Rattle.schedule.proofs.Memory.{length-filled, unbroken, in-order, w
 use Rattle.schedule.proofs.Calls.{can-one, can-first, can-second}
 use Rattle.schedule.proofs.Bytes.{other-copies, filled-bytes, bytes-length}
 -- tests
-pub use Rattle.schedule.proofs.Sound.{or-left, or-right, or-both, told}
+pub use Rattle.schedule.proofs.Sound.{or-both, told}
 
 -- ---- making
 pub new-waits : (rs : List (List ℕ)) (ps : List ℕ) → waiting (newDef rs ps) ≡ []

@@ -1,4 +1,4 @@
--- Marks of the 64 places from a base on, as loops over the waiting records from the last to the first make them.
+-- Marks of the places of a block, as loops over the waiting records from the last to the first make them.
 use mathlib.Core.Path.{_≡_, refl, sym, _∙_, ap}
 use mathlib.Core.Logic.{_⊎_}
 use Prim.Native.Nat.{ℕ, _≤_, _<_, _+_, _-_}
@@ -7,34 +7,34 @@ use mathlib.Core.Bool.{Bool, true, false, cond}
 use mathlib.Core.List.{List, [], _∷_}
 use lib.ListN.{length, drop, take, getD, set}
 use Rattle.schedule.specs.Record.{placeOf, placeIn}
-use Rattle.schedule.specs.Scans.{placeMarks, doubledIn}
+use Rattle.schedule.specs.Scans.{blockSize, placeMarks, doubledIn}
 use Rattle.schedule.proofs.Lists.{rest-cons}
 use Rattle.schedule.proofs.Checks.{marks-outside, marks-set, marks-at}
 use Rattle.schedule.proofs.Doubled.{in-hit, in-new, in-low, in-high, in-whole}
 
 -- what a mark says of its place
-module _ (p q : ℕ) (rs : List (List ℕ)) (low : p ≤ q) (high : q < p + 64) where
-  mark-is : getD (placeMarks 64 p rs) (q - p) 0 ≡ cond (placeIn q rs) 1 0
-  mark-is = marks-at 64 p (q - p) rs (omega arith) ∙ ap (λ (x : ℕ). cond (placeIn x rs) 1 0) (whole p q low)
+module _ (p q : ℕ) (rs : List (List ℕ)) (low : p ≤ q) (high : q < p + blockSize) where
+  mark-is : getD (placeMarks blockSize p rs) (q - p) 0 ≡ cond (placeIn q rs) 1 0
+  mark-is = marks-at blockSize p (q - p) rs (omega arith) ∙ ap (λ (x : ℕ). cond (placeIn x rs) 1 0) (whole p q low)
     where
       whole : (p q : ℕ) → p ≤ q → p + (q - p) ≡ q
       whole p q l = omega arith
 
-  pub mark-clear : getD (placeMarks 64 p rs) (q - p) 0 ≡ 0 → placeIn q rs ≡ false
+  pub mark-clear : getD (placeMarks blockSize p rs) (q - p) 0 ≡ 0 → placeIn q rs ≡ false
   mark-clear e = read (placeIn q rs) (sym mark-is ∙ e)
     where
       read : (b : Bool) → _≡_ {A = ℕ} (cond b 1 0) 0 → b ≡ false
       read true z = absurd (omega arith)
       read false z = refl
 
-  pub mark-set : (getD (placeMarks 64 p rs) (q - p) 0 ≡ 0 → ⊥) → placeIn q rs ≡ true
+  pub mark-set : (getD (placeMarks blockSize p rs) (q - p) 0 ≡ 0 → ⊥) → placeIn q rs ≡ true
   mark-set e = read (placeIn q rs) (λ z. e (mark-is ∙ z))
     where
       read : (b : Bool) → (_≡_ {A = ℕ} (cond b 1 0) 0 → ⊥) → b ≡ true
       read true z = refl
       read false z = absurd (z refl)
 
-  pub mark-not : (getD (placeMarks 64 p rs) (q - p) 0 ≡ 1 → ⊥) → placeIn q rs ≡ false
+  pub mark-not : (getD (placeMarks blockSize p rs) (q - p) 0 ≡ 1 → ⊥) → placeIn q rs ≡ false
   mark-not e = read (placeIn q rs) (λ z. e (mark-is ∙ z))
     where
       read : (b : Bool) → (_≡_ {A = ℕ} (cond b 1 0) 1 → ⊥) → b ≡ false
@@ -42,7 +42,7 @@ module _ (p q : ℕ) (rs : List (List ℕ)) (low : p ≤ q) (high : q < p + 64) 
       read false z = refl
 
 -- one turn: the record below i
-module _ (s : List (List ℕ)) (count base i : ℕ) {used : List ℕ} (some : 0 < i) (low : i ≤ count) (high : count ≤ length s) (marked : used ≡ placeMarks 64 base (drop i (take count s))) where
+module _ (s : List (List ℕ)) (count base i : ℕ) {used : List ℕ} (some : 0 < i) (low : i ≤ count) (high : count ≤ length s) (marked : used ≡ placeMarks blockSize base (drop i (take count s))) where
   abbrev place : ℕ
   place = placeOf (getD s (i - 1) [])
 
@@ -52,20 +52,20 @@ module _ (s : List (List ℕ)) (count base i : ℕ) {used : List ℕ} (some : 0 
       whole : (i : ℕ) → 0 < i → i - 1 + 1 ≡ i
       whole i h = omega arith
 
-  pub marks-it : base ≤ place → place - base < 64 → set used (place - base) 1 ≡ placeMarks 64 base (drop (i - 1) (take count s))
+  pub marks-it : base ≤ place → place - base < blockSize → set used (place - base) 1 ≡ placeMarks blockSize base (drop (i - 1) (take count s))
   marks-it a b =
       ap (λ (xs : List ℕ). set xs (place - base) 1) marked
-      ∙ marks-set 64 base (place - base) (getD s (i - 1) []) (drop i (take count s)) (whole place base a) b
-      ∙ ap (placeMarks 64 base) one-more
+      ∙ marks-set blockSize base (place - base) (getD s (i - 1) []) (drop i (take count s)) (whole place base a) b
+      ∙ ap (placeMarks blockSize base) one-more
     where
       whole : (p b : ℕ) → b ≤ p → p ≡ b + (p - b)
       whole p b h = omega arith
 
-  pub marks-no : (place < base) ⊎ (base + 64 ≤ place) → used ≡ placeMarks 64 base (drop (i - 1) (take count s))
-  marks-no h = marked ∙ marks-outside 64 base (getD s (i - 1) []) (drop i (take count s)) h ∙ ap (placeMarks 64 base) one-more
+  pub marks-no : (place < base) ⊎ (base + blockSize ≤ place) → used ≡ placeMarks blockSize base (drop (i - 1) (take count s))
+  marks-no h = marked ∙ marks-outside blockSize base (getD s (i - 1) []) (drop i (take count s)) h ∙ ap (placeMarks blockSize base) one-more
 
   -- doubled places
-  pub turn-hit : base ≤ place → place - base < 64 → getD used (place - base) 0 ≡ 1 → doubledIn base (take count s) ≡ true
+  pub turn-hit : base ≤ place → place - base < blockSize → getD used (place - base) 0 ≡ 1 → doubledIn base (take count s) ≡ true
   turn-hit a b e =
       in-whole base (i - 1) (take count s)
       (ap (doubledIn base) (sym one-more) ∙ in-hit base (getD s (i - 1) []) (drop i (take count s)) a (omega arith) (mark-set base place (drop i (take count s)) a (omega arith) (λ z. differ (getD used (place - base) 0) e (ap (λ (xs : List ℕ). getD xs (place - base) 0) marked ∙ z))))
@@ -73,11 +73,11 @@ module _ (s : List (List ℕ)) (count base i : ℕ) {used : List ℕ} (some : 0 
       differ : (x : ℕ) → x ≡ 1 → x ≡ 0 → ⊥
       differ x p q = omega arith
 
-  pub turn-new : base ≤ place → place - base < 64 → (getD used (place - base) 0 ≡ 1 → ⊥) → doubledIn base (drop i (take count s)) ≡ false → doubledIn base (drop (i - 1) (take count s)) ≡ false
+  pub turn-new : base ≤ place → place - base < blockSize → (getD used (place - base) 0 ≡ 1 → ⊥) → doubledIn base (drop i (take count s)) ≡ false → doubledIn base (drop (i - 1) (take count s)) ≡ false
   turn-new a b e h =
       ap (doubledIn base) (sym one-more) ∙ in-new base (getD s (i - 1) []) (drop i (take count s)) (mark-not base place (drop i (take count s)) a (omega arith) (λ z. e (ap (λ (xs : List ℕ). getD xs (place - base) 0) marked ∙ z))) ∙ h
 
-  pub turn-high : base + 64 ≤ place → doubledIn base (drop i (take count s)) ≡ false → doubledIn base (drop (i - 1) (take count s)) ≡ false
+  pub turn-high : base + blockSize ≤ place → doubledIn base (drop i (take count s)) ≡ false → doubledIn base (drop (i - 1) (take count s)) ≡ false
   turn-high a h = ap (doubledIn base) (sym one-more) ∙ in-high base (getD s (i - 1) []) (drop i (take count s)) a ∙ h
 
   pub turn-low : place < base → doubledIn base (drop i (take count s)) ≡ false → doubledIn base (drop (i - 1) (take count s)) ≡ false

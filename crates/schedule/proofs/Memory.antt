@@ -9,22 +9,23 @@ use lib.ListN.{length, take, drop, replicate, length-append, length-replicate, l
 use lib.Seq.{length-take-le, take-at}
 use lib.Dec.{ltb}
 use borrow.Author.Tests.{ltb-true, ltb-false, lt-ltb, le-ltb}
+use Rattle.refusal.proofs.Laws.{or-false}
 use Rattle.schedule.specs.Record.{record4, placeOf, vacant, after, inserted, ordered, placeIn, freePlaces, lowestFree}
 use Rattle.schedule.specs.State.{Mem, waitingRecords, placeCount, brokenFrom, stateBroken, unusedRecords, unusedPlaces, lacksRoom, CanPut}
 use Rattle.schedule.specs.Schedule.{placed, filled, putDef, firstRecord, takenDef, roomOf}
 use Rattle.schedule.proofs.Ordering.{inserted-length, least}
-use Rattle.schedule.proofs.Sound.{or-left, or-right, or-both, Fine, fine, sound-ordered, free-count, free-head, inserted-sound, rest-sound}
+use Rattle.schedule.proofs.Sound.{or-both, Fine, fine, sound-ordered, free-count, free-head, inserted-sound, rest-sound}
 use Rattle.schedule.proofs.Lists.{rest-cons}
 
 -- ---- what line 9 says, false
 module _ (m : Mem) (sound : stateBroken m ≡ false) where
   pub within : m .scheduler .count ≤ length (m .records)
   unfolding stateBroken
-  within = ltb-false (length (m .records)) (m .scheduler .count) (or-left (ltb (length (m .records)) (m .scheduler .count)) (brokenFrom (m .scheduler .«next_order») (placeCount m) vacant (waitingRecords m)) sound)
+  within = ltb-false (length (m .records)) (m .scheduler .count) (or-false (ltb (length (m .records)) (m .scheduler .count)) (brokenFrom (m .scheduler .«next_order») (placeCount m) vacant (waitingRecords m)) sound .0)
 
   pub unbroken : brokenFrom (m .scheduler .«next_order») (placeCount m) vacant (waitingRecords m) ≡ false
   unfolding stateBroken
-  unbroken = or-right (ltb (length (m .records)) (m .scheduler .count)) (brokenFrom (m .scheduler .«next_order») (placeCount m) vacant (waitingRecords m)) sound
+  unbroken = or-false (ltb (length (m .records)) (m .scheduler .count)) (brokenFrom (m .scheduler .«next_order») (placeCount m) vacant (waitingRecords m)) sound .1
 
   pub in-order : ordered (waitingRecords m) ≡ true
   in-order = sound-ordered (m .scheduler .«next_order») (placeCount m) vacant (waitingRecords m) unbroken
@@ -41,7 +42,7 @@ makes-sound m h k = or-both (ltb (length (m .records)) (m .scheduler .count)) (b
 
 -- ---- room
 pub room-for : (m : Mem) (k : ℕ) → lacksRoom m k ≡ false → (k ≤ unusedPlaces m) × (k ≤ unusedRecords m)
-room-for m k h = (ltb-false (unusedPlaces m) k (or-left (ltb (unusedPlaces m) k) (ltb (unusedRecords m) k) h), ltb-false (unusedRecords m) k (or-right (ltb (unusedPlaces m) k) (ltb (unusedRecords m) k) h))
+room-for m k h = (ltb-false (unusedPlaces m) k (or-false (ltb (unusedPlaces m) k) (ltb (unusedRecords m) k) h .0), ltb-false (unusedRecords m) k (or-false (ltb (unusedPlaces m) k) (ltb (unusedRecords m) k) h .1))
 
 pub has-room : (m : Mem) (k : ℕ) → k ≤ unusedPlaces m → k ≤ unusedRecords m → lacksRoom m k ≡ false
 has-room m k a b = or-both (ltb (unusedPlaces m) k) (ltb (unusedRecords m) k) (le-ltb (unusedPlaces m) k a) (le-ltb (unusedRecords m) k b)

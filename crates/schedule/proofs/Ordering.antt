@@ -1,6 +1,6 @@
 -- The leaving order, insertion into a list that is in order, and what the loops of `insert` and `remove_first` make of a list.
 use mathlib.Core.Path.{_≡_, refl, sym, _∙_, ap, subst}
-use Prim.Native.Nat.{ℕ, zero, suc, _<_, _≤_, _+_, _-_}
+use Prim.Native.Nat.{ℕ, zero, suc, _<_, _≤_, _-_}
 use native.Mathlib.Omega.{arith}
 use mathlib.Core.Bool.{Bool, true, false, cond, not, _&&_, true≢false, false≢true}
 use mathlib.Core.Logic.{_⊎_, inl, inr}
@@ -22,6 +22,13 @@ up-to t o u p h = go (ltb t u) (ltb u t) refl refl h
     go true y e₁ e₂ h = inl (ltb-true _ _ e₁)
     go false true e₁ e₂ h = absurd (true≢false h)
     go false false e₁ e₂ h = inr (omega (arith, ltb-false t u e₁, ltb-false u t e₂), ltb-false _ _ h)
+
+pub not-later : (t o u p : ℕ) → later t o u p ≡ false → t ≤ u
+not-later t o u p h = go (up-to t o u p h)
+  where
+    go : UpTo t o u p → t ≤ u
+    go (inl l) = omega arith
+    go (inr (e, l)) = omega arith
 
 pub is-up-to : (t o u p : ℕ) → UpTo t o u p → later t o u p ≡ false
 is-up-to t o u p (inl l) = simp (lt-ltb _ _ l)

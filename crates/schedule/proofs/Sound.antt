@@ -1,26 +1,19 @@
 -- Waiting records of which line 9 is false: what that says of each, how many places are free, and that a record put in or taken out keeps it so.
 use mathlib.Core.Path.{_≡_, refl, sym, _∙_, ap, subst}
-use Prim.Native.Nat.{ℕ, zero, suc, _<_, _≤_, _+_, _-_}
+use Prim.Native.Nat.{ℕ, zero, suc, _<_, _≤_, _+_}
 use native.Mathlib.Omega.{arith}
 use native.Mathlib.Nat.{add-zero}
-use mathlib.Core.Bool.{Bool, true, false, cond, _||_, true≢false}
+use mathlib.Core.Bool.{Bool, true, false, cond, _||_}
 use mathlib.Core.List.{List, [], _∷_}
 use lib.ListN.{length, getD}
 use lib.Dec.{ltb, leb, eqb}
 use borrow.Author.Tests.{ltb-false, leb-false, le-ltb, lt-leb, eqb-true, eqb-false, ne-eqb}
+use Rattle.refusal.proofs.Laws.{or-false}
 use Rattle.schedule.specs.Record.{timeOf, orderOf, lengthOf, placeOf, vacant, after, inserted, orderedFrom, placeIn, freeFrom}
 use Rattle.schedule.specs.State.{recordBroken, brokenFrom}
 use Rattle.schedule.proofs.Ordering.{records, least, none, put-first, insert-none, insert-here, insert-later}
 
 -- ---- tests
-pub or-left : (a b : Bool) → (a || b) ≡ false → a ≡ false
-or-left true b h = h
-or-left false b h = refl
-
-pub or-right : (a b : Bool) → (a || b) ≡ false → b ≡ false
-or-right true b h = absurd (true≢false h)
-or-right false b h = h
-
 pub or-both : (a b : Bool) → a ≡ false → b ≡ false → (a || b) ≡ false
 or-both a b h k = rw (h, k)
 
@@ -40,17 +33,17 @@ pub record Fine (next n : ℕ) (front r : List ℕ) (rs : List (List ℕ)) : Typ
 pub fine : (next n : ℕ) (front r : List ℕ) (rs : List (List ℕ)) → brokenFrom next n front (r ∷ rs) ≡ false → Fine next n front r rs
 unfolding brokenFrom
 fine next n front r rs h =
-    let a = or-left (recordBroken next n front r) (placeIn (placeOf r) rs || brokenFrom next n r rs) h in
-    let b = or-right (recordBroken next n front r) (placeIn (placeOf r) rs || brokenFrom next n r rs) h in
-    let a2 = or-right (after front r) (ltb 1410 (lengthOf r) || (leb next (orderOf r) || leb n (placeOf r))) a in
-    let a3 = or-right (ltb 1410 (lengthOf r)) (leb next (orderOf r) || leb n (placeOf r)) a2 in
+    let a = or-false (recordBroken next n front r) (placeIn (placeOf r) rs || brokenFrom next n r rs) h .0 in
+    let b = or-false (recordBroken next n front r) (placeIn (placeOf r) rs || brokenFrom next n r rs) h .1 in
+    let a2 = or-false (after front r) (ltb 1410 (lengthOf r) || (leb next (orderOf r) || leb n (placeOf r))) a .1 in
+    let a3 = or-false (ltb 1410 (lengthOf r)) (leb next (orderOf r) || leb n (placeOf r)) a2 .1 in
     record {
-      behind = or-left (after front r) (ltb 1410 (lengthOf r) || (leb next (orderOf r) || leb n (placeOf r))) a;
-      short = ltb-false 1410 (lengthOf r) (or-left (ltb 1410 (lengthOf r)) (leb next (orderOf r) || leb n (placeOf r)) a2);
-      below = leb-false next (orderOf r) (or-left (leb next (orderOf r)) (leb n (placeOf r)) a3);
-      inside = leb-false n (placeOf r) (or-right (leb next (orderOf r)) (leb n (placeOf r)) a3);
-      single = or-left (placeIn (placeOf r) rs) (brokenFrom next n r rs) b;
-      rest = or-right (placeIn (placeOf r) rs) (brokenFrom next n r rs) b;
+      behind = or-false (after front r) (ltb 1410 (lengthOf r) || (leb next (orderOf r) || leb n (placeOf r))) a .0;
+      short = ltb-false 1410 (lengthOf r) (or-false (ltb 1410 (lengthOf r)) (leb next (orderOf r) || leb n (placeOf r)) a2 .0);
+      below = leb-false next (orderOf r) (or-false (leb next (orderOf r)) (leb n (placeOf r)) a3 .0);
+      inside = leb-false n (placeOf r) (or-false (leb next (orderOf r)) (leb n (placeOf r)) a3 .1);
+      single = or-false (placeIn (placeOf r) rs) (brokenFrom next n r rs) b .0;
+      rest = or-false (placeIn (placeOf r) rs) (brokenFrom next n r rs) b .1;
     }
 
 pub not-broken : (next n : ℕ) (front r : List ℕ) (rs : List (List ℕ)) → Fine next n front r rs → brokenFrom next n front (r ∷ rs) ≡ false
@@ -150,13 +143,13 @@ free-head (suc k) p rs h = go (placeIn p rs) refl (free-head k (suc p) rs)
 -- ---- a record put in
 pub place-inserted : (p : ℕ) (r : List ℕ) (rs : List (List ℕ)) → eqb p (placeOf r) ≡ false → placeIn p rs ≡ false → placeIn p (inserted after r rs) ≡ false
 place-inserted p r [] e h = ap (placeIn p) (insert-none after r) ∙ place-cons p r [] ∙ or-both (eqb p (placeOf r)) (placeIn p []) e h
-place-inserted p r (x ∷ xs) e h = go (after x r) refl (place-inserted p r xs e (or-right (eqb p (placeOf x)) (placeIn p xs) (sym (place-cons p x xs) ∙ h)))
+place-inserted p r (x ∷ xs) e h = go (after x r) refl (place-inserted p r xs e (or-false (eqb p (placeOf x)) (placeIn p xs) (sym (place-cons p x xs) ∙ h) .1))
   where
     go : (t : Bool) → after x r ≡ t → placeIn p (inserted after r xs) ≡ false → placeIn p (inserted after r (x ∷ xs)) ≡ false
     go true a ih = ap (placeIn p) (insert-here after r x xs a) ∙ place-cons p r (x ∷ xs) ∙ or-both (eqb p (placeOf r)) (placeIn p (x ∷ xs)) e h
     go false a ih =
         ap (placeIn p) (insert-later after r x xs a) ∙ place-cons p x (inserted after r xs)
-        ∙ or-both (eqb p (placeOf x)) (placeIn p (inserted after r xs)) (or-left (eqb p (placeOf x)) (placeIn p xs) (sym (place-cons p x xs) ∙ h)) ih
+        ∙ or-both (eqb p (placeOf x)) (placeIn p (inserted after r xs)) (or-false (eqb p (placeOf x)) (placeIn p xs) (sym (place-cons p x xs) ∙ h) .0) ih
 
 eqb-flip : (a b : ℕ) → eqb a b ≡ false → eqb b a ≡ false
 eqb-flip a b h = let f : a ≡ b → ⊥ = eqb-false a b h in ne-eqb b a (λ e. f (sym e))
@@ -179,7 +172,7 @@ pub inserted-sound : (next n : ℕ) (front r : List ℕ) (rs : List (List ℕ)) 
 inserted-sound next n front r [] b s o i p h =
     ap (brokenFrom (next + 1) n front) (insert-none after r)
     ∙ not-broken (next + 1) n front r [] (record { behind = b; short = s; below = omega arith; inside = i; single = p; rest = none-broken (next + 1) n r })
-inserted-sound next n front r (x ∷ xs) b s o i p h = go (after x r) refl (λ a. inserted-sound next n x r xs a s o i (or-right (eqb (placeOf r) (placeOf x)) (placeIn (placeOf r) xs) (sym (place-cons (placeOf r) x xs) ∙ p)) (fine next n front x xs h .rest))
+inserted-sound next n front r (x ∷ xs) b s o i p h = go (after x r) refl (λ a. inserted-sound next n x r xs a s o i (or-false (eqb (placeOf r) (placeOf x)) (placeIn (placeOf r) xs) (sym (place-cons (placeOf r) x xs) ∙ p) .1) (fine next n front x xs h .rest))
   where
     go : (t : Bool) → after x r ≡ t → (after x r ≡ false → brokenFrom (next + 1) n x (inserted after r xs) ≡ false) → brokenFrom (next + 1) n front (inserted after r (x ∷ xs)) ≡ false
     go true a ih =
@@ -202,7 +195,7 @@ inserted-sound next n front r (x ∷ xs) b s o i p h = go (after x r) refl (λ a
           short = f .short;
           below = omega (arith, f .below);
           inside = f .inside;
-          single = place-inserted (placeOf x) r xs (eqb-flip (placeOf r) (placeOf x) (or-left (eqb (placeOf r) (placeOf x)) (placeIn (placeOf r) xs) (sym (place-cons (placeOf r) x xs) ∙ p))) (f .single);
+          single = place-inserted (placeOf x) r xs (eqb-flip (placeOf r) (placeOf x) (or-false (eqb (placeOf r) (placeOf x)) (placeIn (placeOf r) xs) (sym (place-cons (placeOf r) x xs) ∙ p) .0)) (f .single);
           rest = ih a;
         })
 

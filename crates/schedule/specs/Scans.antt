@@ -21,10 +21,14 @@ unfoldable pub outside : ℕ → List (List ℕ) → Bool
 outside n [] = false
 outside n (r ∷ rs) = leb n (placeOf r) || outside n rs
 
--- one of the 64 places from p on is doubled
+-- places are looked through in blocks
+abbrev pub blockSize : ℕ
+blockSize = 256
+
+-- one of the places of the block from p on is doubled
 unfoldable pub doubledIn : ℕ → List (List ℕ) → Bool
 doubledIn p [] = false
-doubledIn p (r ∷ rs) = ((leb p (placeOf r) && ltb (placeOf r) (p + 64)) && placeIn (placeOf r) rs) || doubledIn p rs
+doubledIn p (r ∷ rs) = ((leb p (placeOf r) && ltb (placeOf r) (p + blockSize)) && placeIn (placeOf r) rs) || doubledIn p rs
 
 -- which of the n places from p on a record has, as 1 and 0
 unfoldable pub placeMarks : ℕ → ℕ → List (List ℕ) → List ℕ

@@ -5,6 +5,7 @@ use mathlib.Core.Bool.{Bool, false, _||_}
 use mathlib.Core.List.{List, [], _∷_}
 use lib.ListN.{length, take}
 use lib.Dec.{ltb, leb}
+use Rattle.duration.specs.Bounds.{maxTime}
 use Rattle.schedule.specs.Record.{timeOf, orderOf, lengthOf, placeOf, vacant, after, placeIn, freePlaces}
 use Rattle.schedule.specs.declared.ChannelScheduler.{ChannelScheduler}
 use Rattle.schedule.specs.declared.Deliveries.{Deliveries}
@@ -46,7 +47,7 @@ countsBroken m = leb 1152921504606846976 (m .scheduler .«next_order»)
 
 -- "other times 172,800 s", in nanoseconds
 abbrev pub late : ℕ → Bool
-late t = ltb 172800000000000 t
+late t = ltb maxTime t
 
 -- line 10 of the times held
 unfoldable pub heldLate : List (List ℕ) → Bool

@@ -4,10 +4,12 @@ ghost use mathlib.Core.Bool.{Bool, true, false, _||_};
 ghost use mathlib.Core.List.{List, _∷_, _++_};
 ghost use Prim.Native.Nat.{_+_, _-_, _*_, _/_, _≤_, _<_};
 ghost use lib.ListN.{length, getD, take, drop, replicate};
+ghost use Rattle.duration.specs.Bounds.{maxTime};
 ghost use Rattle.schedule.specs.Record.{vacant, after, ordered, inserted, freePlaces, lowestFree};
 ghost use Rattle.schedule.specs.State.{mem, recordBroken, brokenFrom, stateBroken, heldLate, late, delayLate, deliveriesLate, copies, CanPut, CanSchedule};
-ghost use Rattle.schedule.specs.Scans.{brokenAlone, doubled, outside, doubledIn, placeMarks, firstFree};
+ghost use Rattle.schedule.specs.Scans.{blockSize, brokenAlone, doubled, outside, doubledIn, placeMarks, firstFree};
 ghost use Rattle.schedule.specs.Schedule.{newDef, placed, filled, putDef, putAllDef, scheduleExit, scheduleDef, bytesOf, outShort, popExit, takeDef, popDef, CanPop, reading, firstTime, deadlineDef, lenDef, emptyDef, roomOf, roomDef};
+use duration::MAX_TIME;
 use refusal::Refusal;
 
 // A record: time in nanoseconds, order, length, place.
@@ -15,8 +17,6 @@ pub type Scheduled = [u64; 4];
 
 // The bytes of a place.
 const PLACE_SIZE: usize = 1410;
-// 172,800 s.
-const MAX_TIME: u64 = 172800000000000;
 
 // The first `count` records wait; `next_order` is the order of the next copy.
 pub struct ChannelScheduler {
@@ -135,12 +135,12 @@ fn remove_first(s: &mut [Scheduled], count: usize)
     s[last] = [0, 0, 0, 0];
 }
 
-// Which of the 64 places from `base` on a waiting record has.
-fn used_places(s: &[Scheduled], count: usize, base: u64) -> [u8; 64]
+// Which of the 256 places from `base` on a waiting record has.
+fn used_places(s: &[Scheduled], count: usize, base: u64) -> [u8; 256]
     requires { ⌜ count ≤ length (now s) ⌝ }
-    ensures { λ r. ⌜ r ≡ placeMarks 64 base (take count (now (s .entry))) ⌝ }
+    ensures { λ r. ⌜ r ≡ placeMarks blockSize base (take count (now (s .entry))) ⌝ }
 {
-    let mut used = [0u8; 64];
+    let mut used = [0u8; 256];
     let mut i = count;
     while 0 < i {
         i -= 1;
@@ -148,7 +148,7 @@ fn used_places(s: &[Scheduled], count: usize, base: u64) -> [u8; 64]
         let place = r[3];
         if base <= place {
             let k = place - base;
-            if k < 64 {
+            if k < 256 {
                 used[k as usize] = 1;
             }
         }
@@ -158,7 +158,7 @@ fn used_places(s: &[Scheduled], count: usize, base: u64) -> [u8; 64]
 
 // The first place from `base` up to `end` that no waiting record has, or `end`.
 fn first_free(s: &[Scheduled], count: usize, base: usize, end: usize) -> usize
-    requires { ⌜ (count ≤ length (now s)) × (base ≤ end) × (end ≤ base + 64) ⌝ }
+    requires { ⌜ (count ≤ length (now s)) × (base ≤ end) × (end ≤ base + blockSize) ⌝ }
     ensures { λ p. ⌜ p ≡ firstFree (end - base) base (take count (now (s .entry))) ⌝ }
 {
     let used = used_places(s, count, base as u64);
@@ -178,22 +178,22 @@ fn lowest_free(s: &[Scheduled], count: usize, places: usize) -> usize
     ensures { λ p. ⌜ p ≡ lowestFree places (take count (now (s .entry))) ⌝ }
 {
     let mut base: usize = 0;
-    while 64 <= places - base {
-        let p = first_free(s, count, base, base + 64);
-        if p < base + 64 {
+    while 256 <= places - base {
+        let p = first_free(s, count, base, base + 256);
+        if p < base + 256 {
             return p;
         }
-        base += 64;
+        base += 256;
     }
     first_free(s, count, base, places)
 }
 
-// Whether two waiting records have the same one of the 64 places from `base` on.
+// Whether two waiting records have the same one of the 256 places from `base` on.
 fn block_doubled(s: &[Scheduled], count: usize, base: u64) -> bool
     requires { ⌜ (count ≤ length (now s)) × (base < 9223372036854775808) ⌝ }
     ensures { λ b. ⌜ b ≡ doubledIn base (take count (now (s .entry))) ⌝ }
 {
-    let mut used = [0u8; 64];
+    let mut used = [0u8; 256];
     let mut i = count;
     while 0 < i {
         i -= 1;
@@ -201,7 +201,7 @@ fn block_doubled(s: &[Scheduled], count: usize, base: u64) -> bool
         let place = r[3];
         if base <= place {
             let k = place - base;
-            if k < 64 {
+            if k < 256 {
                 let at = k as usize;
                 if used[at] == 1 {
                     return true;
@@ -223,7 +223,7 @@ fn place_doubled(s: &[Scheduled], count: usize, places: usize) -> bool
         if block_doubled(s, count, base as u64) {
             return true;
         }
-        base += 64;
+        base += 256;
     }
     false
 }
@@ -275,25 +275,21 @@ fn record_broken(front: Scheduled, r: Scheduled, next: u64, places: u64) -> bool
     places <= r[3]
 }
 
-// Whether one of the first `count` records has a time above its bound.
+// Whether one of the first `count` records, which are in leaving order, has a time above its bound: the last one's is the latest.
 fn held_late(s: &[Scheduled], count: usize) -> bool
-    requires { ⌜ count ≤ length (now s) ⌝ }
+    requires { ⌜ (count ≤ length (now s)) × (ordered (take count (now s)) ≡ true) ⌝ }
     ensures { λ b. ⌜ b ≡ heldLate (take count (now (s .entry))) ⌝ }
 {
-    let mut i: usize = 0;
-    while i < count {
-        let r = s[i];
-        if MAX_TIME < r[0] {
-            return true;
-        }
-        i += 1;
+    if count == 0 {
+        return false;
     }
-    false
+    let r = s[count - 1];
+    MAX_TIME < r[0]
 }
 
 // Whether a delay or the time that it leads to is above its bound.
 fn delay_late(now: u64, delay: u64) -> bool
-    requires { ⌜ now ≤ 172800000000000 ⌝ }
+    requires { ⌜ now ≤ maxTime ⌝ }
     ensures { λ b. ⌜ b ≡ delayLate now delay ⌝ }
 {
     if 180000 < delay {
@@ -303,7 +299,7 @@ fn delay_late(now: u64, delay: u64) -> bool
 }
 
 fn deliveries_late(now: u64, deliveries: Deliveries) -> bool
-    requires { ⌜ now ≤ 172800000000000 ⌝ }
+    requires { ⌜ now ≤ maxTime ⌝ }
     ensures { λ b. ⌜ b ≡ deliveriesLate now deliveries ⌝ }
 {
     match deliveries {
@@ -379,7 +375,7 @@ impl ChannelScheduler {
 
     // Line 10, of the times given and held.
     fn time_late(self, records: &[Scheduled], now: u64, deliveries: Deliveries) -> bool
-        requires { ⌜ self .count ≤ length (records .now) ⌝ }
+        requires { ⌜ (self .count ≤ length (records .now)) × (ordered (take (self .count) (records .now)) ≡ true) ⌝ }
         ensures { λ b. ⌜ b ≡ (late now || (heldLate (take (self .count) (records .entry .now)) || deliveriesLate now deliveries)) ⌝ }
     {
         if MAX_TIME < now {

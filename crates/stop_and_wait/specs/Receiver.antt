@@ -3,6 +3,7 @@ use Prim.Native.Nat.{ℕ, _+_, _-_}
 use mathlib.Core.List.{List}
 use mathlib.Core.Bool.{Bool, true, false, cond}
 use lib.Dec.{ltb, eqb}
+use Rattle.packet.specs.Reading.{payloadOf}
 use Rattle.receiver.specs.State.{marksBroken, countsBroken}
 use Rattle.receiver.specs.Handed.{readPacket}
 use Rattle.receiver.specs.Receive.{Receiving, receive}
@@ -50,4 +51,4 @@ withMark r filled = state (r .«expected_seq») filled (r .«total_received») (
 
 abbrev pub handlePacket : StopAndWaitReceiver → List ℕ → List ℕ → List ℕ → Receiving StopAndWaitReceiver
 handlePacket r raw output ack =
-    receive (marksBroken (r .«expected_seq») (r .filled) output) (countsBroken (r .«total_received») (r .«duplicates_count») (r .«corrupted_count»)) r (r .filled) (decision r (readPacket raw) .decision) (withMark (decision r (readPacket raw) .receiver)) raw output ack
+    receive (marksBroken (r .«expected_seq») (r .filled) output) (countsBroken (r .«total_received») (r .«duplicates_count») (r .«corrupted_count»)) r (r .filled) (decision r (readPacket raw) .decision) (payloadOf raw) (withMark (decision r (readPacket raw) .receiver)) raw output ack

@@ -1,7 +1,15 @@
 // Stop-and-Wait: arq/sw.rs of the reference.
 ghost use mathlib.Core.Path.{_≡_};
-ghost use Prim.Native.Nat.{_-_, _≤_, _<_};
+ghost use Prim.Native.Nat.{ℕ, _-_, _≤_, _<_};
 ghost use mathlib.Core.Bool.{false};
+ghost use Rattle.window.specs.State.{numbersBroken};
+ghost use Rattle.window.specs.Outstanding.{unlessBroken};
+ghost use Rattle.window.specs.Sending.{making, sending};
+ghost use Rattle.window.specs.Acknowledgement.{acknowledging};
+ghost use Rattle.window.specs.Resending.{resending};
+ghost use Rattle.window.specs.declared.TimeoutAnswer.the-variants as timeoutAnswer;
+ghost use Rattle.window.specs.declared.WindowTest.the-variants as windowTest;
+ghost use Rattle.stop_and_wait.specs.Sender.{windowOf, endOf, newSender, canSend, isWaitingForAck, bySend, sendChunk, handleAck, retriesLeft, byTimeout, handleTimeout};
 ghost use Rattle.stop_and_wait.specs.Receiver.{newReceiver, dataDecision, decision, handlePacket};
 ghost use Rattle.receiver.specs.Receive.{receiving};
 ghost use Rattle.receiver.specs.State.{countsBroken};
@@ -11,6 +19,237 @@ use receiver::Handed;
 use receiver::ReceiveAnswer;
 use receiver::Reply;
 use refusal::Refusal;
+use window::AckAnswer;
+use window::AckDecision;
+use window::SendAnswer;
+use window::SendWindow;
+use window::TimeoutAnswer;
+use window::WindowTest;
+
+pub struct StopAndWaitSender {
+    pub current_seq: u32,
+    pub in_flight: bool,
+    pub max_retries: u32,
+    pub current_retries: u32,
+    pub total_sent: u64,
+    pub retransmissions: u64,
+}
+
+pub enum StopAndWaitMade {
+    Sender(StopAndWaitSender),
+    Refused(Refusal),
+}
+
+pub struct StopAndWaitSent {
+    pub sender: StopAndWaitSender,
+    pub answer: SendAnswer,
+}
+
+pub struct StopAndWaitAcknowledged {
+    pub sender: StopAndWaitSender,
+    pub answer: AckAnswer,
+}
+
+pub struct StopAndWaitTimedOut {
+    pub sender: StopAndWaitSender,
+    pub answer: TimeoutAnswer,
+}
+
+impl StopAndWaitSender {
+    pub fn new(max_retries: u32, store: &mut [u8]) -> StopAndWaitMade
+        ensures { λ r. ⌜ making r (now (store .exit)) ≡ newSender «max_retries» (now (store .entry)) ⌝ }
+    {
+        if window::store_short(store, 1) {
+            return StopAndWaitMade::Refused(Refusal::State);
+        }
+        store::empty_all_unchecked(store, 1);
+        StopAndWaitMade::Sender(StopAndWaitSender {
+            current_seq: 0,
+            in_flight: false,
+            max_retries,
+            current_retries: 0,
+            total_sent: 0,
+            retransmissions: 0,
+        })
+    }
+
+    pub fn can_send(self) -> WindowTest
+        ensures { λ r. ⌜ r ≡ canSend self ⌝ }
+    {
+        self.unless_broken(!self.in_flight)
+    }
+
+    pub fn is_waiting_for_ack(self) -> WindowTest
+        ensures { λ r. ⌜ r ≡ isWaitingForAck self ⌝ }
+    {
+        self.unless_broken(self.in_flight)
+    }
+
+    // A chunk into the slot and as a datagram to the start of out.
+    pub fn send_chunk(self, store: &mut [u8], payload: &[u8], out: &mut [u8]) -> StopAndWaitSent
+        ensures { λ r. ⌜ sending (r .answer) (endOf (r .sender) (now (store .exit))) (now (out .exit)) ≡ sendChunk (endOf self (now (store .entry))) (now (payload .entry)) (now (out .entry)) ⌝ }
+    {
+        if self.numbers_broken() {
+            return StopAndWaitSent {
+                sender: self,
+                answer: SendAnswer::Refused(Refusal::State),
+            };
+        }
+        let window = self.window_unchecked();
+        let result = window.send_chunk(false, store, payload, out);
+        let answer = result.answer;
+        let window = result.window;
+        StopAndWaitSent {
+            sender: self.after_send(answer, window),
+            answer,
+        }
+    }
+
+    // A datagram as an ACK.
+    pub fn handle_ack(self, store: &mut [u8], raw: &[u8]) -> StopAndWaitAcknowledged
+        ensures { λ r. ⌜ acknowledging (r .answer) (endOf (r .sender) (now (store .exit))) ≡ handleAck (endOf self (now (store .entry))) (now (raw .entry)) ⌝ }
+    {
+        if self.numbers_broken() {
+            return StopAndWaitAcknowledged {
+                sender: self,
+                answer: AckAnswer::Refused(Refusal::State),
+            };
+        }
+        let window = self.window_unchecked();
+        match window.decide_ack(store, false, raw) {
+            AckDecision::Accept(n) => {
+                window.release_unchecked(store, n + 1);
+                StopAndWaitAcknowledged {
+                    sender: StopAndWaitSender {
+                        current_seq: self.current_seq + 1,
+                        in_flight: false,
+                        max_retries: self.max_retries,
+                        current_retries: 0,
+                        total_sent: self.total_sent,
+                        retransmissions: self.retransmissions,
+                    },
+                    answer: AckAnswer::Accepted,
+                }
+            }
+            AckDecision::NotAccepted => StopAndWaitAcknowledged {
+                sender: self,
+                answer: AckAnswer::NotAccepted,
+            },
+            AckDecision::Refused(r) => StopAndWaitAcknowledged {
+                sender: self,
+                answer: AckAnswer::Refused(r),
+            },
+        }
+    }
+
+    // The packet in flight again, unless the retry limit is met.
+    pub fn handle_timeout(self, store: &mut [u8], out: &mut [u8]) -> StopAndWaitTimedOut
+        ensures { λ r. ⌜ resending (r .answer) (endOf (r .sender) (now (store .exit))) (now (out .exit)) ≡ handleTimeout (endOf self (now (store .entry))) (now (out .entry)) ⌝ }
+    {
+        if self.numbers_broken() {
+            return StopAndWaitTimedOut {
+                sender: self,
+                answer: TimeoutAnswer::Refused(Refusal::State),
+            };
+        }
+        let window = self.window_unchecked();
+        let most = self.retries_left();
+        let result = window.resend_outstanding(false, store, most, out);
+        let answer = result.answer;
+        let window = result.window;
+        StopAndWaitTimedOut {
+            sender: self.after_timeout_unchecked(answer, window),
+            answer,
+        }
+    }
+
+    fn unless_broken(self, answer: bool) -> WindowTest
+        ensures { λ r. ⌜ r ≡ unlessBroken (windowOf self) windowTest.Refused (windowTest.Is answer) ⌝ }
+    {
+        if self.numbers_broken() {
+            return WindowTest::Refused(Refusal::State);
+        }
+        let window = self.window_unchecked();
+        if window.counts_broken() {
+            return WindowTest::Refused(Refusal::Counts);
+        }
+        WindowTest::Is(answer)
+    }
+
+    // Whether its window breaks the clauses of line 9 that don't speak of the store.
+    fn numbers_broken(self) -> bool
+        ensures { λ r. ⌜ r ≡ numbersBroken (windowOf self) ⌝ }
+    {
+        if self.in_flight {
+            return window::SEQ_NUM_LIMIT <= self.current_seq;
+        }
+        window::SEQ_NUM_LIMIT < self.current_seq
+    }
+
+    fn window_unchecked(self) -> SendWindow
+        requires { ⌜ numbersBroken (windowOf self) ≡ false ⌝ }
+        ensures { λ r. ⌜ r ≡ windowOf self ⌝ }
+    {
+        let mut window = SendWindow {
+            window_size: 1,
+            send_base: self.current_seq,
+            next_seq_num: self.current_seq,
+            total_sent: self.total_sent,
+            retransmissions: self.retransmissions,
+        };
+        if self.in_flight {
+            window.next_seq_num = self.current_seq + 1;
+            return window;
+        }
+        window
+    }
+
+    fn after_send(mut self, answer: SendAnswer, window: SendWindow) -> StopAndWaitSender
+        ensures { λ r. ⌜ r ≡ bySend self answer window ⌝ }
+    {
+        match answer {
+            SendAnswer::Sent(_) => {
+                self.in_flight = true;
+                self.current_retries = 0;
+                self.total_sent = window.total_sent;
+                self.retransmissions = window.retransmissions;
+                self
+            }
+            SendAnswer::WindowFull => self,
+            SendAnswer::Refused(_) => self,
+        }
+    }
+
+    fn after_timeout_unchecked(
+        mut self,
+        answer: TimeoutAnswer,
+        window: SendWindow,
+    ) -> StopAndWaitSender
+        requires { ⌜ ((n : ℕ) → answer ≡ timeoutAnswer.Resent n → self .«current_retries» < self .«max_retries») ⌝ }
+        ensures { λ r. ⌜ r ≡ byTimeout self answer window ⌝ }
+    {
+        match answer {
+            TimeoutAnswer::Resent(_) => {
+                self.current_retries = self.current_retries + 1;
+                self.total_sent = window.total_sent;
+                self.retransmissions = window.retransmissions;
+                self
+            }
+            TimeoutAnswer::Nothing => self,
+            TimeoutAnswer::Refused(_) => self,
+        }
+    }
+
+    // How many packets a timeout may send again.
+    fn retries_left(self) -> u32
+        ensures { λ r. ⌜ r ≡ retriesLeft self ⌝ }
+    {
+        if self.current_retries < self.max_retries {
+            return 1;
+        }
+        0
+    }
+}
 
 pub struct StopAndWaitReceiver {
     pub expected_seq: u32,

@@ -4,10 +4,11 @@ use mathlib.Core.Path.{_≡_, refl, sym, ap, _∙_}
 use mathlib.Core.List.{List, [], _∷_, _++_, append-assoc}
 use mathlib.Core.Logic.{_⊎_, inl, inr, ⊎-elim}
 use native.Mathlib.Omega.{arith}
-use lib.ListN.{length, getD, set, take, drop, replicate, length-append, length-drop, length-set, length-replicate, List·getD-append}
+use lib.ListN.{length, getD, set, take, drop, replicate, length-append, length-take, length-drop, length-set, length-replicate, List·getD-append}
 use lib.Seq.{getD-take, getD-drop, getD-append-add, getD-set-other, length-take-le, take-at, drop-at, take-append-seam, drop-drop, take-take, ext-getD, take-set-lt, drop-set-add}
 use Rattle.store.specs.Slot.{SlotIn, slotAt, lengthOf, markOf, flagsOf, payloadOf, slotBytes, putSlot}
-pub use Rattle.store.proofs.Tests.{slot-in}
+pub use Rattle.store.proofs.Tests.{slot-in, none-found, receiver-slot-short}
+pub use Rattle.store.proofs.Numbers.{run-within, count-within, written-on, written-none, written-length, payloads-none}
 
 -- a byte of a slot
 pub slot-byte : (store : List ℕ) (j i : ℕ) → i < 1404 → getD (slotAt store j) i 0 ≡ getD store (j * 1404 + i) 0
@@ -32,6 +33,11 @@ slot-payload store j n e h =
     ap (λ (k : ℕ). take k (drop 4 (take 1404 (drop (j * 1404) store)))) (sym e)
     ∙ ap (take n) (behind-head (drop (j * 1404) store)) ∙ take-take n 1400 (drop 4 (drop (j * 1404) store)) h
     ∙ ap (take n) (drop-drop 4 (j * 1404) store)
+
+-- a slot's payload is as long as its length says
+pub slot-payload-length : (store : List ℕ) (j : ℕ) → SlotIn store j → lengthOf (slotAt store j) ≤ 1400 → length (payloadOf (slotAt store j)) ≡ lengthOf (slotAt store j)
+unfolding payloadOf
+slot-payload-length store j h k = simp (length-take, length-drop) (omega (arith, slot-length store j h))
 
 -- the fields of what filling writes
 pub slot-bytes-length : (payload : List ℕ) (mark flags : ℕ) → length payload ≤ 1400 → length (slotBytes payload mark flags) ≡ 1404

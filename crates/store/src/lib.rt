@@ -1,11 +1,12 @@
 // The lent store of a protocol end: slots of 1,404 bytes, end to end.
 ghost use mathlib.Core.Path.{_≡_};
-ghost use Prim.Native.Nat.{_+_, _*_, _≤_, _<_};
+ghost use Prim.Native.Nat.{_+_, _*_, _%_, _≤_, _<_};
 ghost use lib.ListN.{length, replicate, drop};
 ghost use lib.Dec.{ltb};
 ghost use mathlib.Core.Bool.{_&&_};
 ghost use mathlib.Core.List.{_++_};
 ghost use Rattle.store.specs.Sound.{senderSlotBroken, receiverSlotBroken, senderSlotsBroken, receiverSlotsBroken};
+ghost use Rattle.store.specs.Numbers.{markedRun, markedCount, payloadsFrom, writtenAt, PayloadsIn};
 ghost use Rattle.store.specs.Slot.{SlotIn, headBytes, slotBytes, slotAt, lengthOf, markOf, flagsOf, payloadOf, fillSlot, emptySlot, setMark, setFlags};
 
 // Length (2 bytes, big-endian), mark, flags, payload.
@@ -96,8 +97,8 @@ pub fn sender_slots_broken_unchecked(
     ensures { λ r. ⌜ r ≡ senderSlotsBroken selective (now (store .entry)) window base count ⌝ }
 {
     let mut k: usize = 0;
+    let mut slot = base as usize % window;
     while k < window {
-        let slot = (base as usize + k) % window;
         let may = may_be_acknowledged(selective, k);
         if sender_slot_broken(
             k < count,
@@ -107,6 +108,7 @@ pub fn sender_slots_broken_unchecked(
         ) {
             return true;
         }
+        slot = next_slot_unchecked(slot, window);
         k += 1;
     }
     false
@@ -118,8 +120,8 @@ pub fn receiver_slots_broken_unchecked(store: &[u8], window: usize, base: u32) -
     ensures { λ r. ⌜ r ≡ receiverSlotsBroken (now (store .entry)) window base ⌝ }
 {
     let mut k: usize = 0;
+    let mut slot = base as usize % window;
     while k < window {
-        let slot = (base as usize + k) % window;
         if receiver_slot_broken(
             k == 0,
             length_unchecked(store, slot),
@@ -127,9 +129,114 @@ pub fn receiver_slots_broken_unchecked(store: &[u8], window: usize, base: u32) -
         ) {
             return true;
         }
+        slot = next_slot_unchecked(slot, window);
         k += 1;
     }
     false
+}
+
+// How many of count numbers from first on have this mark, up to the first that has another.
+pub fn marked_run_unchecked(
+    store: &[u8],
+    window: usize,
+    first: u32,
+    count: usize,
+    mark: u8,
+) -> usize
+    requires { ⌜ (0 < window) × (window * 1404 ≤ length (now store)) × (count ≤ 32) ⌝ }
+    ensures { λ r. ⌜ r ≡ markedRun mark (now (store .entry)) window first count ⌝ }
+{
+    let mut k: usize = 0;
+    let mut slot = first as usize % window;
+    while k < count {
+        if mark_unchecked(store, slot) != mark {
+            return k;
+        }
+        slot = next_slot_unchecked(slot, window);
+        k += 1;
+    }
+    k
+}
+
+// How many of count numbers from first on have this mark.
+pub fn marked_count_unchecked(
+    store: &[u8],
+    window: usize,
+    first: u32,
+    count: usize,
+    mark: u8,
+) -> usize
+    requires { ⌜ (0 < window) × (window * 1404 ≤ length (now store)) × (count ≤ 32) ⌝ }
+    ensures { λ r. ⌜ r ≡ markedCount mark (now (store .entry)) window first count ⌝ }
+{
+    let mut k: usize = 0;
+    let mut total: usize = 0;
+    let mut slot = first as usize % window;
+    while k < count {
+        if mark_unchecked(store, slot) == mark {
+            total += 1;
+        }
+        slot = next_slot_unchecked(slot, window);
+        k += 1;
+    }
+    total
+}
+
+// The length of the payloads of count numbers from first on, joined.
+pub fn payloads_length_unchecked(store: &[u8], window: usize, first: u32, count: usize) -> usize
+    requires { ⌜ PayloadsIn (now store) window first count × (count ≤ 32) ⌝ }
+    ensures { λ r. ⌜ r ≡ length (payloadsFrom (now (store .entry)) window first count) ⌝ }
+    ensures { λ r. ⌜ r ≤ count * 1400 ⌝ }
+{
+    let mut k: usize = 0;
+    let mut total: usize = 0;
+    let mut slot = first as usize % window;
+    while k < count {
+        total += length_unchecked(store, slot) as usize;
+        slot = next_slot_unchecked(slot, window);
+        k += 1;
+    }
+    total
+}
+
+// Writes the payloads of count numbers from first on, joined, to the buffer from a place on, and answers where they end.
+pub fn copy_payloads_unchecked(
+    store: &[u8],
+    window: usize,
+    first: u32,
+    count: usize,
+    buffer: &mut [u8],
+    place: usize,
+) -> usize
+    requires { ⌜ PayloadsIn (now store) window first count × (count ≤ 32) ⌝ }
+    requires { ⌜ place + length (payloadsFrom (now store) window first count) ≤ length (now buffer) ⌝ }
+    ensures { λ r. ⌜ r ≡ place + length (payloadsFrom (now (store .entry)) window first count) ⌝ }
+    ensures { λ _. ⌜ now (buffer .exit) ≡ writtenAt (now (buffer .entry)) place (payloadsFrom (now (store .entry)) window first count) ⌝ }
+{
+    let mut k: usize = 0;
+    let mut start = place;
+    let mut slot = first as usize % window;
+    while k < count {
+        let payload = payload_unchecked(store, slot);
+        let end = start + payload.len();
+        octets::copy_unchecked(payload, &mut buffer[start..end]);
+        start = end;
+        slot = next_slot_unchecked(slot, window);
+        k += 1;
+    }
+    start
+}
+
+// The slot of the next number.
+fn next_slot_unchecked(slot: usize, window: usize) -> usize
+    requires { ⌜ slot < window ⌝ }
+    ensures { λ r. ⌜ r ≡ (slot + 1) % window ⌝ }
+{
+    let next = slot + 1;
+    if next == window {
+        return 0;
+    }
+    next
 }
 
 fn may_be_acknowledged(selective: bool, k: usize) -> bool

@@ -4,12 +4,13 @@ use mathlib.Core.Bool.{true, false}
 use Prim.Native.Nat.{ℕ, _-_, _^_, _<_}
 use native.Mathlib.Omega.{arith}
 use borrow.Author.Tests.{le-ltb, ne-eqb}
+use Rattle.duration.proofs.Laws.{start-in-time}
 use Rattle.refusal.specs.declared.Refusal.the-variants.{Time}
 use Rattle.timer.specs.Timer.{deadlineTooLate, startTooLate, readTooLate, nextGeneration, start, cancel, change, startedAtDef, isExpiredForAtDef}
 use Rattle.timer.specs.declared.RetransmissionTimer.{RetransmissionTimer}
 use Rattle.timer.specs.declared.TimerAnswer.the-variants.{Id, Refused}
 use Rattle.timer.specs.declared.TimerTest as Test
-use Rattle.timer.proofs.Checks.{time-check, start-in-time}
+use Rattle.timer.proofs.Checks.{time-check}
 
 -- a refused start changes nothing
 pub start-refused : (t : RetransmissionTimer) (now duration : ℕ) → startTooLate t now duration ≡ true → startedAtDef t now duration ≡ change t (Refused Time)
@@ -23,7 +24,7 @@ start-accepted t now duration e = simp (time-check, e)
 -- what an accepted call leaves is held within its bound
 pub start-held : (t : RetransmissionTimer) (now duration : ℕ) → startTooLate t now duration ≡ false → deadlineTooLate (start t now duration .deadline) ≡ false
 unfolding start
-start-held t now duration e = le-ltb _ _ (start-in-time t now duration e)
+start-held t now duration e = le-ltb _ _ (start-in-time (deadlineTooLate (t .deadline)) now duration e)
 
 pub cancel-held : (t : RetransmissionTimer) → deadlineTooLate (cancel t .deadline) ≡ false
 unfolding cancel

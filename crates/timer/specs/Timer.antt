@@ -3,7 +3,7 @@ use Prim.Native.Nat.{ℕ, _+_, _-_, _%_, _^_}
 use mathlib.Core.Bool.{Bool, true, false, _||_, _&&_}
 use mathlib.Core.List.{[], _∷_}
 use lib.Dec.{leb, ltb, eqb}
-use Rattle.duration.specs.Bounds.{maxDuration, maxTime}
+use Rattle.duration.specs.Bounds.{maxTime, startLate}
 use Rattle.refusal.specs.Order.{check, verdict, decide}
 use Rattle.refusal.specs.declared.Refusal.the-variants.{Time}
 use Rattle.timer.specs.declared.Deadline.{Deadline}
@@ -24,7 +24,7 @@ deadlineTooLate (At d) = ltb maxTime d
 
 -- held, given and to be stored
 abbrev pub startTooLate : RetransmissionTimer → ℕ → ℕ → Bool
-startTooLate t now duration = deadlineTooLate (t .deadline) || (ltb maxTime now || (ltb maxDuration duration || ltb maxTime (now + duration)))
+startTooLate t now duration = deadlineTooLate (t .deadline) || startLate now duration
 
 abbrev pub readTooLate : RetransmissionTimer → ℕ → Bool
 readTooLate t now = deadlineTooLate (t .deadline) || ltb maxTime now

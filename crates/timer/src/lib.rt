@@ -1,14 +1,10 @@
 // The retransmission timer, by value: the reference's timing/timer.rs on nanoseconds.
+use duration::MAX_TIME;
 use refusal::Refusal;
 ghost use mathlib.Core.Path.{_≡_};
 ghost use mathlib.Core.Bool.{false};
 ghost use Prim.Native.Nat.{_-_};
 ghost use Rattle.timer.specs.Timer.{deadlineTooLate, startTooLate, readTooLate, start, cancel, active, expiredAt, remainingAt, newDef, startedAtDef, cancelledDef, isActiveDef, remainingAtDef, isExpiredAtDef, isExpiredForAtDef};
-
-// In nanoseconds: 172,800 s for a time, 86,400 s for a duration.
-const MAX_TIME: u64 = 172800000000000;
-
-const MAX_DURATION: u64 = 86400000000000;
 
 pub enum Deadline {
     Unset,
@@ -91,13 +87,7 @@ fn start_too_late(t: RetransmissionTimer, now: u64, duration: u64) -> bool
     if deadline_too_late(d) {
         return true;
     }
-    if now > MAX_TIME {
-        return true;
-    }
-    if duration > MAX_DURATION {
-        return true;
-    }
-    now + duration > MAX_TIME
+    duration::start_late(now, duration)
 }
 
 fn read_too_late(t: RetransmissionTimer, now: u64) -> bool

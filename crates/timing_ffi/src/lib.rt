@@ -2,6 +2,12 @@
 // An export answers 0, or the number of the refusal; 255 where a slice of the caller's is too short for a state.
 // A timer is three words: 1 where it is set, its deadline, its generation. A timer set is two: count and generation.
 // An estimator is 23 words and 5 doubles, in the order of `load_estimator`.
+ghost use mathlib.Core.Path.{_≡_};
+ghost use mathlib.Core.Bool.{false};
+ghost use Prim.Native.Nat.{_≤_};
+ghost use lib.ListN.{length, take};
+ghost use Rattle.multi_timer.specs.Search.{dueIn};
+ghost use Rattle.multi_timer.specs.MultiTimer.{timers, broken, startFull};
 use multi_timer::CancelAnswer;
 use multi_timer::ClearAnswer;
 use multi_timer::EarliestAnswer;
@@ -19,6 +25,7 @@ use rto::RtoStats;
 use rto::Rtt;
 use rto::TimeoutAnswer;
 use rto::UpdateAnswer;
+use rto::Updated;
 use timer::Deadline;
 use timer::Remaining;
 use timer::RetransmissionTimer;
@@ -514,7 +521,8 @@ pub extern "C" fn timing_rto_update(
     is_retransmission: bool,
     answer: &mut [u64],
 ) -> u8 {
-    let c = load_estimator(w, d).update_rtt(sample, is_retransmission);
+    let samples = [sample];
+    let c = updated_by(load_estimator(w, d), &samples, is_retransmission);
     let e = c.estimator;
     let a = c.answer;
     store_estimator(w, d, e);
@@ -586,12 +594,81 @@ pub extern "C" fn timing_rto_mean(w: &[u64], d: &[f64], answer: &mut [f64]) -> u
 // The RTO after these samples from a new estimator of the default setup.
 #[no_mangle]
 pub extern "C" fn timing_rto_run(samples: &[u64]) -> u64 {
-    let mut e = RtoEstimator::new();
+    let c = updated_by(RtoEstimator::new(), samples, false);
+    let e = c.estimator;
+    e.current_rto
+}
+
+// The estimator after these samples, and the answer to the last one. The one place that calls `update_rtt`, so that it is inlined here.
+fn updated_by(first: RtoEstimator, samples: &[u64], is_retransmission: bool) -> Updated {
+    let mut e = first;
+    let mut a = UpdateAnswer::Accepted(false);
     let mut i = 0;
     while i < samples.len() {
-        let c = e.update_rtt(samples[i], false);
+        let c = e.update_rtt(samples[i], is_retransmission);
         e = c.estimator;
+        a = c.answer;
         i += 1;
     }
-    e.current_rto
+    Updated {
+        estimator: e,
+        answer: a,
+    }
+}
+
+// The timer set below the entry points, for the benchmark; the caller answers for what they require. Each gives the new count.
+#[no_mangle]
+pub extern "C" fn timing_multi_start_unchecked(
+    keys: &mut [u32],
+    deadlines: &mut [u64],
+    count: usize,
+    generation: u64,
+    key: u32,
+    deadline: u64,
+) -> usize
+    requires { ⌜ (broken count (now keys) (now deadlines) ≡ false) × (startFull (timers count generation) (now keys) (now deadlines) key ≡ false) ⌝ }
+{
+    let t = MultiTimer {
+        count: count,
+        global_generation: generation,
+    };
+    let next = t.start_timer_at_unchecked(keys, deadlines, key, deadline);
+    next.count
+}
+
+#[no_mangle]
+pub extern "C" fn timing_multi_cancel_unchecked(
+    keys: &mut [u32],
+    deadlines: &mut [u64],
+    count: usize,
+    generation: u64,
+    key: u32,
+) -> usize
+    requires { ⌜ broken count (now keys) (now deadlines) ≡ false ⌝ }
+{
+    let t = MultiTimer {
+        count: count,
+        global_generation: generation,
+    };
+    let next = t.cancel_timer_unchecked(keys, deadlines, key);
+    next.count
+}
+
+#[no_mangle]
+pub extern "C" fn timing_multi_pop_unchecked(
+    keys: &mut [u32],
+    deadlines: &mut [u64],
+    count: usize,
+    generation: u64,
+    time: u64,
+    out: &mut [u32],
+) -> usize
+    requires { ⌜ (broken count (now keys) (now deadlines) ≡ false) × (dueIn time (take count (now deadlines)) ≤ length (now out)) ⌝ }
+{
+    let t = MultiTimer {
+        count: count,
+        global_generation: generation,
+    };
+    let next = t.pop_expired_at_unchecked(keys, deadlines, time, out);
+    next.count
 }

@@ -5,6 +5,11 @@
 //       a call is two words: 0 and a sample, 1 and a retransmitted sample, 2 and 0 for a timeout, 3 and 0 for reset_backoff
 //   m ROOM CALLS                                                  a timer set of at most 32 entries
 //       a call is four words: 0, key, now, duration to start; 1, key, 0, 0 to cancel; 2, 0, now, 0 to pop; 3, 0, 0, 0 for the earliest
+//   t CALLS                                                       the retransmission timer
+//       a call is three words: 0, now, duration to start; 1, 0, 0 to cancel; 2, now, 0 for active, expired and remaining; 3, generation, now for
+//       expired of that generation
+//   d NANOSECONDS ..                                              durations: S is such a number in seconds as a double
+//       printed in ns, or `-` out of range: S, S / 2, S * 1024, and the number's lower 32 digits in units of 2^-20 s
 // Each call prints its answer and `;`: the RTO, SRTT and RTTVAR after it in ns; a generation; 0 or 1; keys; a deadline; `-` where there is
 // none; or `refused` and the number.
 ghost use mathlib.Core.Path.{_≡_};
@@ -24,6 +29,11 @@ use rto::RtoEstimator;
 use rto::Rtt;
 use rto::TimeoutAnswer;
 use rto::UpdateAnswer;
+use timer::Remaining;
+use timer::RetransmissionTimer;
+use timer::TimerAnswer;
+use timer::TimerChange;
+use timer::TimerTest;
 
 fn main() {
     let mut text = [0u8; 262144];
@@ -68,6 +78,14 @@ fn case(line: &[u8]) {
     }
     if op == b'm' {
         timers_case(&line[1..]);
+        return;
+    }
+    if op == b't' {
+        timer_calls(&line[1..]);
+        return;
+    }
+    if op == b'd' {
+        durations(&line[1..]);
     }
 }
 
@@ -344,6 +362,88 @@ fn earliest_call(t: MultiTimer, keys: &[u32], deadlines: &[u64]) -> MultiTimer {
         EarliestAnswer::Refused(r) => print_refusal(r),
     }
     t
+}
+
+fn timer_calls(digits: &[u8]) {
+    let mut t = RetransmissionTimer::new();
+    let words = digits.len() / 16;
+    let mut i: usize = 0;
+    while i + 2 < words {
+        t = timer_call(t, word(digits, i), word(digits, i + 1), word(digits, i + 2));
+        i += 3;
+    }
+    end_line();
+}
+
+fn timer_call(t: RetransmissionTimer, op: u64, x: u64, y: u64) -> RetransmissionTimer {
+    if op == 0 {
+        return print_change(t.started_at(x, y));
+    }
+    if op == 1 {
+        return print_change(t.cancelled());
+    }
+    if op == 2 {
+        print_test(t.is_active());
+        print_test(t.is_expired_at(x));
+        print_remaining(t.remaining_at(x));
+        return t;
+    }
+    print_test(t.is_expired_for_at(x, y));
+    t
+}
+
+fn print_change(c: TimerChange) -> RetransmissionTimer {
+    let t = c.timer;
+    let a = c.answer;
+    match a {
+        TimerAnswer::Id(g) => answer(g),
+        TimerAnswer::Refused(r) => print_refusal(r),
+    }
+    t
+}
+
+fn print_test(a: TimerTest) {
+    match a {
+        TimerTest::Is(b) => answer(b as u64),
+        TimerTest::Refused(r) => print_refusal(r),
+    }
+}
+
+fn print_remaining(a: Remaining) {
+    match a {
+        Remaining::Inactive => {
+            none();
+            semicolon();
+        }
+        Remaining::For(d) => answer(d),
+        Remaining::Refused(r) => print_refusal(r),
+    }
+}
+
+fn durations(digits: &[u8]) {
+    let words = digits.len() / 16;
+    let mut i: usize = 0;
+    while i < words {
+        print_duration(word(digits, i));
+        i += 1;
+    }
+    end_line();
+}
+
+fn print_duration(n: u64) {
+    let s = duration::as_secs_f64(n);
+    print_secs(s);
+    print_secs(s / 2.0);
+    print_secs(s * 1024.0);
+    print_secs(double(n));
+    semicolon();
+}
+
+fn print_secs(x: f64) {
+    match duration::from_secs_f64(x) {
+        duration::FromSecs::Nanos(n) => number(n),
+        duration::FromSecs::OutOfRange => none(),
+    }
 }
 
 fn print_refusal(r: Refusal) {

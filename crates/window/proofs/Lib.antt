@@ -1,4 +1,7 @@
 pub mod Sound
 pub mod Slots
 pub mod Handed
+pub mod Outstanding
+pub mod Acknowledging
+pub mod Resending
 pub mod Laws

@@ -1,5 +1,5 @@
 -- What a state that isn't broken is like.
-use Prim.Native.Nat.{ℕ, _-_, _*_, _/_, _≤_, _<_}
+use Prim.Native.Nat.{ℕ, _+_, _-_, _*_, _/_, _%_, _≤_, _<_}
 use mathlib.Core.Path.{_≡_, refl}
 use mathlib.Core.Bool.{Bool, true, false, _||_}
 use mathlib.Core.List.{List}
@@ -7,9 +7,12 @@ use native.Mathlib.Omega.{arith}
 use borrow.Author.Tests.{ltb-true, ltb-false, leb-false, lt-ltb, le-ltb}
 use lib.ListN.{length}
 use lib.Dec.{ltb}
-use Rattle.refusal.proofs.Laws.{none-of, any-of-none}
-use Rattle.store.specs.Sound.{senderSlotsBroken}
-use Rattle.window.specs.State.{windowBroken, storeShort, outstanding, stateBroken, countsBroken}
+use Rattle.refusal.specs.Clauses.{anyOf}
+use Rattle.refusal.proofs.Laws.{none-of, any-of-none, or-false}
+use Rattle.store.specs.Slot.{slotAt, lengthOf}
+use Rattle.store.proofs.Laws.{none-found}
+use Rattle.store.specs.Sound.{senderTest, senderSlotBroken, senderSlotsBroken}
+use Rattle.window.specs.State.{windowBroken, storeShort, outstanding, numbersBroken, stateBroken, countsBroken}
 use Rattle.window.specs.declared.SendWindow.{SendWindow}
 
 by-slots : (n w : ℕ) (t : Bool) → ltb n (w * 1404) ≡ t → ltb (n / 1404) w ≡ t
@@ -29,30 +32,70 @@ pub record Sound (selective : Bool) (s : SendWindow) (store : List ℕ) : Type 0
   pub low : s .«next_seq_num» ≤ 4294901760
   pub slots : senderSlotsBroken selective store (s .«window_size») (s .«send_base») (outstanding s) ≡ false
 
-pub sound : (selective : Bool) (s : SendWindow) (store : List ℕ) → stateBroken selective s store ≡ false → Sound selective s store
-unfolding stateBroken windowBroken storeShort
-sound selective s store e =
+-- the numbers of such a state
+pub record Numbers (s : SendWindow) : Type 0 where
+  pub positive : 0 < s .«window_size»
+  pub small : s .«window_size» ≤ 32
+  pub ordered : s .«send_base» ≤ s .«next_seq_num»
+  pub few : outstanding s ≤ s .«window_size»
+  pub low : s .«next_seq_num» ≤ 4294901760
+
+pub numbers : (s : SendWindow) → numbersBroken s ≡ false → Numbers s
+unfolding numbersBroken windowBroken
+numbers s e =
     let none = none-of _ e in
     let window = none-of _ (none .0) in
     let p : 1 ≤ s .«window_size» = ltb-false (s .«window_size») 1 (window .0) in
     record {
       positive = omega arith;
       small = ltb-false 32 (s .«window_size») (window .1 .0);
-      room = ltb-false _ _ (none .1 .0);
-      ordered = ltb-false _ _ (none .1 .1 .0);
-      few = ltb-false _ _ (none .1 .1 .1 .0);
-      low = ltb-false _ _ (none .1 .1 .1 .1 .0);
-      slots = none .1 .1 .1 .1 .1 .0;
+      ordered = ltb-false _ _ (none .1 .0);
+      few = ltb-false _ _ (none .1 .1 .0);
+      low = ltb-false _ _ (none .1 .1 .1 .0);
     }
 
-pub not-broken : (selective : Bool) (s : SendWindow) (store : List ℕ) → Sound selective s store → stateBroken selective s store ≡ false
-unfolding stateBroken windowBroken storeShort
-not-broken selective s store h =
+pub numbers-not-broken : (s : SendWindow) → Numbers s → numbersBroken s ≡ false
+unfolding numbersBroken windowBroken
+numbers-not-broken s h =
     let p = h .positive in
     any-of-none _ (
       any-of-none _ (le-ltb (s .«window_size») 1 (omega arith), (le-ltb 32 (s .«window_size») (h .small), tt)),
-      (le-ltb _ _ (h .room), (le-ltb _ _ (h .ordered), (le-ltb _ _ (h .few), (le-ltb _ _ (h .low), (h .slots, tt))))),
+      (le-ltb _ _ (h .ordered), (le-ltb _ _ (h .few), (le-ltb _ _ (h .low), tt))),
     )
+
+pub sound : (selective : Bool) (s : SendWindow) (store : List ℕ) → stateBroken selective s store ≡ false → Sound selective s store
+unfolding stateBroken storeShort
+sound selective s store e =
+    let none = none-of _ e in
+    let n = numbers s (none .0) in
+    record {
+      positive = n .positive;
+      small = n .small;
+      room = ltb-false _ _ (none .1 .0);
+      ordered = n .ordered;
+      few = n .few;
+      low = n .low;
+      slots = none .1 .1 .0;
+    }
+
+pub sound-numbers : {selective : Bool} {s : SendWindow} {store : List ℕ} → Sound selective s store → Numbers s
+sound-numbers h = record { positive = h .positive; small = h .small; ordered = h .ordered; few = h .few; low = h .low }
+
+pub numbers-state : (selective : Bool) (s : SendWindow) (store : List ℕ) → numbersBroken s ≡ true → stateBroken selective s store ≡ true
+unfolding stateBroken anyOf
+numbers-state selective s store e = rw e
+
+pub not-broken : (selective : Bool) (s : SendWindow) (store : List ℕ) → Sound selective s store → stateBroken selective s store ≡ false
+unfolding stateBroken storeShort
+not-broken selective s store h = any-of-none _ (numbers-not-broken s (sound-numbers h), (le-ltb _ _ (h .room), (h .slots, tt)))
+
+-- the lengths of a window's slots
+pub slot-low : (selective : Bool) (s : SendWindow) (store : List ℕ) → Sound selective s store → (i : ℕ) → i < s .«window_size»
+    → lengthOf (slotAt store ((s .«send_base» + i) % s .«window_size»)) ≤ 1400
+unfolding senderSlotsBroken senderSlotBroken
+slot-low selective s store h i l =
+    let broken = none-found (s .«window_size») i (senderTest selective store (s .«window_size») (s .«send_base») (outstanding s)) l (h .slots) in
+    ltb-false 1400 _ (or-false _ _ (or-false _ _ (or-false _ _ broken .0) .0) .0)
 
 pub counts-low : (s : SendWindow) → countsBroken s ≡ false → (s .«total_sent» < 1152921504606846976) × (s .retransmissions < 1152921504606846976)
 unfolding countsBroken
@@ -62,6 +105,10 @@ counts-low s e = let none = none-of _ e in (leb-false _ _ (none .0), leb-false _
 pub or-false-right : (a : Bool) → (a || false) ≡ a
 or-false-right true = refl
 or-false-right false = refl
+
+pub store-fits : (store : List ℕ) (window : ℕ) → storeShort store window ≡ false → window * 1404 ≤ length store
+unfolding storeShort
+store-fits store window e = ltb-false _ _ e
 
 pub windows-fit : (store : List ℕ) (window : ℕ) → windowBroken window ≡ false → storeShort store window ≡ false → (0 < window) × (window * 1404 ≤ length store)
 unfolding windowBroken storeShort

@@ -1,15 +1,21 @@
--- Document 01, "Turned away" 1, 2, 3, 6, and arq/*.rs, `handle_ack`: a datagram handed to a sender as an ACK.
+-- Document 01, "Turned away" 9, 8, 1, 2, 3, 6, and arq/*.rs, `handle_ack`: a datagram handed to a sender as an ACK.
 use Prim.Native.Nat.{ℕ}
 use mathlib.Core.List.{List, _∷_}
-use mathlib.Core.Bool.{cond, _&&_}
-use lib.ListN.{length}
-use lib.Dec.{ltb, eqb}
-use Rattle.refusal.specs.Order.{Check, verdict, decide}
+use mathlib.Core.Bool.{Bool, cond, _&&_}
+use lib.Dec.{ltb, leb, eqb}
+use Rattle.refusal.specs.declared.Refusal.the-variants.{State, Counts}
+use Rattle.refusal.specs.Order.{Check, check, verdict, decide}
 use Rattle.packet.specs.Format.{byteOf, matches}
 use Rattle.packet.specs.Writing.{checkLong}
 use Rattle.packet.specs.Reading.{readChecks, headerOf, payloadOf}
+use Rattle.window.specs.State.{stateBroken, countsBroken}
+use Rattle.window.specs.declared.SendWindow.{SendWindow}
 use Rattle.window.specs.declared.AckRead.{AckRead}
 use Rattle.window.specs.declared.AckRead.the-variants as ackRead
+use Rattle.window.specs.declared.AckDecision.{AckDecision}
+use Rattle.window.specs.declared.AckDecision.the-variants as decision
+use Rattle.window.specs.declared.AckAnswer.{AckAnswer}
+use Rattle.window.specs.declared.AckAnswer.the-variants as answer
 
 -- given to a sender or a receiver: read, and its payload at most 1,400 bytes
 abbrev pub handedChecks : List ℕ → List Check
@@ -20,3 +26,31 @@ unfoldable pub readAck : List ℕ → AckRead
 readAck raw =
     decide (verdict (handedChecks raw)) ackRead.Refused
     (cond (matches (headerOf raw) (payloadOf raw) && eqb (byteOf (headerOf raw .«pkt_type»)) 2) (ackRead.Ack (headerOf raw .«seq_num»)) ackRead.Other)
+
+-- an ACK of an outstanding number is accepted
+abbrev pub inWindow : SendWindow → ℕ → Bool
+inWindow s n = leb (s .«send_base») n && ltb n (s .«next_seq_num»)
+
+abbrev pub byAck : SendWindow → AckRead → AckDecision
+byAck s (ackRead.Ack n) = cond (inWindow s n) (decision.Accept n) decision.NotAccepted
+byAck s ackRead.Other = decision.NotAccepted
+byAck s (ackRead.Refused r) = decision.NotAccepted
+
+unfoldable pub ackDecision : Bool → SendWindow → List ℕ → List ℕ → AckDecision
+ackDecision selective s store raw =
+    decide (verdict (check (stateBroken selective s store) State ∷ check (countsBroken s) Counts ∷ handedChecks raw)) decision.Refused
+    (byAck s (readAck raw))
+
+-- the answer, and the state when the call returns
+pub record Acknowledging (S : Type 0) : Type 0 where
+  pub answer : AckAnswer
+  pub after : S
+
+abbrev pub acknowledging : {S : Type 0} → AckAnswer → S → Acknowledging S
+acknowledging a v = record { answer = a; after = v }
+
+-- v the state, accept what an accepted number makes of it
+unfoldable pub byDecision : {S : Type 0} → AckDecision → S → (ℕ → S) → Acknowledging S
+byDecision (decision.Accept n) v accept = acknowledging answer.Accepted (accept n)
+byDecision decision.NotAccepted v accept = acknowledging answer.NotAccepted v
+byDecision (decision.Refused r) v accept = acknowledging (answer.Refused r) v

@@ -16,26 +16,26 @@ use Rattle.window.specs.declared.SendAnswer.{SendAnswer}
 use Rattle.window.specs.declared.SendAnswer.the-variants as sendAnswer
 
 -- making: the answer, and the store when the call returns
-pub record Making : Type 0 where
-  pub answer : MakeAnswer
+pub record Making (A : Type 0) : Type 0 where
+  pub answer : A
   pub store : List ℕ
 
-abbrev pub making : MakeAnswer → List ℕ → Making
+abbrev pub making : {A : Type 0} → A → List ℕ → Making A
 making a store = record { answer = a; store = store }
 
-unfoldable pub makeWindow : ℕ → List ℕ → Making
+unfoldable pub makeWindow : ℕ → List ℕ → Making MakeAnswer
 makeWindow w store =
     decide (verdict (check (storeShort store w) State ∷ check (windowBroken w) Setup ∷ []))
     (λ r. making (makeAnswer.Refused r) store)
     (making (makeAnswer.Window (fresh w store .window)) (fresh w store .store))
 
--- sending: the answer, and the state, the store and the buffer when the call returns
-pub record Sending : Type 0 where
+-- sending: the answer, and the state and the buffer when the call returns
+pub record Sending (S : Type 0) : Type 0 where
   pub answer : SendAnswer
-  pub after : Sender
+  pub after : S
   pub out : List ℕ
 
-abbrev pub sending : SendAnswer → Sender → List ℕ → Sending
+abbrev pub sending : {S : Type 0} → SendAnswer → S → List ℕ → Sending S
 sending a v out = record { answer = a; after = v; out = out }
 
 abbrev pub windowFree : SendWindow → Bool
@@ -51,7 +51,7 @@ sendChecks selective v payload out =
     ∷ []
 
 -- a full window is an ordinary answer
-unfoldable pub sendChunk : Bool → Sender → List ℕ → List ℕ → Sending
+unfoldable pub sendChunk : Bool → Sender → List ℕ → List ℕ → Sending Sender
 sendChunk selective v payload out =
     decide (verdict (sendChecks selective v payload out))
     (λ r. sending (sendAnswer.Refused r) v out)

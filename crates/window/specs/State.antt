@@ -18,15 +18,22 @@ storeShort store window = ltb (length store) (window * 1404)
 abbrev pub outstanding : SendWindow → ℕ
 outstanding s = s .«next_seq_num» - s .«send_base»
 
+-- 9, as far as it doesn't speak of the store
+unfoldable pub numbersBroken : SendWindow → Bool
+numbersBroken s =
+    anyOf
+    (windowBroken (s .«window_size»)
+    ∷ ltb (s .«next_seq_num») (s .«send_base»)
+    ∷ ltb (s .«window_size») (outstanding s)
+    ∷ ltb 4294901760 (s .«next_seq_num»)
+    ∷ [])
+
 -- 9: selective is true of a Selective Repeat sender
 unfoldable pub stateBroken : Bool → SendWindow → List ℕ → Bool
 stateBroken selective s store =
     anyOf
-    (windowBroken (s .«window_size»)
+    (numbersBroken s
     ∷ storeShort store (s .«window_size»)
-    ∷ ltb (s .«next_seq_num») (s .«send_base»)
-    ∷ ltb (s .«window_size») (outstanding s)
-    ∷ ltb 4294901760 (s .«next_seq_num»)
     ∷ senderSlotsBroken selective store (s .«window_size») (s .«send_base») (outstanding s)
     ∷ [])
 

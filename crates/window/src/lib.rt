@@ -1,14 +1,16 @@
 // The sliding window that the three senders share: the chunks from send_base to next_seq_num - 1 lie in the store's slots.
 ghost use mathlib.Core.Path.{_≡_};
-ghost use Prim.Native.Nat.{_+_, _-_, _*_, _≤_, _<_};
-ghost use mathlib.Core.Bool.{true};
+ghost use Prim.Native.Nat.{_+_, _-_, _*_, _≤_, _<_, min};
+ghost use mathlib.Core.Bool.{true, false};
 ghost use lib.ListN.{length, drop};
 ghost use mathlib.Core.List.{_++_};
-ghost use Rattle.window.specs.Acknowledgement.{readAck};
+ghost use Rattle.window.specs.Acknowledgement.{readAck, ackDecision};
 ghost use Rattle.window.specs.Sending.{making, makeWindow, sending, sendChunk};
 ghost use Rattle.window.specs.Slots.{sender, fresh, slotFor, hold, firstDatagram, markRetransmitted, datagramFor, emptyFrom, release};
+ghost use Rattle.window.specs.Resending.{datagramsFrom, markFrom, resending, resend, resendOutstanding, Resendable};
 ghost use Rattle.store.specs.Slot.{slotAt, lengthOf};
-ghost use Rattle.window.specs.State.{stateBroken, countsBroken, windowBroken, storeShort};
+ghost use Rattle.window.specs.State.{stateBroken, numbersBroken, countsBroken, windowBroken, storeShort};
+ghost use Rattle.window.specs.Outstanding.{inFlightCount, canSend, hasUnackedPackets};
 use packet::Packet;
 use packet::PacketAnswer;
 use packet::PacketType;
@@ -54,11 +56,40 @@ pub enum AckRead {
     Refused(Refusal),
 }
 
+// Whether an ACK is accepted, decided before anything is written.
+pub enum AckDecision {
+    Accept(u32),
+    NotAccepted,
+    Refused(Refusal),
+}
+
 // Whether an ACK was accepted: the reference's true or false.
 pub enum AckAnswer {
     Accepted,
     NotAccepted,
     Refused(Refusal),
+}
+
+// How many bytes of datagrams were written.
+pub enum TimeoutAnswer {
+    Resent(usize),
+    Nothing,
+    Refused(Refusal),
+}
+
+pub enum WindowCount {
+    Count(usize),
+    Refused(Refusal),
+}
+
+pub enum WindowTest {
+    Is(bool),
+    Refused(Refusal),
+}
+
+pub struct TimeoutResult {
+    pub window: SendWindow,
+    pub answer: TimeoutAnswer,
 }
 
 impl SendWindow {
@@ -126,6 +157,63 @@ impl SendWindow {
             window,
             answer: SendAnswer::Sent(Packet::HEADER_SIZE + n),
         }
+    }
+
+    // How many numbers are outstanding.
+    pub fn in_flight_count(self) -> WindowCount
+        ensures { λ r. ⌜ r ≡ inFlightCount self ⌝ }
+    {
+        if self.numbers_broken() {
+            return WindowCount::Refused(Refusal::State);
+        }
+        if self.counts_broken() {
+            return WindowCount::Refused(Refusal::Counts);
+        }
+        WindowCount::Count((self.next_seq_num - self.send_base) as usize)
+    }
+
+    pub fn can_send(self) -> WindowTest
+        ensures { λ r. ⌜ r ≡ canSend self ⌝ }
+    {
+        match self.in_flight_count() {
+            WindowCount::Count(n) => WindowTest::Is(n < self.window_size),
+            WindowCount::Refused(r) => WindowTest::Refused(r),
+        }
+    }
+
+    pub fn has_unacked_packets(self) -> WindowTest
+        ensures { λ r. ⌜ r ≡ hasUnackedPackets self ⌝ }
+    {
+        match self.in_flight_count() {
+            WindowCount::Count(n) => WindowTest::Is(0 < n),
+            WindowCount::Refused(r) => WindowTest::Refused(r),
+        }
+    }
+
+    // Sends the lowest outstanding numbers again, at most so many.
+    pub fn resend_outstanding(
+        self,
+        selective: bool,
+        store: &mut [u8],
+        most: u32,
+        out: &mut [u8],
+    ) -> TimeoutResult
+        ensures { λ r. ⌜ resending (r .answer) (sender (r .window) (now (store .exit))) (now (out .exit)) ≡ resendOutstanding selective (sender self (now (store .entry))) most (now (out .entry)) ⌝ }
+    {
+        if self.state_broken(store, selective) {
+            return TimeoutResult {
+                window: self,
+                answer: TimeoutAnswer::Refused(Refusal::State),
+            };
+        }
+        if self.counts_broken() {
+            return TimeoutResult {
+                window: self,
+                answer: TimeoutAnswer::Refused(Refusal::Counts),
+            };
+        }
+        let count = lower(most, self.next_seq_num - self.send_base);
+        self.resend_unchecked(store, self.send_base, count, out)
     }
 
     pub fn new_unchecked(window: usize, store: &mut [u8]) -> SendWindow
@@ -199,15 +287,125 @@ impl SendWindow {
         Packet::HEADER_SIZE + payload.len()
     }
 
+    // How many bytes the datagrams of count numbers from first on take.
+    pub fn datagrams_length_unchecked(self, store: &[u8], first: u32, count: u32) -> usize
+        requires { ⌜ Resendable self (now store) first count ⌝ }
+        ensures { λ r. ⌜ r ≡ length (datagramsFrom (sender self (now (store .entry))) first count) ⌝ }
+    {
+        let end = first + count;
+        let mut total: usize = 0;
+        let mut n = first;
+        while n < end {
+            let slot = n as usize % self.window_size;
+            total += Packet::HEADER_SIZE + store::length_unchecked(store, slot) as usize;
+            n += 1;
+        }
+        total
+    }
+
+    // Marks count numbers from first on as sent again and counts them.
+    pub fn mark_retransmitted_from_unchecked(
+        self,
+        store: &mut [u8],
+        first: u32,
+        count: u32,
+    ) -> SendWindow
+        requires { ⌜ Resendable self (now store) first count ⌝ }
+        requires { ⌜ (self .«total_sent» < 1152921504606846976) × (self .retransmissions < 1152921504606846976) ⌝ }
+        ensures { λ r. ⌜ sender r (now (store .exit)) ≡ markFrom (sender self (now (store .entry))) first count ⌝ }
+    {
+        let end = first + count;
+        let mut window = self;
+        let mut n = first;
+        while n < end {
+            window = window.mark_retransmitted_unchecked(store, n);
+            n += 1;
+        }
+        window
+    }
+
+    // Writes the datagrams of count numbers from first on, one after another, to the start of out.
+    pub fn write_datagrams_unchecked(self, store: &[u8], first: u32, count: u32, out: &mut [u8])
+        requires { ⌜ Resendable self (now store) first count ⌝ }
+        requires { ⌜ length (datagramsFrom (sender self (now store)) first count) ≤ length (now out) ⌝ }
+        ensures { λ _. ⌜ now (out .exit) ≡ datagramsFrom (sender self (now (store .entry))) first count ++ drop (length (datagramsFrom (sender self (now (store .entry))) first count)) (now (out .entry)) ⌝ }
+    {
+        let end = first + count;
+        let mut at: usize = 0;
+        let mut n = first;
+        while n < end {
+            at += self.write_datagram_unchecked(store, n, &mut out[at..]);
+            n += 1;
+        }
+    }
+
+    // Sends count numbers from first on again, their datagrams one after another to the start of out.
+    pub fn resend_unchecked(
+        self,
+        store: &mut [u8],
+        first: u32,
+        count: u32,
+        out: &mut [u8],
+    ) -> TimeoutResult
+        requires { ⌜ Resendable self (now store) first count ⌝ }
+        requires { ⌜ (self .«total_sent» < 1152921504606846976) × (self .retransmissions < 1152921504606846976) ⌝ }
+        ensures { λ r. ⌜ resending (r .answer) (sender (r .window) (now (store .exit))) (now (out .exit)) ≡ resend false false (sender self (now (store .entry))) first count (now (out .entry)) ⌝ }
+    {
+        if count == 0 {
+            return TimeoutResult {
+                window: self,
+                answer: TimeoutAnswer::Nothing,
+            };
+        }
+        let total = self.datagrams_length_unchecked(store, first, count);
+        if out.len() < total {
+            return TimeoutResult {
+                window: self,
+                answer: TimeoutAnswer::Refused(Refusal::Full),
+            };
+        }
+        let window = self.mark_retransmitted_from_unchecked(store, first, count);
+        window.write_datagrams_unchecked(store, first, count, out);
+        TimeoutResult {
+            window,
+            answer: TimeoutAnswer::Resent(total),
+        }
+    }
+
     // Empties the slots of the numbers below until and moves send_base there.
     pub fn release_unchecked(mut self, store: &mut [u8], until: u32) -> SendWindow
         requires { ⌜ (0 < self .«window_size») × (self .«window_size» * 1404 ≤ length (now store)) ⌝ }
         requires { ⌜ self .«send_base» ≤ until ⌝ }
         ensures { λ r. ⌜ sender r (now (store .exit)) ≡ release (sender self (now (store .entry))) until ⌝ }
     {
-        empty_slots(store, self.window_size, self.send_base, until);
+        empty_slots_unchecked(store, self.window_size, self.send_base, until);
         self.send_base = until;
         self
+    }
+
+    // What a datagram handed over as an ACK does; selective is set for a Selective Repeat sender.
+    pub fn decide_ack(self, store: &[u8], selective: bool, raw: &[u8]) -> AckDecision
+        ensures { λ r. ⌜ r ≡ ackDecision selective self (now (store .entry)) (now (raw .entry)) ⌝ }
+    {
+        if self.state_broken(store, selective) {
+            return AckDecision::Refused(Refusal::State);
+        }
+        if self.counts_broken() {
+            return AckDecision::Refused(Refusal::Counts);
+        }
+        match read_ack(raw) {
+            AckRead::Refused(r) => AckDecision::Refused(r),
+            AckRead::Other => AckDecision::NotAccepted,
+            AckRead::Ack(n) => {
+                if n < self.send_base {
+                    return AckDecision::NotAccepted;
+                }
+                if self.next_seq_num <= n {
+                    return AckDecision::NotAccepted;
+                }
+                AckDecision::Accept(n)
+            }
+        }
     }
 
     // Whether document 01's line 9 is true; selective is set for a Selective Repeat sender.
@@ -215,25 +413,33 @@ impl SendWindow {
         ensures { λ r. ⌜ r ≡ stateBroken selective self (now (store .entry)) ⌝ }
     {
         let window = self.window_size;
-        let base = self.send_base;
-        let next = self.next_seq_num;
-        if window_broken(window) {
+        if self.numbers_broken() {
             return true;
         }
         if store_short(store, window) {
             return true;
         }
+        let count = (self.next_seq_num - self.send_base) as usize;
+        store::sender_slots_broken_unchecked(store, window, self.send_base, count, selective)
+    }
+
+    // Whether the clauses of line 9 that don't speak of the store are true.
+    pub fn numbers_broken(self) -> bool
+        ensures { λ r. ⌜ r ≡ numbersBroken self ⌝ }
+    {
+        let window = self.window_size;
+        let base = self.send_base;
+        let next = self.next_seq_num;
+        if window_broken(window) {
+            return true;
+        }
         if next < base {
             return true;
         }
-        let count = (next - base) as usize;
-        if window < count {
+        if window < (next - base) as usize {
             return true;
         }
-        if SEQ_NUM_LIMIT < next {
-            return true;
-        }
-        store::sender_slots_broken_unchecked(store, window, base, count, selective)
+        SEQ_NUM_LIMIT < next
     }
 
     // Whether document 01's line 8 is true.
@@ -262,6 +468,15 @@ pub fn store_short(store: &[u8], window: usize) -> bool
     store.len() / store::SLOT_SIZE < window
 }
 
+fn lower(a: u32, b: u32) -> u32
+    ensures { λ r. ⌜ r ≡ min a b ⌝ }
+{
+    if a < b {
+        return a;
+    }
+    b
+}
+
 // What a datagram handed to a sender is.
 pub fn read_ack(raw: &[u8]) -> AckRead
     ensures { λ r. ⌜ r ≡ readAck (now (raw .entry)) ⌝ }
@@ -286,7 +501,7 @@ pub fn read_ack(raw: &[u8]) -> AckRead
 }
 
 // Empties the slots of the numbers from `from` up to until.
-fn empty_slots(store: &mut [u8], window: usize, from: u32, until: u32)
+pub fn empty_slots_unchecked(store: &mut [u8], window: usize, from: u32, until: u32)
     requires { ⌜ (0 < window) × (window * 1404 ≤ length (now store)) × (from ≤ until) ⌝ }
     ensures { λ _. ⌜ now (store .exit) ≡ emptyFrom (now (store .entry)) window from (until - from) ⌝ }
 {

@@ -1,39 +1,37 @@
-use mathlib.Core.Path.{_≡_, refl, _∙_}
-use Prim.Native.Nat.{_-_, _≤_}
-use native.Mathlib.Omega.{arith}
+use mathlib.Core.Path.{_≡_, _∙_}
+use mathlib.Core.Bool.{_&&_}
+use Prim.Native.Nat.{suc, _-_, _≤_}
 use borrow.Author.Needs.{needs}
-use lib.ListN.{take}
+use lib.ListN.{getD, take}
 use Rattle.multi_timer.specs.Map.{ascending, ascendingFrom}
 use Rattle.multi_timer.proofs.Lists.{rest}
-use Rattle.multi_timer.proofs.Loops.{ascending-fails, ascending-step, ascending-end}
+use Rattle.multi_timer.proofs.Loops.{ascending-start, ascending-step, ascending-end}
 use Rattle.multi_timer.proofs.is_ascending.Statement.{statement}
 use Rattle.multi_timer.proofs.is_ascending.Tie as tie
 
 abbrev Inv-loop : tie.InvT-loop
-Inv-loop count keys low₀ i₀ low i = (i ≤ count) × ((low ≤ 4294967296) × (ascendingFrom low (rest count i keys) ≡ ascending (take count keys)))
+Inv-loop count keys sorted₀ i₀ sorted i = (1 ≤ i) × ((sorted && ascendingFrom (suc (getD keys (i - 1) 0)) (rest count i keys)) ≡ ascending (take count keys))
 
 abbrev μ-loop : tie.MeasureT-loop
-μ-loop count keys low₀ i₀ low i = count - i
+μ-loop count keys sorted₀ i₀ sorted i = count - i
 
 loop-holds : tie.Need-loop-holds Inv-loop μ-loop
-loop-holds c = (search needs, (search needs, refl))
+loop-holds c = (search needs, ascending-start (c .args .count) (c .args .keys .now) (c .pre))
 
-mul-wide : tie.Need-mul-wide Inv-loop μ-loop
-mul-wide c = search needs
+sub-sorted : tie.Need-sub-sorted Inv-loop μ-loop
+sub-sorted c = search needs
 
-shared-slice-read-wide : tie.Need-shared-slice-read-wide Inv-loop μ-loop
-shared-slice-read-wide c = search needs
+mul-sorted : tie.Need-mul-sorted Inv-loop μ-loop
+mul-sorted c = search needs
 
-wide-requires : tie.Need-wide-requires Inv-loop μ-loop
-wide-requires c κs = search needs
+shared-slice-read-sorted : tie.Need-shared-slice-read-sorted Inv-loop μ-loop
+shared-slice-read-sorted c = search needs
 
-returns : tie.Need-returns Inv-loop μ-loop
-returns c =
-    let s = c .before .before .before .before in
-    ascending-fails (s .before .before .args .count) (s .loop .i) (s .before .before .args .keys .now) _ _ (c .before .before .before .loop-test .taken) (s .before .before .pre) (c .before .wide .ensures) (c .if1 .taken) ∙ s .loop .inv .1 .1
+mul-sorted-2 : tie.Need-mul-sorted-2 Inv-loop μ-loop
+mul-sorted-2 c = search needs
 
-add-low : tie.Need-add-low Inv-loop μ-loop
-add-low c = omega (arith, c .before .wide .ensures, c .before .before .shared-slice-known2 .given (c .before .before .before .before .loop .i))
+shared-slice-read-sorted-2 : tie.Need-shared-slice-read-sorted-2 Inv-loop μ-loop
+shared-slice-read-sorted-2 c = search needs
 
 add-i : tie.Need-add-i Inv-loop μ-loop
 add-i c = search needs
@@ -43,18 +41,13 @@ loop-less c = search needs
 
 loop-again : tie.Need-loop-again Inv-loop μ-loop
 loop-again c =
-    let s = c .before .before .before .before in (
-      search needs,
-      (
-        omega (arith, c .before .wide .ensures, c .before .before .shared-slice-known2 .given (s .loop .i)),
-        ascending-step (s .before .before .args .count) (s .loop .i) (s .before .before .args .keys .now) _ _ (c .before .before .before .loop-test .taken) (s .before .before .pre) (c .before .wide .ensures) (c .if1 .left) ∙ s .loop .inv .1 .1,
-      ),
-    )
+    let s = c .before .before .before in
+    (search needs, ascending-step (s .before .args .count) (s .loop .i) (s .before .args .keys .now) (s .loop .sorted) (c .before .before .loop-test .taken) (s .before .pre) ∙ s .loop .inv .1)
 
-returns-2 : tie.Need-returns-2 Inv-loop μ-loop
-returns-2 c =
+returns : tie.Need-returns Inv-loop μ-loop
+returns c =
     let s = c .before in
-    ascending-end (s .before .before .args .count) (s .loop .i) (s .before .before .args .keys .now) (s .loop .low) (c .loop-test .left) (s .before .before .pre) ∙ s .loop .inv .1 .1
+    ascending-end (s .before .args .count) (s .loop .i) (s .before .args .keys .now) (s .loop .sorted) (c .loop-test .left) (s .before .pre) ∙ s .loop .inv .1
 
 pub is-ascending-spec : {M : Type 1} → statement M
-is-ascending-spec = tie.close (tie.spec Inv-loop μ-loop loop-holds mul-wide shared-slice-read-wide wide-requires returns add-low add-i loop-less loop-again returns-2)
+is-ascending-spec = tie.close (tie.spec Inv-loop μ-loop loop-holds sub-sorted mul-sorted shared-slice-read-sorted mul-sorted-2 shared-slice-read-sorted-2 add-i loop-less loop-again returns)

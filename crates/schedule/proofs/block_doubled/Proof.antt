@@ -5,7 +5,7 @@ use mathlib.Core.Bool.{false}
 use mathlib.Core.Logic.{inl, inr}
 use Prim.Native.Nat.{ℕ, _≤_}
 use lib.ListN.{drop, take}
-use Rattle.schedule.specs.Scans.{placeMarks, doubledIn}
+use Rattle.schedule.specs.Scans.{blockSize, placeMarks, doubledIn}
 use Rattle.schedule.proofs.Lists.{rest-none}
 use Rattle.schedule.proofs.Checks.{marks-none}
 use Rattle.schedule.proofs.Doubled.{in-none}
@@ -14,7 +14,7 @@ use Rattle.schedule.proofs.block_doubled.Statement.{statement}
 use Rattle.schedule.proofs.block_doubled.Tie as tie
 
 abbrev Inv-loop : tie.InvT-loop
-Inv-loop s count base used₀ i₀ used i = (i ≤ count) × ((used ≡ placeMarks 64 base (drop i (take count s))) × (doubledIn base (drop i (take count s)) ≡ false))
+Inv-loop s count base used₀ i₀ used i = (i ≤ count) × ((used ≡ placeMarks blockSize base (drop i (take count s))) × (doubledIn base (drop i (take count s)) ≡ false))
 
 abbrev μ-loop : tie.MeasureT-loop
 μ-loop s count base used₀ i₀ used i = i
@@ -22,7 +22,7 @@ abbrev μ-loop : tie.MeasureT-loop
 loop-holds : tie.Need-loop-holds Inv-loop μ-loop
 loop-holds c =
     let e = rest-none (c .args .count) (c .args .count) (c .args .s .now) (omega arith) (omega arith) in
-    (omega arith, (marks-none 64 (c .args .base) e, in-none (c .args .base) e))
+    (omega arith, (marks-none blockSize (c .args .base) e, in-none (c .args .base) e))
 
 sub-i : tie.Need-sub-i Inv-loop μ-loop
 sub-i c = search needs

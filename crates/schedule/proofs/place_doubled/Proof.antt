@@ -2,15 +2,16 @@ use native.Mathlib.Omega.{arith}
 use borrow.Author.Needs.{needs}
 use mathlib.Core.Path.{_≡_, sym}
 use mathlib.Core.Bool.{false}
-use Prim.Native.Nat.{_<_, _-_}
+use Prim.Native.Nat.{_<_, _+_, _-_}
 use lib.ListN.{take}
+use Rattle.schedule.specs.Scans.{blockSize}
 use Rattle.schedule.proofs.Sound.{told}
 use Rattle.schedule.proofs.Doubled.{doubledBelow, in-doubled, below-zero, below-more, below-all}
 use Rattle.schedule.proofs.place_doubled.Statement.{statement}
 use Rattle.schedule.proofs.place_doubled.Tie as tie
 
 abbrev Inv-loop : tie.InvT-loop
-Inv-loop s count places base₀ base = (base < 9223372036854775872) × (doubledBelow base (take count s) ≡ false)
+Inv-loop s count places base₀ base = (base < 9223372036854775808 + blockSize) × (doubledBelow base (take count s) ≡ false)
 
 abbrev μ-loop : tie.MeasureT-loop
 μ-loop s count places base₀ base = places - base

@@ -4,7 +4,7 @@ use mathlib.Core.Path.{_≡_, _∙_, ap}
 use mathlib.Core.Logic.{inl, inr}
 use Prim.Native.Nat.{ℕ, _≤_}
 use lib.ListN.{drop, take}
-use Rattle.schedule.specs.Scans.{placeMarks}
+use Rattle.schedule.specs.Scans.{blockSize, placeMarks}
 use Rattle.schedule.proofs.Lists.{rest-none}
 use Rattle.schedule.proofs.Checks.{marks-none}
 use Rattle.schedule.proofs.Marks.{marks-it, marks-no}
@@ -12,13 +12,13 @@ use Rattle.schedule.proofs.used_places.Statement.{statement}
 use Rattle.schedule.proofs.used_places.Tie as tie
 
 abbrev Inv-loop : tie.InvT-loop
-Inv-loop s count base used₀ i₀ used i = (i ≤ count) × (used ≡ placeMarks 64 base (drop i (take count s)))
+Inv-loop s count base used₀ i₀ used i = (i ≤ count) × (used ≡ placeMarks blockSize base (drop i (take count s)))
 
 abbrev μ-loop : tie.MeasureT-loop
 μ-loop s count base used₀ i₀ used i = i
 
 loop-holds : tie.Need-loop-holds Inv-loop μ-loop
-loop-holds c = (omega arith, marks-none 64 (c .args .base) (rest-none (c .args .count) (c .args .count) (c .args .s .now) (omega arith) (omega arith)))
+loop-holds c = (omega arith, marks-none blockSize (c .args .base) (rest-none (c .args .count) (c .args .count) (c .args .s .now) (omega arith) (omega arith)))
 
 sub-i : tie.Need-sub-i Inv-loop μ-loop
 sub-i c = search needs
@@ -66,7 +66,7 @@ returns : tie.Need-returns Inv-loop μ-loop
 returns c =
     let a = c .before .before .args in
     let e : c .before .loop .i ≡ 0 = omega arith in
-    c .before .loop .inv .1 ∙ ap (λ (k : ℕ). placeMarks 64 (a .base) (drop k (take (a .count) (a .s .now)))) e
+    c .before .loop .inv .1 ∙ ap (λ (k : ℕ). placeMarks blockSize (a .base) (drop k (take (a .count) (a .s .now)))) e
 
 pub used-places-spec : {M : Type 1} → statement M
 used-places-spec =

@@ -20,7 +20,7 @@ same-length : tie.Need-same-length
 same-length c = search needs
 
 returns : tie.Need-returns
-returns c = refused-state _ _ (c .before .before .before .before .before .before .args .self) (c .before .before .before .before .before .before .args .self .filled) (decision (c .before .before .before .before .before .before .args .self) (readPacket (c .before .before .before .before .before .before .args .raw .now)) .decision) (withMark (decision (c .before .before .before .before .before .before .args .self) (readPacket (c .before .before .before .before .before .before .args .raw .now)) .receiver)) (c .before .before .before .before .before .before .args .raw .now) (c .before .before .before .before .before .before .args .output .now) (c .before .before .before .before .before .before .args .ack .now) (sym (c .before .marks-broken .ensures) ∙ c .if1 .taken)
+returns c = refused-state _ _ (c .before .before .before .before .before .before .args .self) (c .before .before .before .before .before .before .args .self .filled) (decision (c .before .before .before .before .before .before .args .self) (readPacket (c .before .before .before .before .before .before .args .raw .now)) .decision) (payloadOf (c .before .before .before .before .before .before .args .raw .now)) (withMark (decision (c .before .before .before .before .before .before .args .self) (readPacket (c .before .before .before .before .before .before .args .raw .now)) .receiver)) (c .before .before .before .before .before .before .args .raw .now) (c .before .before .before .before .before .before .args .output .now) (c .before .before .before .before .before .before .args .ack .now) (sym (c .before .marks-broken .ensures) ∙ c .if1 .taken)
 
 counts-broken-requires : tie.Need-counts-broken-requires
 counts-broken-requires c κs = search needs
@@ -29,7 +29,7 @@ same-length-2 : tie.Need-same-length-2
 same-length-2 c = search needs
 
 returns-2 : tie.Need-returns-2
-returns-2 c = refused-counts _ _ (c .before .before .before .before .before .before .before .before .args .self) (c .before .before .before .before .before .before .before .before .args .self .filled) (decision (c .before .before .before .before .before .before .before .before .args .self) (readPacket (c .before .before .before .before .before .before .before .before .args .raw .now)) .decision) (withMark (decision (c .before .before .before .before .before .before .before .before .args .self) (readPacket (c .before .before .before .before .before .before .before .before .args .raw .now)) .receiver)) (c .before .before .before .before .before .before .before .before .args .raw .now) (c .before .before .before .before .before .before .before .before .args .output .now) (c .before .before .before .before .before .before .before .before .args .ack .now) (sym (c .before .before .before .marks-broken .ensures) ∙ c .before .before .if1 .left) (sym (c .before .counts-broken .ensures) ∙ c .if2 .taken)
+returns-2 c = refused-counts _ _ (c .before .before .before .before .before .before .before .before .args .self) (c .before .before .before .before .before .before .before .before .args .self .filled) (decision (c .before .before .before .before .before .before .before .before .args .self) (readPacket (c .before .before .before .before .before .before .before .before .args .raw .now)) .decision) (payloadOf (c .before .before .before .before .before .before .before .before .args .raw .now)) (withMark (decision (c .before .before .before .before .before .before .before .before .args .self) (readPacket (c .before .before .before .before .before .before .before .before .args .raw .now)) .receiver)) (c .before .before .before .before .before .before .before .before .args .raw .now) (c .before .before .before .before .before .before .before .before .args .output .now) (c .before .before .before .before .before .before .before .before .args .ack .now) (sym (c .before .before .before .marks-broken .ensures) ∙ c .before .before .if1 .left) (sym (c .before .counts-broken .ensures) ∙ c .if2 .taken)
 
 read-packet-requires : tie.Need-read-packet-requires
 read-packet-requires c κs = search needs
@@ -43,7 +43,7 @@ same-length-3 c = search needs
 returns-3 : tie.Need-returns-3
 returns-3 c =
     let h = sym (c .before .before .before .read-packet .ensures) ∙ c .before .handed .given .1 in
-    refused-reading _ _ (c .before .before .before .before .before .before .before .before .before .before .before .before .args .self) (c .before .before .before .before .before .before .before .before .before .before .before .before .args .self .filled) (decision (c .before .before .before .before .before .before .before .before .before .before .before .before .args .self) (readPacket (c .before .before .before .before .before .before .before .before .before .before .before .before .args .raw .now)) .decision) (withMark (decision (c .before .before .before .before .before .before .before .before .before .before .before .before .args .self) (readPacket (c .before .before .before .before .before .before .before .before .before .before .before .before .args .raw .now)) .receiver)) (c .before .before .before .before .before .before .before .before .before .before .before .before .args .raw .now) (c .before .before .before .before .before .before .before .before .before .before .before .before .args .output .now) (c .before .before .before .before .before .before .before .before .before .before .before .before .args .ack .now) _ (sym (c .before .before .before .before .before .before .before .marks-broken .ensures) ∙ c .before .before .before .before .before .before .if1 .left) (sym (c .before .before .before .before .before .counts-broken .ensures) ∙ c .before .before .before .before .if2 .left) (rw h (none-written (c .before .before .before .before .before .before .before .before .before .before .before .before .args .self) _ (length (payloadOf (c .before .before .before .before .before .before .before .before .before .before .before .before .args .raw .now))) (c .before .before .before .before .before .before .before .before .before .before .before .before .args .output .now) (c .before .before .before .before .before .before .before .before .before .before .before .before .args .ack .now))) h
+    refused-reading _ _ (c .before .before .before .before .before .before .before .before .before .before .before .before .args .self) (c .before .before .before .before .before .before .before .before .before .before .before .before .args .self .filled) (decision (c .before .before .before .before .before .before .before .before .before .before .before .before .args .self) (readPacket (c .before .before .before .before .before .before .before .before .before .before .before .before .args .raw .now)) .decision) (payloadOf (c .before .before .before .before .before .before .before .before .before .before .before .before .args .raw .now)) (withMark (decision (c .before .before .before .before .before .before .before .before .before .before .before .before .args .self) (readPacket (c .before .before .before .before .before .before .before .before .before .before .before .before .args .raw .now)) .receiver)) (c .before .before .before .before .before .before .before .before .before .before .before .before .args .raw .now) (c .before .before .before .before .before .before .before .before .before .before .before .before .args .output .now) (c .before .before .before .before .before .before .before .before .before .before .before .before .args .ack .now) _ (sym (c .before .before .before .before .before .before .before .marks-broken .ensures) ∙ c .before .before .before .before .before .before .if1 .left) (sym (c .before .before .before .before .before .counts-broken .ensures) ∙ c .before .before .before .before .if2 .left) (rw h (none-written (c .before .before .before .before .before .before .before .before .before .before .before .before .args .self) _ (length (payloadOf (c .before .before .before .before .before .before .before .before .before .before .before .before .args .raw .now))) (c .before .before .before .before .before .before .before .before .before .before .before .before .args .output .now) (c .before .before .before .before .before .before .before .before .before .before .before .before .args .ack .now))) h
 
 payload-requires : tie.Need-payload-requires
 payload-requires c κs = search needs
@@ -65,7 +65,7 @@ returns-4 c =
     let p = c .before .before .before .before .before .before .payload .ensures in
     let d = c .before .before .before .before .before .decide-unchecked .ensures ∙ ap (decision (c .before .before .before .before .before .before .before .before .before .before .before .before .before .before .before .before .before .args .self)) (c .before .before .before .before .before .before .before .before .read-packet .ensures) in
     let room = sym (c .before .room-missing-unchecked .ensures) ∙ c .if3 .taken in
-    refused-full _ _ (c .before .before .before .before .before .before .before .before .before .before .before .before .before .before .before .before .before .args .self) (c .before .before .before .before .before .before .before .before .before .before .before .before .before .before .before .before .before .args .self .filled) (decision (c .before .before .before .before .before .before .before .before .before .before .before .before .before .before .before .before .before .args .self) (readPacket (c .before .before .before .before .before .before .before .before .before .before .before .before .before .before .before .before .before .args .raw .now)) .decision) (withMark (decision (c .before .before .before .before .before .before .before .before .before .before .before .before .before .before .before .before .before .args .self) (readPacket (c .before .before .before .before .before .before .before .before .before .before .before .before .before .before .before .before .before .args .raw .now)) .receiver)) (c .before .before .before .before .before .before .before .before .before .before .before .before .before .before .before .before .before .args .raw .now) (c .before .before .before .before .before .before .before .before .before .before .before .before .before .before .before .before .before .args .output .now) (c .before .before .before .before .before .before .before .before .before .before .before .before .before .before .before .before .before .args .ack .now) (sym (c .before .before .before .before .before .before .before .before .before .before .before .before .marks-broken .ensures) ∙ c .before .before .before .before .before .before .before .before .before .before .before .if1 .left) (sym (c .before .before .before .before .before .before .before .before .before .before .counts-broken .ensures) ∙ c .before .before .before .before .before .before .before .before .before .if2 .left) (λ s e. not-four 4 (rw (c .before .before .before .before .before .before .before .before .read-packet .ensures ∙ e) at (c .before .before .before .before .before .before .before .match .keys2)) refl) (rw (← p, ← d) room)
+    refused-full _ _ (c .before .before .before .before .before .before .before .before .before .before .before .before .before .before .before .before .before .args .self) (c .before .before .before .before .before .before .before .before .before .before .before .before .before .before .before .before .before .args .self .filled) (decision (c .before .before .before .before .before .before .before .before .before .before .before .before .before .before .before .before .before .args .self) (readPacket (c .before .before .before .before .before .before .before .before .before .before .before .before .before .before .before .before .before .args .raw .now)) .decision) (payloadOf (c .before .before .before .before .before .before .before .before .before .before .before .before .before .before .before .before .before .args .raw .now)) (withMark (decision (c .before .before .before .before .before .before .before .before .before .before .before .before .before .before .before .before .before .args .self) (readPacket (c .before .before .before .before .before .before .before .before .before .before .before .before .before .before .before .before .before .args .raw .now)) .receiver)) (c .before .before .before .before .before .before .before .before .before .before .before .before .before .before .before .before .before .args .raw .now) (c .before .before .before .before .before .before .before .before .before .before .before .before .before .before .before .before .before .args .output .now) (c .before .before .before .before .before .before .before .before .before .before .before .before .before .before .before .before .before .args .ack .now) (sym (c .before .before .before .before .before .before .before .before .before .before .before .before .marks-broken .ensures) ∙ c .before .before .before .before .before .before .before .before .before .before .before .if1 .left) (sym (c .before .before .before .before .before .before .before .before .before .before .counts-broken .ensures) ∙ c .before .before .before .before .before .before .before .before .before .if2 .left) (λ s e. not-four 4 (rw (c .before .before .before .before .before .before .before .before .read-packet .ensures ∙ e) at (c .before .before .before .before .before .before .before .match .keys2)) refl) (rw (← p, ← d) room)
 
 carry-out-unchecked-requires : tie.Need-carry-out-unchecked-requires
 carry-out-unchecked-requires c κs = record { mark = marks-low (c .before .before .before .before .before .before .before .before .before .before .before .before .before .before .before .before .before .before .before .args .self .«expected_seq») (c .before .before .before .before .before .before .before .before .before .before .before .before .before .before .before .before .before .before .before .args .self .filled) (c .before .before .before .before .before .before .before .before .before .before .before .before .before .before .before .before .before .before .before .args .output .now) (sym (c .before .before .before .before .before .before .before .before .before .before .before .before .before .before .marks-broken .ensures) ∙ c .before .before .before .before .before .before .before .before .before .before .before .before .before .if1 .left) .1; room = sym (c .before .before .before .room-missing-unchecked .ensures) ∙ c .before .before .if3 .left }
@@ -84,7 +84,7 @@ returns-5 c =
     let p = c .before .before .before .before .before .before .before .before .before .before .before .before .before .before .before .payload .ensures in
     let d = c .before .before .before .before .before .before .before .before .before .before .before .before .before .before .decide-unchecked .ensures ∙ ap (decision (c .before .before .before .before .before .before .before .before .before .before .before .before .before .before .before .before .before .before .before .before .before .before .before .before .before .before .args .self)) (c .before .before .before .before .before .before .before .before .before .before .before .before .before .before .before .before .before .read-packet .ensures) in
     let room = sym (c .before .before .before .before .before .before .before .before .before .before .room-missing-unchecked .ensures) ∙ c .before .before .before .before .before .before .before .before .before .if3 .left in
-    rw d (received _ _ (c .before .before .before .before .before .before .before .before .before .before .before .before .before .before .before .before .before .before .before .before .before .before .before .before .before .before .args .self) (c .before .before .before .before .before .before .before .before .before .before .before .before .before .before .before .before .before .before .before .before .before .before .before .before .before .before .args .self .filled) (decision (c .before .before .before .before .before .before .before .before .before .before .before .before .before .before .before .before .before .before .before .before .before .before .before .before .before .before .args .self) (readPacket (c .before .before .before .before .before .before .before .before .before .before .before .before .before .before .before .before .before .before .before .before .before .before .before .before .before .before .args .raw .now)) .decision) (withMark (decision (c .before .before .before .before .before .before .before .before .before .before .before .before .before .before .before .before .before .before .before .before .before .before .before .before .before .before .args .self) (readPacket (c .before .before .before .before .before .before .before .before .before .before .before .before .before .before .before .before .before .before .before .before .before .before .before .before .before .before .args .raw .now)) .receiver)) (c .before .before .before .before .before .before .before .before .before .before .before .before .before .before .before .before .before .before .before .before .before .before .before .before .before .before .args .raw .now) (c .before .before .before .before .before .before .before .before .before .before .before .before .before .before .before .before .before .before .before .before .before .before .before .before .before .before .args .output .now) (c .before .before .before .before .before .before .before .before .before .before .before .before .before .before .before .before .before .before .before .before .before .before .before .before .before .before .args .ack .now) (c .before .before .before .before .before .before .before .before .before .before .before .before .before .before .before .payload .result .now) _ _ _ _ (sym (c .before .before .before .before .before .before .before .before .before .before .before .before .before .before .before .before .before .before .before .before .before .marks-broken .ensures) ∙ c .before .before .before .before .before .before .before .before .before .before .before .before .before .before .before .before .before .before .before .before .if1 .left) (sym (c .before .before .before .before .before .before .before .before .before .before .before .before .before .before .before .before .before .before .before .counts-broken .ensures) ∙ c .before .before .before .before .before .before .before .before .before .before .before .before .before .before .before .before .before .before .if2 .left) (λ s e. not-four 4 (rw (c .before .before .before .before .before .before .before .before .before .before .before .before .before .before .before .before .before .read-packet .ensures ∙ e) at (c .before .before .before .before .before .before .before .before .before .before .before .before .before .before .before .before .match .keys2)) refl) (rw (← p, ← d) room) p (c .answer .ensures ∙ rw d) (c .before .before .before .before .before .before .carry-out-unchecked .ensures ∙ rw d))
+    rw d (received _ _ (c .before .before .before .before .before .before .before .before .before .before .before .before .before .before .before .before .before .before .before .before .before .before .before .before .before .before .args .self) (c .before .before .before .before .before .before .before .before .before .before .before .before .before .before .before .before .before .before .before .before .before .before .before .before .before .before .args .self .filled) (decision (c .before .before .before .before .before .before .before .before .before .before .before .before .before .before .before .before .before .before .before .before .before .before .before .before .before .before .args .self) (readPacket (c .before .before .before .before .before .before .before .before .before .before .before .before .before .before .before .before .before .before .before .before .before .before .before .before .before .before .args .raw .now)) .decision) (payloadOf (c .before .before .before .before .before .before .before .before .before .before .before .before .before .before .before .before .before .before .before .before .before .before .before .before .before .before .args .raw .now)) (withMark (decision (c .before .before .before .before .before .before .before .before .before .before .before .before .before .before .before .before .before .before .before .before .before .before .before .before .before .before .args .self) (readPacket (c .before .before .before .before .before .before .before .before .before .before .before .before .before .before .before .before .before .before .before .before .before .before .before .before .before .before .args .raw .now)) .receiver)) (c .before .before .before .before .before .before .before .before .before .before .before .before .before .before .before .before .before .before .before .before .before .before .before .before .before .before .args .raw .now) (c .before .before .before .before .before .before .before .before .before .before .before .before .before .before .before .before .before .before .before .before .before .before .before .before .before .before .args .output .now) (c .before .before .before .before .before .before .before .before .before .before .before .before .before .before .before .before .before .before .before .before .before .before .before .before .before .before .args .ack .now) (c .before .before .before .before .before .before .before .before .before .before .before .before .before .before .before .payload .result .now) _ _ _ _ (sym (c .before .before .before .before .before .before .before .before .before .before .before .before .before .before .before .before .before .before .before .before .before .marks-broken .ensures) ∙ c .before .before .before .before .before .before .before .before .before .before .before .before .before .before .before .before .before .before .before .before .if1 .left) (sym (c .before .before .before .before .before .before .before .before .before .before .before .before .before .before .before .before .before .before .before .counts-broken .ensures) ∙ c .before .before .before .before .before .before .before .before .before .before .before .before .before .before .before .before .before .before .if2 .left) (λ s e. not-four 4 (rw (c .before .before .before .before .before .before .before .before .before .before .before .before .before .before .before .before .before .read-packet .ensures ∙ e) at (c .before .before .before .before .before .before .before .before .before .before .before .before .before .before .before .before .match .keys2)) refl) (rw (← p, ← d) room) p (c .answer .ensures ∙ rw d) (c .before .before .before .before .before .before .carry-out-unchecked .ensures ∙ rw d))
 
 pub handle-packet-spec : {M : Type 1} → statement M
 handle-packet-spec =

@@ -1,5 +1,4 @@
-use mathlib.Core.Path.{_≡_, refl, sym, ap, _∙_}
-use Rattle.window.specs.Sending.{making}
+use mathlib.Core.Path.{sym, _∙_}
 use borrow.Author.Needs.{needs}
 use Rattle.go_back_n.proofs.GoBackNSender.new.Statement.{statement}
 use Rattle.go_back_n.proofs.GoBackNSender.new.Tie as tie

@@ -2,9 +2,10 @@ use mathlib.Core.Path.{_≡_, sym, _∙_}
 use mathlib.Core.Bool.{true, false}
 use native.Mathlib.Omega.{arith}
 use borrow.Author.Needs.{needs}
-use Rattle.multi_timer.specs.MultiTimer.{broken, startTooLate, startFull}
+use Rattle.multi_timer.specs.MultiTimer.{broken, heldTooLate, startTooLate, startFull}
+use Rattle.duration.proofs.Laws.{start-in-time}
 use Rattle.multi_timer.proofs.Changes.{count-fits-deadlines}
-use Rattle.multi_timer.proofs.Calls.{start-in-time, start-state, start-time, start-full, start-done}
+use Rattle.multi_timer.proofs.Calls.{start-state, start-time, start-full, start-done}
 use Rattle.multi_timer.proofs.MultiTimer.start_timer_at.Statement.{statement}
 use Rattle.multi_timer.proofs.MultiTimer.start_timer_at.Tie as tie
 
@@ -66,7 +67,7 @@ add-start-timer-at-unchecked : tie.Need-add-start-timer-at-unchecked
 add-start-timer-at-unchecked c =
     let s = c .before .before .before .before .before .before .before .before .before .before .before .before .before .before .before in
     let e2 : startTooLate (s .args .self .count) (s .args .deadlines .now) (s .args .now) (s .args .duration) ≡ false = sym (c .before .before .before .before .before .before .before .start-too-late .ensures) ∙ c .before .before .before .before .before .before .if2 .left in
-    let h = start-in-time (s .args .self .count) (s .args .deadlines .now) (s .args .now) (s .args .duration) e2 in
+    let h = start-in-time (heldTooLate (s .args .self .count) (s .args .deadlines .now)) (s .args .now) (s .args .duration) e2 in
     omega arith
 
 start-timer-at-unchecked-requires : tie.Need-start-timer-at-unchecked-requires

@@ -2,7 +2,7 @@ use borrow.Author.Tests.{le-leb, lt-leb}
 use Rattle.schedule.specs.State.{mem}
 use Rattle.schedule.specs.declared.Held.the-variants as held
 use Rattle.schedule.proofs.Sound.{told}
-use Rattle.schedule.proofs.Memory.{within}
+use Rattle.schedule.proofs.Memory.{in-order, within}
 use Rattle.schedule.proofs.Calls.{reading-state, reading-counts, reading-time, reading-done}
 use borrow.Author.Needs.{needs}
 use Rattle.schedule.proofs.ChannelScheduler.held.Statement.{statement}
@@ -27,7 +27,8 @@ held-late-requires : tie.Need-held-late-requires
 held-late-requires c κs =
     let s = c .before .before .before .before .before in
     let m = mem (s .args .records .now) (s .args .places .now) (s .args .self) in
-    within m (told (c .before .before .before .state-broken .ensures) (c .before .before .if1 .left))
+    let e = told (c .before .before .before .state-broken .ensures) (c .before .before .if1 .left) in
+    (within m e, in-order m e)
 
 returns-3 : tie.Need-returns-3
 returns-3 c =

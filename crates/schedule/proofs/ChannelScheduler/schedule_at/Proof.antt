@@ -2,7 +2,7 @@ use lib.ListN.{length}
 use borrow.Author.Tests.{lt-ltb, le-ltb, le-leb, lt-leb}
 use Rattle.schedule.specs.State.{mem, copies}
 use Rattle.schedule.proofs.Sound.{told}
-use Rattle.schedule.proofs.Memory.{within}
+use Rattle.schedule.proofs.Memory.{in-order, within}
 use Rattle.schedule.proofs.Calls.{lacks, lacks-not, schedule-state, schedule-counts, schedule-time, schedule-long, schedule-full, schedule-done, can-schedule}
 use borrow.Author.Needs.{needs}
 use Rattle.schedule.proofs.ChannelScheduler.schedule_at.Statement.{statement}
@@ -39,7 +39,8 @@ time-late-requires : tie.Need-time-late-requires
 time-late-requires c κs =
     let s = c .before .before .before .before .before .before .before .before .before in
     let m = mem (s .args .records .now) (s .args .places .now) (s .args .self) in
-    within m (told (c .before .before .before .before .state-broken .ensures) (c .before .before .before .if1 .left))
+    let e = told (c .before .before .before .before .state-broken .ensures) (c .before .before .before .if1 .left) in
+    (within m e, in-order m e)
 
 same-length-5 : tie.Need-same-length-5
 same-length-5 c = search needs

@@ -1,12 +1,12 @@
 use borrow.Author.Needs.{needs}
-use Rattle.timer.specs.Timer.{start}
+use Rattle.timer.specs.Timer.{deadlineTooLate, start}
 use native.Mathlib.Omega.{arith}
-use Rattle.timer.proofs.Checks.{start-in-time}
+use Rattle.duration.proofs.Laws.{start-in-time}
 use Rattle.timer.proofs.RetransmissionTimer.started_at_unchecked.Statement.{statement}
 use Rattle.timer.proofs.RetransmissionTimer.started_at_unchecked.Tie as tie
 
 add-t4 : tie.Need-add-t4
-add-t4 c = omega (arith, start-in-time (c .args .self) (c .args .now) (c .args .duration) (c .pre))
+add-t4 c = omega (arith, start-in-time (deadlineTooLate (c .args .self .deadline)) (c .args .now) (c .args .duration) (c .pre))
 
 wrapping-add-u64-requires : tie.Need-wrapping-add-u64-requires
 wrapping-add-u64-requires c κs = search needs

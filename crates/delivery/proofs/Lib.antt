@@ -1,0 +1,10 @@
+pub mod Datagrams
+pub mod Follow
+pub mod Simulation
+pub mod Resending
+pub mod Theorem
+pub mod SenderFollows
+pub mod ReceiverFollows
+pub mod Instances
+pub mod Protocols
+pub mod Examples

@@ -1,0 +1,227 @@
+-- Ends that follow the machine, call by call, follow it over every list of calls.
+use Prim.Native.Nat.{ℕ, zero, suc, _+_, _-_, _≤_, _<_}
+use mathlib.Core.Path.{_≡_, refl, sym, ap, _∙_}
+use mathlib.Core.List.{List, [], _∷_, _++_, map, List·Memᴰ, append-nil, flatten}
+use mathlib.Core.Bool.{Bool, true, false, cond, _&&_}
+use lib.ListN.{length, getD, take, drop}
+use Rattle.checksum.specs.Below.{Octets}
+use Rattle.checksum.specs.Flip.{flip}
+use Rattle.protocol.specs.declared.ProtocolType.{ProtocolType}
+use Rattle.protocol.specs.PlainMachine as plain
+use Rattle.protocol.specs.PlainMachine.{Fed, fed, plainStart, plainRun}
+use Rattle.protocol.specs.Machine.{Segment, SenderState, ReceiverState, nextNumber, segmentsFrom, acknowledge, receive}
+use Rattle.protocol.specs.Trace as trace
+use Rattle.protocol.specs.Trace.{Event, Allowed, Fair, callOf, newWorld}
+use Rattle.delivery.specs.Calls.{Copy, whole, flipped, copyOf, CopyOf, isWhole, Call, send, timeout, toReceiver, toSender, Done, Ends, World, fresh, datagrams, bySender, byReceiver, step, run, Handed, Line, numberOf, fedBy, fedIn}
+use Rattle.delivery.proofs.Datagrams.{DataBytes, AckBytes, Each, Paired, each-append, each-at, each-length, datagrams-flatten, data-framed, acks-framed, data-number, ack-number}
+use Rattle.arq.proofs.Laws.{flatten-append}
+use Rattle.delivery.proofs.Follow.{SenderKept, ReceiverKept, ChunkSent, SentAgain, PacketTaken, Flips, Follow}
+
+-- datagrams written end to end, added to those made before
+pub data-added : (sent : List (List ℕ)) (qs : List Segment) (written : List ℕ) (packets : List (List ℕ)) (more : List Segment)
+    → Each DataBytes sent qs → written ≡ flatten packets → Each DataBytes packets more → Each DataBytes (sent ++ datagrams written) (qs ++ more)
+data-added sent qs written packets more h e k =
+    rw (e, datagrams-flatten packets (data-framed packets more k)) (each-append DataBytes sent qs packets more h k)
+
+pub acks-added : (replies : List (List ℕ)) (ns : List ℕ) (written : List ℕ) (packets : List (List ℕ)) (more : List ℕ)
+    → Each AckBytes replies ns → written ≡ flatten packets → Each AckBytes packets more → Each AckBytes (replies ++ datagrams written) (ns ++ more)
+acks-added replies ns written packets more h e k =
+    rw (e, datagrams-flatten packets (acks-framed packets more k)) (each-append AckBytes replies ns packets more h k)
+
+none-added : (sent : List (List ℕ)) (written : List ℕ) → written ≡ [] → sent ++ datagrams written ≡ sent
+unfolding datagrams
+none-added sent written e = rw e (append-nil sent)
+
+module _ (p : ProtocolType) (w : ℕ) (E : Ends) (F : Follow p w E) where
+  -- a world of bytes, and one of numbers and chunks
+  pub record Follows (v : World E) (m : trace.World) : Type 0 where
+    pub sender : F .SenderIs (v .sender) (m .sender)
+    pub receiver : F .ReceiverIs (v .receiver) (m .receiver)
+    pub sent : Each DataBytes (v .sent) (m .segments)
+    pub replies : Each AckBytes (v .replies) (m .acks)
+    pub output : E .output (v .receiver) ≡ flatten (m .delivered)
+
+  -- a call as an event
+  pub record Stepped (v : World E) (m : trace.World) (c : Call (E .Timeout)) : Type 0 where
+    pub event : Event
+    pub allowed : Allowed w m event
+    pub same-fed : callOf event ≡ fedBy E v c
+    pub follows : Follows (step E v c) (trace.step p w m event)
+
+  module _ (v : World E) (m : trace.World) (f : Follows v m) where
+    sender-kept : (d : Done (E .Sender)) → SenderKept E (F .SenderIs) d (m .sender) → Follows (bySender v d) m
+    sender-kept d k =
+        rw (none-added (v .sent) (d .written) (k .nothing))
+        record { sender = k .after; receiver = f .receiver; sent = f .sent; replies = f .replies; output = f .output }
+
+    receiver-kept : (d : Done (E .Receiver)) → ReceiverKept E (F .ReceiverIs) (v .receiver) d (m .receiver) → Follows (byReceiver v d) m
+    receiver-kept d k =
+        rw (none-added (v .replies) (d .written) (k .nothing))
+        record { sender = f .sender; receiver = k .after; sent = f .sent; replies = f .replies; output = k .output ∙ f .output }
+
+    -- a chunk to send
+    pub chunk-sent : (payload buffer : List ℕ) → Octets payload → E .sendChunk (v .sender) payload buffer .isDone ≡ true
+        → Follows (bySender v (E .sendChunk (v .sender) payload buffer)) (trace.step p w m (trace.sent payload))
+    unfolding trace.step flatten
+    chunk-sent payload buffer o e =
+        let k = F .sent (v .sender) (m .sender) payload buffer (f .sender) o e in
+        record {
+          sender = k .after;
+          receiver = f .receiver;
+          sent = data-added (v .sent) (m .segments) _ (E .sendChunk (v .sender) payload buffer .written ∷ []) _ (f .sent) (sym (append-nil _)) (k .wrote, tt);
+          replies = f .replies;
+          output = f .output;
+        }
+
+    step-send : (payload buffer : List ℕ) → Octets payload → (b : Bool) → E .sendChunk (v .sender) payload buffer .isDone ≡ b → Stepped v m (send payload buffer)
+    unfolding step fedBy trace.step
+    step-send payload buffer o true e =
+        let k = F .sent (v .sender) (m .sender) payload buffer (f .sender) o e in
+        record { event = trace.sent payload; allowed = k .free; same-fed = rw e refl; follows = chunk-sent payload buffer o e }
+    step-send payload buffer o false e =
+        record {
+          event = trace.other (plain.sendChunk payload);
+          allowed = tt;
+          same-fed = rw e refl;
+          follows = sender-kept (E .sendChunk (v .sender) payload buffer) (F .not-sent (v .sender) (m .sender) payload buffer (f .sender) e);
+        }
+
+    -- a timeout
+    pub sent-again : (t : E .Timeout) (buffer : List ℕ) (k : SentAgain E (F .SenderIs) (E .handleTimeout (v .sender) t buffer) (m .sender))
+        → Follows (bySender v (E .handleTimeout (v .sender) t buffer)) (trace.step p w m (trace.resent (k .first) (k .count)))
+    unfolding trace.step
+    sent-again t buffer k =
+        record {
+          sender = k .after;
+          receiver = f .receiver;
+          sent = data-added (v .sent) (m .segments) _ (k .packets) _ (f .sent) (k .wrote) (k .each);
+          replies = f .replies;
+          output = f .output;
+        }
+
+    step-timeout : (t : E .Timeout) (buffer : List ℕ) → (b : Bool) → E .handleTimeout (v .sender) t buffer .isDone ≡ b → Stepped v m (timeout t buffer)
+    unfolding step fedBy trace.step
+    step-timeout t buffer true e =
+        let k = F .resent (v .sender) (m .sender) t buffer (f .sender) e in
+        record { event = trace.resent (k .first) (k .count); allowed = (k .low, k .high); same-fed = rw e refl; follows = sent-again t buffer k }
+    step-timeout t buffer false e =
+        record {
+          event = trace.other plain.handleTimeout;
+          allowed = tt;
+          same-fed = rw e refl;
+          follows = sender-kept (E .handleTimeout (v .sender) t buffer) (F .not-resent (v .sender) (m .sender) t buffer (f .sender) e);
+        }
+
+    -- a datagram to the receiver
+    pub packet-taken : (raw buffer : List ℕ) (q : Segment) → DataBytes raw q → E .handlePacket (v .receiver) raw buffer .isDone ≡ true
+        → Follows (byReceiver v (E .handlePacket (v .receiver) raw buffer)) (trace.step p w m (trace.received q))
+    unfolding trace.step
+    packet-taken raw buffer q d e =
+        let k = F .received (v .receiver) (m .receiver) raw buffer q (f .receiver) d e in
+        record {
+          sender = f .sender;
+          receiver = k .after;
+          sent = f .sent;
+          replies = acks-added (v .replies) (m .acks) _ (k .replies) _ (f .replies) (k .wrote) (k .each);
+          output = k .output ∙ rw (f .output) (sym (flatten-append (m .delivered) _));
+        }
+
+    step-packet : (i : ℕ) (buffer : List ℕ) → i < length (v .sent) → (b : Bool) → E .handlePacket (v .receiver) (getD (v .sent) i []) buffer .isDone ≡ b → Stepped v m (toReceiver (whole i) buffer)
+    unfolding step fedBy trace.step
+    step-packet i buffer h true e =
+        let q = each-at DataBytes [] (v .sent) (m .segments) i (f .sent) h in
+        record {
+          event = trace.received (q .other);
+          allowed = q .member;
+          same-fed = rw (e, data-number _ (q .other) (q .belongs)) refl;
+          follows = packet-taken (getD (v .sent) i []) buffer (q .other) (q .belongs) e;
+        }
+    step-packet i buffer h false e =
+        record {
+          event = trace.other (plain.handleData (numberOf (getD (v .sent) i [])));
+          allowed = tt;
+          same-fed = rw e refl;
+          follows = receiver-kept (E .handlePacket (v .receiver) (getD (v .sent) i []) buffer) (F .packet-refused (v .receiver) (m .receiver) (getD (v .sent) i []) buffer (f .receiver) e);
+        }
+
+    step-packet-flipped : (i j b : ℕ) (buffer : List ℕ) → CopyOf (v .sent) (flipped i j b) → Stepped v m (toReceiver (flipped i j b) buffer)
+    unfolding step fedBy trace.step
+    step-packet-flipped i j b buffer h =
+        let q = each-at DataBytes [] (v .sent) (m .segments) i (f .sent) (h .0) in
+        record {
+          event = trace.other (plain.handleData (numberOf (flip (getD (v .sent) i []) j b)));
+          allowed = tt;
+          same-fed = refl;
+          follows =
+              receiver-kept (E .handlePacket (v .receiver) (flip (getD (v .sent) i []) j b) buffer)
+              (F .packet-flipped (v .receiver) (m .receiver) (getD (v .sent) i []) buffer (q .other) j b (f .receiver) (q .belongs) (record { within = h .1; bit = h .2; not-6 = h .3; not-7 = h .4 }));
+        }
+
+    -- a datagram to the sender
+    pub ack-taken : (raw : List ℕ) (n : ℕ) → AckBytes raw n → E .handleAck (v .sender) raw .isDone ≡ true
+        → Follows (bySender v (E .handleAck (v .sender) raw)) (trace.step p w m (trace.acknowledged n))
+    unfolding trace.step
+    ack-taken raw n d e =
+        let k = F .acknowledged (v .sender) (m .sender) raw n (f .sender) d e in
+        rw (none-added (v .sent) (E .handleAck (v .sender) raw .written) (k .nothing))
+        record { sender = k .after; receiver = f .receiver; sent = f .sent; replies = f .replies; output = f .output }
+
+    step-ack : (i : ℕ) → i < length (v .replies) → (b : Bool) → E .handleAck (v .sender) (getD (v .replies) i []) .isDone ≡ b → Stepped v m (toSender (whole i))
+    unfolding step fedBy trace.step
+    step-ack i h true e =
+        let q = each-at AckBytes [] (v .replies) (m .acks) i (f .replies) h in
+        record {
+          event = trace.acknowledged (q .other);
+          allowed = q .member;
+          same-fed = rw (e, ack-number _ (q .other) (q .belongs)) refl;
+          follows = ack-taken (getD (v .replies) i []) (q .other) (q .belongs) e;
+        }
+    step-ack i h false e =
+        record {
+          event = trace.other (plain.handleAck (numberOf (getD (v .replies) i [])));
+          allowed = tt;
+          same-fed = rw e refl;
+          follows = sender-kept (E .handleAck (v .sender) (getD (v .replies) i [])) (F .ack-refused (v .sender) (m .sender) (getD (v .replies) i []) (f .sender) e);
+        }
+
+    step-ack-flipped : (i j b : ℕ) → CopyOf (v .replies) (flipped i j b) → Stepped v m (toSender (flipped i j b))
+    unfolding step fedBy trace.step
+    step-ack-flipped i j b h =
+        let q = each-at AckBytes [] (v .replies) (m .acks) i (f .replies) (h .0) in
+        record {
+          event = trace.other (plain.handleAck (numberOf (flip (getD (v .replies) i []) j b)));
+          allowed = tt;
+          same-fed = refl;
+          follows =
+              sender-kept (E .handleAck (v .sender) (flip (getD (v .replies) i []) j b))
+              (F .ack-flipped (v .sender) (m .sender) (getD (v .replies) i []) (q .other) j b (f .sender) (q .belongs) (record { within = h .1; bit = h .2; not-6 = h .3; not-7 = h .4 }));
+        }
+
+    -- any call
+    pub one-step : (c : Call (E .Timeout)) → Handed v c → Stepped v m c
+    one-step (send payload buffer) h = step-send payload buffer h _ refl
+    one-step (timeout t buffer) h = step-timeout t buffer _ refl
+    one-step (toReceiver (whole i) buffer) h = step-packet i buffer h _ refl
+    one-step (toReceiver (flipped i j b) buffer) h = step-packet-flipped i j b buffer h
+    one-step (toSender (whole i)) h = step-ack i h _ refl
+    one-step (toSender (flipped i j b)) h = step-ack-flipped i j b h
+
+  -- a list of calls as a list of events
+  pub record Followed (v : World E) (m : trace.World) (cs : List (Call (E .Timeout))) : Type 0 where
+    pub events : List Event
+    pub fair : Fair p w m events
+    pub same-fed : map callOf events ≡ fedIn E v cs
+    pub follows : Follows (run E v cs) (trace.run p w m events)
+
+  pub every-list : (v : World E) (m : trace.World) → Follows v m → (cs : List (Call (E .Timeout))) → Line E v cs → Followed v m cs
+  unfolding run fedIn trace.run
+  every-list v m f [] l = record { events = []; fair = tt; same-fed = refl; follows = f }
+  every-list v m f (c ∷ cs) l =
+      let one = one-step v m f c (l .0) in
+      let rest = every-list (step E v c) (trace.step p w m (one .event)) (one .follows) cs (l .1) in
+      record {
+        events = one .event ∷ rest .events;
+        fair = (one .allowed, rest .fair);
+        same-fed = rw (one .same-fed, rest .same-fed) refl;
+        follows = rest .follows;
+      }

@@ -1,0 +1,158 @@
+-- The ends of the three protocols: the definitions that the contracts of their entry points cite.
+use Prim.Native.Nat.{ℕ, _*_}
+use mathlib.Core.List.{List, [], _++_}
+use mathlib.Core.Path.{_≡_}
+use mathlib.Core.Bool.{Bool, true, false}
+use lib.ListN.{take, drop, replicate}
+use Rattle.checksum.specs.Below.{Octets}
+use Rattle.window.specs.State.{windowBroken, storeShort}
+use Rattle.window.specs.Slots as slots
+use Rattle.window.specs.Sending.{Sending, sendChunk}
+use Rattle.window.specs.Acknowledgement.{Acknowledging}
+use Rattle.window.specs.Resending.{Resending}
+use Rattle.window.specs.declared.SendAnswer.{SendAnswer}
+use Rattle.window.specs.declared.SendAnswer.the-variants as sendAnswer
+use Rattle.window.specs.declared.AckAnswer.{AckAnswer}
+use Rattle.window.specs.declared.AckAnswer.the-variants as ackAnswer
+use Rattle.window.specs.declared.TimeoutAnswer.{TimeoutAnswer}
+use Rattle.window.specs.declared.TimeoutAnswer.the-variants as timeoutAnswer
+use Rattle.receiver.specs.Receive.{Receiving}
+use Rattle.receiver.specs.declared.ReceiveAnswer.{ReceiveAnswer}
+use Rattle.receiver.specs.declared.ReceiveAnswer.the-variants as receiveAnswer
+use Rattle.go_back_n.specs.Sender as goBackN
+use Rattle.go_back_n.specs.Receiver as goBackNReceiver
+use Rattle.stop_and_wait.specs.Sender as stopAndWait
+use Rattle.stop_and_wait.specs.Receiver as stopAndWaitReceiver
+use Rattle.selective_repeat.specs.Sender as selectiveRepeat
+use Rattle.selective_repeat.specs.Receiver as selectiveRepeatReceiver
+use Rattle.protocol.specs.declared.ProtocolType.{ProtocolType}
+use Rattle.protocol.specs.declared.ProtocolType.the-variants.{StopAndWait, GoBackN, SelectiveRepeat}
+use Rattle.protocol.specs.Trace.{Window}
+use Rattle.delivery.specs.Calls.{Done, done, Ends, World, fresh}
+
+-- the bytes that an answer says were written, and whether the call was done
+abbrev pub bytesSent : SendAnswer → List ℕ → List ℕ
+bytesSent (sendAnswer.Sent n) out = take n out
+bytesSent sendAnswer.WindowFull out = []
+bytesSent (sendAnswer.Refused r) out = []
+
+abbrev pub isSent : SendAnswer → Bool
+isSent (sendAnswer.Sent n) = true
+isSent sendAnswer.WindowFull = false
+isSent (sendAnswer.Refused r) = false
+
+abbrev pub bySending : {S : Type 0} → Sending S → Done S
+bySending x = done (x .after) (bytesSent (x .answer) (x .out)) (isSent (x .answer))
+
+abbrev pub bytesResent : TimeoutAnswer → List ℕ → List ℕ
+bytesResent (timeoutAnswer.Resent n) out = take n out
+bytesResent timeoutAnswer.Nothing out = []
+bytesResent (timeoutAnswer.Refused r) out = []
+
+abbrev pub isResent : TimeoutAnswer → Bool
+isResent (timeoutAnswer.Resent n) = true
+isResent timeoutAnswer.Nothing = false
+isResent (timeoutAnswer.Refused r) = false
+
+abbrev pub byResending : {S : Type 0} → Resending S → Done S
+byResending x = done (x .after) (bytesResent (x .answer) (x .out)) (isResent (x .answer))
+
+abbrev pub isHandled : AckAnswer → Bool
+isHandled ackAnswer.Accepted = true
+isHandled ackAnswer.NotAccepted = true
+isHandled (ackAnswer.Refused r) = false
+
+abbrev pub byAcknowledging : {S : Type 0} → Acknowledging S → Done S
+byAcknowledging x = done (x .after) [] (isHandled (x .answer))
+
+abbrev pub bytesReplied : ReceiveAnswer → List ℕ → List ℕ
+bytesReplied (receiveAnswer.Ack n) ack = take 10 ack
+bytesReplied receiveAnswer.Silent ack = []
+bytesReplied (receiveAnswer.Refused r) ack = []
+
+abbrev pub isReceived : ReceiveAnswer → Bool
+isReceived (receiveAnswer.Ack n) = true
+isReceived receiveAnswer.Silent = true
+isReceived (receiveAnswer.Refused r) = false
+
+-- a receiver and its output
+pub record WithOutput (R : Type 0) : Type 0 where
+  pub receiver : R
+  pub output : List ℕ
+
+abbrev pub withOutput : {R : Type 0} → R → List ℕ → WithOutput R
+withOutput r output = record { receiver = r; output = output }
+
+abbrev pub byReceiving : {R : Type 0} → Receiving R → Done (WithOutput R)
+byReceiving x = done (withOutput (x .receiver) (x .output)) (bytesReplied (x .answer) (x .ack)) (isReceived (x .answer))
+
+-- two ends by their calls: sending, timeout, ACK, packet; and by their bases and the receiver's fill mark
+abbrev pub endsOf : {S R T : Type 0} → (S → List ℕ → List ℕ → Sending S) → (S → T → List ℕ → Resending S) → (S → List ℕ → Acknowledging S)
+    → (R → List ℕ → List ℕ → List ℕ → Receiving R) → (S → ℕ) → (R → ℕ) → (R → ℕ) → Ends
+endsOf {S} {R} {T} send timeout ack packet senderBase receiverBase filled = record {
+  Sender = S;
+  Receiver = WithOutput R;
+  Timeout = T;
+  sendChunk = λ v payload out. bySending (send v payload out);
+  handleTimeout = λ v t out. byResending (timeout v t out);
+  handleAck = λ v raw. byAcknowledging (ack v raw);
+  handlePacket = λ r raw buffer. byReceiving (packet (r .receiver) raw (r .output) buffer);
+  senderBase = senderBase;
+  receiverBase = λ r. receiverBase (r .receiver);
+  output = λ r. take (filled (r .receiver)) (r .output);
+}
+
+-- Stop-and-Wait has one timeout
+pub data One : Type 0 where
+  one : One
+
+abbrev pub stopAndWaitEnds : Ends
+stopAndWaitEnds =
+    endsOf {T = One} stopAndWait.sendChunk (λ v t out. stopAndWait.handleTimeout v out) stopAndWait.handleAck stopAndWaitReceiver.handlePacket
+    (λ v. v .sender .«current_seq») (λ r. r .«expected_seq») (λ r. r .filled)
+
+-- Go-Back-N: all outstanding numbers, or only the earliest
+pub data Which : Type 0 where
+  all : Which
+  earliest : Which
+
+abbrev pub goBackNTimeout : slots.Sender → Which → List ℕ → Resending slots.Sender
+goBackNTimeout v all out = goBackN.handleTimeout v out
+goBackNTimeout v earliest out = goBackN.handleTimeoutEarliest v out
+
+abbrev pub goBackNEnds : Ends
+goBackNEnds =
+    endsOf (sendChunk false) goBackNTimeout goBackN.handleAck goBackNReceiver.handlePacket (λ v. v .window .«send_base») (λ r. r .«expected_seq») (λ r. r .filled)
+
+-- Selective Repeat: a timeout is of a number
+abbrev pub selectiveRepeatEnds : Ends
+selectiveRepeatEnds =
+    endsOf (sendChunk true) selectiveRepeat.handleTimeout selectiveRepeat.handleAck selectiveRepeatReceiver.handlePacket
+    (λ v. v .window .«send_base») (λ r. r .state .«recv_base») (λ r. r .state .filled)
+
+abbrev pub ends : ProtocolType → Ends
+ends StopAndWait = stopAndWaitEnds
+ends GoBackN = goBackNEnds
+ends SelectiveRepeat = selectiveRepeatEnds
+
+-- Fresh ends: what making leaves, of any stores and output; limit is Stop-and-Wait's greatest number of retries.
+abbrev pub freshEnds : (p : ProtocolType) → ℕ → ℕ → List ℕ → List ℕ → List ℕ → World (ends p)
+freshEnds StopAndWait w limit sending receiving output =
+    fresh stopAndWaitEnds (stopAndWait.endOf (stopAndWait.state 0 false limit 0 0 0) (slots.fresh 1 sending .store)) (withOutput stopAndWaitReceiver.newReceiver output)
+freshEnds GoBackN w limit sending receiving output = fresh goBackNEnds (slots.fresh w sending) (withOutput goBackNReceiver.newReceiver output)
+freshEnds SelectiveRepeat w limit sending receiving output =
+    fresh selectiveRepeatEnds (slots.fresh w sending)
+    (withOutput (selectiveRepeatReceiver.receiver (selectiveRepeatReceiver.state w 0 0 0 0 0) (replicate (w * 1404) 0 ++ drop (w * 1404) receiving)) output)
+
+-- What making asks: the window within bounds, Stop-and-Wait's 1, and stores that aren't short; the bytes of the sender's store are bytes.
+abbrev pub ReceivingRoom : ProtocolType → ℕ → List ℕ → Type 0
+ReceivingRoom StopAndWait w store = Unit {0}
+ReceivingRoom GoBackN w store = Unit {0}
+ReceivingRoom SelectiveRepeat w store = storeShort store w ≡ false
+
+pub record Made (p : ProtocolType) (w : ℕ) (sending receiving : List ℕ) : Type 0 where
+  pub in-bounds : windowBroken w ≡ false
+  pub window : Window p w
+  pub sending-room : storeShort sending w ≡ false
+  pub receiving-room : ReceivingRoom p w receiving
+  pub octets : Octets sending

@@ -1,0 +1,79 @@
+-- What the accepted calls of any list say of the timer set. The latest call stands first; calls that only read change nothing and are left out.
+use Prim.Native.Nat.{ℕ, suc, _+_}
+use mathlib.Core.Bool.{Bool, true, false, cond}
+use mathlib.Core.List.{List, [], _∷_}
+use mathlib.Core.Option.{Option, none, some}
+use lib.Dec.{eqb}
+use lib.ListN.{replicate}
+use Rattle.multi_timer.specs.declared.MultiTimer.{MultiTimer}
+use Rattle.multi_timer.specs.declared.StartAnswer as St
+use Rattle.multi_timer.specs.declared.CancelAnswer as Ca
+use Rattle.multi_timer.specs.declared.PopAnswer as Po
+use Rattle.multi_timer.specs.declared.ClearAnswer as Cl
+use Rattle.multi_timer.specs.Map.{stillSet}
+use Rattle.multi_timer.specs.MultiTimer.{After, after, timers, answering, startTimerAtDef, cancelTimerDef, popExpiredAtDef, clearDef}
+
+-- `start_timer_at` with key, time and duration, `cancel_timer` with the key, `pop_expired_at` with the time and the lent slice, `clear`
+pub data Call : Type 0 where
+  start : ℕ → ℕ → ℕ → Call
+  cancel : ℕ → Call
+  pop : ℕ → List ℕ → Call
+  clear : Call
+
+-- a set just made in slices of n entries
+unfoldable pub fresh : ℕ → After MultiTimer
+fresh n = after (timers 0 0) (replicate n 0) (replicate n 0)
+
+unfoldable pub step : After MultiTimer → Call → After MultiTimer
+step s (start key now duration) = answering (λ r. r .timers) (startTimerAtDef (s .answer) (s .keys) (s .deadlines) key now duration)
+step s (cancel key) = answering (λ r. r .timers) (cancelTimerDef (s .answer) (s .keys) (s .deadlines) key)
+step s (pop now out) = answering (λ r. r .timers) (popExpiredAtDef (s .answer) (s .keys) (s .deadlines) now out .rest)
+step s clear = answering (λ r. r .timers) (clearDef (s .answer) (s .keys) (s .deadlines))
+
+unfoldable pub afterCalls : ℕ → List Call → After MultiTimer
+afterCalls n [] = fresh n
+afterCalls n (x ∷ xs) = step (afterCalls n xs) x
+
+-- whether an answer is a refusal
+abbrev pub startRefused : St.StartAnswer → Bool
+startRefused (St.the-variants.Id g) = false
+startRefused (St.the-variants.Refused r) = true
+
+abbrev pub cancelRefused : Ca.CancelAnswer → Bool
+cancelRefused (Ca.the-variants.Existed b) = false
+cancelRefused (Ca.the-variants.Refused r) = true
+
+abbrev pub popRefused : Po.PopAnswer → Bool
+popRefused (Po.the-variants.Keys n) = false
+popRefused (Po.the-variants.Refused r) = true
+
+abbrev pub clearRefused : Cl.ClearAnswer → Bool
+clearRefused Cl.the-variants.Done = false
+clearRefused (Cl.the-variants.Refused r) = true
+
+unfoldable pub isRefused : After MultiTimer → Call → Bool
+isRefused s (start key now duration) = startRefused (startTimerAtDef (s .answer) (s .keys) (s .deadlines) key now duration .answer .answer)
+isRefused s (cancel key) = cancelRefused (cancelTimerDef (s .answer) (s .keys) (s .deadlines) key .answer .answer)
+isRefused s (pop now out) = popRefused (popExpiredAtDef (s .answer) (s .keys) (s .deadlines) now out .rest .answer .answer)
+isRefused s clear = clearRefused (clearDef (s .answer) (s .keys) (s .deadlines) .answer .answer)
+
+-- the calls that were not refused
+unfoldable pub accepted : ℕ → List Call → List Call
+accepted n [] = []
+accepted n (x ∷ xs) = cond (isRefused (afterCalls n xs) x) (accepted n xs) (x ∷ accepted n xs)
+
+-- ---- what a list of accepted calls says
+-- the deadline of a key
+unfoldable pub deadlineOf : ℕ → List Call → Option ℕ
+deadlineOf key [] = none
+deadlineOf key (start k now duration ∷ xs) = cond (eqb k key) (some (now + duration)) (deadlineOf key xs)
+deadlineOf key (cancel k ∷ xs) = cond (eqb k key) none (deadlineOf key xs)
+deadlineOf key (pop now out ∷ xs) = stillSet now (deadlineOf key xs)
+deadlineOf key (clear ∷ xs) = none
+
+unfoldable pub starts : List Call → ℕ
+starts [] = 0
+starts (start k now duration ∷ xs) = suc (starts xs)
+starts (cancel k ∷ xs) = starts xs
+starts (pop now out ∷ xs) = starts xs
+starts (clear ∷ xs) = starts xs

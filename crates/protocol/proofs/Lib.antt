@@ -1,0 +1,14 @@
+pub mod Every
+pub mod Marks
+pub mod Invariant
+pub mod Outstanding
+pub mod InOrder
+pub mod Selective
+pub mod Safety
+pub mod Resending
+pub mod Theorem
+pub mod Laws
+pub mod Examples
+pub mod KuroseRoss
+pub mod KuroseRossDepartures
+pub mod KuroseRossRuns

@@ -1,0 +1,71 @@
+use Prim.Native.Nat.{_-_}
+use native.Mathlib.Omega.{arith}
+use Rattle.selective_repeat.specs.Receiver.{decision}
+use Rattle.selective_repeat.proofs.States.{ready}
+use Rattle.receiver.proofs.Laws.{counts-low}
+use borrow.Author.Needs.{needs}
+use Rattle.selective_repeat.proofs.SelectiveRepeatReceiver.decide_unchecked.Statement.{statement}
+use Rattle.selective_repeat.proofs.SelectiveRepeatReceiver.decide_unchecked.Tie as tie
+
+add-self : tie.Need-add-self
+add-self c =
+    let low = counts-low (c .before .before .args .self .«total_received») (c .before .before .args .self .«buffered_out_of_order») (c .before .before .args .self .«duplicates_count») (c .before .before .pre .1) in
+    omega (arith, low .0)
+
+enum-known-handed : tie.Need-enum-known-handed
+enum-known-handed c = search needs
+
+decide-data-requires : tie.Need-decide-data-requires
+decide-data-requires c κs =
+    let s = ready (c .before .before .before .before .before .args .self) (c .before .before .before .before .before .args .store .now) (c .before .before .before .before .before .pre .0) in
+    let low = counts-low (c .before .before .before .before .before .args .self .«total_received») (c .before .before .before .before .before .args .self .«buffered_out_of_order») (c .before .before .before .before .before .args .self .«duplicates_count») (c .before .before .before .before .before .pre .1) in
+    (record { positive = s .positive; small = s .small; room = s .room; low = s .low; slots = s .slots }, (low .1, low .2))
+
+enum-known-handed-2 : tie.Need-enum-known-handed-2
+enum-known-handed-2 c = search needs
+
+enum-told : tie.Need-enum-told
+enum-told c = search needs
+
+enum-told-2 : tie.Need-enum-told-2
+enum-told-2 c = search needs
+
+enum-told-3 : tie.Need-enum-told-3
+enum-told-3 c = search needs
+
+returns : tie.Need-returns
+unfolding decision
+returns c = rw (c .before .before .handed .given .1) (c .decide-data .ensures)
+
+returns-2 : tie.Need-returns-2
+unfolding decision
+returns-2 c = rw (c .before .handed2 .given .1)
+
+returns-3 : tie.Need-returns-3
+unfolding decision
+returns-3 c = rw (c .enum-told .given .1)
+
+returns-4 : tie.Need-returns-4
+unfolding decision
+returns-4 c = rw (c .enum-told2 .given .1)
+
+returns-5 : tie.Need-returns-5
+unfolding decision
+returns-5 c = rw (c .enum-told3 .given .1)
+
+pub decide-unchecked-spec : {M : Type 1} → statement M
+decide-unchecked-spec =
+    tie.close
+    (tie.spec
+    add-self
+    enum-known-handed
+    decide-data-requires
+    enum-known-handed-2
+    enum-told
+    enum-told-2
+    enum-told-3
+    returns
+    returns-2
+    returns-3
+    returns-4
+    returns-5)

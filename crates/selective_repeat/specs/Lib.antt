@@ -1,0 +1,3 @@
+pub mod Sender
+pub mod Receiver
+pub mod KnownAnswers

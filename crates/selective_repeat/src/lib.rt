@@ -1,0 +1,535 @@
+// Selective Repeat: arq/sr.rs of the reference.
+ghost use mathlib.Core.Path.{_≡_};
+ghost use Prim.Native.Nat.{_+_, _-_, _*_, _≤_, _<_};
+ghost use mathlib.Core.Bool.{true, false};
+ghost use lib.ListN.{length};
+ghost use Rattle.window.specs.State.{outstanding};
+ghost use Rattle.window.specs.Slots.{sender};
+ghost use Rattle.window.specs.Sending.{making, makeWindow, sending, sendChunk};
+ghost use Rattle.window.specs.Acknowledgement.{acknowledging};
+ghost use Rattle.window.specs.Resending.{resending};
+ghost use Rattle.window.specs.Outstanding.{canSend};
+ghost use Rattle.receiver.specs.Reply.{replied, carriedOut, RoomFor};
+ghost use Rattle.receiver.specs.Receive.{receiving};
+ghost use Rattle.selective_repeat.specs.Sender.{madeWindow, acknowledgeOne, handleAck, due, handleTimeout, inFlightCount};
+ghost use Rattle.selective_repeat.specs.Receiver.{receiver, makeReceiver, stateBroken, receivingBroken, countersBroken, released, dataDecision, decision, deliveredBytes, changedSlots, Ready, bufferedCount, handlePacket};
+use packet::Packet;
+use receiver::Decision;
+use receiver::Handed;
+use receiver::ReceiveAnswer;
+use receiver::Reply;
+use refusal::Refusal;
+use window::AckAnswer;
+use window::AckDecision;
+use window::MakeAnswer;
+use window::SendAnswer;
+use window::SendWindow;
+use window::TimeoutAnswer;
+use window::WindowCount;
+use window::WindowTest;
+
+pub struct SelectiveRepeatSender {
+    pub window: SendWindow,
+}
+
+pub enum SelectiveRepeatMade {
+    Sender(SelectiveRepeatSender),
+    Refused(Refusal),
+}
+
+pub struct SelectiveRepeatSent {
+    pub sender: SelectiveRepeatSender,
+    pub answer: SendAnswer,
+}
+
+pub struct SelectiveRepeatAcknowledged {
+    pub sender: SelectiveRepeatSender,
+    pub answer: AckAnswer,
+}
+
+pub struct SelectiveRepeatTimedOut {
+    pub sender: SelectiveRepeatSender,
+    pub answer: TimeoutAnswer,
+}
+
+impl SelectiveRepeatSender {
+    pub fn new(window_size: usize, store: &mut [u8]) -> SelectiveRepeatMade
+        ensures { λ r. ⌜ making (madeWindow r) (now (store .exit)) ≡ makeWindow «window_size» (now (store .entry)) ⌝ }
+    {
+        match SendWindow::new(window_size, store) {
+            MakeAnswer::Window(window) => {
+                SelectiveRepeatMade::Sender(SelectiveRepeatSender { window })
+            }
+            MakeAnswer::Refused(r) => SelectiveRepeatMade::Refused(r),
+        }
+    }
+
+    // A chunk into its slot and as a datagram to the start of out.
+    pub fn send_chunk(self, store: &mut [u8], payload: &[u8], out: &mut [u8]) -> SelectiveRepeatSent
+        ensures { λ r. ⌜ sending (r .answer) (sender (r .sender .window) (now (store .exit))) (now (out .exit)) ≡ sendChunk true (sender (self .window) (now (store .entry))) (now (payload .entry)) (now (out .entry)) ⌝ }
+    {
+        let window = self.window;
+        let sent = window.send_chunk(true, store, payload, out);
+        let window = sent.window;
+        let answer = sent.answer;
+        SelectiveRepeatSent {
+            sender: SelectiveRepeatSender { window },
+            answer,
+        }
+    }
+
+    // A datagram as an ACK.
+    pub fn handle_ack(self, store: &mut [u8], raw: &[u8]) -> SelectiveRepeatAcknowledged
+        ensures { λ r. ⌜ acknowledging (r .answer) (sender (r .sender .window) (now (store .exit))) ≡ handleAck (sender (self .window) (now (store .entry))) (now (raw .entry)) ⌝ }
+    {
+        let window = self.window;
+        match window.decide_ack(store, true, raw) {
+            AckDecision::Accept(n) => {
+                let window = acknowledge_one_unchecked(window, store, n);
+                SelectiveRepeatAcknowledged {
+                    sender: SelectiveRepeatSender { window },
+                    answer: AckAnswer::Accepted,
+                }
+            }
+            AckDecision::NotAccepted => SelectiveRepeatAcknowledged {
+                sender: self,
+                answer: AckAnswer::NotAccepted,
+            },
+            AckDecision::Refused(r) => SelectiveRepeatAcknowledged {
+                sender: self,
+                answer: AckAnswer::Refused(r),
+            },
+        }
+    }
+
+    // Sends a number again, if it is outstanding and not acknowledged.
+    pub fn handle_timeout(
+        self,
+        store: &mut [u8],
+        seq_num: u32,
+        out: &mut [u8],
+    ) -> SelectiveRepeatTimedOut
+        ensures { λ r. ⌜ resending (r .answer) (sender (r .sender .window) (now (store .exit))) (now (out .exit)) ≡ handleTimeout (sender (self .window) (now (store .entry))) «seq_num» (now (out .entry)) ⌝ }
+    {
+        let window = self.window;
+        if window.state_broken(store, true) {
+            return SelectiveRepeatTimedOut {
+                sender: self,
+                answer: TimeoutAnswer::Refused(Refusal::State),
+            };
+        }
+        if window.counts_broken() {
+            return SelectiveRepeatTimedOut {
+                sender: self,
+                answer: TimeoutAnswer::Refused(Refusal::Counts),
+            };
+        }
+        if !due_unchecked(window, store, seq_num) {
+            return SelectiveRepeatTimedOut {
+                sender: self,
+                answer: TimeoutAnswer::Nothing,
+            };
+        }
+        let result = window.resend_unchecked(store, seq_num, 1, out);
+        let window = result.window;
+        let answer = result.answer;
+        SelectiveRepeatTimedOut {
+            sender: SelectiveRepeatSender { window },
+            answer,
+        }
+    }
+
+    pub fn can_send(self) -> WindowTest
+        ensures { λ r. ⌜ r ≡ canSend (self .window) ⌝ }
+    {
+        let window = self.window;
+        window.can_send()
+    }
+
+    // How many numbers are outstanding and not acknowledged.
+    pub fn in_flight_count(self, store: &[u8]) -> WindowCount
+        ensures { λ r. ⌜ r ≡ inFlightCount (sender (self .window) (now (store .entry))) ⌝ }
+    {
+        let window = self.window;
+        if window.state_broken(store, true) {
+            return WindowCount::Refused(Refusal::State);
+        }
+        if window.counts_broken() {
+            return WindowCount::Refused(Refusal::Counts);
+        }
+        let base = window.send_base;
+        WindowCount::Count(store::marked_count_unchecked(
+            store,
+            window.window_size,
+            base,
+            (window.next_seq_num - base) as usize,
+            1,
+        ))
+    }
+}
+
+// Marks a number as acknowledged, and moves send_base past all that are without a gap.
+fn acknowledge_one_unchecked(window: SendWindow, store: &mut [u8], n: u32) -> SendWindow
+    requires { ⌜ (0 < window .«window_size») × (window .«window_size» * 1404 ≤ length (now store)) ⌝ }
+    requires { ⌜ (window .«send_base» ≤ window .«next_seq_num») × (outstanding window ≤ 32) ⌝ }
+    ensures { λ r. ⌜ sender r (now (store .exit)) ≡ acknowledgeOne (sender window (now (store .entry))) n ⌝ }
+{
+    let size = window.window_size;
+    let base = window.send_base;
+    store::set_mark_unchecked(store, n as usize % size, 2);
+    let count = (window.next_seq_num - base) as usize;
+    let run = store::marked_run_unchecked(store, size, base, count, 2);
+    window.release_unchecked(store, base + run as u32)
+}
+
+// Whether a number is outstanding and not acknowledged.
+fn due_unchecked(window: SendWindow, store: &[u8], n: u32) -> bool
+    requires { ⌜ (0 < window .«window_size») × (window .«window_size» * 1404 ≤ length (now store)) ⌝ }
+    ensures { λ r. ⌜ r ≡ due (sender window (now (store .entry))) n ⌝ }
+{
+    if n < window.send_base {
+        return false;
+    }
+    if window.next_seq_num <= n {
+        return false;
+    }
+    store::mark_unchecked(store, n as usize % window.window_size) != 2
+}
+
+pub struct SelectiveRepeatReceiver {
+    pub window_size: usize,
+    pub recv_base: u32,
+    // How many bytes of the output are filled.
+    pub filled: usize,
+    pub total_received: u64,
+    pub buffered_out_of_order: u64,
+    pub duplicates_count: u64,
+}
+
+pub enum SelectiveRepeatReceiverMade {
+    Receiver(SelectiveRepeatReceiver),
+    Refused(Refusal),
+}
+
+// What a packet does to the slots.
+pub enum SlotChange {
+    Unchanged,
+    // The payload is held under this number.
+    Hold(u32),
+    // So many held payloads are delivered after this one.
+    Release(usize),
+}
+
+// The state after a packet, and what is to be written; the fill mark is still the old one.
+pub struct SelectiveRepeatDecision {
+    pub receiver: SelectiveRepeatReceiver,
+    pub decision: Decision,
+    pub change: SlotChange,
+}
+
+pub struct SelectiveRepeatReceived {
+    pub receiver: SelectiveRepeatReceiver,
+    pub answer: ReceiveAnswer,
+}
+
+impl SlotChange {
+    pub fn released(self) -> usize
+        ensures { λ r. ⌜ r ≡ released self ⌝ }
+    {
+        match self {
+            SlotChange::Release(k) => k,
+            SlotChange::Hold(_) => 0,
+            SlotChange::Unchanged => 0,
+        }
+    }
+}
+
+impl SelectiveRepeatReceiver {
+    pub fn new(window_size: usize, store: &mut [u8]) -> SelectiveRepeatReceiverMade
+        ensures { λ r. ⌜ making r (now (store .exit)) ≡ makeReceiver «window_size» (now (store .entry)) ⌝ }
+    {
+        if window::store_short(store, window_size) {
+            return SelectiveRepeatReceiverMade::Refused(Refusal::State);
+        }
+        if window::window_broken(window_size) {
+            return SelectiveRepeatReceiverMade::Refused(Refusal::Setup);
+        }
+        store::empty_all_unchecked(store, window_size);
+        SelectiveRepeatReceiverMade::Receiver(SelectiveRepeatReceiver {
+            window_size,
+            recv_base: 0,
+            filled: 0,
+            total_received: 0,
+            buffered_out_of_order: 0,
+            duplicates_count: 0,
+        })
+    }
+
+    // A datagram, with the lent output and a buffer for the ACK.
+    pub fn handle_packet(
+        self,
+        store: &mut [u8],
+        raw: &[u8],
+        output: &mut [u8],
+        ack: &mut [u8],
+    ) -> SelectiveRepeatReceived
+        ensures { λ r. ⌜ receiving (r .answer) (receiver (r .receiver) (now (store .exit))) (now (output .exit)) (now (ack .exit)) ≡ handlePacket (receiver self (now (store .entry))) (now (raw .entry)) (now (output .entry)) (now (ack .entry)) ⌝ }
+    {
+        if self.receiving_broken(store, output) {
+            return SelectiveRepeatReceived {
+                receiver: self,
+                answer: ReceiveAnswer::Refused(Refusal::State),
+            };
+        }
+        if receiver::counts_broken(
+            self.total_received,
+            self.buffered_out_of_order,
+            self.duplicates_count,
+        ) {
+            return SelectiveRepeatReceived {
+                receiver: self,
+                answer: ReceiveAnswer::Refused(Refusal::Counts),
+            };
+        }
+        let handed = receiver::read_packet(raw);
+        if let Handed::Refused(r) = handed {
+            return SelectiveRepeatReceived {
+                receiver: self,
+                answer: ReceiveAnswer::Refused(r),
+            };
+        }
+        let payload = Packet::payload(raw);
+        let after = self.decide_unchecked(store, handed);
+        let decision = after.decision;
+        let change = after.change;
+        let size = self.delivered_length_unchecked(store, payload, change);
+        if receiver::room_missing_unchecked(decision, size, self.filled, output, ack) {
+            return SelectiveRepeatReceived {
+                receiver: self,
+                answer: ReceiveAnswer::Refused(Refusal::Full),
+            };
+        }
+        let filled = self.carry_out_unchecked(store, decision, change, payload, output, ack);
+        let reply = decision.reply;
+        let mut receiver = after.receiver;
+        receiver.filled = filled;
+        SelectiveRepeatReceived {
+            receiver,
+            answer: reply.answer(),
+        }
+    }
+
+    // How many payloads are held.
+    pub fn buffered_count(self, store: &[u8]) -> WindowCount
+        ensures { λ r. ⌜ r ≡ bufferedCount (receiver self (now (store .entry))) ⌝ }
+    {
+        if self.state_broken(store) {
+            return WindowCount::Refused(Refusal::State);
+        }
+        if receiver::counts_broken(
+            self.total_received,
+            self.buffered_out_of_order,
+            self.duplicates_count,
+        ) {
+            return WindowCount::Refused(Refusal::Counts);
+        }
+        let window = self.window_size;
+        WindowCount::Count(store::marked_count_unchecked(store, window, self.recv_base, window, 1))
+    }
+
+    // What a packet that isn't refused does to the state, and what is to be written.
+    pub fn decide_unchecked(mut self, store: &[u8], handed: Handed) -> SelectiveRepeatDecision
+        requires { ⌜ stateBroken self (now store) ≡ false ⌝ }
+        requires { ⌜ countersBroken self ≡ false ⌝ }
+        ensures { λ r. ⌜ r ≡ decision (receiver self (now (store .entry))) handed ⌝ }
+    {
+        self.total_received = self.total_received + 1;
+        match handed {
+            Handed::Data(n) => self.decide_data(store, n),
+            Handed::Fin(n) => SelectiveRepeatDecision {
+                receiver: self,
+                decision: Decision {
+                    deliver: false,
+                    reply: Reply::Ack(n),
+                },
+                change: SlotChange::Unchanged,
+            },
+            Handed::Ack => SelectiveRepeatDecision {
+                receiver: self,
+                decision: Decision {
+                    deliver: false,
+                    reply: Reply::Silent,
+                },
+                change: SlotChange::Unchanged,
+            },
+            Handed::Corrupted => SelectiveRepeatDecision {
+                receiver: self,
+                decision: Decision {
+                    deliver: false,
+                    reply: Reply::Silent,
+                },
+                change: SlotChange::Unchanged,
+            },
+            Handed::Refused(_) => SelectiveRepeatDecision {
+                receiver: self,
+                decision: Decision {
+                    deliver: false,
+                    reply: Reply::Silent,
+                },
+                change: SlotChange::Unchanged,
+            },
+        }
+    }
+
+    fn decide_data(mut self, store: &[u8], n: u32) -> SelectiveRepeatDecision
+        requires { ⌜ Ready self (now store) ⌝ }
+        requires { ⌜ (self .«buffered_out_of_order» < 1152921504606846976) × (self .«duplicates_count» < 1152921504606846976) ⌝ }
+        ensures { λ r. ⌜ r ≡ dataDecision (receiver self (now (store .entry))) n ⌝ }
+    {
+        let window = self.window_size;
+        let base = self.recv_base;
+        if n == base {
+            let released = store::marked_run_unchecked(store, window, base + 1, window - 1, 1);
+            self.recv_base = base + 1 + released as u32;
+            return SelectiveRepeatDecision {
+                receiver: self,
+                decision: Decision {
+                    deliver: true,
+                    reply: Reply::Ack(n),
+                },
+                change: SlotChange::Release(released),
+            };
+        }
+        if base + window as u32 <= n {
+            return SelectiveRepeatDecision {
+                receiver: self,
+                decision: Decision {
+                    deliver: false,
+                    reply: Reply::Silent,
+                },
+                change: SlotChange::Unchanged,
+            };
+        }
+        if n + (window as u32) < base {
+            return SelectiveRepeatDecision {
+                receiver: self,
+                decision: Decision {
+                    deliver: false,
+                    reply: Reply::Silent,
+                },
+                change: SlotChange::Unchanged,
+            };
+        }
+        if base < n {
+            if store::mark_unchecked(store, n as usize % window) != 1 {
+                self.buffered_out_of_order = self.buffered_out_of_order + 1;
+                return SelectiveRepeatDecision {
+                    receiver: self,
+                    decision: Decision {
+                        deliver: false,
+                        reply: Reply::Ack(n),
+                    },
+                    change: SlotChange::Hold(n),
+                };
+            }
+        }
+        self.duplicates_count = self.duplicates_count + 1;
+        SelectiveRepeatDecision {
+            receiver: self,
+            decision: Decision {
+                deliver: false,
+                reply: Reply::Ack(n),
+            },
+            change: SlotChange::Unchanged,
+        }
+    }
+
+    // The length of the payload and the held payloads that are delivered after it.
+    fn delivered_length_unchecked(self, store: &[u8], payload: &[u8], change: SlotChange) -> usize
+        requires { ⌜ Ready self (now store) × (released change < self .«window_size») ⌝ }
+        ensures { λ r. ⌜ r ≡ length (deliveredBytes (receiver self (now (store .entry))) (now (payload .entry)) change) ⌝ }
+    {
+        let held = store::payloads_length_unchecked(
+            store,
+            self.window_size,
+            self.recv_base + 1,
+            change.released(),
+        );
+        payload.len() + held
+    }
+
+    // Carries a decision out: payloads to the output, the ACK to its buffer, the slots. Answers the fill mark.
+    fn carry_out_unchecked(
+        self,
+        store: &mut [u8],
+        decision: Decision,
+        change: SlotChange,
+        payload: &[u8],
+        output: &mut [u8],
+        ack: &mut [u8],
+    ) -> usize
+        requires { ⌜ Ready self (now store) × (released change < self .«window_size») ⌝ }
+        requires { ⌜ (decision .deliver ≡ false → released change ≡ 0) × (length (now payload) ≤ 1400) ⌝ }
+        requires { ⌜ RoomFor decision (length (deliveredBytes (receiver self (now store)) (now payload) change)) (self .filled) (now output) (now ack) ⌝ }
+        ensures { λ r. ⌜ replied r (now (output .exit)) (now (ack .exit)) ≡ carriedOut decision (deliveredBytes (receiver self (now (store .entry))) (now (payload .entry)) change) (self .filled) (now (output .entry)) (now (ack .entry)) ⌝ }
+        ensures { λ _. ⌜ now (store .exit) ≡ changedSlots (receiver self (now (store .entry))) (now (payload .entry)) change ⌝ }
+    {
+        let filled = receiver::carry_out_unchecked(decision, payload, self.filled, output, ack);
+        let end = store::copy_payloads_unchecked(
+            store,
+            self.window_size,
+            self.recv_base + 1,
+            change.released(),
+            output,
+            filled,
+        );
+        self.change_slots_unchecked(store, change, payload);
+        end
+    }
+
+    // Holds the payload, or empties the slots of the payloads that were delivered.
+    fn change_slots_unchecked(self, store: &mut [u8], change: SlotChange, payload: &[u8])
+        requires { ⌜ Ready self (now store) × (released change < self .«window_size») × (length (now payload) ≤ 1400) ⌝ }
+        ensures { λ _. ⌜ now (store .exit) ≡ changedSlots (receiver self (now (store .entry))) (now (payload .entry)) change ⌝ }
+    {
+        let window = self.window_size;
+        let next = self.recv_base + 1;
+        match change {
+            SlotChange::Unchanged => {}
+            SlotChange::Hold(n) => {
+                store::fill_unchecked(store, n as usize % window, payload, 1, 0);
+            }
+            SlotChange::Release(k) => {
+                window::empty_slots_unchecked(store, window, next, next + k as u32);
+            }
+        }
+    }
+
+    // Whether document 01's line 9 is true, with the fill mark.
+    fn receiving_broken(self, store: &[u8], output: &[u8]) -> bool
+        ensures { λ r. ⌜ r ≡ receivingBroken self (now (store .entry)) (now (output .entry)) ⌝ }
+    {
+        if self.state_broken(store) {
+            return true;
+        }
+        output.len() < self.filled
+    }
+
+    // Whether document 01's line 9 is true of all but the fill mark.
+    pub fn state_broken(self, store: &[u8]) -> bool
+        ensures { λ r. ⌜ r ≡ stateBroken self (now (store .entry)) ⌝ }
+    {
+        let window = self.window_size;
+        let base = self.recv_base;
+        if window::window_broken(window) {
+            return true;
+        }
+        if window::store_short(store, window) {
+            return true;
+        }
+        if window::SEQ_NUM_LIMIT < base {
+            return true;
+        }
+        store::receiver_slots_broken_unchecked(store, window, base)
+    }
+}

@@ -1,0 +1,32 @@
+-- Tallies from the history of calls: after any list of calls from a fresh end every counter is what the list says.
+use Prim.Native.Nat.{ℕ}
+use mathlib.Core.Path.{_≡_, refl}
+use mathlib.Core.List.{List}
+use Rattle.window.specs.Slots.{fresh}
+use Rattle.delivery.specs.Ends.{Which}
+use Rattle.tallies.specs.Senders.{Call, afterCalls, answers, SenderCounted, retries, stopAndWaitSender, goBackNSender, selectiveRepeatSender, newStopAndWait}
+use Rattle.tallies.proofs.Senders.{from-zero, go-back-n-counted, selective-repeat-counted}
+use Rattle.tallies.proofs.StopAndWait.{stop-and-wait-counted, current-retries}
+pub use Rattle.tallies.proofs.Senders.{Counted, EachCallCounted, total-sent, total-resent, from-zero, go-back-n-counted, selective-repeat-counted}
+pub use Rattle.tallies.proofs.StopAndWait.{stop-and-wait-counted, current-retries}
+pub use Rattle.tallies.proofs.Receivers.{EachReadingCounted, every-list}
+pub use Rattle.tallies.proofs.InOrder.{stop-and-wait-receiver, go-back-n-receiver}
+pub use Rattle.tallies.proofs.SelectiveRepeat.{selective-repeat-receiver}
+
+-- the senders, with any window or retry limit, over any store
+pub stop-and-wait-sender : (limit : ℕ) (store : List ℕ) (cs : List (Call (Unit {0})))
+    → SenderCounted stopAndWaitSender (answers stopAndWaitSender (newStopAndWait limit store) cs) (afterCalls stopAndWaitSender (newStopAndWait limit store) cs)
+stop-and-wait-sender limit store cs = from-zero stopAndWaitSender stop-and-wait-counted (newStopAndWait limit store) refl refl cs
+
+pub stop-and-wait-retries : (limit : ℕ) (store : List ℕ) (cs : List (Call (Unit {0})))
+    → afterCalls stopAndWaitSender (newStopAndWait limit store) cs .sender .«current_retries» ≡ retries (answers stopAndWaitSender (newStopAndWait limit store) cs)
+stop-and-wait-retries limit store cs = current-retries (newStopAndWait limit store) refl cs
+
+pub go-back-n-sender : (w : ℕ) (store : List ℕ) (cs : List (Call Which)) → SenderCounted goBackNSender (answers goBackNSender (fresh w store) cs) (afterCalls goBackNSender (fresh w store) cs)
+unfolding fresh
+go-back-n-sender w store cs = from-zero goBackNSender go-back-n-counted (fresh w store) refl refl cs
+
+pub selective-repeat-sender : (w : ℕ) (store : List ℕ) (cs : List (Call ℕ))
+    → SenderCounted selectiveRepeatSender (answers selectiveRepeatSender (fresh w store) cs) (afterCalls selectiveRepeatSender (fresh w store) cs)
+unfolding fresh
+selective-repeat-sender w store cs = from-zero selectiveRepeatSender selective-repeat-counted (fresh w store) refl refl cs

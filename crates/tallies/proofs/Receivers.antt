@@ -1,0 +1,45 @@
+-- A receiver's counters are what the history of calls says: one law over the receivers.
+use Prim.Native.Nat.{ℕ, _≤_}
+use mathlib.Core.Path.{_≡_, refl}
+use mathlib.Core.Bool.{Bool, true, false}
+use mathlib.Core.List.{List, [], _∷_}
+use borrow.Author.Tests.{ltb-false}
+use lib.ListN.{length}
+use Rattle.refusal.specs.declared.Refusal.the-variants.{State, Counts, Full}
+use Rattle.refusal.specs.Order.{check}
+use Rattle.packet.specs.Reading.{payloadOf}
+use Rattle.receiver.specs.Handed.{packetChecks, readPacket}
+use Rattle.receiver.specs.Reply.{answerOf, roomMissing, carriedOut}
+use Rattle.receiver.specs.Receive.{Receiving, receive}
+use Rattle.receiver.specs.declared.Handed.{Handed}
+use Rattle.receiver.specs.declared.Reply.{Reply}
+use Rattle.receiver.specs.declared.Reply.the-variants as reply
+use Rattle.receiver.specs.declared.Decision.{Decision}
+use Rattle.arq.proofs.Decided.{decided}
+use Rattle.delivery.specs.Ends.{isReceived}
+use Rattle.tallies.specs.Receivers.{Call, Handling, afterCalls, readingsWith, readings}
+
+-- what is counted stays right with each call
+abbrev pub EachReadingCounted : {R : Type 0} → Handling R → (List Handed → R → Type 0) → Type 0
+EachReadingCounted {R} handle Counted =
+    (hs : List Handed) (r : R) → Counted hs r → (raw output ack : List ℕ) → Counted (readingsWith (handle r raw output ack) raw hs) (handle r raw output ack .receiver)
+
+pub every-list : {R : Type 0} (handle : Handling R) (Counted : List Handed → R → Type 0) → EachReadingCounted handle Counted → (r : R) → Counted [] r
+    → (cs : List Call) → Counted (readings handle r cs) (afterCalls handle r cs)
+unfolding afterCalls readings
+every-list handle Counted each r start [] = start
+every-list handle Counted each r start (c ∷ cs) = each (readings handle r cs) (afterCalls handle r cs) (every-list handle Counted each r start cs) (c .raw) (c .output) (c .ack)
+
+-- a call is refused and changes nothing, or its reading is counted
+reply-received : (r : Reply) → isReceived (answerOf r) ≡ true
+reply-received (reply.Ack n) = refl
+reply-received reply.Silent = refl
+
+pub one-call : {R : Type 0} (Counted : List Handed → R → Type 0) (hs : List Handed) (broken counts : Bool) (r : R) (filled : ℕ) (d : Decision) (delivered : List ℕ) (after : ℕ → R) (raw output ack : List ℕ)
+    → Counted hs r → (broken ≡ false → length (payloadOf raw) ≤ 1400 → (n : ℕ) → Counted (readPacket raw ∷ hs) (after n))
+    → Counted (readingsWith (receive broken counts r filled d delivered after raw output ack) raw hs) (receive broken counts r filled d delivered after raw output ack .receiver)
+unfolding receive
+one-call {R} Counted hs broken counts r filled d delivered after raw output ack same more =
+    decided (λ (x : Receiving R). Counted (readingsWith x raw hs) (x .receiver)) (check broken State ∷ check counts Counts ∷ check (roomMissing d (length delivered) filled output ack) Full ∷ packetChecks raw) _ _
+    (λ s. same)
+    (λ none. rw (reply-received (d .reply)) (more (none .0) (ltb-false 1400 (length (payloadOf raw)) (none .1 .1 .1 .1 .0)) (carriedOut d delivered filled output ack .filled)))

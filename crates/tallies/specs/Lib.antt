@@ -1,0 +1,3 @@
+pub mod Senders
+pub mod Readings
+pub mod Receivers

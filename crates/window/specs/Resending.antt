@@ -1,0 +1,58 @@
+-- Document 01, "Turned away" 9, 8, 5, and arq/*.rs, `handle_timeout`: numbers sent again.
+use Prim.Native.Nat.{ℕ, zero, suc, _+_, _*_, _≤_, _<_, min}
+use mathlib.Core.List.{List, [], _∷_, _++_}
+use mathlib.Core.Bool.{Bool, cond}
+use lib.ListN.{length, drop}
+use lib.Dec.{ltb, eqb}
+use Rattle.refusal.specs.declared.Refusal.the-variants.{State, Counts, Full}
+use Rattle.refusal.specs.Order.{check, verdict, decide}
+use Rattle.store.specs.Slot.{slotAt, lengthOf}
+use Rattle.window.specs.State.{outstanding, stateBroken, countsBroken}
+use Rattle.window.specs.Slots.{Sender, slotFor, markRetransmitted, datagramFor}
+use Rattle.window.specs.declared.SendWindow.{SendWindow}
+use Rattle.window.specs.declared.TimeoutAnswer.{TimeoutAnswer}
+use Rattle.window.specs.declared.TimeoutAnswer.the-variants as timeoutAnswer
+
+-- the datagrams of k numbers from n on, one after another
+unfoldable pub datagramsFrom : Sender → ℕ → ℕ → List ℕ
+datagramsFrom v n zero = []
+datagramsFrom v n (suc k) = datagramFor v n ++ datagramsFrom v (n + 1) k
+
+-- these numbers marked as sent again, and counted
+unfoldable pub markFrom : Sender → ℕ → ℕ → Sender
+markFrom v n zero = v
+markFrom v n (suc k) = markFrom (markRetransmitted v n) (n + 1) k
+
+-- what is written of them: each with the retransmitted flag
+abbrev pub sentAgain : Sender → ℕ → ℕ → List ℕ
+sentAgain v n k = datagramsFrom (markFrom v n k) n k
+
+-- the answer, and the state and the buffer when the call returns
+pub record Resending (S : Type 0) : Type 0 where
+  pub answer : TimeoutAnswer
+  pub after : S
+  pub out : List ℕ
+
+abbrev pub resending : {S : Type 0} → TimeoutAnswer → S → List ℕ → Resending S
+resending a s out = record { answer = a; after = s; out = out }
+
+-- k numbers from n on; 5 speaks of the very bytes that are written
+unfoldable pub resend : Bool → Bool → Sender → ℕ → ℕ → List ℕ → Resending Sender
+resend stateBroken countsBroken v n k out =
+    decide (verdict (check stateBroken State ∷ check countsBroken Counts ∷ check (ltb (length out) (length (sentAgain v n k))) Full ∷ []))
+    (λ r. resending (timeoutAnswer.Refused r) v out)
+    (cond (eqb k 0) (resending timeoutAnswer.Nothing v out)
+    (resending (timeoutAnswer.Resent (length (sentAgain v n k))) (markFrom v n k) (sentAgain v n k ++ drop (length (sentAgain v n k)) out)))
+
+-- the lowest outstanding numbers, at most so many
+abbrev pub resendOutstanding : Bool → Sender → ℕ → List ℕ → Resending Sender
+resendOutstanding selective v most out =
+    resend (stateBroken selective (v .window) (v .store)) (countsBroken (v .window)) v (v .window .«send_base») (min most (outstanding (v .window))) out
+
+-- what the functions below the entry points ask: k numbers from n on have slots with lengths in bounds
+pub record Resendable (s : SendWindow) (store : List ℕ) (n k : ℕ) : Type 0 where
+  pub positive : 0 < s .«window_size»
+  pub room : s .«window_size» * 1404 ≤ length store
+  pub few : k ≤ 32
+  pub low : n + k ≤ 4294901760
+  pub lengths : (i : ℕ) → i < k → lengthOf (slotAt store (slotFor s (n + i))) ≤ 1400
