@@ -1,9 +1,9 @@
--- A list of calls that computes, bytes and all: Selective Repeat, window 2, chunks A and B. The first datagram is handed over only with a bit
--- flipped; the second comes first, and twice; the first is sent again and comes; its ACK is handed over twice, the other's is lost.
-use Prim.Native.Nat.{ℕ, _*_, _<_}
+-- Lists of calls that compute, bytes and all, one for each protocol: chunks A and B, a first datagram that comes only with a bit flipped, copies
+-- that come twice or late, ACKs lost; and a resending of what is then outstanding.
+use Prim.Native.Nat.{ℕ, zero, suc, _*_, _<_}
 use mathlib.Core.Path.{_≡_, refl}
 use mathlib.Core.List.{List, [], _∷_}
-use lib.ListN.{replicate}
+use lib.ListN.{replicate, getD}
 use lib.Dec.{lit<}
 use native.Mathlib.Omega.{arith}
 use Rattle.checksum.specs.Below.{Octets}
@@ -24,66 +24,93 @@ use Rattle.window.specs.Slots.{fresh, hold, markRetransmitted, datagramFor, emp
 use Rattle.window.specs.Sending.{sendChecks, sendChunk}
 use Rattle.window.specs.Resending.{datagramsFrom, markFrom, resend}
 use Rattle.window.specs.Acknowledgement.{readAck, ackDecision, byDecision}
-use Rattle.receiver.specs.State.{countsBroken}
+use Rattle.receiver.specs.State.{marksBroken, countsBroken}
 use Rattle.receiver.specs.Handed.{readPacket}
 use Rattle.receiver.specs.Reply.{ackAfter, roomMissing, carriedOut}
 use Rattle.receiver.specs.Receive.{receive}
 use Rattle.selective_repeat.specs.Sender.{acknowledgeOne}
 use Rattle.selective_repeat.specs.Receiver as sr
-use Rattle.protocol.specs.declared.ProtocolType.the-variants.{SelectiveRepeat}
+use Rattle.stop_and_wait.specs.Receiver as stopAndWaitReceiver
+use Rattle.go_back_n.specs.Receiver as goBackNReceiver
+use Rattle.protocol.specs.declared.ProtocolType.{ProtocolType}
+use Rattle.protocol.specs.declared.ProtocolType.the-variants.{StopAndWait, GoBackN, SelectiveRepeat}
 use Rattle.delivery.specs.Calls.{Call, whole, flipped, send, timeout, toReceiver, toSender, World, datagrams, step, run, Line, fedBy, fedIn}
-use Rattle.protocol.specs.PlainMachine.{PlainState, plainStart, plainSend, plainData, plainAck, plainCall, plainStep, plainRun, plainOutstanding}
-use Rattle.delivery.specs.Ends.{ends, freshEnds}
-use Rattle.delivery.specs.Claim.{plainAfter, Resending}
+use Rattle.protocol.specs.PlainMachine.{plainStart, plainSend, plainData, plainAck, plainCall, plainStep, plainRun, plainOutstanding}
+use Rattle.delivery.specs.Ends.{One, one, Which, all, earliest, ends, freshEnds, Made}
+use Rattle.delivery.specs.Claim.{plainAfter, Resending, Demand3}
+use Rattle.delivery.proofs.Protocols.{delivery}
 
-abbrev start : World (ends SelectiveRepeat)
-start = freshEnds SelectiveRepeat 2 0 (replicate (2 * 1404) 7) (replicate (2 * 1404) 7) (0 ∷ 0 ∷ 0 ∷ [])
+abbrev start : (p : ProtocolType) → ℕ → ℕ → World (ends p)
+start p w limit = freshEnds p w limit (replicate (w * 1404) 7) (replicate (w * 1404) 7) (0 ∷ 0 ∷ 0 ∷ [])
 
 abbrev buffer : List ℕ
-buffer = replicate 11 9
+buffer = replicate 22 9
 
-abbrev calls : List (Call ℕ)
-calls =
-    send (65 ∷ []) buffer ∷ send (66 ∷ []) buffer ∷ toReceiver (flipped 0 10 3) buffer ∷ toReceiver (whole 1) buffer ∷ toReceiver (whole 1) buffer
-    ∷ timeout 0 buffer ∷ toReceiver (whole 2) buffer ∷ toSender (whole 2) ∷ toSender (whole 2) ∷ []
-
-abbrev after : World (ends SelectiveRepeat)
-after = run (ends SelectiveRepeat) start calls
-
--- both chunks are delivered in order, the output behind them is as it was; the sender's base is 1
-delivered : after .receiver .output ≡ 65 ∷ 66 ∷ 0 ∷ []
-unfolding words onesAdd onesSum checksum flip anyOf order orElse numbered firstOf verdict decide headerBytes datagram checksumOf matches readChecks headerOf payloadPart payloadOf slotAt slotBytes putSlot slot.payloadOf anyBelow senderSlotBroken senderSlotsBroken receiverSlotBroken receiverSlotsBroken markedRun payloadsFrom windowBroken storeShort window.numbersBroken window.stateBroken window.countsBroken fresh hold markRetransmitted datagramFor emptyFrom release sendChecks sendChunk datagramsFrom markFrom resend readAck ackDecision byDecision countsBroken readPacket ackAfter roomMissing carriedOut receive acknowledgeOne sr.stateBroken sr.receivingBroken sr.dataDecision sr.decision sr.deliveredBytes datagrams step run
-delivered = refl
-
-receiver-at-2 : ends SelectiveRepeat .receiverBase (after .receiver) ≡ 2
-unfolding words onesAdd onesSum checksum flip anyOf order orElse numbered firstOf verdict decide headerBytes datagram checksumOf matches readChecks headerOf payloadPart payloadOf slotAt slotBytes putSlot slot.payloadOf anyBelow senderSlotBroken senderSlotsBroken receiverSlotBroken receiverSlotsBroken markedRun payloadsFrom windowBroken storeShort window.numbersBroken window.stateBroken window.countsBroken fresh hold markRetransmitted datagramFor emptyFrom release sendChecks sendChunk datagramsFrom markFrom resend readAck ackDecision byDecision countsBroken readPacket ackAfter roomMissing carriedOut receive acknowledgeOne sr.stateBroken sr.receivingBroken sr.dataDecision sr.decision sr.deliveredBytes datagrams step run
-receiver-at-2 = refl
-
-sender-at-1 : ends SelectiveRepeat .senderBase (after .sender) ≡ 1
-unfolding words onesAdd onesSum checksum flip anyOf order orElse numbered firstOf verdict decide headerBytes datagram checksumOf matches readChecks headerOf payloadPart payloadOf slotAt slotBytes putSlot slot.payloadOf anyBelow senderSlotBroken senderSlotsBroken receiverSlotBroken receiverSlotsBroken markedRun payloadsFrom windowBroken storeShort window.numbersBroken window.stateBroken window.countsBroken fresh hold markRetransmitted datagramFor emptyFrom release sendChecks sendChunk datagramsFrom markFrom resend readAck ackDecision byDecision countsBroken readPacket ackAfter roomMissing carriedOut receive acknowledgeOne sr.stateBroken sr.receivingBroken sr.dataDecision sr.decision sr.deliveredBytes datagrams step run
-sender-at-1 = refl
-
--- it is a list that the theorem speaks of
 byte : (n : ℕ) → n < 256 → Octets (n ∷ [])
 byte n h = below-cons h (below-nil (lit< tt))
 
-fair : Line (ends SelectiveRepeat) start calls
-unfolding words onesAdd onesSum checksum flip anyOf order orElse numbered firstOf verdict decide headerBytes datagram checksumOf matches readChecks headerOf payloadPart payloadOf slotAt slotBytes putSlot slot.payloadOf anyBelow senderSlotBroken senderSlotsBroken receiverSlotBroken receiverSlotsBroken markedRun payloadsFrom windowBroken storeShort window.numbersBroken window.stateBroken window.countsBroken fresh hold markRetransmitted datagramFor emptyFrom release sendChecks sendChunk datagramsFrom markFrom resend readAck ackDecision byDecision countsBroken readPacket ackAfter roomMissing carriedOut receive acknowledgeOne sr.stateBroken sr.receivingBroken sr.dataDecision sr.decision sr.deliveredBytes datagrams step run
-fair = (
-  byte 65 (lit< tt),
-  (
-    byte 66 (lit< tt),
-    (
-      (lit< tt, lit< tt, lit< tt, (λ e. let z : _≡_ {A = ℕ} 10 6 = e in omega arith), (λ e. let z : _≡_ {A = ℕ} 10 7 = e in omega arith)),
-      (lit< tt, (lit< tt, (tt, (lit< tt, (lit< tt, (lit< tt, tt)))))),
-    ),
-  ),
+sevens : (n i : ℕ) → getD (replicate n 7) i 0 < 256
+sevens zero i = lit< tt
+sevens (suc n) zero = lit< tt
+sevens (suc n) (suc i) = sevens n i
+
+-- what is seen of a list cs from fresh ends, and of the resending ds after it
+record Computed (p : ProtocolType) (w limit : ℕ) (cs ds : List (Call (ends p .Timeout))) (output : List ℕ) (receiverAt senderAt : ℕ) : Type 0 where
+  fair : Line (ends p) (start p w limit) cs
+  output-is : ends p .output (run (ends p) (start p w limit) cs .receiver) ≡ output
+  receiver-at : ends p .receiverBase (run (ends p) (start p w limit) cs .receiver) ≡ receiverAt
+  sender-at : ends p .senderBase (run (ends p) (start p w limit) cs .sender) ≡ senderAt
+  resending : Resending p w (ends p) (run (ends p) (start p w limit) cs) (plainAfter p w (ends p) (start p w limit) cs) (plainOutstanding (plainAfter p w (ends p) (start p w limit) cs)) [] [] ds
+
+-- Stop-and-Wait: the first comes again late, after B was sent
+abbrev stopAndWait : List (Call One)
+stopAndWait =
+    send (65 ∷ []) buffer ∷ toReceiver (flipped 0 10 3) buffer ∷ timeout one buffer ∷ toReceiver (whole 1) buffer ∷ toSender (whole 0) ∷ send (66 ∷ []) buffer ∷ toReceiver (whole 0) buffer ∷ toSender (whole 1) ∷ []
+
+-- Go-Back-N: B comes first and is discarded; both are sent again, A comes twice, and its second ACK arrives
+abbrev goBackN : List (Call Which)
+goBackN =
+    send (65 ∷ []) buffer ∷ send (66 ∷ []) buffer ∷ toReceiver (whole 1) buffer ∷ toReceiver (flipped 0 10 3) buffer ∷ timeout all buffer ∷ toReceiver (whole 2) buffer ∷ toReceiver (whole 2) buffer
+    ∷ toSender (whole 1) ∷ []
+
+-- Selective Repeat: B comes first, and twice, and is held; A is sent again and comes; its ACK is handed over twice, the others are lost
+abbrev selectiveRepeat : List (Call ℕ)
+selectiveRepeat =
+    send (65 ∷ []) buffer ∷ send (66 ∷ []) buffer ∷ toReceiver (flipped 0 10 3) buffer ∷ toReceiver (whole 1) buffer ∷ toReceiver (whole 1) buffer
+    ∷ timeout 0 buffer ∷ toReceiver (whole 2) buffer ∷ toSender (whole 2) ∷ toSender (whole 2) ∷ []
+
+computed : Computed StopAndWait 1 3 stopAndWait (timeout one buffer ∷ toReceiver (whole 3) buffer ∷ toSender (whole 2) ∷ []) (65 ∷ []) 1 1
+    × Computed GoBackN 2 0 goBackN (timeout earliest buffer ∷ toReceiver (whole 4) buffer ∷ toSender (whole 2) ∷ []) (65 ∷ []) 1 1
+    × Computed SelectiveRepeat 2 0 selectiveRepeat (timeout 1 buffer ∷ toReceiver (whole 3) buffer ∷ toSender (whole 3) ∷ []) (65 ∷ 66 ∷ []) 2 1
+unfolding words onesAdd onesSum checksum flip anyOf order orElse numbered firstOf verdict decide headerBytes datagram checksumOf matches readChecks headerOf payloadPart payloadOf slotAt slotBytes putSlot slot.payloadOf anyBelow senderSlotBroken senderSlotsBroken receiverSlotBroken receiverSlotsBroken markedRun payloadsFrom windowBroken storeShort window.numbersBroken window.stateBroken window.countsBroken fresh hold markRetransmitted datagramFor emptyFrom release sendChecks sendChunk datagramsFrom markFrom resend readAck ackDecision byDecision countsBroken readPacket ackAfter roomMissing carriedOut receive acknowledgeOne sr.stateBroken sr.receivingBroken sr.dataDecision sr.decision sr.deliveredBytes datagrams step run stopAndWaitReceiver.decision stopAndWaitReceiver.dataDecision goBackNReceiver.decision goBackNReceiver.dataDecision marksBroken fedBy fedIn plainStart plainSend plainData plainAck plainCall plainStep plainRun plainOutstanding
+computed = (
+  record {
+    fair = (byte 65 (lit< tt), ((lit< tt, lit< tt, lit< tt, (λ e. let z : _≡_ {A = ℕ} 10 6 = e in omega arith), (λ e. let z : _≡_ {A = ℕ} 10 7 = e in omega arith)), (tt, (lit< tt, (lit< tt, (byte 66 (lit< tt), (lit< tt, (lit< tt, tt))))))));
+    output-is = refl;
+    receiver-at = refl;
+    sender-at = refl;
+    resending = (refl, refl, (refl, refl, refl, (refl, refl, refl, (refl, refl, refl))));
+  },
+  record {
+    fair = (byte 65 (lit< tt), (byte 66 (lit< tt), (lit< tt, ((lit< tt, lit< tt, lit< tt, (λ e. let z : _≡_ {A = ℕ} 10 6 = e in omega arith), (λ e. let z : _≡_ {A = ℕ} 10 7 = e in omega arith)), (tt, (lit< tt, (lit< tt, (lit< tt, tt))))))));
+    output-is = refl;
+    receiver-at = refl;
+    sender-at = refl;
+    resending = (refl, refl, (refl, refl, refl, (refl, refl, refl, (refl, refl, refl))));
+  },
+  record {
+    fair = (byte 65 (lit< tt), (byte 66 (lit< tt), ((lit< tt, lit< tt, lit< tt, (λ e. let z : _≡_ {A = ℕ} 10 6 = e in omega arith), (λ e. let z : _≡_ {A = ℕ} 10 7 = e in omega arith)), (lit< tt, (lit< tt, (tt, (lit< tt, (lit< tt, (lit< tt, tt)))))))));
+    output-is = refl;
+    receiver-at = refl;
+    sender-at = refl;
+    resending = (refl, refl, (refl, refl, refl, (refl, refl, refl, (refl, refl, refl))));
+  },
 )
 
--- and a resending that follows: number 1 is outstanding
-abbrev plain : PlainState
-plain = plainAfter SelectiveRepeat 2 (ends SelectiveRepeat) start calls
+-- the theorem speaks of such ends
+made : Made SelectiveRepeat 2 (replicate (2 * 1404) 7) (replicate (2 * 1404) 7)
+unfolding windowBroken storeShort anyOf
+made = record { in-bounds = refl; window = tt; sending-room = refl; receiving-room = refl; octets = record { at = sevens (2 * 1404) } }
 
-resending : Resending SelectiveRepeat 2 (ends SelectiveRepeat) after plain (plainOutstanding plain) [] [] (timeout 1 buffer ∷ toReceiver (whole 3) buffer ∷ toSender (whole 3) ∷ [])
-unfolding words onesAdd onesSum checksum flip anyOf order orElse numbered firstOf verdict decide headerBytes datagram checksumOf matches readChecks headerOf payloadPart payloadOf slotAt slotBytes putSlot slot.payloadOf anyBelow senderSlotBroken senderSlotsBroken receiverSlotBroken receiverSlotsBroken markedRun payloadsFrom windowBroken storeShort window.numbersBroken window.stateBroken window.countsBroken fresh hold markRetransmitted datagramFor emptyFrom release sendChecks sendChunk datagramsFrom markFrom resend readAck ackDecision byDecision countsBroken readPacket ackAfter roomMissing carriedOut receive acknowledgeOne sr.stateBroken sr.receivingBroken sr.dataDecision sr.decision sr.deliveredBytes datagrams step run fedBy fedIn plainStart plainSend plainData plainAck plainCall plainStep plainRun plainOutstanding
-resending = (refl, refl, (refl, refl, refl, (refl, refl, refl, (refl, refl, refl))))
+applied : Demand3 SelectiveRepeat 2 (ends SelectiveRepeat) (start SelectiveRepeat 2 0) selectiveRepeat
+applied = delivery SelectiveRepeat 2 0 (replicate (2 * 1404) 7) (replicate (2 * 1404) 7) (0 ∷ 0 ∷ 0 ∷ []) made selectiveRepeat (computed .2 .fair)

@@ -3,7 +3,7 @@ use Prim.Native.Nat.{ℕ, _+_, _≤_, _<_}
 use mathlib.Core.Path.{_≡_}
 use mathlib.Core.List.{List, [], _∷_, _++_, flatten}
 use mathlib.Core.Bool.{Bool, true, false}
-use lib.ListN.{length}
+use lib.ListN.{length, drop}
 use Rattle.checksum.specs.Below.{Octets}
 use Rattle.checksum.specs.Flip.{flip}
 use Rattle.protocol.specs.declared.ProtocolType.{ProtocolType}
@@ -20,6 +20,7 @@ pub record ReceiverKept (E : Ends) (Is : E .Receiver → ReceiverState → Type 
   pub after : Is (d .after) m
   pub nothing : d .written ≡ []
   pub output : E .output (d .after) ≡ E .output r
+  pub unwritten : E .unwritten (d .after) ≡ E .unwritten r
 
 pub record ChunkSent (E : Ends) (Is : E .Sender → SenderState → Type 0) (w : ℕ) (d : Done (E .Sender)) (m : SenderState) (payload : List ℕ) : Type 0 where
   pub after : Is (d .after) (send m payload)
@@ -41,6 +42,7 @@ pub record SentAgain (E : Ends) (Is : E .Sender → SenderState → Type 0) (d :
 pub record PacketTaken (p : ProtocolType) (w : ℕ) (E : Ends) (Is : E .Receiver → ReceiverState → Type 0) (r : E .Receiver) (d : Done (E .Receiver)) (m : ReceiverState) (q : Segment) : Type 0 where
   pub after : Is (d .after) (receive p w m q .after)
   pub output : E .output (d .after) ≡ E .output r ++ flatten (receive p w m q .delivered)
+  pub unwritten : E .unwritten (d .after) ≡ drop (length (flatten (receive p w m q .delivered))) (E .unwritten r)
   pub replies : List (List ℕ)
   pub wrote : d .written ≡ flatten replies
   pub each : Each AckBytes replies (receive p w m q .acks)

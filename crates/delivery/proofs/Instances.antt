@@ -86,10 +86,10 @@ module _ (p : ProtocolType) (w : ℕ) (selective : Bool) {S R T : Type 0} (view 
   resent-as s t out x = record { after = x .after; written = rw (x .answer, x .out-is) refl; isDone = ap isResent (x .answer) }
 
   pub taken : (r : WithOutput R) (m : ReceiverState) (d : Done (WithOutput R)) (q : Segment) → Taken p w R viewR filled Good r d m q → PacketTaken p w E (ReceiverIs p w R viewR filled Good) r d m q
-  taken r m d q t = record { after = t .after; output = t .output; replies = t .replies; wrote = t .wrote; each = t .each }
+  taken r m d q t = record { after = t .after; output = t .output; unwritten = t .behind; replies = t .replies; wrote = t .wrote; each = t .each }
 
   pub kept : (r : WithOutput R) (m : ReceiverState) (d : Done (WithOutput R)) → Kept p w R viewR filled Good r d m → ReceiverKept E (ReceiverIs p w R viewR filled Good) r d m
-  kept r m d t = record { after = t .after; nothing = t .nothing; output = t .output }
+  kept r m d t = record { after = t .after; nothing = t .nothing; output = t .output; unwritten = t .behind }
 
   unfoldable pub calls-follow : Follow p w E
   calls-follow = record {

@@ -7,4 +7,7 @@ pub mod SenderFollows
 pub mod ReceiverFollows
 pub mod Instances
 pub mod Protocols
+pub mod Making
+pub mod Progress
+pub mod AnyBytes
 pub mod Examples

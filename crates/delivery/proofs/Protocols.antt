@@ -89,7 +89,7 @@ go-back-n-times : (v : slots.Sender) (t : Which) (out : List ℕ) → TimeoutAs 
 go-back-n-times v all out = as-window false (λ u. u) v _ _ out _ _ refl refl refl (go-back-n-timeout v out)
 go-back-n-times v earliest out = as-window false (λ u. u) v _ _ out _ _ refl refl refl (lowest-sent-again false v 1 out)
 
-go-back-n-sender : SenderCalls GoBackN false (λ u. u) (sendChunk false) goBackNTimeout goBackN.handleAck (λ v. v .window .«send_base»)
+pub go-back-n-sender : SenderCalls GoBackN false (λ u. u) (sendChunk false) goBackNTimeout goBackN.handleAck (λ v. v .window .«send_base»)
 go-back-n-sender = record {
   base-is = λ v. refl;
   send-after = λ v payload out. refl;
@@ -102,7 +102,7 @@ go-back-n-sender = record {
   ack-refused = λ v raw. not-handled (ackDecision false (v .window) (v .store) raw) v (λ n. release v (n + 1));
 }
 
-go-back-n-receiver : (w : ℕ) → ReceiverCalls GoBackN w goBackNView (λ r. r .filled) (λ r output. marksBroken (r .«expected_seq») (r .filled) output ≡ false) goBackNReceiver.handlePacket (λ r. r .«expected_seq»)
+pub go-back-n-receiver : (w : ℕ) → ReceiverCalls GoBackN w goBackNView (λ r. r .filled) (λ r output. marksBroken (r .«expected_seq») (r .filled) output ≡ false) goBackNReceiver.handlePacket (λ r. r .«expected_seq»)
 go-back-n-receiver w = record {
   base-is = λ r. refl;
   outcome = λ r raw output ack g. go-back-n-receives w r raw output ack;
@@ -111,7 +111,7 @@ go-back-n-receiver w = record {
 }
 
 -- Stop-and-Wait
-stop-and-wait-sender : SenderCalls StopAndWait false {T = One} stopAndWait.windowEnd stopAndWait.sendChunk (λ v t out. stopAndWait.handleTimeout v out) stopAndWait.handleAck (λ v. v .sender .«current_seq»)
+pub stop-and-wait-sender : SenderCalls StopAndWait false {T = One} stopAndWait.windowEnd stopAndWait.sendChunk (λ v t out. stopAndWait.handleTimeout v out) stopAndWait.handleAck (λ v. v .sender .«current_seq»)
 stop-and-wait-sender = record {
   base-is = λ v. refl;
   send-after = stop-and-wait-send;
@@ -125,7 +125,7 @@ stop-and-wait-sender = record {
   ack-refused = λ v raw. not-handled (ackDecision false (stopAndWait.windowOf (v .sender)) (v .store) raw) v (stopAndWait.acknowledged v);
 }
 
-stop-and-wait-receiver : (w : ℕ) → ReceiverCalls StopAndWait w stopAndWaitView (λ r. r .filled) (λ r output. marksBroken (r .«expected_seq») (r .filled) output ≡ false) stopAndWaitReceiver.handlePacket (λ r. r .«expected_seq»)
+pub stop-and-wait-receiver : (w : ℕ) → ReceiverCalls StopAndWait w stopAndWaitView (λ r. r .filled) (λ r output. marksBroken (r .«expected_seq») (r .filled) output ≡ false) stopAndWaitReceiver.handlePacket (λ r. r .«expected_seq»)
 stop-and-wait-receiver w = record {
   base-is = λ r. refl;
   outcome = λ r raw output ack g. stop-and-wait-receives w r raw output ack;
@@ -138,7 +138,7 @@ acknowledge-size : (v : slots.Sender) (n : ℕ) → selectiveRepeat.acknowledgeO
 unfolding selectiveRepeat.acknowledgeOne
 acknowledge-size v n = release-size (selectiveRepeat.markAcknowledged v n) _
 
-selective-repeat-sender : SenderCalls SelectiveRepeat true (λ u. u) (sendChunk true) selectiveRepeat.handleTimeout selectiveRepeat.handleAck (λ v. v .window .«send_base»)
+pub selective-repeat-sender : SenderCalls SelectiveRepeat true (λ u. u) (sendChunk true) selectiveRepeat.handleTimeout selectiveRepeat.handleAck (λ v. v .window .«send_base»)
 selective-repeat-sender = record {
   base-is = λ v. refl;
   send-after = λ v payload out. refl;
@@ -152,9 +152,9 @@ selective-repeat-sender = record {
 }
 
 -- a good receiver of window w
-record GoodOf (w : ℕ) (r : sr.Receiver) (output : List ℕ) : Type 0 where
-  good : GoodSelectiveReceiver r output
-  size : r .state .«window_size» ≡ w
+pub record GoodOf (w : ℕ) (r : sr.Receiver) (output : List ℕ) : Type 0 where
+  pub good : GoodSelectiveReceiver r output
+  pub size : r .state .«window_size» ≡ w
 
 same-size : (w : ℕ) (x y : SelectiveRepeatDecision) (b : Bool) → x .receiver .«window_size» ≡ w → y .receiver .«window_size» ≡ w → cond b x y .receiver .«window_size» ≡ w
 same-size w x y true e f = e
@@ -181,7 +181,7 @@ packet-size : (r : sr.Receiver) (raw output ack : List ℕ) → sr.handlePacket 
 packet-size r raw output ack =
     after-packet (λ (u : sr.Receiver). u .state .«window_size» ≡ r .state .«window_size») _ _ r (r .state .filled) _ _ _ raw output ack refl (λ sound ok short n. decision-size r (readPacket raw))
 
-selective-repeat-receiver : (w : ℕ) → ReceiverCalls SelectiveRepeat w selectiveView (λ r. r .state .filled) (GoodOf w) sr.handlePacket (λ r. r .state .«recv_base»)
+pub selective-repeat-receiver : (w : ℕ) → ReceiverCalls SelectiveRepeat w selectiveView (λ r. r .state .filled) (GoodOf w) sr.handlePacket (λ r. r .state .«recv_base»)
 selective-repeat-receiver w = record {
   base-is = λ r. refl;
   outcome = λ r raw output ack g. rw (← g .size) (selective-receives r raw output ack);
@@ -203,14 +203,14 @@ fresh-sender : (selective : Bool) (w : ℕ) (store : List ℕ) → windowBroken 
 fresh-sender selective w store bounds room octets =
     record { good = fresh-good selective w store bounds room; octets = fresh-octets w store octets; size = fresh-size w store; is = fresh-follows w store }
 
-fresh-mark : (output : List ℕ) → marksBroken 0 0 output ≡ false
+pub fresh-mark : (output : List ℕ) → marksBroken 0 0 output ≡ false
 fresh-mark output = marks-good 0 0 output (omega arith) (omega arith)
 
 positive : (w : ℕ) → windowBroken w ≡ false → 0 < w
 unfolding windowBroken
 positive w e = let p : 1 ≤ w = ltb-false w 1 (none-of _ e .0) in omega arith
 
-fresh-follow : (p : ProtocolType) (w limit : ℕ) (sending receiving output : List ℕ) → Made p w sending receiving → Follows p w (ends p) (follows p w) (freshEnds p w limit sending receiving output) (newWorld p w)
+fresh-follow : (p : ProtocolType) (w limit : ℕ) (sending receiving output : List ℕ) → Made p w sending receiving → Follows p w (ends p) (follows p w) output (freshEnds p w limit sending receiving output) (newWorld p w)
 unfolding newWorld follows calls-follow flatten
 fresh-follow StopAndWait w limit sending receiving output m =
     let e = m .window in
@@ -220,6 +220,7 @@ fresh-follow StopAndWait w limit sending receiving output m =
       sent = tt;
       replies = tt;
       output = refl;
+      unwritten = refl;
     }
 fresh-follow GoBackN w limit sending receiving output m =
     record {
@@ -228,6 +229,7 @@ fresh-follow GoBackN w limit sending receiving output m =
       sent = tt;
       replies = tt;
       output = refl;
+      unwritten = refl;
     }
 fresh-follow SelectiveRepeat w limit sending receiving output m =
     record {
@@ -240,10 +242,18 @@ fresh-follow SelectiveRepeat w limit sending receiving output m =
       sent = tt;
       replies = tt;
       output = refl;
+      unwritten = refl;
     }
+
+-- at the start all of the output is behind the fill mark
+fresh-start : (p : ProtocolType) (w limit : ℕ) (sending receiving output : List ℕ) → Made p w sending receiving
+    → Follows p w (ends p) (follows p w) (ends p .unwritten (freshEnds p w limit sending receiving output .receiver)) (freshEnds p w limit sending receiving output) (newWorld p w)
+fresh-start StopAndWait w limit sending receiving output m = fresh-follow StopAndWait w limit sending receiving output m
+fresh-start GoBackN w limit sending receiving output m = fresh-follow GoBackN w limit sending receiving output m
+fresh-start SelectiveRepeat w limit sending receiving output m = fresh-follow SelectiveRepeat w limit sending receiving output m
 
 -- Demand 3
 pub delivery : (p : ProtocolType) (w limit : ℕ) (sending receiving output : List ℕ) → Made p w sending receiving
     → (cs : List (Call (ends p .Timeout))) → Line (ends p) (freshEnds p w limit sending receiving output) cs → Demand3 p w (ends p) (freshEnds p w limit sending receiving output) cs
 delivery p w limit sending receiving output m cs l =
-    demand-3 p w (m .window) (ends p) (follows p w) (freshEnds p w limit sending receiving output) (fresh-follow p w limit sending receiving output m) cs l
+    demand-3 p w (m .window) (ends p) (follows p w) (freshEnds p w limit sending receiving output) (fresh-start p w limit sending receiving output m) cs l

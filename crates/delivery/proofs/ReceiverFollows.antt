@@ -4,7 +4,9 @@ use mathlib.Core.Path.{_≡_, refl, sym, ap, ap₂, _∙_}
 use mathlib.Core.List.{List, [], _∷_, _++_, flatten, append-nil}
 use mathlib.Core.Bool.{Bool, true, false, cond}
 use native.Mathlib.Omega.{arith}
-use lib.ListN.{length, take, drop}
+use lib.ListN.{length, take, drop, length-append}
+use lib.Seq.{drop-append-seam, drop-drop, length-take-le}
+use Rattle.store.specs.Numbers.{writtenAt}
 use Rattle.refusal.specs.Order.{Verdict, check, verdict, accepted, refused}
 use Rattle.refusal.specs.declared.Refusal.the-variants.{State, Counts, Full}
 use Rattle.refusal.proofs.Laws.{on-accepted, on-refused}
@@ -31,7 +33,7 @@ use Rattle.delivery.proofs.Datagrams.{DataBytes, AckBytes, Each}
 use Rattle.delivery.proofs.SenderFollows.{false-true}
 
 -- a refused packet changes nothing
-answered : (r : Reply) → isReceived (answerOf r) ≡ true
+pub answered : (r : Reply) → isReceived (answerOf r) ≡ true
 answered (reply.Ack n) = refl
 answered reply.Silent = refl
 
@@ -68,6 +70,14 @@ no-data : (n : ℕ) (raw : List ℕ) → NoPacket raw → readPacket raw ≡ han
 no-data n raw (Copies.NoPacket.refused r e) f = let g = sym e ∙ f in let z : _≡_ {A = ℕ} 0 1 = cc in absurd (omega arith)
 no-data n raw (Copies.NoPacket.corrupted e) f = let g = sym e ∙ f in let z : _≡_ {A = ℕ} 0 1 = cc in absurd (omega arith)
 
+-- the output behind bytes that are written from place on
+written-behind : (output bytes : List ℕ) (place : ℕ) → place ≤ length output → drop (place + length bytes) (writtenAt output place bytes) ≡ drop (length bytes) (drop place output)
+written-behind output bytes place h =
+    let n : length (take place output ++ bytes) ≡ place + length bytes = length-append (take place output) bytes ∙ ap (λ (k : ℕ). k + length bytes) (length-take-le place output h) in
+    ap (λ (k : ℕ). drop k ((take place output ++ bytes) ++ drop (place + length bytes) output)) (sym n)
+    ∙ drop-append-seam (take place output ++ bytes) (drop (place + length bytes) output)
+    ∙ sym (drop-drop (length bytes) place output)
+
 segment-of : (n : ℕ) (payload : List ℕ) (q : Segment) → n ≡ q .number → payload ≡ q .payload → _≡_ {A = Segment} (record { number = n; payload = payload }) q
 segment-of n payload q e f = rw (e, f)
 
@@ -81,9 +91,13 @@ module _ (p : ProtocolType) (w : ℕ) (R : Type 0) (view : R → ReceiverState) 
   abbrev outputOf : WithOutput R → List ℕ
   outputOf x = take (filledOf (x .receiver)) (x .output)
 
+  abbrev behindOf : WithOutput R → List ℕ
+  behindOf x = drop (filledOf (x .receiver)) (x .output)
+
   pub record Taken (x : WithOutput R) (d : Done (WithOutput R)) (m : ReceiverState) (q : Segment) : Type 0 where
     pub after : ReceiverIs (d .after) (receive p w m q .after)
     pub output : outputOf (d .after) ≡ outputOf x ++ flatten (receive p w m q .delivered)
+    pub behind : behindOf (d .after) ≡ drop (length (flatten (receive p w m q .delivered))) (behindOf x)
     pub replies : List (List ℕ)
     pub wrote : d .written ≡ flatten replies
     pub each : Each AckBytes replies (receive p w m q .acks)
@@ -92,6 +106,7 @@ module _ (p : ProtocolType) (w : ℕ) (R : Type 0) (view : R → ReceiverState) 
     pub after : ReceiverIs (d .after) m
     pub nothing : d .written ≡ []
     pub output : outputOf (d .after) ≡ outputOf x
+    pub behind : behindOf (d .after) ≡ behindOf x
 
   module _ (x : WithOutput R) (m : ReceiverState) (h : ReceiverIs x m) (raw ack : List ℕ) (y : Receiving R)
       (o : ReceiveOutcome p w view filledOf (x .receiver) raw (x .output) ack y) (good : Good (y .receiver) (y .output)) where
@@ -102,6 +117,9 @@ module _ (p : ProtocolType) (w : ℕ) (R : Type 0) (view : R → ReceiverState) 
       | data-taken n f low t ↦ taken q n f (data-number q raw b) (data-payload q raw b) t
     ]
       where
+        took-behind : {m : Received} → Took view filledOf (x .receiver) (x .output) ack m y → drop (filledOf (y .receiver)) (y .output) ≡ drop (length (flatten (m .delivered))) (behindOf x)
+        took-behind {m} t = rw (t .filled, t .output-is) (written-behind (x .output) (flatten (m .delivered)) (filledOf (x .receiver)) (h .mark))
+
         taken : (q : Segment) (n : ℕ) → readPacket raw ≡ handed.Data n → readPacket raw ≡ handed.Data (q .number) → payloadOf raw ≡ q .payload
             → Took view filledOf (x .receiver) (x .output) ack (receive p w (view (x .receiver)) (record { number = n; payload = payloadOf raw })) y → Taken x (byReceiving y) m q
         taken q n e f g t =
@@ -110,24 +128,26 @@ module _ (p : ProtocolType) (w : ℕ) (R : Type 0) (view : R → ReceiverState) 
             record {
               after = record { good = good; mark = outcome-mark p w view filledOf (x .receiver) raw (x .output) ack y o (h .mark); is = t .follows ∙ ap (λ (z : Received). z .after) same };
               output = took-output t (h .mark) ∙ ap (λ (z : Received). outputOf x ++ flatten (z .delivered)) same;
+              behind = took-behind t ∙ ap (λ (z : Received). drop (length (flatten (z .delivered))) (behindOf x)) same;
               replies = replies-of (y .answer) (y .ack);
               wrote = replies-joined (y .answer) (y .ack);
               each = rw (← (ap (λ (z : Received). z .acks) same), ← t .acks) (each-reply (y .answer) (y .ack) (t .ack-made));
             }
 
     pub packet-kept : byReceiving y ≡ record { after = x; written = []; isDone = false } → Kept x (byReceiving y) m
-    packet-kept e = rw e (record { after = h; nothing = refl; output = refl })
+    packet-kept e = rw e (record { after = h; nothing = refl; output = refl; behind = refl })
 
     mark-after : filledOf (y .receiver) ≤ length (y .output)
     mark-after = outcome-mark p w view filledOf (x .receiver) raw (x .output) ack y o (h .mark)
 
     pub packet-ignored : NoPacket raw → Kept x (byReceiving y) m
     packet-ignored t = elim o [
-      | packet-refused s f ↦ rw f (record { after = h; nothing = refl; output = refl })
+      | packet-refused s f ↦ rw f (record { after = h; nothing = refl; output = refl; behind = refl })
       | not-data none i ↦ record {
         after = record { good = good; mark = mark-after; is = i .follows ∙ h .is };
         nothing = ap (λ (a : ReceiveAnswer). bytesReplied a (y .ack)) (i .silent t .0);
         output = rw (i .filled, i .output-is) refl;
+        behind = rw (i .filled, i .output-is) refl;
       }
       | data-taken n f low k ↦ no-data n raw t f
     ]

@@ -68,10 +68,10 @@ module _ (selective : Bool) (w : ℕ) (m : trace.World) (s : PlainState) (i : In
   same-outstanding [] = refl
   same-outstanding (n ∷ ns) = rw (same-one n, same-outstanding ns) refl
 
-module _ (p : ProtocolType) (w : ℕ) (o : Window p w) (E : Ends) (F : Follow p w E) where
+module _ (p : ProtocolType) (w : ℕ) (o : Window p w) (E : Ends) (F : Follow p w E) (rest : List ℕ) where
   -- in the midst of a resending: what was made and not yet handed over, as bytes and as segments and numbers
   record Going (v : World E) (m : trace.World) (s : PlainState) (packets replies : List (List ℕ)) (qs : List Segment) (ns : List ℕ) : Type 0 where
-    follows : Follows p w E F v m
+    follows : Follows p w E F rest v m
     invariant : Invariant (isSelective p) w m s
     packets-are : Each DataBytes packets qs
     replies-are : Each AckBytes replies ns
@@ -82,7 +82,7 @@ module _ (p : ProtocolType) (w : ℕ) (o : Window p w) (E : Ends) (F : Follow p 
     pub events : List Event
     pub resending : trace.Resending p w m numbers qs ns events
     pub same-fed : map callOf events ≡ fedIn E v cs
-    pub follows : Follows p w E F (run E v cs) (trace.run p w m events)
+    pub follows : Follows p w E F rest (run E v cs) (trace.run p w m events)
 
   -- a timeout
   going-timeout : (v : World E) (m : trace.World) (s : PlainState) (packets replies : List (List ℕ)) (qs : List Segment) (ns : List ℕ) (t : E .Timeout) (buffer : List ℕ)
@@ -93,7 +93,7 @@ module _ (p : ProtocolType) (w : ℕ) (o : Window p w) (E : Ends) (F : Follow p 
   unfolding step trace.step fedBy
   going-timeout v m s packets replies qs ns t buffer g e k =
       record {
-        follows = sent-again p w E F v m (g .follows) t buffer k;
+        follows = sent-again p w E F rest v m (g .follows) t buffer k;
         invariant = rw e (step-ok p w m s (trace.resent (k .first) (k .count)) o (g .invariant) (k .low, k .high));
         packets-are = data-added packets qs _ (k .packets) _ (g .packets-are) (k .wrote) (k .each);
         replies-are = g .replies-are;
@@ -109,7 +109,7 @@ module _ (p : ProtocolType) (w : ℕ) (o : Window p w) (E : Ends) (F : Follow p 
   going-packet v m s raw packets replies q qs ns i buffer g d e =
       let k = F .received (v .receiver) (m .receiver) (getD (v .sent) i []) buffer q (g .follows .receiver) d e in
       record {
-        follows = packet-taken p w E F v m (g .follows) (getD (v .sent) i []) buffer q d e;
+        follows = packet-taken p w E F rest v m (g .follows) (getD (v .sent) i []) buffer q d e;
         invariant = rw (e, data-number _ q d) (step-ok p w m s (trace.received q) o (g .invariant) (every-head (g .segments-made)));
         packets-are = g .packets-are .1;
         replies-are = acks-added replies ns _ (k .replies) _ (g .replies-are) (k .wrote) (k .each);
@@ -123,7 +123,7 @@ module _ (p : ProtocolType) (w : ℕ) (o : Window p w) (E : Ends) (F : Follow p 
   unfolding step trace.step fedBy
   going-ack v m s raw packets replies qs n ns i g d e =
       record {
-        follows = ack-taken p w E F v m (g .follows) (getD (v .replies) i []) n d e;
+        follows = ack-taken p w E F rest v m (g .follows) (getD (v .replies) i []) n d e;
         invariant = rw (e, ack-number _ n d) (step-ok p w m s (trace.acknowledged n) o (g .invariant) (every-head (g .acks-made)));
         packets-are = g .packets-are;
         replies-are = g .replies-are .1;
@@ -211,7 +211,7 @@ module _ (p : ProtocolType) (w : ℕ) (o : Window p w) (E : Ends) (F : Follow p 
   resending-follows v m s numbers packets replies qs ns g (toSender (flipped i j b) ∷ cs) h = absurd (false≠true (h .0))
 
   -- from its start
-  pub resent-as : (v : World E) (m : trace.World) (s : PlainState) → Follows p w E F v m → Invariant (isSelective p) w m s
+  pub resent-as : (v : World E) (m : trace.World) (s : PlainState) → Follows p w E F rest v m → Invariant (isSelective p) w m s
       → (cs : List (Call (E .Timeout))) → Resending p w E v s (plainOutstanding s) [] [] cs → ResentAs v m (trace.outstanding (m .sender)) [] [] cs
   resent-as v m s f i cs h =
       subst (λ (ns : List ℕ). ResentAs v m ns [] [] cs) (sym (claimed (isSelective p) w m s i .outstanding-is))

@@ -3,7 +3,8 @@ use Prim.Native.Nat.{ℕ, zero, suc, _+_, _-_, _≤_, _<_}
 use mathlib.Core.Path.{_≡_, refl, sym, ap, _∙_}
 use mathlib.Core.List.{List, [], _∷_, _++_, map, List·Memᴰ, append-nil, flatten}
 use mathlib.Core.Bool.{Bool, true, false, cond, _&&_}
-use lib.ListN.{length, getD, take, drop}
+use lib.ListN.{length, getD, take, drop, length-append}
+use lib.Seq.{drop-drop}
 use Rattle.checksum.specs.Below.{Octets}
 use Rattle.checksum.specs.Flip.{flip}
 use Rattle.protocol.specs.declared.ProtocolType.{ProtocolType}
@@ -32,7 +33,14 @@ none-added : (sent : List (List ℕ)) (written : List ℕ) → written ≡ [] �
 unfolding datagrams
 none-added sent written e = rw e (append-nil sent)
 
-module _ (p : ProtocolType) (w : ℕ) (E : Ends) (F : Follow p w E) where
+-- behind what is delivered
+behind : (delivered more : List (List ℕ)) (rest : List ℕ) → drop (length (flatten more)) (drop (length (flatten delivered)) rest) ≡ drop (length (flatten (delivered ++ more))) rest
+behind delivered more rest =
+    drop-drop (length (flatten more)) (length (flatten delivered)) rest
+    ∙ ap (λ (n : ℕ). drop n rest) (sym (length-append (flatten delivered) (flatten more)) ∙ ap length (sym (flatten-append delivered more)))
+
+-- rest: the output behind its fill mark at the start
+module _ (p : ProtocolType) (w : ℕ) (E : Ends) (F : Follow p w E) (rest : List ℕ) where
   -- a world of bytes, and one of numbers and chunks
   pub record Follows (v : World E) (m : trace.World) : Type 0 where
     pub sender : F .SenderIs (v .sender) (m .sender)
@@ -40,6 +48,7 @@ module _ (p : ProtocolType) (w : ℕ) (E : Ends) (F : Follow p w E) where
     pub sent : Each DataBytes (v .sent) (m .segments)
     pub replies : Each AckBytes (v .replies) (m .acks)
     pub output : E .output (v .receiver) ≡ flatten (m .delivered)
+    pub unwritten : E .unwritten (v .receiver) ≡ drop (length (flatten (m .delivered))) rest
 
   -- a call as an event
   pub record Stepped (v : World E) (m : trace.World) (c : Call (E .Timeout)) : Type 0 where
@@ -52,12 +61,12 @@ module _ (p : ProtocolType) (w : ℕ) (E : Ends) (F : Follow p w E) where
     sender-kept : (d : Done (E .Sender)) → SenderKept E (F .SenderIs) d (m .sender) → Follows (bySender v d) m
     sender-kept d k =
         rw (none-added (v .sent) (d .written) (k .nothing))
-        record { sender = k .after; receiver = f .receiver; sent = f .sent; replies = f .replies; output = f .output }
+        record { sender = k .after; receiver = f .receiver; sent = f .sent; replies = f .replies; output = f .output; unwritten = f .unwritten }
 
     receiver-kept : (d : Done (E .Receiver)) → ReceiverKept E (F .ReceiverIs) (v .receiver) d (m .receiver) → Follows (byReceiver v d) m
     receiver-kept d k =
         rw (none-added (v .replies) (d .written) (k .nothing))
-        record { sender = f .sender; receiver = k .after; sent = f .sent; replies = f .replies; output = k .output ∙ f .output }
+        record { sender = f .sender; receiver = k .after; sent = f .sent; replies = f .replies; output = k .output ∙ f .output; unwritten = k .unwritten ∙ f .unwritten }
 
     -- a chunk to send
     pub chunk-sent : (payload buffer : List ℕ) → Octets payload → E .sendChunk (v .sender) payload buffer .isDone ≡ true
@@ -71,6 +80,7 @@ module _ (p : ProtocolType) (w : ℕ) (E : Ends) (F : Follow p w E) where
           sent = data-added (v .sent) (m .segments) _ (E .sendChunk (v .sender) payload buffer .written ∷ []) _ (f .sent) (sym (append-nil _)) (k .wrote, tt);
           replies = f .replies;
           output = f .output;
+          unwritten = f .unwritten;
         }
 
     step-send : (payload buffer : List ℕ) → Octets payload → (b : Bool) → E .sendChunk (v .sender) payload buffer .isDone ≡ b → Stepped v m (send payload buffer)
@@ -97,6 +107,7 @@ module _ (p : ProtocolType) (w : ℕ) (E : Ends) (F : Follow p w E) where
           sent = data-added (v .sent) (m .segments) _ (k .packets) _ (f .sent) (k .wrote) (k .each);
           replies = f .replies;
           output = f .output;
+          unwritten = f .unwritten;
         }
 
     step-timeout : (t : E .Timeout) (buffer : List ℕ) → (b : Bool) → E .handleTimeout (v .sender) t buffer .isDone ≡ b → Stepped v m (timeout t buffer)
@@ -124,6 +135,7 @@ module _ (p : ProtocolType) (w : ℕ) (E : Ends) (F : Follow p w E) where
           sent = f .sent;
           replies = acks-added (v .replies) (m .acks) _ (k .replies) _ (f .replies) (k .wrote) (k .each);
           output = k .output ∙ rw (f .output) (sym (flatten-append (m .delivered) _));
+          unwritten = k .unwritten ∙ rw (f .unwritten) (behind (m .delivered) _ rest);
         }
 
     step-packet : (i : ℕ) (buffer : List ℕ) → i < length (v .sent) → (b : Bool) → E .handlePacket (v .receiver) (getD (v .sent) i []) buffer .isDone ≡ b → Stepped v m (toReceiver (whole i) buffer)
@@ -164,7 +176,7 @@ module _ (p : ProtocolType) (w : ℕ) (E : Ends) (F : Follow p w E) where
     ack-taken raw n d e =
         let k = F .acknowledged (v .sender) (m .sender) raw n (f .sender) d e in
         rw (none-added (v .sent) (E .handleAck (v .sender) raw .written) (k .nothing))
-        record { sender = k .after; receiver = f .receiver; sent = f .sent; replies = f .replies; output = f .output }
+        record { sender = k .after; receiver = f .receiver; sent = f .sent; replies = f .replies; output = f .output; unwritten = f .unwritten }
 
     step-ack : (i : ℕ) → i < length (v .replies) → (b : Bool) → E .handleAck (v .sender) (getD (v .replies) i []) .isDone ≡ b → Stepped v m (toSender (whole i))
     unfolding step fedBy trace.step

@@ -27,24 +27,30 @@ unfolding run fedIn
 fed-append E v [] ds = refl
 fed-append E v (c ∷ cs) ds = ap (λ (l : List Fed). fedBy E v c ∷ l) (fed-append E (step E v c) cs ds)
 
-module _ (p : ProtocolType) (w : ℕ) (o : Window p w) (E : Ends) (F : Follow p w E) where
-  claim-of : (v : World E) (m : trace.World) (s : PlainState) → Follows p w E F v m → trace.Claim w m s → Claim E w v s
-  claim-of v m s f c =
+module _ (p : ProtocolType) (w : ℕ) (o : Window p w) (E : Ends) (F : Follow p w E) (start : World E) where
+  abbrev rest : List ℕ
+  rest = E .unwritten (start .receiver)
+
+  claim-of : (v : World E) (m : trace.World) (s : PlainState) → Follows p w E F rest v m → Invariant (isSelective p) w m s → Claim E w start v s
+  claim-of v m s f i =
+      let c = claimed (isSelective p) w m s i in
       record {
         receiver-base = F .receiver-base (v .receiver) (m .receiver) (f .receiver) ∙ c .receiver-base;
         sender-base = F .sender-base (v .sender) (m .sender) (f .sender) ∙ c .sender-base;
         first-delivered = f .output ∙ ap flatten (c .first-delivered);
+        nothing-else-written = rw (f .output) (f .unwritten);
+        within-sent = i .ends .D≤sent;
         not-negative = c .not-negative;
         in-window = c .in-window;
       }
 
   -- a resending that follows
-  after-resending : (v : World E) (m : trace.World) (s : PlainState) → Follows p w E F v m → Invariant (isSelective p) w m s
-      → (ds : List (Call (E .Timeout))) → Resending p w E v s (plainOutstanding s) [] [] ds → Resent E w (run E v ds) s (plainRun p w s (fedIn E v ds))
+  after-resending : (v : World E) (m : trace.World) (s : PlainState) → Follows p w E F rest v m → Invariant (isSelective p) w m s
+      → (ds : List (Call (E .Timeout))) → Resending p w E v s (plainOutstanding s) [] [] ds → Resent E w start (run E v ds) s (plainRun p w s (fedIn E v ds))
   after-resending v m s f i ds r =
-      let u = resent-as p w o E F v m s f i ds r in
+      let u = resent-as p w o E F rest v m s f i ds r in
       let a = resending-ok p w m s (u .events) o i (u .resending) in
-      let c = claim-of (run E v ds) (trace.run p w m (u .events)) (plainRun p w s (map callOf (u .events))) (u .follows) (claimed (isSelective p) w _ _ (run-ok p w m s (u .events) o i (a .fair))) in
+      let c = claim-of (run E v ds) (trace.run p w m (u .events)) (plainRun p w s (map callOf (u .events))) (u .follows) (run-ok p w m s (u .events) o i (a .fair)) in
       rw (← u .same-fed)
       record {
         same-sent = a .same-sent;
@@ -54,14 +60,14 @@ module _ (p : ProtocolType) (w : ℕ) (o : Window p w) (E : Ends) (F : Follow p 
         everything = c .first-delivered ∙ rw (a .same-sent, a .last-D) (ap flatten (take-all (length (s .sent)) (s .sent) (omega arith)));
       }
 
-  pub demand-3 : (v : World E) → Follows p w E F v (newWorld p w) → (cs : List (Call (E .Timeout))) → Line E v cs → Demand3 p w E v cs
-  demand-3 v start cs l =
-      let t = every-list p w E F v (newWorld p w) start cs l in
+  pub demand-3 : Follows p w E F rest start (newWorld p w) → (cs : List (Call (E .Timeout))) → Line E start cs → Demand3 p w E start cs
+  demand-3 f cs l =
+      let t = every-list p w E F rest start (newWorld p w) f cs l in
       let m : trace.World = trace.run p w (newWorld p w) (t .events) in
-      let i : Invariant (isSelective p) w m (plainAfter p w E v cs) = rw (← t .same-fed) (from-start p w (t .events) o (t .fair)) in
+      let i : Invariant (isSelective p) w m (plainAfter p w E start cs) = rw (← t .same-fed) (from-start p w (t .events) o (t .fair)) in
       record {
-        claim = claim-of (run E v cs) m (plainAfter p w E v cs) (t .follows) (claimed (isSelective p) w m (plainAfter p w E v cs) i);
+        claim = claim-of (run E start cs) m (plainAfter p w E start cs) (t .follows) i;
         resent = λ ds r.
-            rw (run-append E v cs ds, fed-append E v cs ds, plain-append p w plainStart (fedIn E v cs) (fedIn E (run E v cs) ds))
-            (after-resending (run E v cs) m (plainAfter p w E v cs) (t .follows) i ds r);
+            rw (run-append E start cs ds, fed-append E start cs ds, plain-append p w plainStart (fedIn E start cs) (fedIn E (run E start cs) ds))
+            (after-resending (run E start cs) m (plainAfter p w E start cs) (t .follows) i ds r);
       }

@@ -56,8 +56,9 @@ pub record Ends : Type 1 where
   pub handlePacket : Receiver → List ℕ → List ℕ → Done Receiver
   pub senderBase : Sender → ℕ
   pub receiverBase : Receiver → ℕ
-  -- the output up to its fill mark
+  -- the output up to its fill mark, and behind it
   pub output : Receiver → List ℕ
+  pub unwritten : Receiver → List ℕ
 
 -- the ends, and all datagrams that the sender and the receiver made, oldest first
 pub record World (E : Ends) : Type 0 where

@@ -14,10 +14,13 @@ use Rattle.delivery.specs.Calls.{copyOf, isWhole, Call, send, timeout, t
 abbrev pub plainAfter : ProtocolType → ℕ → (E : Ends) → World E → List (Call (E .Timeout)) → PlainState
 plainAfter p w E v cs = plainRun p w plainStart (fedIn E v cs)
 
-pub record Claim (E : Ends) (w : ℕ) (v : World E) (s : PlainState) : Type 0 where
+-- of the world v, reached from start, and the plain machine s; the output is all that was written of the one at the start
+pub record Claim (E : Ends) (w : ℕ) (start v : World E) (s : PlainState) : Type 0 where
   pub receiver-base : E .receiverBase (v .receiver) ≡ s .D
   pub sender-base : E .senderBase (v .sender) ≡ s .A
   pub first-delivered : E .output (v .receiver) ≡ flatten (take (s .D) (s .sent))
+  pub nothing-else-written : E .unwritten (v .receiver) ≡ drop (length (E .output (v .receiver))) (E .unwritten (start .receiver))
+  pub within-sent : s .D ≤ length (s .sent)
   pub not-negative : s .A ≤ s .D
   pub in-window : s .D - s .A ≤ w
 
@@ -52,15 +55,15 @@ Resending p w E v s numbers packets replies (toSender c ∷ cs) =
     × Resending p w E (step E v (toSender c)) (plainStep p w s (fedBy E v (toSender c))) (outstandingOf (plainStep p w s (fedBy E v (toSender c))) numbers) packets (drop 1 replies) cs
 
 -- what a resending leaves: S as it was, D and A at its end, and all of S in the output
-pub record Resent (E : Ends) (w : ℕ) (v : World E) (before after : PlainState) : Type 0 where
+pub record Resent (E : Ends) (w : ℕ) (start v : World E) (before after : PlainState) : Type 0 where
   pub same-sent : after .sent ≡ before .sent
   pub last-D : after .D ≡ length (before .sent)
   pub last-A : after .A ≡ length (before .sent)
-  pub claim : Claim E w v after
+  pub claim : Claim E w start v after
   pub everything : E .output (v .receiver) ≡ flatten (before .sent)
 
 -- Demand 3 of a list of calls cs from v: the claim after it, and what any resending ds that follows leaves.
 pub record Demand3 (p : ProtocolType) (w : ℕ) (E : Ends) (v : World E) (cs : List (Call (E .Timeout))) : Type 0 where
-  pub claim : Claim E w (run E v cs) (plainAfter p w E v cs)
+  pub claim : Claim E w v (run E v cs) (plainAfter p w E v cs)
   pub resent : (ds : List (Call (E .Timeout))) → Resending p w E (run E v cs) (plainAfter p w E v cs) (plainOutstanding (plainAfter p w E v cs)) [] [] ds
-      → Resent E w (run E v (cs ++ ds)) (plainAfter p w E v cs) (plainAfter p w E v (cs ++ ds))
+      → Resent E w v (run E v (cs ++ ds)) (plainAfter p w E v cs) (plainAfter p w E v (cs ++ ds))

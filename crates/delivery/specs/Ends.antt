@@ -7,7 +7,8 @@ use lib.ListN.{take, drop, replicate}
 use Rattle.checksum.specs.Below.{Octets}
 use Rattle.window.specs.State.{windowBroken, storeShort}
 use Rattle.window.specs.Slots as slots
-use Rattle.window.specs.Sending.{Sending, sendChunk}
+use Rattle.window.specs.Sending.{making, makeWindow, Sending, sendChunk}
+use Rattle.window.specs.declared.MakeAnswer.the-variants as makeAnswer
 use Rattle.window.specs.Acknowledgement.{Acknowledging}
 use Rattle.window.specs.Resending.{Resending}
 use Rattle.window.specs.declared.SendAnswer.{SendAnswer}
@@ -25,6 +26,8 @@ use Rattle.stop_and_wait.specs.Sender as stopAndWait
 use Rattle.stop_and_wait.specs.Receiver as stopAndWaitReceiver
 use Rattle.selective_repeat.specs.Sender as selectiveRepeat
 use Rattle.selective_repeat.specs.Receiver as selectiveRepeatReceiver
+use Rattle.stop_and_wait.specs.declared.StopAndWaitMade.the-variants as stopAndWaitMade
+use Rattle.selective_repeat.specs.declared.SelectiveRepeatReceiverMade.the-variants as selectiveRepeatMade
 use Rattle.protocol.specs.declared.ProtocolType.{ProtocolType}
 use Rattle.protocol.specs.declared.ProtocolType.the-variants.{StopAndWait, GoBackN, SelectiveRepeat}
 use Rattle.protocol.specs.Trace.{Window}
@@ -100,6 +103,7 @@ endsOf {S} {R} {T} send timeout ack packet senderBase receiverBase filled = reco
   senderBase = senderBase;
   receiverBase = λ r. receiverBase (r .receiver);
   output = λ r. take (filled (r .receiver)) (r .output);
+  unwritten = λ r. drop (filled (r .receiver)) (r .output);
 }
 
 -- Stop-and-Wait has one timeout
@@ -156,3 +160,14 @@ pub record Made (p : ProtocolType) (w : ℕ) (sending receiving : List ℕ) : Ty
   pub sending-room : storeShort sending w ≡ false
   pub receiving-room : ReceivingRoom p w receiving
   pub octets : Octets sending
+
+-- The fresh ends are what the makers answer and leave in their stores; a Stop-and-Wait or Go-Back-N receiver is made of nothing.
+abbrev pub FromMaking : (p : ProtocolType) → ℕ → ℕ → List ℕ → List ℕ → List ℕ → Type 0
+FromMaking StopAndWait w limit sending receiving output =
+    stopAndWait.newSender limit sending ≡ making (stopAndWaitMade.Sender (freshEnds StopAndWait w limit sending receiving output .sender .sender)) (freshEnds StopAndWait w limit sending receiving output .sender .store)
+FromMaking GoBackN w limit sending receiving output =
+    makeWindow w sending ≡ making (makeAnswer.Window (freshEnds GoBackN w limit sending receiving output .sender .window)) (freshEnds GoBackN w limit sending receiving output .sender .store)
+FromMaking SelectiveRepeat w limit sending receiving output =
+    (makeWindow w sending ≡ making (makeAnswer.Window (freshEnds SelectiveRepeat w limit sending receiving output .sender .window)) (freshEnds SelectiveRepeat w limit sending receiving output .sender .store))
+    × (selectiveRepeatReceiver.makeReceiver w receiving
+    ≡ making (selectiveRepeatMade.Receiver (freshEnds SelectiveRepeat w limit sending receiving output .receiver .receiver .state)) (freshEnds SelectiveRepeat w limit sending receiving output .receiver .receiver .store))

@@ -1,4 +1,5 @@
 pub mod Calls
 pub mod Claim
 pub mod Ends
+pub mod AnyBytes
 pub mod KnownAnswers

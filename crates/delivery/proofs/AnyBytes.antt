@@ -1,0 +1,79 @@
+-- From fresh ends a good state stays good: after any list of calls with any bytes the next call meets no 9.
+use Prim.Native.Nat.{ℕ}
+use mathlib.Core.Path.{_≡_, refl, sym, subst}
+use mathlib.Core.List.{List, [], _∷_}
+use mathlib.Core.Bool.{Bool, true, false}
+use Rattle.protocol.specs.declared.ProtocolType.{ProtocolType}
+use Rattle.protocol.specs.declared.ProtocolType.the-variants.{StopAndWait, GoBackN, SelectiveRepeat}
+use Rattle.protocol.specs.Machine.{ReceiverState}
+use Rattle.window.specs.Slots as slots
+use Rattle.window.specs.Sending.{Sending, sendChunk}
+use Rattle.window.specs.Resending.{Resending}
+use Rattle.window.specs.Acknowledgement.{Acknowledging}
+use Rattle.receiver.specs.Receive.{Receiving}
+use Rattle.stop_and_wait.specs.Receiver as stopAndWaitReceiver
+use Rattle.go_back_n.specs.Receiver as goBackNReceiver
+use Rattle.selective_repeat.specs.Receiver as selectiveRepeatReceiver
+use Rattle.arq.specs.Good.{Good}
+use Rattle.arq.proofs.Laws.{fresh-good, fresh-receiver-good, stop-and-wait-made, send-good, AckOutcome, ack-refused, ack-ignored, ack-taken, ResendOutcome, timeout-refused, nothing-sent, sent-again}
+use Rattle.delivery.specs.Calls.{Ends, World}
+use Rattle.delivery.specs.Ends.{endsOf, stopAndWaitEnds, goBackNEnds, selectiveRepeatEnds, ends, freshEnds, Made}
+use Rattle.delivery.specs.AnyBytes.{SenderCall, send, timeout, ack, senderStep, senderAfter, ReceiverCall, receiverAfter, SenderSound, ReceiverSound}
+use Rattle.delivery.proofs.Instances.{SenderCalls, ReceiverCalls}
+use Rattle.delivery.proofs.Protocols.{stop-and-wait-sender, go-back-n-sender, selective-repeat-sender, stop-and-wait-receiver, go-back-n-receiver, selective-repeat-receiver, GoodOf, fresh-mark}
+
+-- what each call keeps, any list keeps
+every-sender : (E : Ends) (P : E .Sender → Type 0) → ((s : E .Sender) (c : SenderCall (E .Timeout)) → P s → P (senderStep E s c)) → (s : E .Sender) (cs : List (SenderCall (E .Timeout))) → P s → P (senderAfter E s cs)
+unfolding senderAfter
+every-sender E P step s [] h = h
+every-sender E P step s (c ∷ cs) h = every-sender E P step (senderStep E s c) cs (step s c h)
+
+every-receiver : (E : Ends) (P : E .Receiver → Type 0) → ((r : E .Receiver) (c : ReceiverCall) → P r → P (E .handlePacket r (c .raw) (c .buffer) .after)) → (r : E .Receiver) (cs : List ReceiverCall) → P r → P (receiverAfter E r cs)
+unfolding receiverAfter
+every-receiver E P step r [] h = h
+every-receiver E P step r (c ∷ cs) h = every-receiver E P step (E .handlePacket r (c .raw) (c .buffer) .after) cs (step r c h)
+
+module _ (p : ProtocolType) (selective : Bool) {S R T : Type 0} (view : S → slots.Sender) (send′ : S → List ℕ → List ℕ → Sending S) (timeout′ : S → T → List ℕ → Resending S)
+    (ack′ : S → List ℕ → Acknowledging S) (base : S → ℕ) (c : SenderCalls p selective view send′ timeout′ ack′ base) (packet : R → List ℕ → List ℕ → List ℕ → Receiving R) (receiverBase filled : R → ℕ) where
+  abbrev E : Ends
+  E = endsOf send′ timeout′ ack′ packet base receiverBase filled
+
+  step-good : (s : S) (k : SenderCall T) → Good selective (view s) → Good selective (view (senderStep E s k))
+  step-good s (send payload buffer) g = subst (Good selective) (sym (c .send-after s payload buffer)) (send-good selective (view s) payload buffer g)
+  step-good s (timeout t buffer) g =
+      let x = c .timeout-as s t buffer in
+      subst (Good selective) (sym (x .after)) (elim (x .outcome) [
+        | timeout-refused r e ↦ rw e g
+        | nothing-sent z e ↦ rw e g
+        | sent-again y ↦ y .good
+      ])
+  step-good s (ack raw) g = elim (c .ack-outcome s raw) [
+    | ack-refused r e ↦ subst (λ (y : Acknowledging S). Good selective (view (y .after))) (sym e) g
+    | ack-ignored n e ↦ subst (λ (y : Acknowledging S). Good selective (view (y .after))) (sym e) g
+    | ack-taken n e x ↦ x .good
+  ]
+
+  pub senders-good : (s : S) (cs : List (SenderCall T)) → Good selective (view s) → Good selective (view (senderAfter E s cs))
+  senders-good s cs g = every-sender E (λ v. Good selective (view v)) step-good s cs g
+
+-- a sender that making left in any store, after any calls
+pub sender-sound : (p : ProtocolType) (w limit : ℕ) (sending receiving output : List ℕ) → Made p w sending receiving → (cs : List (SenderCall (ends p .Timeout)))
+    → SenderSound p (senderAfter (ends p) (freshEnds p w limit sending receiving output .sender) cs)
+sender-sound StopAndWait w limit sending receiving output m cs =
+    let fresh : Good false (slots.fresh 1 sending) = subst (λ (n : ℕ). Good false (slots.fresh n sending)) (m .window) (fresh-good false w sending (m .in-bounds) (m .sending-room)) in
+    senders-good StopAndWait false _ _ _ _ _ stop-and-wait-sender stopAndWaitReceiver.handlePacket (λ r. r .«expected_seq») (λ r. r .filled) (freshEnds StopAndWait w limit sending receiving output .sender) cs (subst (Good false) (sym (stop-and-wait-made limit sending)) fresh)
+sender-sound GoBackN w limit sending receiving output m cs =
+    senders-good GoBackN false _ _ _ _ _ go-back-n-sender goBackNReceiver.handlePacket (λ r. r .«expected_seq») (λ r. r .filled) (slots.fresh w sending) cs (fresh-good false w sending (m .in-bounds) (m .sending-room))
+sender-sound SelectiveRepeat w limit sending receiving output m cs =
+    senders-good SelectiveRepeat true _ _ _ _ _ selective-repeat-sender selectiveRepeatReceiver.handlePacket (λ r. r .state .«recv_base») (λ r. r .state .filled) (slots.fresh w sending) cs (fresh-good true w sending (m .in-bounds) (m .sending-room))
+
+-- a receiver, with the output as each call left it
+pub receiver-sound : (p : ProtocolType) (w limit : ℕ) (sending receiving output : List ℕ) → Made p w sending receiving → (cs : List ReceiverCall)
+    → ReceiverSound p (receiverAfter (ends p) (freshEnds p w limit sending receiving output .receiver) cs)
+receiver-sound StopAndWait w limit sending receiving output m cs =
+    every-receiver stopAndWaitEnds (ReceiverSound StopAndWait) (λ r c h. stop-and-wait-receiver w .good (r .receiver) (c .raw) (r .output) (c .buffer) h) _ cs (fresh-mark output)
+receiver-sound GoBackN w limit sending receiving output m cs =
+    every-receiver goBackNEnds (ReceiverSound GoBackN) (λ r c h. go-back-n-receiver w .good (r .receiver) (c .raw) (r .output) (c .buffer) h) _ cs (fresh-mark output)
+receiver-sound SelectiveRepeat w limit sending receiving output m cs =
+    every-receiver selectiveRepeatEnds (λ r. GoodOf w (r .receiver) (r .output)) (λ r c h. selective-repeat-receiver w .good (r .receiver) (c .raw) (r .output) (c .buffer) h) _ cs
+    (record { good = fresh-receiver-good w receiving output (m .in-bounds) (m .receiving-room); size = refl }) .good .sound
