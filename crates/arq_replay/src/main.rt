@@ -12,6 +12,7 @@ use go_back_n::GoBackNReceiver;
 use go_back_n::GoBackNSender;
 use libc::STDIN_FILENO;
 use libc::STDOUT_FILENO;
+use lines::Fields;
 use packet::Packet;
 use packet::PacketAnswer;
 use packet::PacketType;
@@ -28,20 +29,6 @@ use window::AckAnswer;
 use window::SendAnswer;
 use window::SendWindow;
 use window::TimeoutAnswer;
-ghost use mathlib.Core.Path.{_≡_};
-ghost use Prim.Native.Nat.{_≤_, _<_};
-ghost use lib.ListN.{length};
-
-// A number and the place behind the byte that ends it.
-struct Number {
-    value: u64,
-    next: usize,
-}
-
-struct Fields {
-    values: [u64; 12],
-    next: usize,
-}
 
 enum Sender {
     StopAndWait(StopAndWaitSender),
@@ -88,104 +75,20 @@ fn run(text: &[u8], n: usize) {
 
 // sent: the sender's store; held: the receiver's.
 fn line(text: &[u8], ends: Ends, sent: &mut [u8], held: &mut [u8], output: &mut [u8]) -> Ends {
-    let kind = read_number(text, ends.next);
+    let kind = lines::read_number(text, ends.next);
     if kind.value == 1 {
-        return made(read_fields(text, kind.next, 3), sent, held);
+        return made(lines::read_fields(text, kind.next, 3), sent, held);
     }
     if kind.value == 2 {
-        return chunk_sent(read_fields(text, kind.next, 2), ends, sent);
+        return chunk_sent(lines::read_fields(text, kind.next, 2), ends, sent);
     }
     if kind.value == 3 {
-        return timed_out(read_fields(text, kind.next, 1), ends, sent);
+        return timed_out(lines::read_fields(text, kind.next, 1), ends, sent);
     }
     if kind.value == 4 {
-        return packet_handed(read_fields(text, kind.next, 7), ends, held, output);
+        return packet_handed(lines::read_fields(text, kind.next, 7), ends, held, output);
     }
-    ack_handed(read_fields(text, kind.next, 3), ends, sent)
-}
-
-fn read_number(text: &[u8], at: usize) -> Number {
-    let mut value: u64 = 0;
-    let mut i = at;
-    while i < text.len() {
-        let b = text[i];
-        i += 1;
-        if b < 48 {
-            break;
-        }
-        if 57 < b {
-            break;
-        }
-        if 1844674407370955160 < value {
-            break;
-        }
-        value = value * 10 + digit(b);
-    }
-    Number {
-        value: value,
-        next: i,
-    }
-}
-
-fn digit(b: u8) -> u64
-    ensures { λ r. ⌜ r ≤ 15 ⌝ }
-{
-    (b % 16) as u64
-}
-
-fn read_fields(text: &[u8], at: usize, n: usize) -> Fields
-    requires { ⌜ n ≤ 12 ⌝ }
-{
-    let mut values = [0u64; 12];
-    let mut next = at;
-    let mut k: usize = 0;
-    while k < n {
-        let x = read_number(text, next);
-        values[k] = x.value;
-        next = x.next;
-        k += 1;
-    }
-    Fields {
-        values: values,
-        next: next,
-    }
-}
-
-// The bytes of a packet; those past its length are not looked at.
-fn packet_bytes(seed: u64) -> [u8; 64]
-    ensures { λ r. ⌜ length r ≡ 64 ⌝ }
-{
-    let mut bytes = [0u8; 64];
-    let mut i: usize = 0;
-    while i < 64 {
-        bytes[i] = ((seed % 256 + 7 * (i as u64)) % 256) as u8;
-        i += 1;
-    }
-    bytes
-}
-
-// The first n bytes, or all where there are fewer.
-fn prefix(bytes: &[u8], n: usize) -> &[u8] {
-    if n < bytes.len() { &bytes[..n] } else { bytes }
-}
-
-fn sum(bytes: &[u8], n: usize) -> u64 {
-    let mut total: u64 = 0;
-    let mut i: usize = 0;
-    while i < bytes.len() {
-        if n <= i {
-            return total;
-        }
-        total = (total + widened(bytes[i])) % 1000000;
-        i += 1;
-    }
-    total
-}
-
-fn widened(b: u8) -> u64
-    ensures { λ r. ⌜ r ≤ 255 ⌝ }
-{
-    b as u64
+    ack_handed(lines::read_fields(text, kind.next, 3), ends, sent)
 }
 
 // The lower 32 bits.
@@ -212,7 +115,7 @@ fn made(f: Fields, sent: &mut [u8], held: &mut [u8]) -> Ends {
     let v = f.values;
     let sender = new_sender(v[0], v[1] as usize, low(v[2]), sent);
     let receiver = new_receiver(v[0], v[1] as usize, held);
-    print(b"made\n");
+    lines::print(b"made\n");
     Ends {
         sender: sender,
         receiver: receiver,
@@ -240,7 +143,7 @@ fn new_sender(protocol: u64, window: usize, retries: u32, store: &mut [u8]) -> S
 }
 
 fn refused_sender(r: Refusal) -> Sender {
-    print_refusal(r);
+    lines::print_refusal(r);
     idle_sender()
 }
 
@@ -254,7 +157,7 @@ fn new_receiver(protocol: u64, window: usize, store: &mut [u8]) -> Receiver {
     match SelectiveRepeatReceiver::new(window, store) {
         SelectiveRepeatReceiverMade::Receiver(r) => Receiver::SelectiveRepeat(r),
         SelectiveRepeatReceiverMade::Refused(r) => {
-            print_refusal(r);
+            lines::print_refusal(r);
             idle_receiver()
         }
     }
@@ -263,9 +166,9 @@ fn new_receiver(protocol: u64, window: usize, store: &mut [u8]) -> Receiver {
 fn chunk_sent(f: Fields, ends: Ends, sent: &mut [u8]) -> Ends {
     let v = f.values;
     let n = (v[0] % 65) as usize;
-    let bytes = packet_bytes(v[1]);
+    let bytes = lines::packet_bytes(v[1]);
     let before = ends.sender;
-    let sender = send_chunk(before, sent, prefix(&bytes, n));
+    let sender = send_chunk(before, sent, lines::prefix(&bytes, n));
     print_sender(sender);
     let receiver = ends.receiver;
     Ends {
@@ -345,7 +248,7 @@ fn handle_timeout(sender: Sender, store: &mut [u8], n: u32) -> Sender {
 fn packet_handed(f: Fields, ends: Ends, held: &mut [u8], output: &mut [u8]) -> Ends {
     let v = f.values;
     let n = (v[1] % 65) as usize;
-    let bytes = packet_bytes(v[2]);
+    let bytes = lines::packet_bytes(v[2]);
     let p = Packet {
         seq_num: low(v[0]),
         pkt_type: type_of(v[3]),
@@ -353,10 +256,10 @@ fn packet_handed(f: Fields, ends: Ends, held: &mut [u8], output: &mut [u8]) -> E
         checksum: 0,
     };
     let mut raw = [0u8; 74];
-    put_packet(p, prefix(&bytes, n), &mut raw);
+    put_packet(p, lines::prefix(&bytes, n), &mut raw);
     flip(&mut raw, v[5] as usize, v[6]);
     let before = ends.receiver;
-    let receiver = handle_packet(before, held, prefix(&raw, 10 + n), output);
+    let receiver = handle_packet(before, held, lines::prefix(&raw, 10 + n), output);
     print_receiver(receiver, output);
     let sender = ends.sender;
     Ends {
@@ -382,7 +285,7 @@ fn put_packet(p: Packet, payload: &[u8], raw: &mut [u8]) {
         PacketAnswer::Packet(q) => {
             q.to_bytes(payload, raw);
         }
-        PacketAnswer::Refused(r) => print_refusal(r),
+        PacketAnswer::Refused(r) => lines::print_refusal(r),
     }
 }
 
@@ -468,16 +371,16 @@ fn handle_ack(sender: Sender, store: &mut [u8], raw: &[u8]) -> Sender {
 fn print_sent(a: SendAnswer, out: &[u8]) {
     match a {
         SendAnswer::Sent(n) => print_bytes(out, n),
-        SendAnswer::WindowFull => print(b"full"),
-        SendAnswer::Refused(r) => print_refusal(r),
+        SendAnswer::WindowFull => lines::print(b"full"),
+        SendAnswer::Refused(r) => lines::print_refusal(r),
     }
 }
 
 fn print_resent(a: TimeoutAnswer, out: &[u8]) {
     match a {
         TimeoutAnswer::Resent(n) => print_bytes(out, n),
-        TimeoutAnswer::Nothing => print(b"none"),
-        TimeoutAnswer::Refused(r) => print_refusal(r),
+        TimeoutAnswer::Nothing => lines::print(b"none"),
+        TimeoutAnswer::Refused(r) => lines::print_refusal(r),
     }
 }
 
@@ -486,16 +389,16 @@ fn print_received(a: ReceiveAnswer) {
         ReceiveAnswer::Ack(n) => {
             io::print_decimal(STDOUT_FILENO, n as u64);
         }
-        ReceiveAnswer::Silent => print(b"none"),
-        ReceiveAnswer::Refused(r) => print_refusal(r),
+        ReceiveAnswer::Silent => lines::print(b"none"),
+        ReceiveAnswer::Refused(r) => lines::print_refusal(r),
     }
 }
 
 fn print_acknowledged(a: AckAnswer) {
     match a {
-        AckAnswer::Accepted => print(b"accepted"),
-        AckAnswer::NotAccepted => print(b"not accepted"),
-        AckAnswer::Refused(r) => print_refusal(r),
+        AckAnswer::Accepted => lines::print(b"accepted"),
+        AckAnswer::NotAccepted => lines::print(b"not accepted"),
+        AckAnswer::Refused(r) => lines::print_refusal(r),
     }
 }
 
@@ -523,11 +426,11 @@ fn window_of(s: StopAndWaitSender) -> SendWindow {
 }
 
 fn print_window(w: SendWindow) {
-    print_number(w.send_base as u64);
-    print_number(w.next_seq_num as u64);
-    print_number(w.total_sent);
-    print_number(w.retransmissions);
-    print(b"\n");
+    lines::print_number(w.send_base as u64);
+    lines::print_number(w.next_seq_num as u64);
+    lines::print_number(w.total_sent);
+    lines::print_number(w.retransmissions);
+    lines::print(b"\n");
 }
 
 fn print_receiver(receiver: Receiver, output: &[u8]) {
@@ -556,34 +459,20 @@ fn print_receiver(receiver: Receiver, output: &[u8]) {
 }
 
 fn print_marks(base: u32, filled: usize, output: &[u8]) {
-    print_number(base as u64);
-    print_number(filled as u64);
-    print_number(sum(output, filled));
+    lines::print_number(base as u64);
+    lines::print_number(filled as u64);
+    lines::print_number(lines::sum(output, filled));
 }
 
 fn print_counts(first: u64, second: u64, third: u64) {
-    print_number(first);
-    print_number(second);
-    print_number(third);
-    print(b"\n");
+    lines::print_number(first);
+    lines::print_number(second);
+    lines::print_number(third);
+    lines::print(b"\n");
 }
 
 // A length, and the sum of that many bytes.
 fn print_bytes(bytes: &[u8], n: usize) {
     io::print_decimal(STDOUT_FILENO, n as u64);
-    print_number(sum(bytes, n));
-}
-
-fn print_refusal(r: Refusal) {
-    print(b"refused ");
-    io::print_decimal(STDOUT_FILENO, r.number() as u64);
-}
-
-fn print_number(n: u64) {
-    print(b"\t");
-    io::print_decimal(STDOUT_FILENO, n);
-}
-
-fn print(text: &[u8]) {
-    io::write_all(STDOUT_FILENO, text);
+    lines::print_number(lines::sum(bytes, n));
 }

@@ -13,25 +13,11 @@ use channel::Outcome;
 use channel::Rolls;
 use libc::STDIN_FILENO;
 use libc::STDOUT_FILENO;
-use refusal::Refusal;
+use lines::Fields;
 use schedule::ChannelScheduler;
 use schedule::Deliveries;
 use schedule::Queued;
 use schedule::Ready;
-ghost use mathlib.Core.Path.{_≡_};
-ghost use Prim.Native.Nat.{_≤_};
-ghost use lib.ListN.{length};
-
-// A number and the place behind the byte that ends it.
-struct Number {
-    value: u64,
-    next: usize,
-}
-
-struct Fields {
-    values: [u64; 12],
-    next: usize,
-}
 
 struct State {
     channel: Channel,
@@ -64,61 +50,24 @@ fn run(text: &[u8], n: usize) {
 }
 
 fn line(text: &[u8], state: State, records: &mut [[u64; 4]], places: &mut [u8]) -> State {
-    let kind = read_number(text, state.next);
+    let kind = lines::read_number(text, state.next);
     if kind.value == 1 {
-        return made(read_fields(text, kind.next, 7), records, places);
+        return made(lines::read_fields(text, kind.next, 7), records, places);
     }
     if kind.value == 2 {
-        return sent(read_fields(text, kind.next, 11), state, records, places);
+        return sent(
+            lines::read_fields(text, kind.next, 11),
+            state,
+            records,
+            places,
+        );
     }
-    taken(read_fields(text, kind.next, 1), state, records, places)
-}
-
-fn read_number(text: &[u8], at: usize) -> Number {
-    let mut value: u64 = 0;
-    let mut i = at;
-    while i < text.len() {
-        let b = text[i];
-        i += 1;
-        if b < 48 {
-            break;
-        }
-        if 57 < b {
-            break;
-        }
-        if 1844674407370955160 < value {
-            break;
-        }
-        value = value * 10 + digit(b);
-    }
-    Number {
-        value: value,
-        next: i,
-    }
-}
-
-fn digit(b: u8) -> u64
-    ensures { λ r. ⌜ r ≤ 15 ⌝ }
-{
-    (b % 16) as u64
-}
-
-fn read_fields(text: &[u8], at: usize, n: usize) -> Fields
-    requires { ⌜ n ≤ 12 ⌝ }
-{
-    let mut values = [0u64; 12];
-    let mut next = at;
-    let mut k: usize = 0;
-    while k < n {
-        let x = read_number(text, next);
-        values[k] = x.value;
-        next = x.next;
-        k += 1;
-    }
-    Fields {
-        values: values,
-        next: next,
-    }
+    taken(
+        lines::read_fields(text, kind.next, 1),
+        state,
+        records,
+        places,
+    )
 }
 
 // k * 2^-53; 1 for 2^53 and more.
@@ -172,11 +121,11 @@ fn made(f: Fields, records: &mut [[u64; 4]], places: &mut [u8]) -> State {
 fn channel_or_idle(m: Making) -> Channel {
     match m {
         Making::Made(c) => {
-            print(b"made\n");
+            lines::print(b"made\n");
             c
         }
         Making::Refused(r) => {
-            print_refusal(r);
+            lines::print_refusal(r);
             idle()
         }
     }
@@ -195,58 +144,28 @@ fn rolls_of(v: [u64; 12]) -> Rolls {
     }
 }
 
-// The bytes of a packet; those past its length are not looked at.
-fn packet_bytes(seed: u64) -> [u8; 64]
-    ensures { λ r. ⌜ length r ≡ 64 ⌝ }
-{
-    let mut bytes = [0u8; 64];
-    let mut i: usize = 0;
-    while i < 64 {
-        bytes[i] = ((seed % 256 + 7 * (i as u64)) % 256) as u8;
-        i += 1;
-    }
-    bytes
-}
-
-fn sum(bytes: &[u8], n: usize) -> u64 {
-    let mut total: u64 = 0;
-    let mut i: usize = 0;
-    while i < bytes.len() {
-        if n <= i {
-            return total;
-        }
-        total = (total + widened(bytes[i])) % 1000000;
-        i += 1;
-    }
-    total
-}
-
-fn widened(b: u8) -> u64
-    ensures { λ r. ⌜ r ≤ 255 ⌝ }
-{
-    b as u64
-}
-
 fn sent(f: Fields, state: State, records: &mut [[u64; 4]], places: &mut [u8]) -> State {
     let v = f.values;
     let n = (v[1] % 65) as usize;
-    let bytes = packet_bytes(v[2]);
+    let bytes = lines::packet_bytes(v[2]);
     let mut out = [0u8; 64];
-    let done = state.channel.process(&bytes[..n], rolls_of(v), &mut out);
+    let done = state
+        .channel
+        .process(lines::prefix(&bytes, n), rolls_of(v), &mut out);
     let outcome = done.answer;
     let after = done.channel;
     let stats = after.stats;
     let deliveries = print_outcome(outcome);
-    print_number(sum(&out, n));
+    lines::print_number(lines::sum(&out, n));
     print_stats(stats);
     let queued = state
         .scheduler
-        .schedule_at(records, places, v[0], &out[..n], deliveries);
+        .schedule_at(records, places, v[0], lines::prefix(&out, n), deliveries);
     let answer = queued.answer;
     print_queued(answer);
     let s = queued.scheduler;
-    print_number(s.count as u64);
-    print(b"\n");
+    lines::print_number(s.count as u64);
+    lines::print(b"\n");
     State {
         channel: after,
         scheduler: s,
@@ -264,14 +183,14 @@ fn taken(f: Fields, state: State, records: &mut [[u64; 4]], places: &mut [u8]) -
     match answer {
         Ready::Packet(n) => {
             io::print_decimal(STDOUT_FILENO, n as u64);
-            print_number(sum(&out, n));
+            lines::print_number(lines::sum(&out, n));
         }
-        Ready::Nothing => print(b"none"),
-        Ready::Refused(r) => print_refusal(r),
+        Ready::Nothing => lines::print(b"none"),
+        Ready::Refused(r) => lines::print_refusal(r),
     }
     let s = done.scheduler;
-    print_number(s.count as u64);
-    print(b"\n");
+    lines::print_number(s.count as u64);
+    lines::print(b"\n");
     let c = state.channel;
     State {
         channel: c,
@@ -287,7 +206,7 @@ fn print_outcome(o: Outcome) -> Deliveries {
             d
         }
         Outcome::Refused(r) => {
-            print_refusal(r);
+            lines::print_refusal(r);
             Deliveries::Lost
         }
     }
@@ -295,15 +214,15 @@ fn print_outcome(o: Outcome) -> Deliveries {
 
 fn print_deliveries(d: Deliveries) {
     match d {
-        Deliveries::Lost => print(b"0"),
+        Deliveries::Lost => lines::print(b"0"),
         Deliveries::One(first) => {
-            print(b"1");
-            print_number(first);
+            lines::print(b"1");
+            lines::print_number(first);
         }
         Deliveries::Two(first, second) => {
-            print(b"2");
-            print_number(first);
-            print_number(second);
+            lines::print(b"2");
+            lines::print_number(first);
+            lines::print_number(second);
         }
     }
 }
@@ -311,29 +230,15 @@ fn print_deliveries(d: Deliveries) {
 fn print_queued(q: Queued) {
     match q {
         Queued::Accepted => {}
-        Queued::Refused(r) => print_refusal(r),
+        Queued::Refused(r) => lines::print_refusal(r),
     }
 }
 
 fn print_stats(s: ChannelStats) {
-    print_number(s.packets_seen);
-    print_number(s.lost);
-    print_number(s.corrupted);
-    print_number(s.duplicated);
-    print_number(s.reordered);
-    print_number(s.copies_delivered);
-}
-
-fn print_refusal(r: Refusal) {
-    print(b"refused ");
-    io::print_decimal(STDOUT_FILENO, r.number() as u64);
-}
-
-fn print_number(n: u64) {
-    print(b"\t");
-    io::print_decimal(STDOUT_FILENO, n);
-}
-
-fn print(text: &[u8]) {
-    io::write_all(STDOUT_FILENO, text);
+    lines::print_number(s.packets_seen);
+    lines::print_number(s.lost);
+    lines::print_number(s.corrupted);
+    lines::print_number(s.duplicated);
+    lines::print_number(s.reordered);
+    lines::print_number(s.copies_delivered);
 }

@@ -1,8 +1,8 @@
 use borrow.Author.Needs.{needs}
 use Prim.Native.Nat.{_<_, _-_}
 use lib.ListN.{length}
-use Rattle.arq_replay.proofs.read_number.Statement.{statement}
-use Rattle.arq_replay.proofs.read_number.Tie as tie
+use Rattle.lines.proofs.read_number.Statement.{statement}
+use Rattle.lines.proofs.read_number.Tie as tie
 
 abbrev Inv-loop : tie.InvT-loop
 Inv-loop text at value₀ i₀ value i = value < 18446744073709551616

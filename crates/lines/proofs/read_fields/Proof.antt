@@ -2,14 +2,14 @@ use borrow.Author.Needs.{needs}
 use Prim.Native.Nat.{_≤_, _-_}
 use mathlib.Core.Path.{_≡_}
 use lib.ListN.{length}
-use Rattle.arq_replay.proofs.read_fields.Statement.{statement}
-use Rattle.arq_replay.proofs.read_fields.Tie as tie
+use Rattle.lines.proofs.read_fields.Statement.{statement}
+use Rattle.lines.proofs.read_fields.Tie as tie
 
 abbrev Inv-loop : tie.InvT-loop
-Inv-loop text at n values₀ next₀ k₀ values next k = (k ≤ n) × (length values ≡ 12)
+Inv-loop text at n values₀ next₀ k₀ values next k = (k ≤ 12) × (length values ≡ 12)
 
 abbrev μ-loop : tie.MeasureT-loop
-μ-loop text at n values₀ next₀ k₀ values next k = n - k
+μ-loop text at n values₀ next₀ k₀ values next k = 12 - k
 
 loop-holds : tie.Need-loop-holds Inv-loop μ-loop
 loop-holds c = search needs
@@ -35,6 +35,9 @@ loop-again c = search needs
 returns : tie.Need-returns Inv-loop μ-loop
 returns c = search needs
 
+returns-2 : tie.Need-returns-2 Inv-loop μ-loop
+returns-2 c = search needs
+
 pub read-fields-spec : {M : Type 1} → statement M
 read-fields-spec =
     tie.close
@@ -48,4 +51,5 @@ read-fields-spec =
     add-k
     loop-less
     loop-again
-    returns)
+    returns
+    returns-2)

@@ -1,8 +1,8 @@
 use borrow.Author.Needs.{needs}
 use Prim.Native.Nat.{_≤_, _<_, _-_}
 use lib.ListN.{length}
-use Rattle.arq_replay.proofs.sum.Statement.{statement}
-use Rattle.arq_replay.proofs.sum.Tie as tie
+use Rattle.lines.proofs.sum.Statement.{statement}
+use Rattle.lines.proofs.sum.Tie as tie
 
 abbrev Inv-loop : tie.InvT-loop
 Inv-loop bytes n total₀ i₀ total i = (i ≤ length bytes) × (total < 1000000)

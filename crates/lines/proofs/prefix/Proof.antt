@@ -2,8 +2,8 @@ use mathlib.Core.Path.{sym}
 use native.Mathlib.Omega.{arith}
 use lib.Seq.{length-take-le}
 use borrow.Author.Needs.{needs}
-use Rattle.arq_replay.proofs.prefix.Statement.{statement}
-use Rattle.arq_replay.proofs.prefix.Tie as tie
+use Rattle.lines.proofs.prefix.Statement.{statement}
+use Rattle.lines.proofs.prefix.Tie as tie
 
 slice-aggregate-result : tie.Need-slice-aggregate-result
 slice-aggregate-result c = sym (length-take-le _ _ (omega arith))

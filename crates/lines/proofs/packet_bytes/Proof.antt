@@ -2,8 +2,8 @@ use borrow.Author.Needs.{needs}
 use Prim.Native.Nat.{_≤_, _-_}
 use mathlib.Core.Path.{_≡_}
 use lib.ListN.{length}
-use Rattle.arq_replay.proofs.packet_bytes.Statement.{statement}
-use Rattle.arq_replay.proofs.packet_bytes.Tie as tie
+use Rattle.lines.proofs.packet_bytes.Statement.{statement}
+use Rattle.lines.proofs.packet_bytes.Tie as tie
 
 abbrev Inv-loop : tie.InvT-loop
 Inv-loop seed bytes₀ i₀ bytes i = (i ≤ 64) × (length bytes ≡ 64)
