@@ -18,119 +18,161 @@ const LIMIT: u64 = 4_294_901_760;
 const COUNT: u64 = 1 << 60;
 const PROTOCOLS: [Protocol; 3] = [Protocol::StopAndWait, Protocol::GoBackN, Protocol::SelectiveRepeat];
 
-enum TheirSender {
+// A packet with another number; one that was invalid stays so.
+fn renumbered(mut q: Packet, n: u32) -> Packet {
+    let valid = q.is_valid();
+    if q.seq_num != n {
+        q.seq_num = n;
+        q.compute_and_set_checksum();
+        if !valid {
+            q.checksum ^= 1;
+        }
+    }
+    q
+}
+
+fn raised(q: Packet, above: u64) -> Packet {
+    let n = q.seq_num as u64 + above;
+    renumbered(q, n as u32)
+}
+
+fn lowered(q: &Packet, above: u64) -> Packet {
+    renumbered(q.clone(), (q.seq_num as u64).saturating_sub(above) as u32)
+}
+
+enum TheirSenderEnd {
     Sw(StopAndWaitSender),
     Gbn(GoBackNSender),
     Sr(SelectiveRepeatSender),
 }
 
+// The reference's numbers can't be set, and 2^32 calls take too long: here they count from `above` on, a multiple of the window.
+struct TheirSender {
+    end: TheirSenderEnd,
+    above: u64,
+}
+
 impl TheirSender {
     fn new(p: Protocol, setting: u64) -> TheirSender {
-        match p {
-            Protocol::StopAndWait => TheirSender::Sw(StopAndWaitSender::new(setting as u32)),
-            Protocol::GoBackN => TheirSender::Gbn(GoBackNSender::new(setting as usize)),
-            Protocol::SelectiveRepeat => TheirSender::Sr(SelectiveRepeatSender::new(setting as usize)),
-        }
+        let end = match p {
+            Protocol::StopAndWait => TheirSenderEnd::Sw(StopAndWaitSender::new(setting as u32)),
+            Protocol::GoBackN => TheirSenderEnd::Gbn(GoBackNSender::new(setting as usize)),
+            Protocol::SelectiveRepeat => TheirSenderEnd::Sr(SelectiveRepeatSender::new(setting as usize)),
+        };
+        TheirSender { end, above: 0 }
     }
     fn send(&mut self, payload: &[u8]) -> Option<Packet> {
-        match self {
-            TheirSender::Sw(s) => s.send_chunk(payload.to_vec()),
-            TheirSender::Gbn(s) => s.send_chunk(payload.to_vec()),
-            TheirSender::Sr(s) => s.send_chunk(payload.to_vec()),
-        }
+        let sent = match &mut self.end {
+            TheirSenderEnd::Sw(s) => s.send_chunk(payload.to_vec()),
+            TheirSenderEnd::Gbn(s) => s.send_chunk(payload.to_vec()),
+            TheirSenderEnd::Sr(s) => s.send_chunk(payload.to_vec()),
+        };
+        sent.map(|q| raised(q, self.above))
     }
     fn ack(&mut self, p: &Packet) -> bool {
-        match self {
-            TheirSender::Sw(s) => s.handle_ack(p),
-            TheirSender::Gbn(s) => s.handle_ack(p),
-            TheirSender::Sr(s) => s.handle_ack(p),
+        let p = lowered(p, self.above);
+        match &mut self.end {
+            TheirSenderEnd::Sw(s) => s.handle_ack(&p),
+            TheirSenderEnd::Gbn(s) => s.handle_ack(&p),
+            TheirSenderEnd::Sr(s) => s.handle_ack(&p),
         }
     }
     fn timeout(&mut self, which: u64) -> Vec<Packet> {
-        match self {
-            TheirSender::Sw(s) => s.handle_timeout().into_iter().collect(),
-            TheirSender::Gbn(s) => s.handle_timeout(),
-            TheirSender::Sr(s) => s.handle_timeout(which as u32).into_iter().collect(),
-        }
+        let packets: Vec<Packet> = match &mut self.end {
+            TheirSenderEnd::Sw(s) => s.handle_timeout().into_iter().collect(),
+            TheirSenderEnd::Gbn(s) => s.handle_timeout(),
+            TheirSenderEnd::Sr(s) => s.handle_timeout(which.saturating_sub(self.above) as u32).into_iter().collect(),
+        };
+        packets.into_iter().map(|q| raised(q, self.above)).collect()
     }
     // as `calls::Sender::state`, without the settings
     fn numbers(&self) -> [u64; 4] {
-        match self {
-            TheirSender::Sw(s) => [s.current_seq() as u64, s.current_seq() as u64 + s.is_waiting_for_ack() as u64, s.total_sent, s.retransmissions],
-            TheirSender::Gbn(s) => [s.send_base() as u64, s.next_seq_num() as u64, s.total_sent, s.retransmissions],
-            TheirSender::Sr(s) => [s.send_base() as u64, s.next_seq_num() as u64, s.total_sent, s.retransmissions],
-        }
+        let [base, next, sent, again] = match &self.end {
+            TheirSenderEnd::Sw(s) => [s.current_seq() as u64, s.current_seq() as u64 + s.is_waiting_for_ack() as u64, s.total_sent, s.retransmissions],
+            TheirSenderEnd::Gbn(s) => [s.send_base() as u64, s.next_seq_num() as u64, s.total_sent, s.retransmissions],
+            TheirSenderEnd::Sr(s) => [s.send_base() as u64, s.next_seq_num() as u64, s.total_sent, s.retransmissions],
+        };
+        [base + self.above, next + self.above, sent, again]
     }
     fn retries(&self) -> u64 {
-        match self {
-            TheirSender::Sw(s) => s.current_retries() as u64,
+        match &self.end {
+            TheirSenderEnd::Sw(s) => s.current_retries() as u64,
             _ => 0,
         }
     }
     fn getters(&self) -> Answer {
-        match self {
-            TheirSender::Sw(s) => [s.can_send() as u64, s.is_waiting_for_ack() as u64, s.is_waiting_for_ack() as u64],
-            TheirSender::Gbn(s) => [s.can_send() as u64, s.in_flight_count() as u64, s.has_unacked_packets() as u64],
+        match &self.end {
+            TheirSenderEnd::Sw(s) => [s.can_send() as u64, s.is_waiting_for_ack() as u64, s.is_waiting_for_ack() as u64],
+            TheirSenderEnd::Gbn(s) => [s.can_send() as u64, s.in_flight_count() as u64, s.has_unacked_packets() as u64],
             // the reference has no has_unacked_packets here: whether a number is outstanding
-            TheirSender::Sr(s) => [s.can_send() as u64, s.in_flight_count() as u64, (s.send_base() < s.next_seq_num()) as u64],
+            TheirSenderEnd::Sr(s) => [s.can_send() as u64, s.in_flight_count() as u64, (s.send_base() < s.next_seq_num()) as u64],
         }
     }
     fn set_counts(&mut self, sent: u64, again: u64) {
-        let (a, b) = match self {
-            TheirSender::Sw(s) => (&mut s.total_sent, &mut s.retransmissions),
-            TheirSender::Gbn(s) => (&mut s.total_sent, &mut s.retransmissions),
-            TheirSender::Sr(s) => (&mut s.total_sent, &mut s.retransmissions),
+        let (a, b) = match &mut self.end {
+            TheirSenderEnd::Sw(s) => (&mut s.total_sent, &mut s.retransmissions),
+            TheirSenderEnd::Gbn(s) => (&mut s.total_sent, &mut s.retransmissions),
+            TheirSenderEnd::Sr(s) => (&mut s.total_sent, &mut s.retransmissions),
         };
         *a = sent;
         *b = again;
     }
 }
 
-enum TheirReceiver {
+enum TheirReceiverEnd {
     Sw(StopAndWaitReceiver),
     Gbn(GoBackNReceiver),
     Sr(SelectiveRepeatReceiver),
 }
 
+struct TheirReceiver {
+    end: TheirReceiverEnd,
+    above: u64,
+}
+
 impl TheirReceiver {
     fn new(p: Protocol, window: u64) -> TheirReceiver {
-        match p {
-            Protocol::StopAndWait => TheirReceiver::Sw(StopAndWaitReceiver::new()),
-            Protocol::GoBackN => TheirReceiver::Gbn(GoBackNReceiver::new()),
-            Protocol::SelectiveRepeat => TheirReceiver::Sr(SelectiveRepeatReceiver::new(window as usize)),
-        }
+        let end = match p {
+            Protocol::StopAndWait => TheirReceiverEnd::Sw(StopAndWaitReceiver::new()),
+            Protocol::GoBackN => TheirReceiverEnd::Gbn(GoBackNReceiver::new()),
+            Protocol::SelectiveRepeat => TheirReceiverEnd::Sr(SelectiveRepeatReceiver::new(window as usize)),
+        };
+        TheirReceiver { end, above: 0 }
     }
     fn handle(&mut self, p: &Packet) -> Option<Packet> {
-        match self {
-            TheirReceiver::Sw(r) => r.handle_packet(p),
-            TheirReceiver::Gbn(r) => r.handle_packet(p),
-            TheirReceiver::Sr(r) => r.handle_packet(p),
-        }
+        let p = lowered(p, self.above);
+        let reply = match &mut self.end {
+            TheirReceiverEnd::Sw(r) => r.handle_packet(&p),
+            TheirReceiverEnd::Gbn(r) => r.handle_packet(&p),
+            TheirReceiverEnd::Sr(r) => r.handle_packet(&p),
+        };
+        reply.map(|q| raised(q, self.above))
     }
     fn delivered(&self) -> &[Vec<u8>] {
-        match self {
-            TheirReceiver::Sw(r) => r.delivered_chunks(),
-            TheirReceiver::Gbn(r) => r.delivered_chunks(),
-            TheirReceiver::Sr(r) => r.delivered_chunks(),
+        match &self.end {
+            TheirReceiverEnd::Sw(r) => r.delivered_chunks(),
+            TheirReceiverEnd::Gbn(r) => r.delivered_chunks(),
+            TheirReceiverEnd::Sr(r) => r.delivered_chunks(),
         }
     }
     fn base(&self) -> u64 {
-        match self {
-            TheirReceiver::Sw(r) => r.expected_seq() as u64,
-            TheirReceiver::Gbn(r) => r.expected_seq() as u64,
-            TheirReceiver::Sr(r) => r.recv_base() as u64,
-        }
+        self.above
+            + match &self.end {
+                TheirReceiverEnd::Sw(r) => r.expected_seq() as u64,
+                TheirReceiverEnd::Gbn(r) => r.expected_seq() as u64,
+                TheirReceiverEnd::Sr(r) => r.recv_base() as u64,
+            }
     }
     fn counts(&mut self) -> [&mut u64; 3] {
-        match self {
-            TheirReceiver::Sw(r) => [&mut r.total_received, &mut r.duplicates_count, &mut r.corrupted_count],
-            TheirReceiver::Gbn(r) => [&mut r.total_received, &mut r.discarded_out_of_order, &mut r.duplicate_acks_sent],
-            TheirReceiver::Sr(r) => [&mut r.total_received, &mut r.buffered_out_of_order, &mut r.duplicates_count],
+        match &mut self.end {
+            TheirReceiverEnd::Sw(r) => [&mut r.total_received, &mut r.duplicates_count, &mut r.corrupted_count],
+            TheirReceiverEnd::Gbn(r) => [&mut r.total_received, &mut r.discarded_out_of_order, &mut r.duplicate_acks_sent],
+            TheirReceiverEnd::Sr(r) => [&mut r.total_received, &mut r.buffered_out_of_order, &mut r.duplicates_count],
         }
     }
     fn buffered(&self) -> u64 {
-        match self {
-            TheirReceiver::Sr(r) => r.buffered_count() as u64,
+        match &self.end {
+            TheirReceiverEnd::Sr(r) => r.buffered_count() as u64,
             _ => 0,
         }
     }
@@ -149,6 +191,9 @@ struct Seen {
     several: u64,
     held: u64,
     unanswered: u64,
+    // calls with numbers near 4,294,901,760
+    high: u64,
+    numbers: u64,
 }
 
 // ---- document 01's table
@@ -233,9 +278,8 @@ struct SenderPair {
     ours: Sender,
     theirs: TheirSender,
     window: u64,
-    // the reference has no "only the earliest": after it Go-Back-N's counters and flags are the model's alone
+    // the reference has no "only the earliest": how many packets Go-Back-N sent by it, which the reference doesn't count
     extra: u64,
-    flags: std::collections::BTreeMap<u64, u8>,
 }
 
 fn check_state(what: &str, p: &SenderPair, want_store: &[u8]) {
@@ -353,7 +397,6 @@ fn one_ack(p: &mut SenderPair, raw: &[u8], seen: &mut Seen) -> Answer {
     }
     for n in old..base {
         slot_mut(&mut store, p.window, n).fill(0);
-        p.flags.remove(&n);
     }
     check_state("ack", p, &store);
     a
@@ -634,7 +677,7 @@ fn new_pair(g: &mut Gen, protocol: Protocol) -> (SenderPair, ReceiverPair) {
     if a != [0, 0, 0] || ours.store != clean {
         fail("new sender", format!("{protocol:?} {setting} answer {a:?}"));
     }
-    let s = SenderPair { ours, theirs: TheirSender::new(protocol, setting), window, extra: 0, flags: Default::default() };
+    let s = SenderPair { ours, theirs: TheirSender::new(protocol, setting), window, extra: 0 };
     check_state("new sender", &s, &clean);
     let (ours, a) = Receiver::new(protocol, window, dirty.clone());
     let kept = if protocol == Protocol::SelectiveRepeat { clean } else { dirty };
@@ -646,12 +689,38 @@ fn new_pair(g: &mut Gen, protocol: Protocol) -> (SenderPair, ReceiverPair) {
     (s, ReceiverPair { ours, theirs: TheirReceiver::new(protocol, window), output, made: vec![] })
 }
 
+// Both ends moved on past the first numbers, and then all numbers raised, by a multiple of the window, so that slots stay where they are, to just
+// below the limit; the reference's are raised in what is compared.
+fn near_limit(g: &mut Gen, s: &mut SenderPair, r: &mut ReceiverPair, made: &mut Vec<Vec<u8>>, seen: &mut Seen) {
+    while r.ours.state[1] < 3 * s.window || s.ours.state[1] < 3 * s.window {
+        one_send(g, s, made, &[], seen);
+        if let Some(raw) = made.get(r.ours.state[1] as usize).cloned() {
+            one_packet(g, r, &raw, seen);
+        }
+        if let Some(raw) = r.made.last().cloned() {
+            one_ack(s, &raw, seen);
+        }
+    }
+    let above = (LIMIT - s.ours.state[2] - g.below(2 * s.window + 8)) / s.window * s.window;
+    s.ours.state[1] += above;
+    s.ours.state[2] += above;
+    s.theirs.above = above;
+    r.ours.state[1] += above;
+    r.theirs.above = above;
+    for raw in made.iter_mut().chain(&mut r.made) {
+        *raw = raised(Packet::from_bytes(raw).unwrap(), above).to_bytes();
+    }
+}
+
 // Random calls on both ends, joined by a line that does as it likes.
 fn runs(g: &mut Gen, seen: &mut Seen) {
     let protocol = PROTOCOLS[g.below(3) as usize];
     let (mut s, mut r) = new_pair(g, protocol);
     let mut made = vec![];
-    if g.below(8) == 0 {
+    let high = g.below(4) == 0;
+    if high {
+        near_limit(g, &mut s, &mut r, &mut made, seen);
+    } else if g.below(8) == 0 {
         // counters near 2^60
         let (a, b) = (COUNT - g.below(6), COUNT - g.below(6));
         s.theirs.set_counts(a, b);
@@ -664,6 +733,7 @@ fn runs(g: &mut Gen, seen: &mut Seen) {
         }
     }
     for _ in 0..40 + g.below(100) {
+        seen.high += high as u64;
         let a = match g.below(8) {
             0 | 1 => {
                 let n = length(g);
@@ -689,6 +759,7 @@ fn runs(g: &mut Gen, seen: &mut Seen) {
             }
         };
         seen.refused += (16 <= a[0]) as u64;
+        seen.numbers += (a[0] == 16 + 7) as u64;
         if !sender_nine(&s.ours) {
             read_sender(&s);
         }
@@ -746,7 +817,7 @@ fn broken_states(g: &mut Gen, seen: &mut Seen) {
         }
     }
     if (sender_nine(&t) || counts_bad(&t.state[3..5])) && t.state[2] <= u32::MAX as u64 {
-        let mut p = SenderPair { ours: t, theirs: TheirSender::new(protocol, 1), window, extra: 0, flags: Default::default() };
+        let mut p = SenderPair { ours: t, theirs: TheirSender::new(protocol, 1), window, extra: 0 };
         let payload = g.bytes(3);
         for a in [
             one_send(g, &mut p, &mut made, &payload, seen),
@@ -918,6 +989,6 @@ fn main() {
             makings(&mut g, &mut seen);
         }
     }
-    let Seen { calls, refused, sent, full, resent, acknowledged, delivered, several, held, unanswered } = seen;
-    println!("arq: no difference; {calls} calls, {refused} refused; {sent} chunks sent, {full} full windows, {resent} sent again, {acknowledged} ACKs accepted; {delivered} delivered, {several} times several at once, {held} held, {unanswered} packets unanswered");
+    let Seen { calls, refused, sent, full, resent, acknowledged, delivered, several, held, unanswered, high, numbers } = seen;
+    println!("arq: no difference; {calls} calls, {refused} refused; {sent} chunks sent, {full} full windows, {resent} sent again, {acknowledged} ACKs accepted; {delivered} delivered, {several} times several at once, {held} held, {unanswered} packets unanswered; {high} calls near {LIMIT}, {numbers} of all refused by 7");
 }

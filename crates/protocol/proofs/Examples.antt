@@ -7,6 +7,7 @@ use native.Mathlib.Omega.{arith}
 use Rattle.protocol.specs.Machine.{Segment, send, segmentsFrom, acknowledge, receive}
 use Rattle.protocol.specs.PlainMachine.{sendChunk, handleData, handleAck, plainStart, plainSend, plainData, plainAck, plainCall, plainStep, plainRun}
 use Rattle.protocol.specs.Trace.{newWorld, Event, sent, resent, received, acknowledged, other, step, run, Fair, plainAfter, outstanding, Resending}
+use Rattle.protocol.specs.KuroseRossRuns.{AllLikeBook}
 use Rattle.protocol.specs.declared.ProtocolType.the-variants.{StopAndWait, GoBackN, SelectiveRepeat}
 
 abbrev q0 : Segment
@@ -120,3 +121,25 @@ stopAndWait-resending : Resending StopAndWait 1 (run StopAndWait 1 (newWorld Sto
     (outstanding (run StopAndWait 1 (newWorld StopAndWait 1) stopAndWait .sender)) [] [] (resent 1 1 ∷ received q1 ∷ acknowledged 1 ∷ [])
 unfolding outstanding run step newWorld send segmentsFrom acknowledge receive
 stopAndWait-resending = (omega arith, refl, (refl, (refl, (refl, refl, refl))))
+
+-- ---- lists in which Stop-and-Wait and Go-Back-N do what the book's ends do
+
+stopAndWait-like-book : AllLikeBook StopAndWait 1 (newWorld StopAndWait 1) stopAndWait
+unfolding step newWorld send segmentsFrom acknowledge receive
+stopAndWait-like-book =
+    (tt, (λ e. refl, ((refl, refl), (λ e. e, (λ some e. refl, (tt, (λ e. e, (λ some e. e, (λ e. refl, tt)))))))))
+
+-- as `goBack`, without the segment before the first
+abbrev goBackInOrder : List Event
+goBackInOrder =
+    sent (7 ∷ []) ∷ sent (8 ∷ 9 ∷ []) ∷ sent [] ∷ received q0 ∷ received q0 ∷ resent 0 3 ∷ received q1 ∷ received q2 ∷ acknowledged 0 ∷ acknowledged 0
+    ∷ other (handleAck 1) ∷ []
+
+goBackInOrder-fair : Fair GoBackN 3 (newWorld GoBackN 3) goBackInOrder
+unfolding run step newWorld send segmentsFrom acknowledge receive
+goBackInOrder-fair =
+    (omega arith, (omega arith, (omega arith, (List·Memᴰ·head refl, (List·Memᴰ·head refl, ((omega arith, omega arith), (List·Memᴰ·tail (List·Memᴰ·head refl), (List·Memᴰ·tail (List·Memᴰ·tail (List·Memᴰ·head refl)), (List·Memᴰ·head refl, (List·Memᴰ·head refl, (tt, tt)))))))))))
+
+goBackInOrder-like-book : AllLikeBook GoBackN 3 (newWorld GoBackN 3) goBackInOrder
+unfolding step newWorld send segmentsFrom acknowledge receive
+goBackInOrder-like-book = (tt, (tt, (tt, (λ e. refl, (λ e. refl, ((refl, refl), (λ e. e, (λ e. e, (omega arith, (omega arith, (tt, tt)))))))))))

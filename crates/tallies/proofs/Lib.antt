@@ -4,5 +4,6 @@ pub mod Receivers
 pub mod InOrder
 pub mod Noted
 pub mod SelectiveRepeat
+pub mod Limits
 pub mod Examples
 pub mod Laws

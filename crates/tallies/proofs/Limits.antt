@@ -1,0 +1,131 @@
+-- Document 01's line 8, after any list of calls from a fresh end: it isn't true of a sender before it has written 2^60 datagrams, nor of a
+-- receiver before 2^60 calls.
+use Prim.Native.Nat.{ℕ, suc, _+_, _≤_, _<_}
+use mathlib.Core.Path.{_≡_, refl, sym, subst}
+use mathlib.Core.Bool.{Bool, true, false, cond}
+use mathlib.Core.List.{List, [], _∷_}
+use native.Mathlib.Omega.{arith}
+use borrow.Author.Tests.{lt-leb}
+use lib.ListN.{length}
+use lib.Dec.{leb}
+use Rattle.refusal.specs.Clauses.{anyOf}
+use Rattle.window.specs.State as window
+use Rattle.window.specs.Slots.{fresh}
+use Rattle.receiver.specs.State as receiver
+use Rattle.receiver.specs.Handed.{readPacket}
+use Rattle.receiver.specs.declared.Handed.{Handed}
+use Rattle.stop_and_wait.specs.Sender.{windowOf}
+use Rattle.stop_and_wait.specs.Receiver as stopAndWait
+use Rattle.stop_and_wait.specs.declared.StopAndWaitReceiver.{StopAndWaitReceiver}
+use Rattle.go_back_n.specs.Receiver as goBackN
+use Rattle.go_back_n.specs.declared.GoBackNReceiver.{GoBackNReceiver}
+use Rattle.selective_repeat.specs.Receiver as selectiveRepeat
+use Rattle.selective_repeat.specs.declared.SelectiveRepeatReceiver.{SelectiveRepeatReceiver}
+use Rattle.delivery.specs.Ends.{Which, isReceived}
+use Rattle.tallies.specs.Readings.{count, isCorrupted, isOlder, isOutOfOrder, isAnsweredAgain, isBuffered, isDuplicate}
+use Rattle.tallies.specs.Senders as senders
+use Rattle.tallies.specs.Senders.{Answered, sent, resent, acknowledged, sentBy, resentBy, total, SenderCounted, stopAndWaitSender, goBackNSender, selectiveRepeatSender, newStopAndWait}
+use Rattle.tallies.specs.Receivers.{Call, Handling, afterCalls, readings, newSelectiveRepeat}
+use Rattle.tallies.proofs.Senders.{from-zero, go-back-n-counted, selective-repeat-counted}
+use Rattle.tallies.proofs.StopAndWait.{stop-and-wait-counted}
+use Rattle.tallies.proofs.InOrder.{stop-and-wait-receiver, go-back-n-receiver}
+use Rattle.tallies.proofs.SelectiveRepeat.{selective-repeat-receiver}
+
+abbrev pub limit : ℕ
+limit = 1152921504606846976
+
+-- ---- senders
+resent-by-sent : (a : Answered) → resentBy a ≤ sentBy a
+resent-by-sent (sent a out) = omega arith
+resent-by-sent (resent a out) = omega arith
+resent-by-sent (acknowledged a) = omega arith
+
+resent-within : (xs : List Answered) → total resentBy xs ≤ total sentBy xs
+unfolding total
+resent-within [] = omega arith
+resent-within (x ∷ xs) = let one = resent-by-sent x in let more = resent-within xs in omega arith
+
+counts-sound : (a b : ℕ) → a < limit → b < limit → anyOf (leb limit a ∷ leb limit b ∷ []) ≡ false
+unfolding anyOf
+counts-sound a b h k = rw (lt-leb limit a h, lt-leb limit b k)
+
+sender-sound : (P : senders.SenderCalls) (xs : List Answered) (s : P .Sender) → SenderCounted P xs s → total sentBy xs < limit
+    → anyOf (leb limit (P .totalSent s) ∷ leb limit (P .retransmissions s) ∷ []) ≡ false
+sender-sound P xs s c h =
+    let few = resent-within xs in
+    let a = c .sent-is in
+    let b = c .resent-is in
+    counts-sound (P .totalSent s) (P .retransmissions s) (omega arith) (omega arith)
+
+module _ (store : List ℕ) where
+  pub stop-and-wait-sender-no-8 : (retries : ℕ) (cs : List (senders.Call (Unit {0})))
+      → total sentBy (senders.answers stopAndWaitSender (newStopAndWait retries store) cs) < limit
+      → window.countsBroken (windowOf (senders.afterCalls stopAndWaitSender (newStopAndWait retries store) cs .sender)) ≡ false
+  unfolding window.countsBroken
+  stop-and-wait-sender-no-8 retries cs h =
+      let v = newStopAndWait retries store in
+      sender-sound stopAndWaitSender _ _ (from-zero stopAndWaitSender stop-and-wait-counted v refl refl cs) h
+
+  pub go-back-n-sender-no-8 : (w : ℕ) (cs : List (senders.Call Which)) → total sentBy (senders.answers goBackNSender (fresh w store) cs) < limit
+      → window.countsBroken (senders.afterCalls goBackNSender (fresh w store) cs .window) ≡ false
+  unfolding window.countsBroken fresh
+  go-back-n-sender-no-8 w cs h = sender-sound goBackNSender _ _ (from-zero goBackNSender go-back-n-counted (fresh w store) refl refl cs) h
+
+  pub selective-repeat-sender-no-8 : (w : ℕ) (cs : List (senders.Call ℕ)) → total sentBy (senders.answers selectiveRepeatSender (fresh w store) cs) < limit
+      → window.countsBroken (senders.afterCalls selectiveRepeatSender (fresh w store) cs .window) ≡ false
+  unfolding window.countsBroken fresh
+  selective-repeat-sender-no-8 w cs h = sender-sound selectiveRepeatSender _ _ (from-zero selectiveRepeatSender selective-repeat-counted (fresh w store) refl refl cs) h
+
+-- ---- receivers
+one-more : (b : Bool) (m n : ℕ) → m ≤ n → cond b (suc m) m ≤ suc n
+one-more true m n h = omega arith
+one-more false m n h = omega arith
+
+count-within : (test : List Handed → Handed → Bool) (hs : List Handed) → count test hs ≤ length hs
+unfolding count
+count-within test [] = omega arith
+count-within test (h ∷ hs) = one-more (test hs h) (count test hs) (length hs) (count-within test hs)
+
+length-cond : (b : Bool) (h : Handed) (hs : List Handed) → length (cond b (h ∷ hs) hs) ≡ cond b (suc (length hs)) (length hs)
+length-cond true h hs = refl
+length-cond false h hs = refl
+
+readings-within : {R : Type 0} (handle : Handling R) (r : R) (cs : List Call) → length (readings handle r cs) ≤ length cs
+unfolding readings
+readings-within handle r [] = omega arith
+readings-within handle r (c ∷ cs) =
+    let x = handle (afterCalls handle r cs) (c .raw) (c .output) (c .ack) in
+    let hs = readings handle r cs in
+    rw (length-cond (isReceived (x .answer)) (readPacket (c .raw)) hs) (one-more (isReceived (x .answer)) (length hs) (length cs) (readings-within handle r cs))
+
+receiver-sound : (hs : List Handed) (f g : List Handed → Handed → Bool) → length hs < limit → receiver.countsBroken (length hs) (count f hs) (count g hs) ≡ false
+unfolding receiver.countsBroken anyOf
+receiver-sound hs f g h =
+    let a = count-within f hs in
+    let b = count-within g hs in
+    rw (lt-leb limit (length hs) h, lt-leb limit (count f hs) (omega arith), lt-leb limit (count g hs) (omega arith))
+
+abbrev few : {R : Type 0} (handle : Handling R) (r : R) (cs : List Call) → length cs < limit → length (readings handle r cs) < limit
+few handle r cs h = let within = readings-within handle r cs in omega arith
+
+module _ (cs : List Call) (h : length cs < limit) where
+  pub stop-and-wait-receiver-no-8 : let r = afterCalls stopAndWait.handlePacket stopAndWait.newReceiver cs in
+      receiver.countsBroken (r .«total_received») (r .«duplicates_count») (r .«corrupted_count») ≡ false
+  stop-and-wait-receiver-no-8 =
+      let hs = readings stopAndWait.handlePacket stopAndWait.newReceiver cs in
+      subst (λ (r : StopAndWaitReceiver). receiver.countsBroken (r .«total_received») (r .«duplicates_count») (r .«corrupted_count») ≡ false) (sym (stop-and-wait-receiver cs))
+      (receiver-sound hs isOlder (λ earlier. isCorrupted) (few stopAndWait.handlePacket stopAndWait.newReceiver cs h))
+
+  pub go-back-n-receiver-no-8 : let r = afterCalls goBackN.handlePacket goBackN.newReceiver cs in
+      receiver.countsBroken (r .«total_received») (r .«discarded_out_of_order») (r .«duplicate_acks_sent») ≡ false
+  go-back-n-receiver-no-8 =
+      let hs = readings goBackN.handlePacket goBackN.newReceiver cs in
+      subst (λ (r : GoBackNReceiver). receiver.countsBroken (r .«total_received») (r .«discarded_out_of_order») (r .«duplicate_acks_sent») ≡ false) (sym (go-back-n-receiver cs))
+      (receiver-sound hs isOutOfOrder isAnsweredAgain (few goBackN.handlePacket goBackN.newReceiver cs h))
+
+  pub selective-repeat-receiver-no-8 : (w : ℕ) (store : List ℕ) → selectiveRepeat.countersBroken (afterCalls selectiveRepeat.handlePacket (newSelectiveRepeat w store) cs .state) ≡ false
+  selective-repeat-receiver-no-8 w store =
+      let v = newSelectiveRepeat w store in
+      let hs = readings selectiveRepeat.handlePacket v cs in
+      subst (λ (r : SelectiveRepeatReceiver). selectiveRepeat.countersBroken r ≡ false) (sym (selective-repeat-receiver w store cs))
+      (receiver-sound hs (isBuffered w) (isDuplicate w) (few selectiveRepeat.handlePacket v cs h))
