@@ -3,10 +3,9 @@ use Prim.Native.Nat.{ℕ}
 use mathlib.Core.Path.{_≡_, refl, sym, ap, _∙_}
 use mathlib.Core.Bool.{Bool, true, false}
 use mathlib.Core.List.{List, [], _∷_}
-use mathlib.Core.Logic.{⊎-elim}
 use native.Mathlib.Omega.{arith}
 use lib.ListN.{length}
-use types.Run.{OneOf}
+use types.Run.{OneOf, miss}
 use Rattle.refusal.specs.declared.Refusal.{Refusal}
 use Rattle.refusal.specs.declared.Refusal.the-variants.{State, Counts, Full}
 use Rattle.refusal.specs.Order.{check, verdict, refused, order, orElse, numbered, firstOf}
@@ -25,11 +24,11 @@ use Rattle.receiver.specs.declared.ReceiveAnswer.the-variants as answer
 use Rattle.receiver.proofs.Reading.{before-full, read-refused, read-accepted}
 
 -- the tags of what isn't refused: of a packet, of an answer
-pub not-four : (n : ℕ) → OneOf (0 ∷ 1 ∷ 2 ∷ 3 ∷ []) n → n ≡ 4 → ⊥
-not-four n k e = ⊎-elim {C = ⊥} (λ a. omega arith) (λ a. ⊎-elim {C = ⊥} (λ b. omega arith) (λ b. ⊎-elim {C = ⊥} (λ d. omega arith) (λ d. omega arith) b) a) k
+pub not-four : OneOf (0 ∷ 1 ∷ 2 ∷ 3 ∷ []) 4 → ⊥
+not-four k = miss (0 ∷ 1 ∷ 2 ∷ 3 ∷ []) 4 tt k
 
-pub not-two : (n : ℕ) → OneOf (0 ∷ 1 ∷ []) n → n ≡ 2 → ⊥
-not-two n k e = ⊎-elim {C = ⊥} (λ a. omega arith) (λ a. omega arith) k
+pub not-two : OneOf (0 ∷ 1 ∷ []) 2 → ⊥
+not-two k = miss (0 ∷ 1 ∷ []) 2 tt k
 
 -- a datagram that isn't refused
 abbrev pub Taken : Handed → Type 0

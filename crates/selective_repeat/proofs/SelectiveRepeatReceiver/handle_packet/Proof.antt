@@ -1,4 +1,4 @@
-use mathlib.Core.Path.{refl, sym, ap, _∙_}
+use mathlib.Core.Path.{sym, ap, _∙_}
 use Rattle.selective_repeat.specs.Receiver.{receiver, decision, deliveredBytes}
 use Rattle.selective_repeat.proofs.States.{ready, receiving-sound, releases}
 use Rattle.receiver.proofs.Laws.{not-four, taken, refused-packet, refused-full, received, read-short}
@@ -29,20 +29,20 @@ payload-requires c κs = search needs
 
 decide-unchecked-requires : tie.Need-decide-unchecked-requires
 decide-unchecked-requires c κs =
-    let t = taken _ _ _ (λ s q. not-four 4 (rw (c .before .before .before .read-checked .ensures ∙ q) at (c .before .before .match .keys2)) refl) in
+    let t = taken _ _ _ (λ s q. not-four (rw (c .before .before .before .read-checked .ensures ∙ q) at (c .before .before .match .keys2))) in
     let sound = receiving-sound (c .before .before .before .before .before .before .before .before .before .before .before .args .self) _ _ (sym (c .before .before .before .before .receiving-broken .ensures) ∙ t .0) in
     (sound .0, t .1)
 
 delivered-length-unchecked-requires : tie.Need-delivered-length-unchecked-requires
 delivered-length-unchecked-requires c κs =
-    let t = taken _ _ _ (λ s q. not-four 4 (rw (c .before .before .before .before .before .before .read-checked .ensures ∙ q) at (c .before .before .before .before .before .match .keys2)) refl) in
+    let t = taken _ _ _ (λ s q. not-four (rw (c .before .before .before .before .before .before .read-checked .ensures ∙ q) at (c .before .before .before .before .before .match .keys2))) in
     let sound = receiving-sound (c .before .before .before .before .before .before .before .before .before .before .before .before .before .before .args .self) _ _ (sym (c .before .before .before .before .before .before .before .receiving-broken .ensures) ∙ t .0) in
     let s = ready _ _ (sound .0) in
     (s, rw (c .before .before .decide-unchecked .ensures) (releases (receiver (c .before .before .before .before .before .before .before .before .before .before .before .before .before .before .args .self) (c .before .before .before .before .before .before .before .before .before .before .before .before .before .before .args .store .now)) (c .before .before .before .before .before .before .read-checked .result) (s .positive) .few))
 
 room-missing-unchecked-requires : tie.Need-room-missing-unchecked-requires
 room-missing-unchecked-requires c κs =
-    let t = taken _ _ _ (λ s q. not-four 4 (rw (c .before .before .before .before .before .before .before .before .before .read-checked .ensures ∙ q) at (c .before .before .before .before .before .before .before .before .match .keys2)) refl) in
+    let t = taken _ _ _ (λ s q. not-four (rw (c .before .before .before .before .before .before .before .before .before .read-checked .ensures ∙ q) at (c .before .before .before .before .before .before .before .before .match .keys2))) in
     let sound = receiving-sound (c .before .before .before .before .before .before .before .before .before .before .before .before .before .before .before .before .before .args .self) _ _ (sym (c .before .before .before .before .before .before .before .before .before .before .receiving-broken .ensures) ∙ t .0) in
     sound .1
 
@@ -57,22 +57,22 @@ same-length-5 c = search needs
 
 returns-2 : tie.Need-returns-2
 returns-2 c =
-    let t = taken _ _ _ (λ s q. not-four 4 (rw (c .before .before .before .before .before .before .before .before .before .before .before .read-checked .ensures ∙ q) at (c .before .before .before .before .before .before .before .before .before .before .match .keys2)) refl) in
+    let t = taken _ _ _ (λ s q. not-four (rw (c .before .before .before .before .before .before .before .before .before .before .before .read-checked .ensures ∙ q) at (c .before .before .before .before .before .before .before .before .before .before .match .keys2))) in
     let p = c .before .before .before .before .before .before .before .before .before .payload .ensures in
     let d = c .before .before .before .before .before .before .before .decide-unchecked .ensures ∙ ap (decision (receiver (c .before .before .before .before .before .before .before .before .before .before .before .before .before .before .before .before .before .before .before .args .self) (c .before .before .before .before .before .before .before .before .before .before .before .before .before .before .before .before .before .before .before .args .store .now))) (c .before .before .before .before .before .before .before .before .before .before .before .read-checked .ensures ∙ t .2) in
     let size = c .before .before .before .before .delivered-length-unchecked .ensures in
     let room = sym (c .before .room-missing-unchecked .ensures) ∙ c .if1 .taken in
-    rw (← (c .before .before .before .before .before .before .before .before .before .before .before .before .receiving-broken .ensures)) (refused-full _ _ _ _ _ _ _ _ _ _ (λ s q. not-four 4 (rw (c .before .before .before .before .before .before .before .before .before .before .before .read-checked .ensures ∙ q) at (c .before .before .before .before .before .before .before .before .before .before .match .keys2)) refl) (rw (← p, ← d, ← size) room))
+    rw (← (c .before .before .before .before .before .before .before .before .before .before .before .before .receiving-broken .ensures)) (refused-full _ _ _ _ _ _ _ _ _ _ (λ s q. not-four (rw (c .before .before .before .before .before .before .before .before .before .before .before .read-checked .ensures ∙ q) at (c .before .before .before .before .before .before .before .before .before .before .match .keys2))) (rw (← p, ← d, ← size) room))
 
 carry-out-unchecked-requires : tie.Need-carry-out-unchecked-requires
 carry-out-unchecked-requires c κs =
-    let t = taken _ _ _ (λ s q. not-four 4 (rw (c .before .before .before .before .before .before .before .before .before .before .before .before .before .before .read-checked .ensures ∙ q) at (c .before .before .before .before .before .before .before .before .before .before .before .before .before .match .keys2)) refl) in
+    let t = taken _ _ _ (λ s q. not-four (rw (c .before .before .before .before .before .before .before .before .before .before .before .before .before .before .read-checked .ensures ∙ q) at (c .before .before .before .before .before .before .before .before .before .before .before .before .before .match .keys2))) in
     let sound = receiving-sound (c .before .before .before .before .before .before .before .before .before .before .before .before .before .before .before .before .before .before .before .before .before .before .args .self) _ _ (sym (c .before .before .before .before .before .before .before .before .before .before .before .before .before .before .before .receiving-broken .ensures) ∙ t .0) in
     let size = c .before .before .before .before .before .before .before .delivered-length-unchecked .ensures in
     let s = ready _ _ (sound .0) in
     let d = c .before .before .before .before .before .before .before .before .before .before .decide-unchecked .ensures in
     let r = releases (receiver (c .before .before .before .before .before .before .before .before .before .before .before .before .before .before .before .before .before .before .before .before .before .before .args .self) (c .before .before .before .before .before .before .before .before .before .before .before .before .before .before .before .before .before .before .before .before .before .before .args .store .now)) (c .before .before .before .before .before .before .before .before .before .before .before .before .before .before .read-checked .result) (s .positive) in
-    ((s, rw d (r .few)), ((rw d (r .none), rw (c .before .before .before .before .before .before .before .before .before .before .before .before .payload .ensures) (read-short _ (λ s q. not-four 4 (rw (c .before .before .before .before .before .before .before .before .before .before .before .before .before .before .read-checked .ensures ∙ t .2 ∙ q) at (c .before .before .before .before .before .before .before .before .before .before .before .before .before .match .keys2)) refl))), record { mark = sound .1; room = rw (← size) (sym (c .before .before .before .before .room-missing-unchecked .ensures) ∙ c .before .before .before .if1 .left) }))
+    ((s, rw d (r .few)), ((rw d (r .none), rw (c .before .before .before .before .before .before .before .before .before .before .before .before .payload .ensures) (read-short _ (λ s q. not-four (rw (c .before .before .before .before .before .before .before .before .before .before .before .before .before .before .read-checked .ensures ∙ t .2 ∙ q) at (c .before .before .before .before .before .before .before .before .before .before .before .before .before .match .keys2))))), record { mark = sound .1; room = rw (← size) (sym (c .before .before .before .before .room-missing-unchecked .ensures) ∙ c .before .before .before .if1 .left) }))
 
 answer-requires : tie.Need-answer-requires
 answer-requires c κs = search needs
@@ -88,12 +88,12 @@ same-length-8 c = search needs
 
 returns-3 : tie.Need-returns-3
 returns-3 c =
-    let t = taken _ _ _ (λ s q. not-four 4 (rw (c .before .before .before .before .before .before .before .before .before .before .before .before .before .before .before .before .before .before .before .before .before .before .before .read-checked .ensures ∙ q) at (c .before .before .before .before .before .before .before .before .before .before .before .before .before .before .before .before .before .before .before .before .before .before .match .keys2)) refl) in
+    let t = taken _ _ _ (λ s q. not-four (rw (c .before .before .before .before .before .before .before .before .before .before .before .before .before .before .before .before .before .before .before .before .before .before .before .read-checked .ensures ∙ q) at (c .before .before .before .before .before .before .before .before .before .before .before .before .before .before .before .before .before .before .before .before .before .before .match .keys2))) in
     let p = c .before .before .before .before .before .before .before .before .before .before .before .before .before .before .before .before .before .before .before .before .before .payload .ensures in
     let d = c .before .before .before .before .before .before .before .before .before .before .before .before .before .before .before .before .before .before .before .decide-unchecked .ensures ∙ ap (decision (receiver (c .before .before .before .before .before .before .before .before .before .before .before .before .before .before .before .before .before .before .before .before .before .before .before .before .before .before .before .before .before .before .before .args .self) (c .before .before .before .before .before .before .before .before .before .before .before .before .before .before .before .before .before .before .before .before .before .before .before .before .before .before .before .before .before .before .before .args .store .now))) (c .before .before .before .before .before .before .before .before .before .before .before .before .before .before .before .before .before .before .before .before .before .before .before .read-checked .ensures ∙ t .2) in
     let size = c .before .before .before .before .before .before .before .before .before .before .before .before .before .before .before .before .delivered-length-unchecked .ensures in
     let room = sym (c .before .before .before .before .before .before .before .before .before .before .before .before .before .room-missing-unchecked .ensures) ∙ c .before .before .before .before .before .before .before .before .before .before .before .before .if1 .left in
-    rw (← (c .before .before .before .before .before .before .before .before .before .before .before .before .before .before .before .before .before .before .before .before .before .before .before .before .receiving-broken .ensures), c .before .before .before .before .before .before .before .before .carry-out-unchecked .ensures .1, p, d) (received _ _ _ _ _ _ _ _ _ _ (deliveredBytes (receiver (c .before .before .before .before .before .before .before .before .before .before .before .before .before .before .before .before .before .before .before .before .before .before .before .before .before .before .before .before .before .before .before .args .self) (c .before .before .before .before .before .before .before .before .before .before .before .before .before .before .before .before .before .before .before .before .before .before .before .before .before .before .before .before .before .before .before .args .store .now)) (c .before .before .before .before .before .before .before .before .before .before .before .before .before .before .before .before .before .before .before .before .before .payload .result .now) (c .before .before .before .before .before .before .before .before .before .before .before .before .before .before .before .before .before .before .before .decide-unchecked .result .change)) _ _ _ _ (λ s q. not-four 4 (rw (c .before .before .before .before .before .before .before .before .before .before .before .before .before .before .before .before .before .before .before .before .before .before .before .read-checked .ensures ∙ q) at (c .before .before .before .before .before .before .before .before .before .before .before .before .before .before .before .before .before .before .before .before .before .before .match .keys2)) refl) (rw (← p, ← d, ← size) room) (rw (p, d)) (c .answer .ensures ∙ rw d) (c .before .before .before .before .before .before .before .before .carry-out-unchecked .ensures .0 ∙ rw d))
+    rw (← (c .before .before .before .before .before .before .before .before .before .before .before .before .before .before .before .before .before .before .before .before .before .before .before .before .receiving-broken .ensures), c .before .before .before .before .before .before .before .before .carry-out-unchecked .ensures .1, p, d) (received _ _ _ _ _ _ _ _ _ _ (deliveredBytes (receiver (c .before .before .before .before .before .before .before .before .before .before .before .before .before .before .before .before .before .before .before .before .before .before .before .before .before .before .before .before .before .before .before .args .self) (c .before .before .before .before .before .before .before .before .before .before .before .before .before .before .before .before .before .before .before .before .before .before .before .before .before .before .before .before .before .before .before .args .store .now)) (c .before .before .before .before .before .before .before .before .before .before .before .before .before .before .before .before .before .before .before .before .before .payload .result .now) (c .before .before .before .before .before .before .before .before .before .before .before .before .before .before .before .before .before .before .before .decide-unchecked .result .change)) _ _ _ _ (λ s q. not-four (rw (c .before .before .before .before .before .before .before .before .before .before .before .before .before .before .before .before .before .before .before .before .before .before .before .read-checked .ensures ∙ q) at (c .before .before .before .before .before .before .before .before .before .before .before .before .before .before .before .before .before .before .before .before .before .before .match .keys2))) (rw (← p, ← d, ← size) room) (rw (p, d)) (c .answer .ensures ∙ rw d) (c .before .before .before .before .before .before .before .before .carry-out-unchecked .ensures .0 ∙ rw d))
 
 pub handle-packet-spec : {M : Type 1} → statement M
 handle-packet-spec =

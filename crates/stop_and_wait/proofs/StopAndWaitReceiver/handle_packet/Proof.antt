@@ -1,4 +1,4 @@
-use mathlib.Core.Path.{refl, sym, _∙_}
+use mathlib.Core.Path.{sym, _∙_}
 use Rattle.stop_and_wait.specs.Receiver.{decision, withMark}
 use Rattle.receiver.proofs.Laws.{not-four, not-two, taken, refused-packet, finish-refused, finished, marks-low}
 use borrow.Author.Needs.{needs}
@@ -24,10 +24,10 @@ payload-requires : tie.Need-payload-requires
 payload-requires c κs = search needs
 
 decide-unchecked-requires : tie.Need-decide-unchecked-requires
-decide-unchecked-requires c κs = let t = taken _ _ _ (λ s q. not-four 4 (rw (c .before .before .read-checked .ensures ∙ q) at (c .before .match .keys2)) refl) in (t .1, marks-low _ _ _ (sym (c .before .before .before .marks-broken .ensures) ∙ t .0) .0)
+decide-unchecked-requires c κs = let t = taken _ _ _ (λ s q. not-four (rw (c .before .before .read-checked .ensures ∙ q) at (c .before .match .keys2))) in (t .1, marks-low _ _ _ (sym (c .before .before .before .marks-broken .ensures) ∙ t .0) .0)
 
 finish-unchecked-requires : tie.Need-finish-unchecked-requires
-finish-unchecked-requires c κs = let t = taken _ _ _ (λ s q. not-four 4 (rw (c .before .before .before .before .before .before .read-checked .ensures ∙ q) at (c .before .before .before .before .before .match .keys2)) refl) in marks-low (c .before .before .before .before .before .before .before .before .before .before .before .before .args .self .«expected_seq») _ _ (sym (c .before .before .before .before .before .before .before .marks-broken .ensures) ∙ t .0) .1
+finish-unchecked-requires c κs = let t = taken _ _ _ (λ s q. not-four (rw (c .before .before .before .before .before .before .read-checked .ensures ∙ q) at (c .before .before .before .before .before .match .keys2))) in marks-low (c .before .before .before .before .before .before .before .before .before .before .before .before .args .self .«expected_seq») _ _ (sym (c .before .before .before .before .before .before .before .marks-broken .ensures) ∙ t .0) .1
 
 enum-told : tie.Need-enum-told
 enum-told c = search needs
@@ -39,7 +39,7 @@ same-length-3 : tie.Need-same-length-3
 same-length-3 c = search needs
 
 returns-2 : tie.Need-returns-2
-returns-2 c = rw (← (c .before .before .before .before .before .before .before .before .before .before .before .before .before .before .marks-broken .ensures)) (finish-refused _ _ _ _ (λ h. decision (c .before .before .before .before .before .before .before .before .before .before .before .before .before .before .before .before .before .before .before .args .self) h .decision) (λ h. withMark (decision (c .before .before .before .before .before .before .before .before .before .before .before .before .before .before .before .before .before .before .before .args .self) h .receiver)) _ _ _ _ _ _ _ (c .before .before .before .before .before .before .before .before .before .before .before .before .before .read-checked .ensures) (λ s q. not-four 4 (rw q at (c .before .before .before .before .before .before .before .before .before .before .before .before .match .keys2)) refl) (c .before .before .before .before .before .before .before .before .before .before .before .payload .ensures) (c .before .before .before .before .before .before .finish-unchecked .ensures ∙ rw (c .before .before .before .before .before .before .before .before .before .before .decide-unchecked .ensures)) _ (c .enum-told .given .1))
+returns-2 c = rw (← (c .before .before .before .before .before .before .before .before .before .before .before .before .before .before .marks-broken .ensures)) (finish-refused _ _ _ _ (λ h. decision (c .before .before .before .before .before .before .before .before .before .before .before .before .before .before .before .before .before .before .before .args .self) h .decision) (λ h. withMark (decision (c .before .before .before .before .before .before .before .before .before .before .before .before .before .before .before .before .before .before .before .args .self) h .receiver)) _ _ _ _ _ _ _ (c .before .before .before .before .before .before .before .before .before .before .before .before .before .read-checked .ensures) (λ s q. not-four (rw q at (c .before .before .before .before .before .before .before .before .before .before .before .before .match .keys2))) (c .before .before .before .before .before .before .before .before .before .before .before .payload .ensures) (c .before .before .before .before .before .before .finish-unchecked .ensures ∙ rw (c .before .before .before .before .before .before .before .before .before .before .decide-unchecked .ensures)) _ (c .enum-told .given .1))
 
 same-length-4 : tie.Need-same-length-4
 same-length-4 c = search needs
@@ -48,7 +48,7 @@ same-length-5 : tie.Need-same-length-5
 same-length-5 c = search needs
 
 returns-3 : tie.Need-returns-3
-returns-3 c = rw (← (c .before .before .before .before .before .before .before .before .before .before .before .before .before .before .marks-broken .ensures), c .before .before .before .before .before .before .before .before .before .before .decide-unchecked .ensures) (finished _ _ _ _ (λ h. decision (c .before .before .before .before .before .before .before .before .before .before .before .before .before .before .before .before .before .before .before .args .self) h .decision) (λ h. withMark (decision (c .before .before .before .before .before .before .before .before .before .before .before .before .before .before .before .before .before .before .before .args .self) h .receiver)) _ _ _ _ _ _ _ (c .before .before .before .before .before .before .before .before .before .before .before .before .before .read-checked .ensures) (λ s q. not-four 4 (rw q at (c .before .before .before .before .before .before .before .before .before .before .before .before .match .keys2)) refl) (c .before .before .before .before .before .before .before .before .before .before .before .payload .ensures) (c .before .before .before .before .before .before .finish-unchecked .ensures ∙ rw (c .before .before .before .before .before .before .before .before .before .before .decide-unchecked .ensures)) (λ s q. not-two 2 (rw q at (c .before .match2 .keys2)) refl))
+returns-3 c = rw (← (c .before .before .before .before .before .before .before .before .before .before .before .before .before .before .marks-broken .ensures), c .before .before .before .before .before .before .before .before .before .before .decide-unchecked .ensures) (finished _ _ _ _ (λ h. decision (c .before .before .before .before .before .before .before .before .before .before .before .before .before .before .before .before .before .before .before .args .self) h .decision) (λ h. withMark (decision (c .before .before .before .before .before .before .before .before .before .before .before .before .before .before .before .before .before .before .before .args .self) h .receiver)) _ _ _ _ _ _ _ (c .before .before .before .before .before .before .before .before .before .before .before .before .before .read-checked .ensures) (λ s q. not-four (rw q at (c .before .before .before .before .before .before .before .before .before .before .before .before .match .keys2))) (c .before .before .before .before .before .before .before .before .before .before .before .payload .ensures) (c .before .before .before .before .before .before .finish-unchecked .ensures ∙ rw (c .before .before .before .before .before .before .before .before .before .before .decide-unchecked .ensures)) (λ s q. not-two (rw q at (c .before .match2 .keys2))))
 
 pub handle-packet-spec : {M : Type 1} → statement M
 handle-packet-spec =
