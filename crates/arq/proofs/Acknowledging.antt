@@ -12,6 +12,7 @@ use Rattle.protocol.specs.declared.ProtocolType.the-variants.{GoBackN}
 use Rattle.refusal.specs.declared.Refusal.{Refusal}
 use Rattle.refusal.specs.declared.Refusal.the-variants.{State, Counts}
 use Rattle.refusal.specs.Order.{check}
+use Rattle.refusal.proofs.Laws.{decided}
 use Rattle.window.specs.State.{stateBroken, countsBroken}
 use Rattle.window.specs.Slots.{Sender, release}
 use Rattle.window.specs.Acknowledgement.{handedChecks, readAck, inWindow, byAck, ackDecision, Acknowledging, acknowledging, byDecision}
@@ -26,7 +27,6 @@ use Rattle.arq.specs.Follows.{senderOf}
 use Rattle.arq.specs.Good.{Good}
 use Rattle.arq.specs.Copies.{NoAck}
 use Rattle.arq.specs.Copies
-use Rattle.arq.proofs.Decided.{decided}
 use Rattle.arq.proofs.Good.{good-sound, base-too, none-acknowledged, release-good}
 use Rattle.arq.proofs.Senders.{release-follows}
 use Rattle.arq.proofs.Sending.{next-number}

@@ -13,7 +13,7 @@ use Rattle.checksum.specs.Flip.{flip}
 use Rattle.checksum.proofs.Laws.{below-nil}
 use Rattle.protocol.specs.Machine.{Chunk, Segment}
 use Rattle.refusal.specs.Order.{verdict, accepted}
-use Rattle.refusal.proofs.Laws.{none-true-accepted, on-accepted}
+use Rattle.refusal.proofs.Laws.{none-true-accepted, on-accepted, decided}
 use Rattle.packet.specs.Format.{newPacket, headerBytes, checksumOf, withChecksum, made, matches}
 use Rattle.packet.specs.Reading.{readChecks, headerOf, payloadOf, fromBytes, validity}
 use Rattle.packet.specs.declared.Packet.{Packet}
@@ -32,7 +32,6 @@ use Rattle.receiver.proofs.Laws.{packet-read}
 use Rattle.arq.specs.Follows.{segmentOf}
 use Rattle.arq.specs.Copies.{DataOf, AckOf, Flipped, NoPacket, NoAck}
 use Rattle.arq.specs.Copies
-use Rattle.arq.proofs.Decided.{decided}
 
 -- a made datagram
 module _ (p : Packet) (payload : List ℕ) where

@@ -8,10 +8,10 @@ pub use Rattle.arq.proofs.Receiving.{Took, Ignored, ReceiveOutcome, pac
 pub use Rattle.arq.proofs.InOrder.{marks-good, stopAndWaitView, goBackNView, stop-and-wait-receives, go-back-n-receives, stop-and-wait-receiver-good, go-back-n-receiver-good}
 pub use Rattle.arq.proofs.SelectiveReceiver.{selectiveView, selective-receives}
 pub use Rattle.arq.proofs.GoodSelective.{selective-receiver-good}
-pub use Rattle.arq.proofs.StopAndWait.{stop-and-wait-send, stop-and-wait-ack, stop-and-wait-timeout, stop-and-wait-made, StopAndWaitMaking, sender-refused, sender-made, stop-and-wait-making, stop-and-wait-ack-octets}
+pub use Rattle.arq.proofs.StopAndWait.{stop-and-wait-send, stop-and-wait-ack, stop-and-wait-timeout, stop-and-wait-made, stop-and-wait-ack-octets}
 -- fresh ends
 pub use Rattle.arq.proofs.Good.{fresh-good}
-pub use Rattle.arq.proofs.Making.{fresh-follows, zeroed, fresh-receiver-follows, fresh-receiver-good, MakeOutcome, making-refused, end-made, window-made, selective-receiver-made}
+pub use Rattle.arq.proofs.Making.{fresh-follows, zeroed, fresh-receiver-follows, fresh-receiver-good}
 -- copies of datagrams
 pub use Rattle.arq.proofs.Copies.{data-number, data-payload, data-segment, data-flipped, ack-number, ack-flipped}
 -- stores of octets

@@ -1,4 +1,3 @@
-pub mod Decided
 pub mod Ring
 pub mod Rows
 pub mod Writes

@@ -3,28 +3,21 @@ use Prim.Native.Nat.{ℕ, _+_, _-_, _*_, _<_}
 use mathlib.Core.Path.{_≡_, refl, sym, _∙_}
 use mathlib.Core.Bool.{false}
 use mathlib.Core.Option.{none}
-use mathlib.Core.List.{List, [], _∷_, _++_}
+use mathlib.Core.List.{List, _++_}
 use native.Mathlib.Omega.{arith}
 use borrow.Author.Tests.{ltb-false, le-ltb}
 use lib.ListN.{length, drop, replicate, length-append, length-drop, length-replicate, getD-replicate}
 use lib.Dec.{eqb}
 use Rattle.protocol.specs.Machine.{newSender, newReceiver}
 use Rattle.protocol.specs.declared.ProtocolType.the-variants.{SelectiveRepeat}
-use Rattle.refusal.specs.declared.Refusal.{Refusal}
-use Rattle.refusal.specs.declared.Refusal.the-variants.{State, Setup}
-use Rattle.refusal.specs.Order.{check, verdict, decide}
 use Rattle.refusal.proofs.Laws.{none-of, any-of-none}
 use Rattle.store.specs.Sound.{receiverSlotsBroken, slotOf}
 use Rattle.window.specs.State.{windowBroken, storeShort}
 use Rattle.window.specs.Slots.{fresh}
-use Rattle.window.specs.Sending.{Making, making, makeWindow}
-use Rattle.window.specs.declared.MakeAnswer.the-variants as makeAnswer
-use Rattle.selective_repeat.specs.Receiver.{receiver, state, makeReceiver, receivingBroken, Ready}
-use Rattle.selective_repeat.specs.declared.SelectiveRepeatReceiverMade.the-variants as selectiveMade
+use Rattle.selective_repeat.specs.Receiver.{receiver, state, receivingBroken, Ready}
 use Rattle.selective_repeat.proofs.States.{not-broken}
 use Rattle.arq.specs.Follows.{heldIn, slotsRead, senderOf, receiverOf}
 use Rattle.arq.specs.Good.{GoodSelectiveReceiver}
-use Rattle.arq.proofs.Decided.{decided}
 use Rattle.arq.proofs.Rows.{read-is}
 use Rattle.arq.proofs.Good.{none-below, fresh-byte, fresh-length}
 use Rattle.arq.proofs.Held.{empty-none}
@@ -63,23 +56,3 @@ fresh-receiver-good w store output e f =
       sound = any-of-none _ (not-broken (state w 0 0 0 0 0) (zeroed w store) sound, (le-ltb (length output) 0 (omega arith), tt));
       none-high = λ k h high. fresh-byte store w k 2 p (omega arith);
     }
-
--- making: refused, with the store as it was, or fresh
-pub data MakeOutcome {A : Type 0} (w : ℕ) (store : List ℕ) (refusal : Refusal → A) (made : Making A) (r : Making A) : Type 0 where
-  making-refused : (s : Refusal) → r ≡ making (refusal s) store → MakeOutcome w store refusal made r
-  end-made : windowBroken w ≡ false → storeShort store w ≡ false → r ≡ made → MakeOutcome w store refusal made r
-
-pub make-outcome : {A : Type 0} (w : ℕ) (store : List ℕ) (refusal : Refusal → A) (made : Making A)
-    → MakeOutcome w store refusal made (decide (verdict (check (storeShort store w) State ∷ check (windowBroken w) Setup ∷ [])) (λ r. making (refusal r) store) made)
-make-outcome {A} w store refusal made =
-    decided (MakeOutcome w store refusal made) (check (storeShort store w) State ∷ check (windowBroken w) Setup ∷ []) _ _ (λ s. making-refused s refl) (λ none. end-made (none .1 .0) (none .0) refl)
-
--- a sender of Go-Back-N or Selective Repeat
-pub window-made : (w : ℕ) (store : List ℕ) → MakeOutcome w store makeAnswer.Refused (making (makeAnswer.Window (fresh w store .window)) (fresh w store .store)) (makeWindow w store)
-unfolding makeWindow
-window-made w store = make-outcome w store makeAnswer.Refused _
-
--- a Selective Repeat receiver
-pub selective-receiver-made : (w : ℕ) (store : List ℕ) → MakeOutcome w store selectiveMade.Refused (making (selectiveMade.Receiver (state w 0 0 0 0 0)) (zeroed w store)) (makeReceiver w store)
-unfolding makeReceiver
-selective-receiver-made w store = make-outcome w store selectiveMade.Refused _

@@ -15,7 +15,7 @@ use Rattle.protocol.specs.declared.ProtocolType.the-variants.{StopAndWait, GoBa
 use Rattle.refusal.specs.declared.Refusal.{Refusal}
 use Rattle.refusal.specs.declared.Refusal.the-variants.{State, Counts, Full}
 use Rattle.refusal.specs.Order.{check, verdict, accepted}
-use Rattle.refusal.proofs.Laws.{accepted-none-true, none-true-accepted, on-accepted}
+use Rattle.refusal.proofs.Laws.{accepted-none-true, none-true-accepted, on-accepted, decided}
 use Rattle.packet.specs.Format.{newPacket, made, matches}
 use Rattle.packet.specs.Reading.{headerOf, payloadOf}
 use Rattle.packet.specs.declared.PacketType.{PacketType}
@@ -35,7 +35,6 @@ use Rattle.receiver.specs.declared.Decision.{Decision}
 use Rattle.receiver.specs.declared.ReceiveAnswer.the-variants as answer
 use Rattle.receiver.proofs.Laws.{read-refused, room-output}
 use Rattle.arq.specs.Follows.{acksOf}
-use Rattle.arq.proofs.Decided.{decided}
 use Rattle.arq.specs.Copies.{AckOf, NoPacket}
 use Rattle.arq.specs.Copies
 

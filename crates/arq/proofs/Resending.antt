@@ -13,6 +13,7 @@ use Rattle.checksum.specs.Below.{Octets}
 use Rattle.refusal.specs.declared.Refusal.{Refusal}
 use Rattle.refusal.specs.declared.Refusal.the-variants.{State, Counts, Full}
 use Rattle.refusal.specs.Order.{check}
+use Rattle.refusal.proofs.Laws.{decided}
 use Rattle.packet.specs.Format.{made}
 use Rattle.store.specs.Slot.{slotAt, payloadOf}
 use Rattle.store.proofs.Laws.{slot-in, slot-payload-length}
@@ -25,7 +26,6 @@ use Rattle.go_back_n.specs.Sender.{handleTimeout}
 use Rattle.arq.specs.Follows.{senderOf}
 use Rattle.arq.specs.Good.{Good}
 use Rattle.arq.specs.Copies.{DataOf}
-use Rattle.arq.proofs.Decided.{decided}
 use Rattle.arq.proofs.Rows.{read-at}
 use Rattle.arq.proofs.Good.{mark-good}
 use Rattle.arq.proofs.Senders.{mark-follows}

@@ -1,7 +1,7 @@
 -- The Selective Repeat sender: ACKs and timeouts.
 use Prim.Native.Nat.{ℕ, _+_, _-_, _≤_, _<_}
 use mathlib.Core.Path.{_≡_, refl, ap, _∙_}
-use mathlib.Core.Bool.{Bool, true, false, cond, not, _&&_}
+use mathlib.Core.Bool.{Bool, true, false, cond, not, _&&_, and-eq-true-iff}
 use mathlib.Core.List.{List}
 use native.Mathlib.Omega.{arith}
 use borrow.Author.Tests.{leb-true, ltb-true}
@@ -23,10 +23,6 @@ use Rattle.arq.proofs.Sending.{next-number}
 use Rattle.arq.proofs.Acknowledging.{AckOutcome, ack-outcome}
 use Rattle.arq.proofs.Resending.{ResendOutcome, resend-outcome}
 use Rattle.arq.proofs.SelectiveAck.{markedSender, marked-sound, marked-follows, slid-follows, slid-good}
-
-both-true : (a b : Bool) → (a && b) ≡ true → (a ≡ true) × (b ≡ true)
-both-true true b e = (refl, e)
-both-true false b e = let z : _≡_ {A = ℕ} 0 1 = cc in absurd (omega arith)
 
 module _ (v : Sender) (n : ℕ) (a : Accepted true (v .window) (v .store) n) where
   sound : SoundWith (λ k. true) v
@@ -66,7 +62,7 @@ due-is v n g = by-window (inWindow (v .window) n) refl
     by-window : (b : Bool) → inWindow (v .window) n ≡ b → due v n ≡ (Machine.inWindow (senderOf v) n && not (Machine.isAcknowledged (senderOf v) n))
     by-window false e = rw (same, e)
     by-window true e =
-        let range = both-true (leb (v .window .«send_base») n) (ltb n (v .window .«next_seq_num»)) e in
+        let range = and-eq-true-iff (leb (v .window .«send_base») n) (ltb n (v .window .«next_seq_num»)) .0 e in
         let from = leb-true (v .window .«send_base») n (range .0) in
         let below = ltb-true n (v .window .«next_seq_num») (range .1) in
         let number : v .window .«send_base» + (n - v .window .«send_base») ≡ n = omega arith in

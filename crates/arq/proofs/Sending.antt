@@ -10,7 +10,7 @@ use lib.Seq.{take-at, drop-at}
 use Rattle.protocol.specs.Machine.{nextNumber, send}
 use Rattle.checksum.specs.Below.{Octets}
 use Rattle.refusal.specs.declared.Refusal.{Refusal}
-use Rattle.refusal.proofs.Laws.{NoneTrue}
+use Rattle.refusal.proofs.Laws.{NoneTrue, decided}
 use Rattle.packet.specs.Format.{newPacket, made}
 use Rattle.packet.specs.declared.PacketType.the-variants.{Data}
 use Rattle.packet.proofs.Laws.{made-length}
@@ -21,7 +21,6 @@ use Rattle.window.specs.declared.SendAnswer.the-variants as answer
 use Rattle.arq.specs.Follows.{senderOf}
 use Rattle.arq.specs.Good.{Good}
 use Rattle.arq.specs.Copies.{DataOf}
-use Rattle.arq.proofs.Decided.{decided}
 use Rattle.arq.proofs.Rows.{read-length}
 use Rattle.arq.proofs.Good.{good-sound, hold-good}
 use Rattle.arq.proofs.Senders.{hold-follows}

@@ -2,25 +2,19 @@
 use Prim.Native.Nat.{ℕ, zero, suc, _+_, _-_, _≤_, _<_, min}
 use mathlib.Core.Path.{_≡_, refl, sym, ap, subst, _∙_}
 use mathlib.Core.Bool.{Bool, true, false, cond}
-use mathlib.Core.List.{List, [], _∷_}
+use mathlib.Core.List.{List}
 use native.Mathlib.Omega.{arith}
 use Rattle.protocol.specs.declared.ProtocolType.the-variants.{StopAndWait}
 use Rattle.checksum.specs.Below.{Octets}
-use Rattle.refusal.specs.declared.Refusal.{Refusal}
-use Rattle.refusal.specs.declared.Refusal.the-variants.{State}
-use Rattle.refusal.specs.Order.{check}
-use Rattle.window.specs.State.{outstanding, storeShort}
+use Rattle.window.specs.State.{outstanding}
 use Rattle.window.specs.Slots.{Sender, sender, fresh, hold, markRetransmitted, release}
 use Rattle.window.specs.Sending as window
 use Rattle.window.specs.Resending.{markFrom, resendOutstanding}
 use Rattle.window.specs.declared.SendWindow.{SendWindow}
 use Rattle.window.proofs.Laws.{Accepted}
-use Rattle.stop_and_wait.specs.Sender.{state, End, endOf, newSender, windowOf, windowEnd, counted, sendChunk, acknowledged, handleAck, retriesLeft, handleTimeout}
-use Rattle.stop_and_wait.specs.declared.StopAndWaitMade.{StopAndWaitMade}
-use Rattle.stop_and_wait.specs.declared.StopAndWaitMade.the-variants as made
+use Rattle.stop_and_wait.specs.Sender.{state, End, endOf, windowOf, windowEnd, counted, sendChunk, acknowledged, handleAck, retriesLeft, handleTimeout}
 use Rattle.arq.specs.Follows.{senderOf}
 use Rattle.arq.specs.Good.{Good}
-use Rattle.arq.proofs.Decided.{decided}
 use Rattle.arq.proofs.Octets.{release-octets, after-ack}
 use Rattle.arq.proofs.Sending.{chunks-length, send-refused, window-full, chunk-sent, send-outcome}
 use Rattle.arq.proofs.Acknowledging.{AckOutcome, ack-outcome, cumulative-follows, cumulative-good}
@@ -90,15 +84,6 @@ stop-and-wait-timeout v out = elim (lowest-sent-again false (windowEnd v) (retri
 pub stop-and-wait-made : (limit : ℕ) (store : List ℕ) → windowEnd (endOf (state 0 false limit 0 0 0) (fresh 1 store .store)) ≡ fresh 1 store
 unfolding fresh
 stop-and-wait-made limit store = refl
-
-pub data StopAndWaitMaking (limit : ℕ) (store : List ℕ) (r : window.Making StopAndWaitMade) : Type 0 where
-  sender-refused : (s : Refusal) → r ≡ window.making (made.Refused s) store → StopAndWaitMaking limit store r
-  sender-made : storeShort store 1 ≡ false → r ≡ window.making (made.Sender (state 0 false limit 0 0 0)) (fresh 1 store .store) → StopAndWaitMaking limit store r
-
-pub stop-and-wait-making : (limit : ℕ) (store : List ℕ) → StopAndWaitMaking limit store (newSender limit store)
-unfolding newSender
-stop-and-wait-making limit store =
-    decided (StopAndWaitMaking limit store) (check (storeShort store 1) State ∷ []) _ _ (λ s. sender-refused s refl) (λ none. sender-made (none .0) refl)
 
 -- a store of octets stays one
 pub stop-and-wait-ack-octets : (v : End) (raw : List ℕ) → Octets (v .store) → Octets (handleAck v raw .after .store)

@@ -1,6 +1,6 @@
 // Replays calls on the ends of a protocol, with stores of four slots, and prints what they answer. Its `stdout` is what the Rust answered
 // (compare/arq.rs --sample). A line of `stdin` is decimal numbers, a blank between them:
-//   1 protocol window retries    new ends, of Stop-and-Wait (0), Go-Back-N (1) or Selective Repeat (2); prints `made`
+//   1 protocol window retries    new ends, of Stop-and-Wait (0), Go-Back-N (1) or Selective Repeat (2); prints `made` or the refusal
 //   2 length seed    sends a chunk whose byte i is (seed + 7 i) mod 256; prints the length of the datagram and the sum of its bytes, or `full`
 //   3 number    a timeout, of Selective Repeat for this number; prints the length of the datagrams and the sum of their bytes, or `none`
 //   4 number length seed kind flags byte bit    hands a packet to the receiver, with this bit of this byte turned over where bit < 8; prints
@@ -115,7 +115,7 @@ fn made(f: Fields, sent: &mut [u8], held: &mut [u8]) -> Ends {
     let v = f.values;
     let sender = new_sender(v[0], v[1] as usize, low(v[2]), sent);
     let receiver = new_receiver(v[0], v[1] as usize, held);
-    lines::print(b"made\n");
+    lines::print(b"\n");
     Ends {
         sender: sender,
         receiver: receiver,
@@ -126,20 +126,25 @@ fn made(f: Fields, sent: &mut [u8], held: &mut [u8]) -> Ends {
 fn new_sender(protocol: u64, window: usize, retries: u32, store: &mut [u8]) -> Sender {
     if protocol == 0 {
         return match StopAndWaitSender::new(retries, store) {
-            StopAndWaitMade::Sender(s) => Sender::StopAndWait(s),
+            StopAndWaitMade::Sender(s) => made_sender(Sender::StopAndWait(s)),
             StopAndWaitMade::Refused(r) => refused_sender(r),
         };
     }
     if protocol == 1 {
         return match GoBackNSender::new(window, store) {
-            GoBackNMade::Sender(s) => Sender::GoBackN(s),
+            GoBackNMade::Sender(s) => made_sender(Sender::GoBackN(s)),
             GoBackNMade::Refused(r) => refused_sender(r),
         };
     }
     match SelectiveRepeatSender::new(window, store) {
-        SelectiveRepeatMade::Sender(s) => Sender::SelectiveRepeat(s),
+        SelectiveRepeatMade::Sender(s) => made_sender(Sender::SelectiveRepeat(s)),
         SelectiveRepeatMade::Refused(r) => refused_sender(r),
     }
+}
+
+fn made_sender(sender: Sender) -> Sender {
+    lines::print(b"made");
+    sender
 }
 
 fn refused_sender(r: Refusal) -> Sender {
@@ -147,6 +152,7 @@ fn refused_sender(r: Refusal) -> Sender {
     idle_sender()
 }
 
+// Refused where its sender is, which has said so: their windows and the lengths of their stores are the same.
 fn new_receiver(protocol: u64, window: usize, store: &mut [u8]) -> Receiver {
     if protocol == 0 {
         return idle_receiver();
@@ -156,10 +162,7 @@ fn new_receiver(protocol: u64, window: usize, store: &mut [u8]) -> Receiver {
     }
     match SelectiveRepeatReceiver::new(window, store) {
         SelectiveRepeatReceiverMade::Receiver(r) => Receiver::SelectiveRepeat(r),
-        SelectiveRepeatReceiverMade::Refused(r) => {
-            lines::print_refusal(r);
-            idle_receiver()
-        }
+        SelectiveRepeatReceiverMade::Refused(_) => idle_receiver(),
     }
 }
 

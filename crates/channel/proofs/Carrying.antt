@@ -2,7 +2,7 @@
 use mathlib.Core.Path.{_≡_, refl, sym, _∙_, ap}
 use Prim.Native.Nat.{ℕ, _+_, _<_, _≤_}
 use native.Mathlib.Omega.{arith}
-use mathlib.Core.Bool.{Bool, true, false, cond, not, _&&_, true≢false, false≢true}
+use mathlib.Core.Bool.{Bool, true, false, cond, not, _&&_, and-eq-true-iff, true≢false, false≢true}
 use mathlib.Core.List.{List, _++_}
 use lib.ListN.{length, take, drop, length-append}
 use lib.Seq.{take-at, drop-at, length-take-le}
@@ -81,14 +81,10 @@ counted-law c r n s ea ep eb eq ed eu ee ev eg = rw (ep, ea, eq, eb, eu, ed, ev,
 
 -- ---- corruption
 module _ (c : ChannelConfig) (r : Rolls) (n : ℕ) where
-  and-right : (x y : Bool) → (x && y) ≡ true → y ≡ true
-  and-right true y h = h
-  and-right false y h = absurd (false≢true h)
-
   -- an empty packet has no bit to turn over
   pub corrupted-some : isCorrupted c r n ≡ true → 0 < n
   unfolding isCorrupted
-  corrupted-some h = ltb-true 0 n (and-right (lt (r .«corrupt_roll») (c .corrupt)) (ltb 0 n) (and-right (not (isLost c r)) (lt (r .«corrupt_roll») (c .corrupt) && ltb 0 n) h))
+  corrupted-some h = ltb-true 0 n (and-eq-true-iff (lt (r .«corrupt_roll») (c .corrupt)) (ltb 0 n) .0 (and-eq-true-iff (not (isLost c r)) (lt (r .«corrupt_roll») (c .corrupt) && ltb 0 n) .0 h .1) .1)
 
 module _ (c : ChannelConfig) (r : Rolls) (p : List ℕ) where
   pub corrupt-law : {i b : ℕ} {o : List ℕ} → isCorrupted c r (length p) ≡ true → i ≡ byteAt r (length p) → b ≡ bitAt r → o ≡ flip p i b → o ≡ carried c r p

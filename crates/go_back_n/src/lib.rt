@@ -8,7 +8,7 @@ ghost use Rattle.window.specs.Acknowledgement.{acknowledging};
 ghost use Rattle.window.specs.Resending.{resending};
 ghost use Rattle.window.specs.Outstanding.{canSend, inFlightCount, hasUnackedPackets};
 ghost use Rattle.go_back_n.specs.Sender.{madeWindow, handleAck, handleTimeout, handleTimeoutEarliest};
-ghost use Rattle.go_back_n.specs.Receiver.{newReceiver, dataDecision, decision, handlePacket};
+ghost use Rattle.go_back_n.specs.Receiver.{newReceiver, decided, dataDecision, decision, handlePacket};
 ghost use Rattle.receiver.specs.Receive.{receiving};
 ghost use Rattle.receiver.specs.State.{countsBroken};
 use packet::Packet;
@@ -186,23 +186,13 @@ impl GoBackNReceiver {
     pub fn handle_packet(self, raw: &[u8], output: &mut [u8], ack: &mut [u8]) -> GoBackNReceived
         ensures { λ r. ⌜ receiving (r .answer) (r .receiver) (now (output .exit)) (now (ack .exit)) ≡ handlePacket self (now (raw .entry)) (now (output .entry)) (now (ack .entry)) ⌝ }
     {
-        if receiver::marks_broken(self.expected_seq, self.filled, output) {
-            return GoBackNReceived {
-                receiver: self,
-                answer: ReceiveAnswer::Refused(Refusal::State),
-            };
-        }
-        if receiver::counts_broken(
+        let handed = receiver::read_checked(
+            receiver::marks_broken(self.expected_seq, self.filled, output),
             self.total_received,
             self.discarded_out_of_order,
             self.duplicate_acks_sent,
-        ) {
-            return GoBackNReceived {
-                receiver: self,
-                answer: ReceiveAnswer::Refused(Refusal::Counts),
-            };
-        }
-        let handed = receiver::read_packet(raw);
+            raw,
+        );
         if let Handed::Refused(r) = handed {
             return GoBackNReceived {
                 receiver: self,
@@ -212,20 +202,17 @@ impl GoBackNReceiver {
         let payload = Packet::payload(raw);
         let after = self.decide_unchecked(handed);
         let decision = after.decision;
-        if receiver::room_missing_unchecked(decision, payload.len(), self.filled, output, ack) {
+        let result = receiver::finish_unchecked(decision, payload, self.filled, output, ack);
+        let answer = result.answer;
+        if let ReceiveAnswer::Refused(_) = answer {
             return GoBackNReceived {
                 receiver: self,
-                answer: ReceiveAnswer::Refused(Refusal::Full),
+                answer,
             };
         }
-        let filled = receiver::carry_out_unchecked(decision, payload, self.filled, output, ack);
-        let reply = decision.reply;
         let mut receiver = after.receiver;
-        receiver.filled = filled;
-        GoBackNReceived {
-            receiver,
-            answer: reply.answer(),
-        }
+        receiver.filled = result.filled;
+        GoBackNReceived { receiver, answer }
     }
 
     // What a packet that isn't refused does to the state, and what is to be written.
@@ -237,34 +224,10 @@ impl GoBackNReceiver {
         self.total_received = self.total_received + 1;
         match handed {
             Handed::Data(n) => self.decide_data(n),
-            Handed::Fin(n) => GoBackNDecision {
-                receiver: self,
-                decision: Decision {
-                    deliver: false,
-                    reply: Reply::Ack(n),
-                },
-            },
-            Handed::Ack => GoBackNDecision {
-                receiver: self,
-                decision: Decision {
-                    deliver: false,
-                    reply: Reply::Silent,
-                },
-            },
-            Handed::Corrupted => GoBackNDecision {
-                receiver: self,
-                decision: Decision {
-                    deliver: false,
-                    reply: Reply::Silent,
-                },
-            },
-            Handed::Refused(_) => GoBackNDecision {
-                receiver: self,
-                decision: Decision {
-                    deliver: false,
-                    reply: Reply::Silent,
-                },
-            },
+            Handed::Fin(n) => self.decided(false, Reply::Ack(n)),
+            Handed::Ack => self.decided(false, Reply::Silent),
+            Handed::Corrupted => self.decided(false, Reply::Silent),
+            Handed::Refused(_) => self.decided(false, Reply::Silent),
         }
     }
 
@@ -275,31 +238,22 @@ impl GoBackNReceiver {
         let expected = self.expected_seq;
         if n == expected {
             self.expected_seq = expected + 1;
-            return GoBackNDecision {
-                receiver: self,
-                decision: Decision {
-                    deliver: true,
-                    reply: Reply::Ack(n),
-                },
-            };
+            return self.decided(true, Reply::Ack(n));
         }
         self.discarded_out_of_order = self.discarded_out_of_order + 1;
         if expected == 0 {
-            return GoBackNDecision {
-                receiver: self,
-                decision: Decision {
-                    deliver: false,
-                    reply: Reply::Silent,
-                },
-            };
+            return self.decided(false, Reply::Silent);
         }
         self.duplicate_acks_sent = self.duplicate_acks_sent + 1;
+        self.decided(false, Reply::Ack(expected - 1))
+    }
+
+    fn decided(self, deliver: bool, reply: Reply) -> GoBackNDecision
+        ensures { λ r. ⌜ r ≡ decided self deliver reply ⌝ }
+    {
         GoBackNDecision {
             receiver: self,
-            decision: Decision {
-                deliver: false,
-                reply: Reply::Ack(expected - 1),
-            },
+            decision: Decision { deliver, reply },
         }
     }
 }

@@ -1,8 +1,8 @@
-// What the programs share that replay answers of the Rust: reading decimal numbers, bytes made from a seed, and printing.
+// What the programs share that replay answers of the Rust: reading lines and numbers, bytes made from a seed, and printing.
 use libc::STDOUT_FILENO;
 use refusal::Refusal;
 ghost use mathlib.Core.Path.{_≡_};
-ghost use Prim.Native.Nat.{_≤_};
+ghost use Prim.Native.Nat.{_≤_, _<_};
 ghost use lib.ListN.{length};
 
 // A number and the place behind the byte that ends it.
@@ -43,6 +43,40 @@ fn digit(b: u8) -> u64
     ensures { λ r. ⌜ r ≤ 15 ⌝ }
 {
     (b % 16) as u64
+}
+
+// Where the line that starts at `from` ends, for a text that goes on there.
+pub fn line_end(text: &[u8], from: usize) -> usize
+    requires { ⌜ from < length (now text) ⌝ }
+    ensures { λ r. ⌜ (from ≤ r) × (r ≤ length (now (text .entry))) ⌝ }
+{
+    let mut i = from;
+    while i < text.len() {
+        if text[i] == b'\n' {
+            return i;
+        }
+        i += 1;
+    }
+    i
+}
+
+// A hexadecimal digit's value; 0 for any other byte.
+pub fn hex_value(c: u8) -> u8
+    ensures { λ r. ⌜ r < 16 ⌝ }
+{
+    if c < 48 {
+        return 0;
+    }
+    if c < 58 {
+        return c - 48;
+    }
+    if c < 97 {
+        return 0;
+    }
+    if c < 103 {
+        return c - 87;
+    }
+    0
 }
 
 // The next n numbers, twelve at most.

@@ -32,28 +32,13 @@ fn main() {
 fn replay(text: &[u8]) {
     let mut at: usize = 0;
     while at < text.len() {
-        let end = line_end(text, at);
+        let end = lines::line_end(text, at);
         case(&text[at..end]);
         at = end;
         if at < text.len() {
             at += 1;
         }
     }
-}
-
-// Where the line that starts at `from` ends, for a text that goes on there.
-fn line_end(text: &[u8], from: usize) -> usize
-    requires { ⌜ from < length (now text) ⌝ }
-    ensures { λ r. ⌜ (from ≤ r) × (r ≤ length (now (text .entry))) ⌝ }
-{
-    let mut i = from;
-    while i < text.len() {
-        if text[i] == b'\n' {
-            return i;
-        }
-        i += 1;
-    }
-    i
 }
 
 fn case(line: &[u8]) {
@@ -308,7 +293,7 @@ fn decode(text: &[u8], out: &mut [u8]) -> usize
     let most = least(text.len() / 2, out.len());
     let mut i: usize = 0;
     while i < most {
-        out[i] = digit(text[2 * i]) * 16 + digit(text[2 * i + 1]);
+        out[i] = lines::hex_value(text[2 * i]) * 16 + lines::hex_value(text[2 * i + 1]);
         i += 1;
     }
     most
@@ -318,25 +303,6 @@ fn least(a: usize, b: usize) -> usize
     ensures { λ r. ⌜ (r ≤ a) × (r ≤ b) ⌝ }
 {
     if a < b { a } else { b }
-}
-
-// A digit's value; 0 for any other byte.
-fn digit(c: u8) -> u8
-    ensures { λ r. ⌜ r < 16 ⌝ }
-{
-    if c < 48 {
-        return 0;
-    }
-    if c < 58 {
-        return c - 48;
-    }
-    if c < 97 {
-        return 0;
-    }
-    if c < 103 {
-        return c - 87;
-    }
-    0
 }
 
 fn high(b: u8) -> u8 {

@@ -1,7 +1,7 @@
 -- Numbers outstanding at a sender, and numbers that come to a receiver in order.
 use mathlib.Core.Path.{_≡_, refl, sym, ap, _∙_}
 use mathlib.Core.Logic.{_⊎_, inl, inr}
-use mathlib.Core.Bool.{Bool, true, false, cond, not, _&&_}
+use mathlib.Core.Bool.{Bool, true, false, cond, not, and-eq-true-iff}
 use mathlib.Core.List.{List, [], _∷_, _++_, List·Memᴰ, List·Memᴰ·head, List·Memᴰ·tail, List·Memᴰ·not-nil, List·Memᴰ·cases-cons}
 use Prim.Native.Nat.{ℕ, zero, suc, _+_, _≤_, _<_}
 use native.Mathlib.Omega.{arith}
@@ -31,25 +31,14 @@ up-below n (suc k) = every-cons (omega arith) (every-mono (λ i l. omega arith) 
 
 -- ---- an outstanding number lies in the window
 
-and-left : (a b : Bool) → a && b ≡ true → a ≡ true
-and-left true b e = refl
-and-left false b e = e
-
-and-right : (a b : Bool) → a && b ≡ true → b ≡ true
-and-right true b e = e
-and-right false b e = false-true e
-
 pub record InWindow (s : SenderState) (n : ℕ) : Type 0 where
   pub from-base : s .base ≤ n
   pub below-next : n < nextNumber s
 
 pub in-window : (s : SenderState) (n : ℕ) → isOutstanding s n ≡ true → InWindow s n
 in-window s n e =
-    let x : inWindow s n ≡ true = and-left (inWindow s n) (not (isAcknowledged s n)) e in
-    record {
-      from-base = leb-true (s .base) n (and-left (leb (s .base) n) (ltb n (nextNumber s)) x);
-      below-next = ltb-true n (nextNumber s) (and-right (leb (s .base) n) (ltb n (nextNumber s)) x);
-    }
+    let x = and-eq-true-iff (leb (s .base) n) (ltb n (nextNumber s)) .0 (and-eq-true-iff (inWindow s n) (not (isAcknowledged s n)) .0 e .0) in
+    record { from-base = leb-true (s .base) n (x .0); below-next = ltb-true n (nextNumber s) (x .1) }
 
 -- ---- those of some numbers that are outstanding
 

@@ -7,7 +7,7 @@ use native.Mathlib.Omega.{arith}
 use borrow.Author.Tests.{ltb-false}
 use lib.ListN.{length}
 use Rattle.refusal.specs.declared.Refusal.{Refusal}
-use Rattle.refusal.specs.declared.Refusal.the-variants.{Short, Kind, Cut, Long, Numbers}
+use Rattle.refusal.specs.declared.Refusal.the-variants.{Short, Kind, Cut, Full, Long, Numbers}
 use Rattle.refusal.specs.Order.{Verdict, check, verdict, accepted, refused, order, orElse, numbered, firstOf}
 use Rattle.refusal.proofs.Laws.{true-check, accepted-none-true, none-true-accepted, on-accepted, on-refused, decide-refused}
 use Rattle.packet.specs.Format.{matches}
@@ -37,6 +37,22 @@ pub before-numbers : (raw : List ℕ) (r : Refusal) → verdict (handedChecks ra
 unfolding readPacket readChecks
 before-numbers raw r v =
     on-refused handed.Refused _ (earlier (numberHigh (headerOf raw) (payloadOf raw)) _ _ _ _ _ _ _ _ r v)
+
+-- and 7 before 5
+last : (full high long short kind cut : Bool) (n m d e : ℕ) (r : Refusal)
+    → verdict (check high Numbers ∷ check long Long ∷ check short (Short n) ∷ check kind (Kind m) ∷ check cut (Cut d e) ∷ []) ≡ refused r
+    → verdict (check full Full ∷ check high Numbers ∷ check long Long ∷ check short (Short n) ∷ check kind (Kind m) ∷ check cut (Cut d e) ∷ []) ≡ refused r
+unfolding verdict firstOf numbered orElse order
+last full high long true kind cut n m d e r v = v
+last full high long false true cut n m d e r v = v
+last full high long false false true n m d e r v = v
+last full high true false false false n m d e r v = v
+last full true false false false false n m d e r v = v
+last full false false false false false n m d e r v = let z : _≡_ {A = ℕ} 0 1 = cc in absurd (omega arith)
+
+pub before-full : (full : Bool) (raw : List ℕ) (r : Refusal) → verdict (packetChecks raw) ≡ refused r → verdict (check full Full ∷ packetChecks raw) ≡ refused r
+unfolding readChecks
+before-full full raw r v = last full (numberHigh (headerOf raw) (payloadOf raw)) _ _ _ _ _ _ _ _ r v
 
 -- a packet that is read, by whether line 7 is true
 pub packet-high : (raw : List ℕ) (p : Packet) → fromBytes raw ≡ packetAnswer.Packet p → length (payloadOf raw) ≤ 1400 → numberHigh p (payloadOf raw) ≡ true → readPacket raw ≡ handed.Refused Numbers

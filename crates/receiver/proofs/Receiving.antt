@@ -1,61 +1,122 @@
 -- The answers of `receive`, one law for each.
 use Prim.Native.Nat.{ℕ}
-use mathlib.Core.Path.{_≡_, sym, ap, _∙_}
+use mathlib.Core.Path.{_≡_, refl, sym, ap, _∙_}
 use mathlib.Core.Bool.{Bool, true, false}
 use mathlib.Core.List.{List, [], _∷_}
-use mathlib.Core.Logic.{⊎-elim}
 use native.Mathlib.Omega.{arith}
 use lib.ListN.{length}
-use types.Run.{OneOf}
+use types.Run.{OneOf, miss}
 use Rattle.refusal.specs.declared.Refusal.{Refusal}
 use Rattle.refusal.specs.declared.Refusal.the-variants.{State, Counts, Full}
-use Rattle.refusal.specs.Order.{check, verdict, order, orElse, numbered, firstOf, decide}
+use Rattle.refusal.specs.Order.{check, verdict, refused, order, orElse, numbered, firstOf}
 use Rattle.refusal.proofs.Laws.{false-check, true-check, accepted-none-true, on-accepted, on-refused}
 use Rattle.packet.specs.Reading.{readChecks}
-use Rattle.receiver.specs.Handed.{packetChecks, readPacket}
+use Rattle.receiver.specs.Handed.{packetChecks, readPacket, readChecked}
 use Rattle.receiver.specs.Reply.{roomMissing, answerOf, carriedOut, replied}
-use Rattle.receiver.specs.Receive.{receiving, carried, receive}
+use Rattle.receiver.specs.Receive.{Receiving, receiving, carried, finish, receive}
 use Rattle.receiver.specs.declared.Decision.{Decision}
+use Rattle.receiver.specs.declared.Handed.{Handed}
 use Rattle.receiver.specs.declared.Handed.the-variants as handed
+use Rattle.receiver.specs.declared.Reply.{Reply}
+use Rattle.receiver.specs.declared.Reply.the-variants as reply
 use Rattle.receiver.specs.declared.ReceiveAnswer.{ReceiveAnswer}
 use Rattle.receiver.specs.declared.ReceiveAnswer.the-variants as answer
-use Rattle.receiver.proofs.Reading.{read-refused, read-accepted}
+use Rattle.receiver.proofs.Reading.{before-full, read-refused, read-accepted}
 
--- the tag of a packet that isn't refused
-pub not-four : (n : ℕ) → OneOf (0 ∷ 1 ∷ 2 ∷ 3 ∷ []) n → n ≡ 4 → ⊥
-not-four n k e = ⊎-elim {C = ⊥} (λ a. omega arith) (λ a. ⊎-elim {C = ⊥} (λ b. omega arith) (λ b. ⊎-elim {C = ⊥} (λ d. omega arith) (λ d. omega arith) b) a) k
+-- the tags of what isn't refused: of a packet, of an answer
+pub not-four : OneOf (0 ∷ 1 ∷ 2 ∷ 3 ∷ []) 4 → ⊥
+not-four k = miss (0 ∷ 1 ∷ 2 ∷ 3 ∷ []) 4 tt k
+
+pub not-two : OneOf (0 ∷ 1 ∷ []) 2 → ⊥
+not-two k = miss (0 ∷ 1 ∷ []) 2 tt k
+
+-- a datagram that isn't refused
+abbrev pub Taken : Handed → Type 0
+Taken h = (s : Refusal) → h ≡ handed.Refused s → ⊥
+
+pub taken : (broken counts : Bool) (raw : List ℕ) → Taken (readChecked broken counts raw) → (broken ≡ false) × (counts ≡ false) × (readChecked broken counts raw ≡ readPacket raw)
+unfolding readChecked
+taken true counts raw h = absurd (h State refl)
+taken false true raw h = absurd (h Counts refl)
+taken false false raw h = (refl, refl, refl)
+
+-- the verdict on a state that isn't broken, and on a datagram that is refused, whatever is to be written
+unbroken : (full : Bool) (raw : List ℕ) → verdict (check false State ∷ check false Counts ∷ check full Full ∷ packetChecks raw) ≡ verdict (check full Full ∷ packetChecks raw)
+unbroken full raw = false-check State _ ∙ false-check Counts _
+
+refused-verdict : (broken counts full : Bool) (raw : List ℕ) (s : Refusal) → readChecked broken counts raw ≡ handed.Refused s
+    → verdict (check broken State ∷ check counts Counts ∷ check full Full ∷ packetChecks raw) ≡ refused s
+unfolding readChecked readChecks verdict firstOf numbered orElse order
+refused-verdict true counts full raw s e = ap refused cc
+refused-verdict false true full raw s e = ap refused cc
+refused-verdict false false full raw s e = unbroken full raw ∙ before-full full raw s (read-refused raw s e)
+
+never-refused : (r : Reply) (s : Refusal) → answerOf r ≡ answer.Refused s → ⊥
+never-refused (reply.Ack n) s e = let z : _≡_ {A = ℕ} 0 1 = cc in omega arith
+never-refused reply.Silent s e = let z : _≡_ {A = ℕ} 0 1 = cc in omega arith
 
 module _ {R : Type 0} (broken counts : Bool) (r : R) (filled : ℕ) (d : Decision) (delivered : List ℕ) (after : ℕ → R) (raw output ack : List ℕ) where
-  pub refused-state : broken ≡ true → receiving (answer.Refused State) r output ack ≡ receive broken counts r filled d delivered after raw output ack
-  unfolding receive verdict firstOf numbered orElse order decide
-  refused-state e = rw e
+  pub refused-packet : (s : Refusal) → readChecked broken counts raw ≡ handed.Refused s → receiving (answer.Refused s) r output ack ≡ receive broken counts r filled d delivered after raw output ack
+  unfolding receive
+  refused-packet s e =
+      sym (on-refused (λ (s : Refusal). receiving (answer.Refused s) r output ack) _ (refused-verdict broken counts _ raw s e))
 
-  pub refused-counts : broken ≡ false → counts ≡ true → receiving (answer.Refused Counts) r output ack ≡ receive broken counts r filled d delivered after raw output ack
-  unfolding receive readChecks verdict firstOf numbered orElse order decide
-  refused-counts e f = rw (e, f)
-
-  -- with state and counts sound, by what stands after them
-  beyond : broken ≡ false → counts ≡ false → (b : Bool) → roomMissing d (length delivered) filled output ack ≡ b
+  -- with a datagram taken, by the room
+  beyond : Taken (readChecked broken counts raw) → (b : Bool) → roomMissing d (length delivered) filled output ack ≡ b
       → verdict (check broken State ∷ check counts Counts ∷ check (roomMissing d (length delivered) filled output ack) Full ∷ packetChecks raw) ≡ verdict (check b Full ∷ packetChecks raw)
-  beyond e f b g = rw (e, f, g) (false-check State _ ∙ false-check Counts _)
+  beyond h b g = let t = taken broken counts raw h in rw (t .0, t .1, g) (unbroken b raw)
 
-  pub refused-reading : (s : Refusal) → broken ≡ false → counts ≡ false → roomMissing d (length delivered) filled output ack ≡ false → readPacket raw ≡ handed.Refused s
-      → receiving (answer.Refused s) r output ack ≡ receive broken counts r filled d delivered after raw output ack
-  unfolding receive
-  refused-reading s e f g h =
-      sym (on-refused (λ (s : Refusal). receiving (answer.Refused s) r output ack) _ (beyond e f false g ∙ false-check Full (packetChecks raw) ∙ read-refused raw s h))
+  reads : Taken (readChecked broken counts raw) → Taken (readPacket raw)
+  reads h s e = h s (taken broken counts raw h .2 ∙ e)
 
-  pub refused-full : broken ≡ false → counts ≡ false → ((s : Refusal) → readPacket raw ≡ handed.Refused s → ⊥)
-      → roomMissing d (length delivered) filled output ack ≡ true → receiving (answer.Refused Full) r output ack ≡ receive broken counts r filled d delivered after raw output ack
+  pub refused-full : Taken (readChecked broken counts raw) → roomMissing d (length delivered) filled output ack ≡ true
+      → receiving (answer.Refused Full) r output ack ≡ receive broken counts r filled d delivered after raw output ack
   unfolding receive
-  refused-full e f h g =
-      sym (on-refused (λ (s : Refusal). receiving (answer.Refused s) r output ack) _ (beyond e f true g ∙ true-check Full (packetChecks raw) (accepted-none-true (packetChecks raw) (read-accepted raw h))))
+  refused-full h g =
+      sym (on-refused (λ (s : Refusal). receiving (answer.Refused s) r output ack) _ (beyond h true g ∙ true-check Full (packetChecks raw) (accepted-none-true (packetChecks raw) (read-accepted raw (reads h)))))
 
   -- the functions below carried the decision out, delivering a part that is what is to be delivered
-  pub received : (part written acked : List ℕ) (n : ℕ) (a : ReceiveAnswer) → broken ≡ false → counts ≡ false → ((s : Refusal) → readPacket raw ≡ handed.Refused s → ⊥)
+  pub received : (part written acked : List ℕ) (n : ℕ) (a : ReceiveAnswer) → Taken (readChecked broken counts raw)
       → roomMissing d (length delivered) filled output ack ≡ false → part ≡ delivered → a ≡ answerOf (d .reply) → replied n written acked ≡ carriedOut d part filled output ack
       → receiving a (after n) written acked ≡ receive broken counts r filled d delivered after raw output ack
   unfolding receive
-  received part written acked n a e f h g p q v =
+  received part written acked n a h g p q v =
       ap (λ (x : ReceiveAnswer). receiving x (after n) written acked) q ∙ ap (carried after d) (v ∙ ap (λ (l : List ℕ). carriedOut d l filled output ack) p)
-      ∙ sym (on-accepted (λ (s : Refusal). receiving (answer.Refused s) r output ack) _ (beyond e f false g ∙ false-check Full (packetChecks raw) ∙ read-accepted raw h))
+      ∙ sym (on-accepted (λ (s : Refusal). receiving (answer.Refused s) r output ack) _ (beyond h false g ∙ false-check Full (packetChecks raw) ∙ read-accepted raw (reads h)))
+
+pub finish-done : (d : Decision) (payload : List ℕ) (filled : ℕ) (output ack written acked : List ℕ) (n : ℕ) (a : ReceiveAnswer) → roomMissing d (length payload) filled output ack ≡ false
+    → a ≡ answerOf (d .reply) → replied n written acked ≡ carriedOut d payload filled output ack → receiving a n written acked ≡ finish d payload filled output ack
+unfolding finish
+finish-done d payload filled output ack written acked n a g q v =
+    rw g (ap (λ (x : ReceiveAnswer). receiving x n written acked) q ∙ ap (carried (λ n. n) d) v)
+
+-- a datagram that is taken, and `finish` of the decision on it
+module _ {R : Type 0} (broken counts : Bool) (r : R) (filled : ℕ) (d : Handed → Decision) (after : Handed → ℕ → R) (delivered raw output ack part : List ℕ) (h : Handed) (v : Receiving ℕ) (is-read : h ≡ readChecked broken counts raw) (t : Taken h) (same : part ≡ delivered) (e : v ≡ finish (d h) part filled output ack) where
+  taken-checked : Taken (readChecked broken counts raw)
+  taken-checked s q = t s (is-read ∙ q)
+
+  is-packet : h ≡ readPacket raw
+  is-packet = is-read ∙ taken broken counts raw taken-checked .2
+
+  abbrev Received : R → Type 0
+  Received s = receiving (v .answer) s (v .output) (v .ack) ≡ receive broken counts r filled (d (readPacket raw)) delivered (after (readPacket raw)) raw output ack
+
+  by-room : (b : Bool) → roomMissing (d (readPacket raw)) (length delivered) filled output ack ≡ b
+      → ((s : Refusal) → v .answer ≡ answer.Refused s → Received r) × (((s : Refusal) → v .answer ≡ answer.Refused s → ⊥) → Received (after h (v .receiver)))
+  unfolding finish
+  by-room true g =
+      let full : v ≡ receiving (answer.Refused Full) filled output ack = e ∙ rw (same, is-packet, g) in (
+        λ s q. ap (λ (x : Receiving ℕ). receiving (x .answer) r (x .output) (x .ack)) full ∙ refused-full broken counts r filled _ delivered (after (readPacket raw)) raw output ack taken-checked g,
+        λ n. absurd (n Full (ap (λ (x : Receiving ℕ). x .answer) full)),
+      )
+  by-room false g =
+      let done : v ≡ carried (λ n. n) (d (readPacket raw)) (carriedOut (d (readPacket raw)) delivered filled output ack) = e ∙ rw (same, is-packet, g) in (
+        λ s q. absurd (never-refused (d (readPacket raw) .reply) s (sym (ap (λ (x : Receiving ℕ). x .answer) done) ∙ q)),
+        λ n. rw is-packet (ap (λ (x : Receiving ℕ). receiving (x .answer) (after (readPacket raw) (x .receiver)) (x .output) (x .ack)) done ∙ received broken counts r filled _ delivered (after (readPacket raw)) raw output ack delivered _ _ _ _ taken-checked g refl refl refl),
+      )
+
+  pub finish-refused : (s : Refusal) → v .answer ≡ answer.Refused s → Received r
+  finish-refused = by-room _ refl .0
+
+  pub finished : ((s : Refusal) → v .answer ≡ answer.Refused s → ⊥) → Received (after h (v .receiver))
+  finished = by-room _ refl .1

@@ -1,9 +1,9 @@
--- Document 01, "Turned away" 1, 2, 3, 6, 7, and arq/*.rs, `handle_packet`: a datagram handed to a receiver.
+-- Document 01, "Turned away" 9, 8, 1, 2, 3, 6, 7, and arq/*.rs, `handle_packet`: a datagram handed to a receiver.
 use Prim.Native.Nat.{ℕ}
 use mathlib.Core.List.{List, _∷_}
 use mathlib.Core.Bool.{Bool, true, false, cond, _&&_}
 use lib.Dec.{leb}
-use Rattle.refusal.specs.declared.Refusal.the-variants.{Numbers}
+use Rattle.refusal.specs.declared.Refusal.the-variants.{State, Counts, Numbers}
 use Rattle.refusal.specs.Order.{Check, check, verdict, decide}
 use Rattle.packet.specs.Format.{matches}
 use Rattle.packet.specs.Reading.{headerOf, payloadOf}
@@ -36,3 +36,7 @@ unfoldable pub readPacket : List ℕ → Handed
 readPacket raw =
     decide (verdict (packetChecks raw)) handed.Refused
     (cond (matches (headerOf raw) (payloadOf raw)) (byType (headerOf raw .«pkt_type») (headerOf raw .«seq_num»)) handed.Corrupted)
+
+-- with 9 and 8 before
+unfoldable pub readChecked : Bool → Bool → List ℕ → Handed
+readChecked stateBroken countsBroken raw = cond stateBroken (handed.Refused State) (cond countsBroken (handed.Refused Counts) (readPacket raw))

@@ -1,7 +1,7 @@
 -- Document 01, "Turned away" 9, 8, 1, 2, 3, 6, 7, 5: a datagram handed to a receiver with a state R.
 use Prim.Native.Nat.{ℕ}
 use mathlib.Core.List.{List, _∷_}
-use mathlib.Core.Bool.{Bool}
+use mathlib.Core.Bool.{Bool, cond}
 use lib.ListN.{length}
 use Rattle.refusal.specs.declared.Refusal.the-variants.{State, Counts, Full}
 use Rattle.refusal.specs.Order.{check, verdict, decide}
@@ -24,6 +24,13 @@ receiving a r output ack = record { answer = a; receiver = r; output = output; a
 -- a decision carried out, with the fill mark put into the state after it
 abbrev pub carried : {R : Type 0} → (ℕ → R) → Decision → Replied → Receiving R
 carried after d v = receiving (answerOf (d .reply)) (after (v .filled)) (v .output) (v .ack)
+
+-- 5, or a decision carried out; the fill mark stands for the state
+unfoldable pub finish : Decision → List ℕ → ℕ → List ℕ → List ℕ → Receiving ℕ
+finish d payload filled output ack =
+    cond (roomMissing d (length payload) filled output ack)
+    (receiving (answer.Refused Full) filled output ack)
+    (carried (λ n. n) d (carriedOut d payload filled output ack))
 
 -- r the state, filled its fill mark; d, delivered and after what a packet that isn't refused does
 unfoldable pub receive : {R : Type 0} → Bool → Bool → R → ℕ → Decision → List ℕ → (ℕ → R) → List ℕ → List ℕ → List ℕ → Receiving R

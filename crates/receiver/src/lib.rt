@@ -5,8 +5,9 @@ ghost use lib.ListN.{length};
 ghost use lib.Dec.{ltb};
 ghost use mathlib.Core.Bool.{_&&_};
 ghost use Rattle.receiver.specs.State.{marksBroken, countsBroken};
-ghost use Rattle.receiver.specs.Handed.{readPacket};
+ghost use Rattle.receiver.specs.Handed.{readPacket, readChecked};
 ghost use Rattle.receiver.specs.Reply.{replied, carriedOut, roomMissing, RoomFor, RoomForReply, ackAfter, answerOf};
+ghost use Rattle.receiver.specs.Receive.{receiving, finish};
 use packet::Packet;
 use packet::PacketAnswer;
 use packet::PacketType;
@@ -45,6 +46,12 @@ pub enum ReceiveAnswer {
     Refused(Refusal),
 }
 
+// The fill mark and the answer when a decision is carried out, or refused.
+pub struct Finished {
+    pub filled: usize,
+    pub answer: ReceiveAnswer,
+}
+
 impl Reply {
     pub fn answer(self) -> ReceiveAnswer
         ensures { λ r. ⌜ r ≡ answerOf self ⌝ }
@@ -56,7 +63,20 @@ impl Reply {
     }
 }
 
-pub fn read_packet(raw: &[u8]) -> Handed
+// A datagram for a receiver with these counters, and whether line 9 is true of it.
+pub fn read_checked(broken: bool, a: u64, b: u64, c: u64, raw: &[u8]) -> Handed
+    ensures { λ r. ⌜ r ≡ readChecked broken (countsBroken a b c) (now (raw .entry)) ⌝ }
+{
+    if broken {
+        return Handed::Refused(Refusal::State);
+    }
+    if counts_broken(a, b, c) {
+        return Handed::Refused(Refusal::Counts);
+    }
+    read_packet(raw)
+}
+
+fn read_packet(raw: &[u8]) -> Handed
     ensures { λ r. ⌜ r ≡ readPacket (now (raw .entry)) ⌝ }
 {
     let packet = match Packet::from_bytes(raw) {
@@ -82,6 +102,31 @@ pub fn read_packet(raw: &[u8]) -> Handed
         }
         PacketType::Ack => Handed::Ack,
         PacketType::Fin => Handed::Fin(seq_num),
+    }
+}
+
+// Carries a decision out, or refuses it where a buffer is too short.
+pub fn finish_unchecked(
+    decision: Decision,
+    payload: &[u8],
+    filled: usize,
+    output: &mut [u8],
+    ack: &mut [u8],
+) -> Finished
+    requires { ⌜ filled ≤ length (now output) ⌝ }
+    ensures { λ r. ⌜ receiving (r .answer) (r .filled) (now (output .exit)) (now (ack .exit)) ≡ finish decision (now (payload .entry)) filled (now (output .entry)) (now (ack .entry)) ⌝ }
+{
+    if room_missing_unchecked(decision, payload.len(), filled, output, ack) {
+        return Finished {
+            filled,
+            answer: ReceiveAnswer::Refused(Refusal::Full),
+        };
+    }
+    let end = carry_out_unchecked(decision, payload, filled, output, ack);
+    let reply = decision.reply;
+    Finished {
+        filled: end,
+        answer: reply.answer(),
     }
 }
 

@@ -150,11 +150,14 @@ pub on-refused : {A : Type 0} {v : Verdict} {r : Refusal} (f : Refusal → A) (a
 unfolding decide
 on-refused f a e = rw e
 
--- what holds of each refused answer, and of the other one if the call is accepted, holds of the answer
+-- what holds of each refused answer, and of the other one if the call is accepted (no line is true), holds of the answer
 pub either-answer : {A : Type 0} (P : A → Type 0) (v : Verdict) (f : Refusal → A) (a : A) → ((r : Refusal) → P (f r)) → (v ≡ accepted → P a) → P (decide v f a)
 unfolding decide
 either-answer P accepted f a h k = k refl
 either-answer P (refused r) f a h k = h r
+
+pub decided : {A : Type 0} (P : A → Type 0) (cs : List Check) (f : Refusal → A) (a : A) → ((r : Refusal) → P (f r)) → (NoneTrue cs → P a) → P (decide (verdict cs) f a)
+decided P cs f a h k = either-answer P (verdict cs) f a h (λ e. k (accepted-none-true cs e))
 
 -- a line is false exactly when each of its clauses is
 abbrev pub NoneOf : List Bool → Type 0

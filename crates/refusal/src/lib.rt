@@ -130,42 +130,7 @@ impl Refusal {
                 first: declared as u64,
                 second: present as u64,
             },
-            Refusal::Setup => Values {
-                count: 0,
-                first: 0,
-                second: 0,
-            },
-            Refusal::Full => Values {
-                count: 0,
-                first: 0,
-                second: 0,
-            },
-            Refusal::Long => Values {
-                count: 0,
-                first: 0,
-                second: 0,
-            },
-            Refusal::Numbers => Values {
-                count: 0,
-                first: 0,
-                second: 0,
-            },
-            Refusal::Counts => Values {
-                count: 0,
-                first: 0,
-                second: 0,
-            },
-            Refusal::State => Values {
-                count: 0,
-                first: 0,
-                second: 0,
-            },
-            Refusal::Time => Values {
-                count: 0,
-                first: 0,
-                second: 0,
-            },
-            Refusal::Roll => Values {
+            _ => Values {
                 count: 0,
                 first: 0,
                 second: 0,

@@ -1,6 +1,6 @@
 -- The checks of the entry points: their order, and what they let pass.
 use mathlib.Core.Path.{_≡_, refl}
-use mathlib.Core.Bool.{Bool, true, false, not, cond, _||_, _&&_, true≢false, false≢true}
+use mathlib.Core.Bool.{Bool, true, false, not, cond, _||_, _&&_, and-eq-true-iff, true≢false}
 use mathlib.Core.List.{[], _∷_}
 use Prim.Native.Nat.{ℕ, _≤_, _<_}
 use lib.Dec.{T, leb, ltb}
@@ -32,10 +32,6 @@ setup-only true f a = refl
 setup-only false f a = refl
 
 -- ---- Booleans
-pub both-true : (a b : Bool) → (a && b) ≡ true → (a ≡ true) × (b ≡ true)
-both-true true b e = (refl, e)
-both-true false b e = absurd (false≢true e)
-
 pub not-is : (a : Bool) → not a ≡ false → a ≡ true
 not-is true e = refl
 not-is false e = absurd (true≢false e)
@@ -55,14 +51,14 @@ pub record Config (c : RtoConfig) : Type 0 where
 pub config-of : (c : RtoConfig) → configInBounds c ≡ true → Config c
 unfolding configInBounds
 config-of c e =
-    let h = both-true (durationsInBounds c) (factorsInBounds c) e in
-    let d1 = both-true (leb (c .«initial_rto») maxDuration) _ (h .0) in
-    let d2 = both-true (leb (c .«min_rto») maxDuration) _ (d1 .1) in
-    let d3 = both-true (leb (c .«max_rto») maxDuration) _ (d2 .1) in
-    let d4 = both-true (leb (c .granularity) 1000000000) _ (d3 .1) in
-    let f1 = both-true (chanceInBounds (c .alpha)) (chanceInBounds (c .beta) && (factorInBounds (c .k) && factorInBounds (c .«rto_multiplier»))) (h .1) in
-    let f2 = both-true (chanceInBounds (c .beta)) (factorInBounds (c .k) && factorInBounds (c .«rto_multiplier»)) (f1 .1) in
-    let f3 = both-true (factorInBounds (c .k)) (factorInBounds (c .«rto_multiplier»)) (f2 .1) in
+    let h = and-eq-true-iff (durationsInBounds c) (factorsInBounds c) .0 e in
+    let d1 = and-eq-true-iff (leb (c .«initial_rto») maxDuration) _ .0 (h .0) in
+    let d2 = and-eq-true-iff (leb (c .«min_rto») maxDuration) _ .0 (d1 .1) in
+    let d3 = and-eq-true-iff (leb (c .«max_rto») maxDuration) _ .0 (d2 .1) in
+    let d4 = and-eq-true-iff (leb (c .granularity) 1000000000) _ .0 (d3 .1) in
+    let f1 = and-eq-true-iff (chanceInBounds (c .alpha)) (chanceInBounds (c .beta) && (factorInBounds (c .k) && factorInBounds (c .«rto_multiplier»))) .0 (h .1) in
+    let f2 = and-eq-true-iff (chanceInBounds (c .beta)) (factorInBounds (c .k) && factorInBounds (c .«rto_multiplier»)) .0 (f1 .1) in
+    let f3 = and-eq-true-iff (factorInBounds (c .k)) (factorInBounds (c .«rto_multiplier»)) .0 (f2 .1) in
     record {
       initial = leb-true _ _ (d1 .0);
       least = leb-true _ _ (d2 .0);

@@ -7,12 +7,10 @@ use native.Mathlib.Omega.{arith}
 use borrow.Author.Tests.{ltb-false, le-ltb}
 use lib.ListN.{length}
 use lib.Dec.{ltb, leb, eqb}
-use Rattle.refusal.specs.declared.Refusal.{Refusal}
 use Rattle.refusal.proofs.Laws.{none-of, any-of-none}
 use Rattle.store.specs.Numbers.{PayloadsIn}
 use Rattle.store.proofs.Laws.{receiver-slot-short, run-within}
 use Rattle.window.specs.State.{windowBroken, storeShort}
-use Rattle.receiver.specs.Reply.{roomMissing}
 use Rattle.receiver.specs.declared.Handed.{Handed}
 use Rattle.receiver.specs.declared.Handed.the-variants as handed
 use Rattle.selective_repeat.specs.Receiver.{Receiver, Ready, stateBroken, receivingBroken, held, inOrder, outOfOrder, duplicate, unanswered, dataDecision, decision, counted, released}
@@ -84,8 +82,3 @@ releases v (handed.Fin n) p = record { few = p; none = λ f. refl }
 releases v handed.Ack p = record { few = p; none = λ f. refl }
 releases v handed.Corrupted p = record { few = p; none = λ f. refl }
 releases v (handed.Refused s) p = record { few = p; none = λ f. refl }
-
--- a refused packet writes nothing
-pub none-written : (v : Receiver) (s : Refusal) (n filled : ℕ) (output ack : List ℕ) → roomMissing (decision v (handed.Refused s) .decision) n filled output ack ≡ false
-unfolding roomMissing decision
-none-written v s n filled output ack = refl

@@ -12,7 +12,7 @@ ghost use Rattle.window.specs.Outstanding.{canSend};
 ghost use Rattle.receiver.specs.Reply.{replied, carriedOut, RoomFor};
 ghost use Rattle.receiver.specs.Receive.{receiving};
 ghost use Rattle.selective_repeat.specs.Sender.{madeWindow, acknowledgeOne, handleAck, due, handleTimeout, inFlightCount};
-ghost use Rattle.selective_repeat.specs.Receiver.{receiver, makeReceiver, stateBroken, receivingBroken, countersBroken, released, dataDecision, decision, deliveredBytes, changedSlots, Ready, bufferedCount, handlePacket};
+ghost use Rattle.selective_repeat.specs.Receiver.{receiver, makeReceiver, stateBroken, receivingBroken, countersBroken, released, decided, dataDecision, decision, deliveredBytes, changedSlots, Ready, bufferedCount, handlePacket};
 use packet::Packet;
 use receiver::Decision;
 use receiver::Handed;
@@ -275,23 +275,13 @@ impl SelectiveRepeatReceiver {
     ) -> SelectiveRepeatReceived
         ensures { λ r. ⌜ receiving (r .answer) (receiver (r .receiver) (now (store .exit))) (now (output .exit)) (now (ack .exit)) ≡ handlePacket (receiver self (now (store .entry))) (now (raw .entry)) (now (output .entry)) (now (ack .entry)) ⌝ }
     {
-        if self.receiving_broken(store, output) {
-            return SelectiveRepeatReceived {
-                receiver: self,
-                answer: ReceiveAnswer::Refused(Refusal::State),
-            };
-        }
-        if receiver::counts_broken(
+        let handed = receiver::read_checked(
+            self.receiving_broken(store, output),
             self.total_received,
             self.buffered_out_of_order,
             self.duplicates_count,
-        ) {
-            return SelectiveRepeatReceived {
-                receiver: self,
-                answer: ReceiveAnswer::Refused(Refusal::Counts),
-            };
-        }
-        let handed = receiver::read_packet(raw);
+            raw,
+        );
         if let Handed::Refused(r) = handed {
             return SelectiveRepeatReceived {
                 receiver: self,
@@ -346,38 +336,10 @@ impl SelectiveRepeatReceiver {
         self.total_received = self.total_received + 1;
         match handed {
             Handed::Data(n) => self.decide_data(store, n),
-            Handed::Fin(n) => SelectiveRepeatDecision {
-                receiver: self,
-                decision: Decision {
-                    deliver: false,
-                    reply: Reply::Ack(n),
-                },
-                change: SlotChange::Unchanged,
-            },
-            Handed::Ack => SelectiveRepeatDecision {
-                receiver: self,
-                decision: Decision {
-                    deliver: false,
-                    reply: Reply::Silent,
-                },
-                change: SlotChange::Unchanged,
-            },
-            Handed::Corrupted => SelectiveRepeatDecision {
-                receiver: self,
-                decision: Decision {
-                    deliver: false,
-                    reply: Reply::Silent,
-                },
-                change: SlotChange::Unchanged,
-            },
-            Handed::Refused(_) => SelectiveRepeatDecision {
-                receiver: self,
-                decision: Decision {
-                    deliver: false,
-                    reply: Reply::Silent,
-                },
-                change: SlotChange::Unchanged,
-            },
+            Handed::Fin(n) => self.decided(false, Reply::Ack(n), SlotChange::Unchanged),
+            Handed::Ack => self.decided(false, Reply::Silent, SlotChange::Unchanged),
+            Handed::Corrupted => self.decided(false, Reply::Silent, SlotChange::Unchanged),
+            Handed::Refused(_) => self.decided(false, Reply::Silent, SlotChange::Unchanged),
         }
     }
 
@@ -391,56 +353,31 @@ impl SelectiveRepeatReceiver {
         if n == base {
             let released = store::marked_run_unchecked(store, window, base + 1, window - 1, 1);
             self.recv_base = base + 1 + released as u32;
-            return SelectiveRepeatDecision {
-                receiver: self,
-                decision: Decision {
-                    deliver: true,
-                    reply: Reply::Ack(n),
-                },
-                change: SlotChange::Release(released),
-            };
+            return self.decided(true, Reply::Ack(n), SlotChange::Release(released));
         }
         if base + window as u32 <= n {
-            return SelectiveRepeatDecision {
-                receiver: self,
-                decision: Decision {
-                    deliver: false,
-                    reply: Reply::Silent,
-                },
-                change: SlotChange::Unchanged,
-            };
+            return self.decided(false, Reply::Silent, SlotChange::Unchanged);
         }
         if n + (window as u32) < base {
-            return SelectiveRepeatDecision {
-                receiver: self,
-                decision: Decision {
-                    deliver: false,
-                    reply: Reply::Silent,
-                },
-                change: SlotChange::Unchanged,
-            };
+            return self.decided(false, Reply::Silent, SlotChange::Unchanged);
         }
         if base < n {
             if store::mark_unchecked(store, n as usize % window) != 1 {
                 self.buffered_out_of_order = self.buffered_out_of_order + 1;
-                return SelectiveRepeatDecision {
-                    receiver: self,
-                    decision: Decision {
-                        deliver: false,
-                        reply: Reply::Ack(n),
-                    },
-                    change: SlotChange::Hold(n),
-                };
+                return self.decided(false, Reply::Ack(n), SlotChange::Hold(n));
             }
         }
         self.duplicates_count = self.duplicates_count + 1;
+        self.decided(false, Reply::Ack(n), SlotChange::Unchanged)
+    }
+
+    fn decided(self, deliver: bool, reply: Reply, change: SlotChange) -> SelectiveRepeatDecision
+        ensures { λ r. ⌜ r ≡ decided self deliver reply change ⌝ }
+    {
         SelectiveRepeatDecision {
             receiver: self,
-            decision: Decision {
-                deliver: false,
-                reply: Reply::Ack(n),
-            },
-            change: SlotChange::Unchanged,
+            decision: Decision { deliver, reply },
+            change,
         }
     }
 

@@ -10,7 +10,7 @@ ghost use Rattle.window.specs.Resending.{resending};
 ghost use Rattle.window.specs.declared.TimeoutAnswer.the-variants as timeoutAnswer;
 ghost use Rattle.window.specs.declared.WindowTest.the-variants as windowTest;
 ghost use Rattle.stop_and_wait.specs.Sender.{windowOf, endOf, newSender, canSend, isWaitingForAck, bySend, sendChunk, handleAck, retriesLeft, byTimeout, handleTimeout};
-ghost use Rattle.stop_and_wait.specs.Receiver.{newReceiver, dataDecision, decision, handlePacket};
+ghost use Rattle.stop_and_wait.specs.Receiver.{newReceiver, decided, dataDecision, decision, handlePacket};
 ghost use Rattle.receiver.specs.Receive.{receiving};
 ghost use Rattle.receiver.specs.State.{countsBroken};
 use packet::Packet;
@@ -288,23 +288,13 @@ impl StopAndWaitReceiver {
     pub fn handle_packet(self, raw: &[u8], output: &mut [u8], ack: &mut [u8]) -> StopAndWaitReceived
         ensures { λ r. ⌜ receiving (r .answer) (r .receiver) (now (output .exit)) (now (ack .exit)) ≡ handlePacket self (now (raw .entry)) (now (output .entry)) (now (ack .entry)) ⌝ }
     {
-        if receiver::marks_broken(self.expected_seq, self.filled, output) {
-            return StopAndWaitReceived {
-                receiver: self,
-                answer: ReceiveAnswer::Refused(Refusal::State),
-            };
-        }
-        if receiver::counts_broken(
+        let handed = receiver::read_checked(
+            receiver::marks_broken(self.expected_seq, self.filled, output),
             self.total_received,
             self.duplicates_count,
             self.corrupted_count,
-        ) {
-            return StopAndWaitReceived {
-                receiver: self,
-                answer: ReceiveAnswer::Refused(Refusal::Counts),
-            };
-        }
-        let handed = receiver::read_packet(raw);
+            raw,
+        );
         if let Handed::Refused(r) = handed {
             return StopAndWaitReceived {
                 receiver: self,
@@ -314,20 +304,17 @@ impl StopAndWaitReceiver {
         let payload = Packet::payload(raw);
         let after = self.decide_unchecked(handed);
         let decision = after.decision;
-        if receiver::room_missing_unchecked(decision, payload.len(), self.filled, output, ack) {
+        let result = receiver::finish_unchecked(decision, payload, self.filled, output, ack);
+        let answer = result.answer;
+        if let ReceiveAnswer::Refused(_) = answer {
             return StopAndWaitReceived {
                 receiver: self,
-                answer: ReceiveAnswer::Refused(Refusal::Full),
+                answer,
             };
         }
-        let filled = receiver::carry_out_unchecked(decision, payload, self.filled, output, ack);
-        let reply = decision.reply;
         let mut receiver = after.receiver;
-        receiver.filled = filled;
-        StopAndWaitReceived {
-            receiver,
-            answer: reply.answer(),
-        }
+        receiver.filled = result.filled;
+        StopAndWaitReceived { receiver, answer }
     }
 
     // What a packet that isn't refused does to the state, and what is to be written.
@@ -339,37 +326,13 @@ impl StopAndWaitReceiver {
         self.total_received = self.total_received + 1;
         match handed {
             Handed::Data(n) => self.decide_data(n),
-            Handed::Fin(n) => StopAndWaitDecision {
-                receiver: self,
-                decision: Decision {
-                    deliver: false,
-                    reply: Reply::Ack(n),
-                },
-            },
-            Handed::Ack => StopAndWaitDecision {
-                receiver: self,
-                decision: Decision {
-                    deliver: false,
-                    reply: Reply::Silent,
-                },
-            },
+            Handed::Fin(n) => self.decided(false, Reply::Ack(n)),
+            Handed::Ack => self.decided(false, Reply::Silent),
             Handed::Corrupted => {
                 self.corrupted_count = self.corrupted_count + 1;
-                StopAndWaitDecision {
-                    receiver: self,
-                    decision: Decision {
-                        deliver: false,
-                        reply: Reply::Silent,
-                    },
-                }
+                self.decided(false, Reply::Silent)
             }
-            Handed::Refused(_) => StopAndWaitDecision {
-                receiver: self,
-                decision: Decision {
-                    deliver: false,
-                    reply: Reply::Silent,
-                },
-            },
+            Handed::Refused(_) => self.decided(false, Reply::Silent),
         }
     }
 
@@ -380,30 +343,21 @@ impl StopAndWaitReceiver {
         let expected = self.expected_seq;
         if n == expected {
             self.expected_seq = expected + 1;
-            return StopAndWaitDecision {
-                receiver: self,
-                decision: Decision {
-                    deliver: true,
-                    reply: Reply::Ack(n),
-                },
-            };
+            return self.decided(true, Reply::Ack(n));
         }
         if n < expected {
             self.duplicates_count = self.duplicates_count + 1;
-            return StopAndWaitDecision {
-                receiver: self,
-                decision: Decision {
-                    deliver: false,
-                    reply: Reply::Ack(n),
-                },
-            };
+            return self.decided(false, Reply::Ack(n));
         }
+        self.decided(false, Reply::Ack(last_number(expected)))
+    }
+
+    fn decided(self, deliver: bool, reply: Reply) -> StopAndWaitDecision
+        ensures { λ r. ⌜ r ≡ decided self deliver reply ⌝ }
+    {
         StopAndWaitDecision {
             receiver: self,
-            decision: Decision {
-                deliver: false,
-                reply: Reply::Ack(last_number(expected)),
-            },
+            decision: Decision { deliver, reply },
         }
     }
 }

@@ -7,6 +7,7 @@ use borrow.Author.Tests.{ltb-false}
 use lib.ListN.{length}
 use Rattle.refusal.specs.declared.Refusal.the-variants.{State, Counts, Full}
 use Rattle.refusal.specs.Order.{check}
+use Rattle.refusal.proofs.Laws.{decided}
 use Rattle.packet.specs.Reading.{payloadOf}
 use Rattle.receiver.specs.Handed.{packetChecks, readPacket}
 use Rattle.receiver.specs.Reply.{answerOf, roomMissing, carriedOut}
@@ -15,7 +16,6 @@ use Rattle.receiver.specs.declared.Handed.{Handed}
 use Rattle.receiver.specs.declared.Reply.{Reply}
 use Rattle.receiver.specs.declared.Reply.the-variants as reply
 use Rattle.receiver.specs.declared.Decision.{Decision}
-use Rattle.arq.proofs.Decided.{decided}
 use Rattle.delivery.specs.Ends.{isReceived}
 use Rattle.tallies.specs.Receivers.{Call, Handling, afterCalls, readingsWith, readings}
 

@@ -12,6 +12,7 @@ use lib.Dec.{ltb, eqb}
 use Rattle.protocol.specs.Runs.{upFrom}
 use Rattle.refusal.specs.declared.Refusal.the-variants.{State, Counts, Full}
 use Rattle.refusal.specs.Order.{check}
+use Rattle.refusal.proofs.Laws.{decided}
 use Rattle.packet.specs.Format.{made}
 use Rattle.packet.specs.declared.Packet.{Packet}
 use Rattle.packet.proofs.Laws.{made-length}
@@ -26,7 +27,6 @@ use Rattle.window.specs.declared.AckDecision.the-variants as decision
 use Rattle.window.specs.declared.SendAnswer.the-variants as sendAnswer
 use Rattle.window.specs.declared.TimeoutAnswer.the-variants as timeoutAnswer
 use Rattle.selective_repeat.specs.Sender.{acknowledgeOne}
-use Rattle.arq.proofs.Decided.{decided}
 use Rattle.arq.proofs.Resending.{datagrams-are}
 use Rattle.delivery.specs.Calls.{datagrams}
 use Rattle.delivery.specs.Ends.{isResent, all, earliest}

@@ -44,27 +44,13 @@ fn main() {
 fn replay(text: &[u8]) {
     let mut at: usize = 0;
     while at < text.len() {
-        let end = line_end(text, at);
+        let end = lines::line_end(text, at);
         case(&text[at..end]);
         at = end;
         if at < text.len() {
             at += 1;
         }
     }
-}
-
-fn line_end(text: &[u8], from: usize) -> usize
-    requires { ⌜ from < length (now text) ⌝ }
-    ensures { λ r. ⌜ (from ≤ r) × (r ≤ length (now (text .entry))) ⌝ }
-{
-    let mut i = from;
-    while i < text.len() {
-        if text[i] == b'\n' {
-            return i;
-        }
-        i += 1;
-    }
-    i
 }
 
 fn case(line: &[u8]) {
@@ -101,7 +87,7 @@ fn word_at(digits: &[u8], at: usize) -> u64 {
     let mut x: u64 = 0;
     let mut i: usize = 0;
     while i < 16 {
-        x = std::num::wrapping_add_u64(shifted(x), digit(byte(digits, at, i)) as u64);
+        x = std::num::wrapping_add_u64(shifted(x), lines::hex_value(byte(digits, at, i)) as u64);
         i += 1;
     }
     x
@@ -119,22 +105,6 @@ fn byte(digits: &[u8], at: usize, i: usize) -> u8 {
 // 16 * x, modulo 2^64.
 fn shifted(x: u64) -> u64 {
     (x % 1152921504606846976) * 16
-}
-
-fn digit(c: u8) -> u8 {
-    if c < 48 {
-        return 0;
-    }
-    if c < 58 {
-        return c - 48;
-    }
-    if c < 97 {
-        return 0;
-    }
-    if c < 103 {
-        return c - 87;
-    }
-    0
 }
 
 fn double(x: u64) -> f64 {

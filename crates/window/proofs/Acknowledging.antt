@@ -1,7 +1,7 @@
 -- The answers of `ackDecision`, one law for each, and what an accepted ACK says of the state.
 use Prim.Native.Nat.{ℕ, _≤_, _<_}
 use mathlib.Core.Path.{_≡_, refl, sym, ap, _∙_}
-use mathlib.Core.Bool.{Bool, true, false, cond, _&&_}
+use mathlib.Core.Bool.{Bool, true, false, cond, and-eq-true-iff}
 use mathlib.Core.List.{List, _∷_}
 use native.Mathlib.Omega.{arith}
 use borrow.Author.Tests.{lt-ltb, le-ltb, le-leb, lt-leb, ltb-true, leb-true}
@@ -27,10 +27,6 @@ pub record Accepted (selective : Bool) (s : SendWindow) (store : List ℕ) (n : 
   pub counts : (s .«total_sent» < 1152921504606846976) × (s .retransmissions < 1152921504606846976)
   pub from : s .«send_base» ≤ n
   pub below : n < s .«next_seq_num»
-
-pub both-true : (a b : Bool) → (a && b) ≡ true → (a ≡ true) × (b ≡ true)
-both-true true b e = (refl, e)
-both-true false b e = let z : _≡_ {A = ℕ} 0 1 = cc in absurd (omega arith)
 
 module _ (selective : Bool) (s : SendWindow) (store raw : List ℕ) where
   pub ack-state : stateBroken selective s store ≡ true → ackDecision selective s store raw ≡ decision.Refused State
@@ -83,7 +79,7 @@ module _ (selective : Bool) (s : SendWindow) (store raw : List ℕ) where
   ack-accepted n e =
       let v = decide-accepted _ decision.Refused (byAck s (readAck raw)) e (λ r g. let z : _≡_ {A = ℕ} 0 1 = cc in omega arith) in
       let none = accepted-none-true _ v in
-      let within = both-true _ _ (by-read n (readAck raw) (sym (on-accepted decision.Refused (byAck s (readAck raw)) v) ∙ e)) in
+      let within = and-eq-true-iff _ _ .0 (by-read n (readAck raw) (sym (on-accepted decision.Refused (byAck s (readAck raw)) v) ∙ e)) in
       record {
         state = sound selective s store (none .0);
         counts = counts-low s (none .1 .0);

@@ -18,8 +18,8 @@ shifted-requires c κs = search needs
 byte-requires : tie.Need-byte-requires Inv-loop μ-loop
 byte-requires c κs = search needs
 
-digit-requires : tie.Need-digit-requires Inv-loop μ-loop
-digit-requires c κs = search needs
+hex-value-requires : tie.Need-hex-value-requires Inv-loop μ-loop
+hex-value-requires c κs = search needs
 
 cast-wrapping-add-u64 : tie.Need-cast-wrapping-add-u64 Inv-loop μ-loop
 cast-wrapping-add-u64 c = search needs
@@ -48,7 +48,7 @@ word-at-spec =
     loop-holds
     shifted-requires
     byte-requires
-    digit-requires
+    hex-value-requires
     cast-wrapping-add-u64
     wrapping-add-u64-requires
     add-i

@@ -1,6 +1,31 @@
+use Prim.Native.Nat.{ℕ}
+use mathlib.Core.Path.{_≡_, refl}
+use mathlib.Core.List.{List, [], _∷_}
+use denote.Enum.Declared.{tagOf}
+use types.Run.{OneOf, miss}
+use Rattle.refusal.specs.Refusal.{none, lineOf}
+use Rattle.refusal.specs.declared.Refusal.{Refusal}
+use Rattle.refusal.specs.declared.Refusal.the-variants.{Short, Kind, Cut, Setup, Full, Long, Numbers, Counts, State, Time, Roll}
+use Rattle.refusal.proofs.Refusal.{the-type}
 use borrow.Author.Needs.{needs}
 use Rattle.refusal.proofs.Refusal.values.Statement.{statement}
 use Rattle.refusal.proofs.Refusal.values.Tie as tie
+
+abbrev others : List ℕ
+others = 3 ∷ 4 ∷ 5 ∷ 6 ∷ 7 ∷ 8 ∷ 9 ∷ 10 ∷ []
+
+names-none : (r : Refusal) → OneOf others (tagOf the-type r) → none ≡ lineOf r .values
+names-none (Short n) k = absurd (miss others 0 tt k)
+names-none (Kind b) k = absurd (miss others 1 tt k)
+names-none (Cut n m) k = absurd (miss others 2 tt k)
+names-none Setup k = refl
+names-none Full k = refl
+names-none Long k = refl
+names-none Numbers k = refl
+names-none Counts k = refl
+names-none State k = refl
+names-none Time k = refl
+names-none Roll k = refl
 
 enum-known-self : tie.Need-enum-known-self
 enum-known-self c = search needs
@@ -17,30 +42,6 @@ enum-known-self-3 c = search needs
 cast-t9 : tie.Need-cast-t9
 cast-t9 c = search needs
 
-enum-told : tie.Need-enum-told
-enum-told c = search needs
-
-enum-told-2 : tie.Need-enum-told-2
-enum-told-2 c = search needs
-
-enum-told-3 : tie.Need-enum-told-3
-enum-told-3 c = search needs
-
-enum-told-4 : tie.Need-enum-told-4
-enum-told-4 c = search needs
-
-enum-told-5 : tie.Need-enum-told-5
-enum-told-5 c = search needs
-
-enum-told-6 : tie.Need-enum-told-6
-enum-told-6 c = search needs
-
-enum-told-7 : tie.Need-enum-told-7
-enum-told-7 c = search needs
-
-enum-told-8 : tie.Need-enum-told-8
-enum-told-8 c = search needs
-
 returns : tie.Need-returns
 returns c = rw (c .before .self .given .1)
 
@@ -51,28 +52,7 @@ returns-3 : tie.Need-returns-3
 returns-3 c = rw (c .before .self3 .given .1)
 
 returns-4 : tie.Need-returns-4
-returns-4 c = rw (c .enum-told .given .1)
-
-returns-5 : tie.Need-returns-5
-returns-5 c = rw (c .enum-told2 .given .1)
-
-returns-6 : tie.Need-returns-6
-returns-6 c = rw (c .enum-told3 .given .1)
-
-returns-7 : tie.Need-returns-7
-returns-7 c = rw (c .enum-told4 .given .1)
-
-returns-8 : tie.Need-returns-8
-returns-8 c = rw (c .enum-told5 .given .1)
-
-returns-9 : tie.Need-returns-9
-returns-9 c = rw (c .enum-told6 .given .1)
-
-returns-10 : tie.Need-returns-10
-returns-10 c = rw (c .enum-told7 .given .1)
-
-returns-11 : tie.Need-returns-11
-returns-11 c = rw (c .enum-told8 .given .1)
+returns-4 c = names-none (c .before .args .self) (c .match .keys4)
 
 pub values-spec : {M : Type 1} → statement M
 values-spec =
@@ -83,22 +63,7 @@ values-spec =
     cast-t8
     enum-known-self-3
     cast-t9
-    enum-told
-    enum-told-2
-    enum-told-3
-    enum-told-4
-    enum-told-5
-    enum-told-6
-    enum-told-7
-    enum-told-8
     returns
     returns-2
     returns-3
-    returns-4
-    returns-5
-    returns-6
-    returns-7
-    returns-8
-    returns-9
-    returns-10
-    returns-11)
+    returns-4)
