@@ -1,5 +1,4 @@
 pub mod Decided
-pub mod Ring
 pub mod Rows
 pub mod Writes
 pub mod Good

@@ -1,7 +1,8 @@
 -- A number that is due lies in the window.
-use Prim.Native.Nat.{ℕ, _≤_, _<_}
-use mathlib.Core.Path.{_≡_}
-use mathlib.Core.Bool.{true}
+use Prim.Native.Nat.{ℕ, _+_, _≤_, _<_}
+use mathlib.Core.Path.{_≡_, refl}
+use mathlib.Core.Bool.{Bool, true, false, cond}
+use native.Mathlib.Omega.{arith}
 use borrow.Author.Tests.{ltb-true, leb-true}
 use lib.Dec.{ltb, leb}
 use Rattle.window.specs.Slots.{Sender}
@@ -13,3 +14,10 @@ pub due-within : (v : Sender) (n : ℕ) → due v n ≡ true → (v .window .«s
 due-within v n e =
     let within = both-true (leb (v .window .«send_base») n) (ltb n (v .window .«next_seq_num»)) (both-true (inWindow (v .window) n) _ e .0) in
     (leb-true _ _ (within .0), ltb-true _ _ (within .1))
+
+-- so does one that is sent again
+pub due-range : (v : Sender) (n : ℕ) → 0 < cond (due v n) 1 0 → (v .window .«send_base» ≤ n) × (n + cond (due v n) 1 0 ≤ v .window .«next_seq_num»)
+due-range v n some = by-due (due v n) refl some where
+  by-due : (b : Bool) → due v n ≡ b → 0 < cond b 1 0 → (v .window .«send_base» ≤ n) × (n + cond b 1 0 ≤ v .window .«next_seq_num»)
+  by-due true e h = let within = due-within v n e in let below = within .1 in (within .0, omega arith)
+  by-due false e h = absurd (omega arith)

@@ -2,3 +2,4 @@ pub mod Write
 pub mod Tests
 pub mod Numbers
 pub mod Laws
+pub mod Ring
