@@ -15,7 +15,7 @@ use Rattle.store.specs.Numbers.{markedRun}
 use Rattle.store.proofs.Laws.{filled-length, filled-mark, run-within}
 use Rattle.window.specs.Slots.{emptyFrom}
 use Rattle.arq.specs.Good.{NoneHeldFrom}
-use Rattle.arq.proofs.Ring.{higher-base}
+use Rattle.store.proofs.Ring.{higher-base}
 use Rattle.arq.proofs.Writes.{filled-same, filled-other, released-kept, released-empty}
 use Rattle.arq.proofs.Good.{zeros-length, zeros-mark}
 use Rattle.arq.proofs.MarkedRuns.{run-at, run-stops}

@@ -18,7 +18,7 @@ use Rattle.store.specs.Numbers.{markedRun, payloadsFrom}
 use Rattle.store.proofs.Laws.{filled-mark, filled-payload}
 use Rattle.window.specs.Slots.{emptyFrom}
 use Rattle.arq.specs.Follows.{heldIn, slotsRead}
-use Rattle.arq.proofs.Ring.{turn, higher-base}
+use Rattle.store.proofs.Ring.{turn, higher-base}
 use Rattle.arq.proofs.Rows.{read-length, read-at, read-is, read-first}
 use Rattle.arq.proofs.Writes.{filled-same, filled-other, released-kept, released-empty}
 use Rattle.arq.proofs.Good.{zeros-mark}

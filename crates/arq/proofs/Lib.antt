@@ -1,4 +1,3 @@
-pub mod Ring
 pub mod Rows
 pub mod Writes
 pub mod Good

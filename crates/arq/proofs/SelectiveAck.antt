@@ -19,7 +19,7 @@ use Rattle.window.specs.State.{outstanding}
 use Rattle.window.specs.Slots.{Sender, sender, slotFor, release}
 use Rattle.arq.specs.Follows.{acknowledgedIn, slotsRead, senderOf}
 use Rattle.arq.specs.Good.{Good}
-use Rattle.arq.proofs.Ring.{set-read, set-read-other}
+use Rattle.store.proofs.Ring.{set-number, set-number-other}
 use Rattle.arq.proofs.Rows.{read-length, read-at, read-is, read-first}
 use Rattle.arq.proofs.Writes.{length-kept, payload-kept}
 use Rattle.arq.proofs.Good.{slotBroken, same-broken, SoundWith, release-good, slot-short}
@@ -56,16 +56,14 @@ module _ (v : Sender) (n : ℕ) (s : SoundWith (λ k. true) v) (from : v .window
 
   same-slot : slotOf (markedSender .store) (v .window .«window_size») (v .window .«send_base») place ≡ set (slotOf (v .store) (v .window .«window_size») (v .window .«send_base») place) 2 2
   same-slot =
-      let w = v .window .«window_size» in
-      let base = v .window .«send_base» in
-      ap (λ (m : ℕ). slotOf (setMark (v .store) (m % w) 2) w base place) (sym number) ∙ set-read (v .store) w base place (s .positive) (s .room) 2 2 (omega arith)
+      let few = s .few in
+      set-number (v .store) (v .window .«window_size») (v .window .«send_base») n (s .positive) (s .room) from (omega arith) 2 2 (omega arith)
 
   other-slot : (i : ℕ) → i < v .window .«window_size» → (i ≡ place → ⊥)
       → slotOf (markedSender .store) (v .window .«window_size») (v .window .«send_base») i ≡ slotOf (v .store) (v .window .«window_size») (v .window .«send_base») i
   other-slot i h ne =
-      let w = v .window .«window_size» in
-      let base = v .window .«send_base» in
-      ap (λ (m : ℕ). slotOf (setMark (v .store) (m % w) 2) w base i) (sym number) ∙ set-read-other (v .store) w base place (s .positive) (s .room) 2 2 (omega arith) i h placed ne
+      let few = s .few in
+      set-number-other (v .store) (v .window .«window_size») (v .window .«send_base») n (s .positive) (s .room) from (omega arith) 2 2 (omega arith) i h ne
 
   marked-mark : (slot : List ℕ) → length slot ≡ 1404 → markOf (set slot 2 2) ≡ 2
   marked-mark slot e = getD-set-same slot 2 2 0 (rw e (omega arith))

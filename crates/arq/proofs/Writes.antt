@@ -11,7 +11,7 @@ use Rattle.store.specs.Slot.{SlotIn, slotAt, lengthOf, markOf, payloadOf, slotB
 use Rattle.store.specs.Sound.{slotOf}
 use Rattle.store.proofs.Laws.{slot-in, put-length, slot-bytes-length, set-same, set-other}
 use Rattle.window.specs.Slots.{emptyFrom}
-use Rattle.arq.proofs.Ring.{turn, higher-base, put-read, put-read-other}
+use Rattle.store.proofs.Ring.{turn, higher-base, put-read, put-read-other}
 
 -- filling: next is base + count
 module _ (store : List ℕ) (w base count : ℕ) (payload : List ℕ) (mark : ℕ) (positive : 0 < w) (room : w * 1404 ≤ length store) (short : length payload ≤ 1400) where

@@ -1,4 +1,5 @@
 pub mod Due
+pub mod Advance
 pub mod States
 pub mod Deciding
 pub mod Carrying

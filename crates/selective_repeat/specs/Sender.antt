@@ -1,7 +1,8 @@
 -- arq/sr.rs, `SelectiveRepeatSender`; document 01, "An ACK for a number already marked, above `send_base`, answers true again", and "Turned away".
-use Prim.Native.Nat.{ℕ, _+_}
+use Prim.Native.Nat.{ℕ, _+_, _-_}
 use mathlib.Core.List.{List, [], _∷_}
 use mathlib.Core.Bool.{Bool, true, cond, not, _&&_}
+use lib.Dec.{eqb}
 use Rattle.refusal.specs.declared.Refusal.the-variants.{State, Counts}
 use Rattle.refusal.specs.Order.{check, verdict, decide}
 use Rattle.store.specs.Slot.{setMark}
@@ -9,7 +10,8 @@ use Rattle.store.specs.Numbers.{marked, markedRun, markedCount}
 use Rattle.window.specs.State.{outstanding, stateBroken, countsBroken}
 use Rattle.window.specs.Slots.{Sender, sender, slotFor, release}
 use Rattle.window.specs.Acknowledgement.{inWindow, ackDecision, Acknowledging, byDecision}
-use Rattle.window.specs.Resending.{Resending, resend}
+use Rattle.window.specs.Resending.{Resending, resend, timeoutDecision}
+use Rattle.window.specs.declared.TimeoutDecision.{TimeoutDecision}
 use Rattle.window.specs.declared.WindowCount.{WindowCount}
 use Rattle.window.specs.declared.WindowCount.the-variants as windowCount
 use Rattle.window.specs.declared.MakeAnswer.{MakeAnswer}
@@ -36,6 +38,11 @@ releaseRun v = release v (v .window .«send_base» + acknowledgedRun v)
 unfoldable pub acknowledgeOne : Sender → ℕ → Sender
 acknowledgeOne v n = releaseRun (markAcknowledged v n)
 
+-- decided before anything is written: how far base moves when number n is acknowledged, past n and those acknowledged after it if n is at base
+abbrev pub advance : Sender → ℕ → ℕ
+advance v n =
+    cond (eqb n (v .window .«send_base»)) (1 + markedRun 2 (v .store) (v .window .«window_size») (v .window .«send_base» + 1) (outstanding (v .window) - 1)) 0
+
 -- an accepted ACK acknowledges its number alone
 abbrev pub handleAck : Sender → List ℕ → Acknowledging Sender
 handleAck v raw = byDecision (ackDecision true (v .window) (v .store) raw) v (acknowledgeOne v)
@@ -47,6 +54,10 @@ due v n = inWindow (v .window) n && not (marked 2 (v .store) (v .window .«windo
 -- a timeout sends such a number again
 abbrev pub handleTimeout : Sender → ℕ → List ℕ → Resending Sender
 handleTimeout v n out = resend (stateBroken true (v .window) (v .store)) (countsBroken (v .window)) v n (cond (due v n) 1 0) out
+
+-- decided before anything is written
+abbrev pub decideTimeout : Sender → ℕ → TimeoutDecision
+decideTimeout v n = timeoutDecision (stateBroken true (v .window) (v .store)) (countsBroken (v .window)) n (cond (due v n) 1 0)
 
 -- how many numbers are outstanding and not acknowledged
 unfoldable pub inFlightCount : Sender → WindowCount

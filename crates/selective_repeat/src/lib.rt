@@ -3,15 +3,15 @@ ghost use mathlib.Core.Path.{_≡_};
 ghost use Prim.Native.Nat.{_+_, _-_, _*_, _≤_, _<_};
 ghost use mathlib.Core.Bool.{true, false};
 ghost use lib.ListN.{length};
-ghost use Rattle.window.specs.State.{outstanding};
+ghost use Rattle.window.specs.State as windowState;
 ghost use Rattle.window.specs.Slots.{sender};
 ghost use Rattle.window.specs.Sending.{making, makeWindow, sending, sendChunk};
-ghost use Rattle.window.specs.Acknowledgement.{acknowledging};
+ghost use Rattle.window.specs.Acknowledgement.{inWindow, acknowledging};
 ghost use Rattle.window.specs.Resending.{resending};
 ghost use Rattle.window.specs.Outstanding.{canSend};
 ghost use Rattle.receiver.specs.Reply.{replied, carriedOut, RoomFor};
 ghost use Rattle.receiver.specs.Receive.{receiving};
-ghost use Rattle.selective_repeat.specs.Sender.{madeWindow, acknowledgeOne, handleAck, due, handleTimeout, inFlightCount};
+ghost use Rattle.selective_repeat.specs.Sender.{madeWindow, advance, acknowledgeOne, handleAck, due, decideTimeout, handleTimeout, inFlightCount};
 ghost use Rattle.selective_repeat.specs.Receiver.{receiver, makeReceiver, stateBroken, receivingBroken, countersBroken, released, decided, dataDecision, decision, deliveredBytes, changedSlots, Ready, bufferedCount, handlePacket};
 use packet::Packet;
 use receiver::Decision;
@@ -25,6 +25,7 @@ use window::MakeAnswer;
 use window::SendAnswer;
 use window::SendWindow;
 use window::TimeoutAnswer;
+use window::TimeoutDecision;
 use window::WindowCount;
 use window::WindowTest;
 
@@ -85,7 +86,8 @@ impl SelectiveRepeatSender {
         let window = self.window;
         match window.decide_ack(store, true, raw) {
             AckDecision::Accept(n) => {
-                let window = acknowledge_one_unchecked(window, store, n);
+                let moved = advance_unchecked(window, store, n);
+                let window = acknowledge_one_unchecked(window, store, n, moved);
                 SelectiveRepeatAcknowledged {
                     sender: SelectiveRepeatSender { window },
                     answer: AckAnswer::Accepted,
@@ -112,30 +114,44 @@ impl SelectiveRepeatSender {
         ensures { λ r. ⌜ resending (r .answer) (sender (r .sender .window) (now (store .exit))) (now (out .exit)) ≡ handleTimeout (sender (self .window) (now (store .entry))) «seq_num» (now (out .entry)) ⌝ }
     {
         let window = self.window;
-        if window.state_broken(store, true) {
-            return SelectiveRepeatTimedOut {
-                sender: self,
-                answer: TimeoutAnswer::Refused(Refusal::State),
-            };
-        }
-        if window.counts_broken() {
-            return SelectiveRepeatTimedOut {
-                sender: self,
-                answer: TimeoutAnswer::Refused(Refusal::Counts),
-            };
-        }
-        if !due_unchecked(window, store, seq_num) {
-            return SelectiveRepeatTimedOut {
+        match self.decide_timeout(store, seq_num) {
+            TimeoutDecision::Resend { first, count } => {
+                let result = window.resend_unchecked(store, first, count, out);
+                let window = result.window;
+                let answer = result.answer;
+                SelectiveRepeatTimedOut {
+                    sender: SelectiveRepeatSender { window },
+                    answer,
+                }
+            }
+            TimeoutDecision::Nothing => SelectiveRepeatTimedOut {
                 sender: self,
                 answer: TimeoutAnswer::Nothing,
-            };
+            },
+            TimeoutDecision::Refused(r) => SelectiveRepeatTimedOut {
+                sender: self,
+                answer: TimeoutAnswer::Refused(r),
+            },
         }
-        let result = window.resend_unchecked(store, seq_num, 1, out);
-        let window = result.window;
-        let answer = result.answer;
-        SelectiveRepeatTimedOut {
-            sender: SelectiveRepeatSender { window },
-            answer,
+    }
+
+    // What a number's timeout does.
+    pub fn decide_timeout(self, store: &[u8], seq_num: u32) -> TimeoutDecision
+        ensures { λ r. ⌜ r ≡ decideTimeout (sender (self .window) (now (store .entry))) «seq_num» ⌝ }
+    {
+        let window = self.window;
+        if window.state_broken(store, true) {
+            return TimeoutDecision::Refused(Refusal::State);
+        }
+        if window.counts_broken() {
+            return TimeoutDecision::Refused(Refusal::Counts);
+        }
+        if !due_unchecked(window, store, seq_num) {
+            return TimeoutDecision::Nothing;
+        }
+        TimeoutDecision::Resend {
+            first: seq_num,
+            count: 1,
         }
     }
 
@@ -168,18 +184,32 @@ impl SelectiveRepeatSender {
     }
 }
 
-// Marks a number as acknowledged, and moves send_base past all that are without a gap.
-fn acknowledge_one_unchecked(window: SendWindow, store: &mut [u8], n: u32) -> SendWindow
+// How far send_base moves when an outstanding number is acknowledged: at send_base past it and those acknowledged after it.
+fn advance_unchecked(window: SendWindow, store: &[u8], n: u32) -> u32
     requires { ⌜ (0 < window .«window_size») × (window .«window_size» * 1404 ≤ length (now store)) ⌝ }
-    requires { ⌜ (window .«send_base» ≤ window .«next_seq_num») × (outstanding window ≤ 32) ⌝ }
+    requires { ⌜ (window .«send_base» < window .«next_seq_num») × (windowState.outstanding window ≤ 32) ⌝ }
+    ensures { λ r. ⌜ r ≡ advance (sender window (now (store .entry))) n ⌝ }
+{
+    let base = window.send_base;
+    if n != base {
+        return 0;
+    }
+    let others = (window.next_seq_num - base - 1) as usize;
+    let run = store::marked_run_unchecked(store, window.window_size, base + 1, others, 2);
+    1 + run as u32
+}
+
+// Marks an outstanding number as acknowledged, or releases those that send_base moves past.
+fn acknowledge_one_unchecked(window: SendWindow, store: &mut [u8], n: u32, moved: u32) -> SendWindow
+    requires { ⌜ (windowState.stateBroken true window (now store) ≡ false) × (inWindow window n ≡ true) ⌝ }
+    requires { ⌜ moved ≡ advance (sender window (now store)) n ⌝ }
     ensures { λ r. ⌜ sender r (now (store .exit)) ≡ acknowledgeOne (sender window (now (store .entry))) n ⌝ }
 {
-    let size = window.window_size;
-    let base = window.send_base;
-    store::set_mark_unchecked(store, n as usize % size, 2);
-    let count = (window.next_seq_num - base) as usize;
-    let run = store::marked_run_unchecked(store, size, base, count, 2);
-    window.release_unchecked(store, base + run as u32)
+    if moved == 0 {
+        store::set_mark_unchecked(store, n as usize % window.window_size, 2);
+        return window;
+    }
+    window.release_unchecked(store, window.send_base + moved)
 }
 
 // Whether a number is outstanding and not acknowledged.

@@ -7,15 +7,14 @@ use native.Mathlib.Omega.{arith}
 use borrow.Author.Tests.{ltb-true, ltb-false, le-ltb, le-leb, lt-leb}
 use lib.Dec.{ltb, leb}
 use Rattle.refusal.specs.Clauses.{anyOf}
-use Rattle.window.specs.State.{windowBroken, outstanding, numbersBroken}
+use Rattle.window.specs.State.{windowBroken, numbersBroken}
 use Rattle.window.specs.Slots.{Sender, sender, release}
 use Rattle.window.specs.Sending.{Sending, sending}
-use Rattle.window.specs.Resending.{Resending, resending, resendOutstanding}
+use Rattle.window.specs.Resending.{Resending, resending}
 use Rattle.window.specs.declared.SendWindow.{SendWindow}
 use Rattle.window.specs.declared.SendAnswer.{SendAnswer}
 use Rattle.window.specs.declared.TimeoutAnswer.{TimeoutAnswer}
-use Rattle.window.specs.declared.TimeoutAnswer.the-variants as timeoutAnswer
-use Rattle.window.proofs.Laws.{or-false-right, resent-some}
+use Rattle.window.proofs.Laws.{or-false-right}
 use Rattle.stop_and_wait.specs.Sender.{state, windowOf, End, endOf, windowEnd, bySend, sent, acknowledged, retriesLeft, byTimeout, timedOut}
 use Rattle.stop_and_wait.specs.declared.StopAndWaitSender.{StopAndWaitSender}
 
@@ -62,9 +61,5 @@ by-retries : (b : Bool) → 0 < cond {A = ℕ} b 1 0 → b ≡ true
 by-retries true h = refl
 by-retries false h = absurd (omega arith)
 
-pub retry-left : (s : StopAndWaitSender) (v : Sender) (most n : ℕ) (out : List ℕ) {w : Sender} {last : List ℕ} {a : TimeoutAnswer} → most ≡ retriesLeft s → resending a w last ≡ resendOutstanding false v most out
-    → a ≡ timeoutAnswer.Resent n → s .«current_retries» < s .«max_retries»
-retry-left s v most n out e f g =
-    let some = resent-some _ _ v _ (min most (outstanding (v .window))) n out (sym g ∙ ap (λ (t : Resending Sender). t .answer) f) in
-    let left : 0 < most = omega arith in
-    ltb-true _ _ (by-retries _ (rw e at left))
+pub retry-left : (s : StopAndWaitSender) (k : ℕ) → 0 < min (retriesLeft s) k → s .«current_retries» < s .«max_retries»
+retry-left s k h = let left : 0 < retriesLeft s = omega arith in ltb-true _ _ (by-retries _ left)

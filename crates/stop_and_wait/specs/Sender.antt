@@ -10,12 +10,13 @@ use Rattle.window.specs.Slots.{Sender, sender, fresh, release}
 use Rattle.window.specs.Outstanding.{unlessBroken}
 use Rattle.window.specs.Sending as window
 use Rattle.window.specs.Acknowledgement.{ackDecision, Acknowledging, byDecision}
-use Rattle.window.specs.Resending.{Resending, resending, resendOutstanding}
+use Rattle.window.specs.Resending.{Resending, resending, resendOutstanding, outstandingDecision}
 use Rattle.window.specs.declared.SendWindow.{SendWindow}
 use Rattle.window.specs.declared.SendAnswer.{SendAnswer}
 use Rattle.window.specs.declared.SendAnswer.the-variants as sendAnswer
 use Rattle.window.specs.declared.TimeoutAnswer.{TimeoutAnswer}
 use Rattle.window.specs.declared.TimeoutAnswer.the-variants as timeoutAnswer
+use Rattle.window.specs.declared.TimeoutDecision.{TimeoutDecision}
 use Rattle.window.specs.declared.WindowTest.{WindowTest}
 use Rattle.window.specs.declared.WindowTest.the-variants as windowTest
 use Rattle.stop_and_wait.specs.declared.StopAndWaitSender.{StopAndWaitSender}
@@ -97,3 +98,7 @@ timedOut s t = resending (t .answer) (endOf (byTimeout s (t .answer) (t .after .
 
 abbrev pub handleTimeout : End → List ℕ → Resending End
 handleTimeout v out = timedOut (v .sender) (resendOutstanding false (windowEnd v) (retriesLeft (v .sender)) out)
+
+-- decided before anything is written
+abbrev pub decideTimeout : End → TimeoutDecision
+decideTimeout v = outstandingDecision false (windowOf (v .sender)) (v .store) (retriesLeft (v .sender))

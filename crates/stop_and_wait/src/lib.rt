@@ -9,7 +9,7 @@ ghost use Rattle.window.specs.Acknowledgement.{acknowledging};
 ghost use Rattle.window.specs.Resending.{resending};
 ghost use Rattle.window.specs.declared.TimeoutAnswer.the-variants as timeoutAnswer;
 ghost use Rattle.window.specs.declared.WindowTest.the-variants as windowTest;
-ghost use Rattle.stop_and_wait.specs.Sender.{windowOf, endOf, newSender, canSend, isWaitingForAck, bySend, sendChunk, handleAck, retriesLeft, byTimeout, handleTimeout};
+ghost use Rattle.stop_and_wait.specs.Sender.{windowOf, endOf, newSender, canSend, isWaitingForAck, bySend, sendChunk, handleAck, retriesLeft, byTimeout, decideTimeout, handleTimeout};
 ghost use Rattle.stop_and_wait.specs.Receiver.{newReceiver, decided, dataDecision, decision, handlePacket};
 ghost use Rattle.receiver.specs.Receive.{receiving};
 ghost use Rattle.receiver.specs.State.{countsBroken};
@@ -24,6 +24,7 @@ use window::AckDecision;
 use window::SendAnswer;
 use window::SendWindow;
 use window::TimeoutAnswer;
+use window::TimeoutDecision;
 use window::WindowTest;
 
 pub struct StopAndWaitSender {
@@ -146,21 +147,37 @@ impl StopAndWaitSender {
     pub fn handle_timeout(self, store: &mut [u8], out: &mut [u8]) -> StopAndWaitTimedOut
         ensures { λ r. ⌜ resending (r .answer) (endOf (r .sender) (now (store .exit))) (now (out .exit)) ≡ handleTimeout (endOf self (now (store .entry))) (now (out .entry)) ⌝ }
     {
-        if self.numbers_broken() {
-            return StopAndWaitTimedOut {
+        match self.decide_timeout(store) {
+            TimeoutDecision::Resend { first, count } => {
+                let window = self.window_unchecked();
+                let result = window.resend_unchecked(store, first, count, out);
+                let answer = result.answer;
+                let window = result.window;
+                StopAndWaitTimedOut {
+                    sender: self.after_timeout_unchecked(answer, window),
+                    answer,
+                }
+            }
+            TimeoutDecision::Nothing => StopAndWaitTimedOut {
                 sender: self,
-                answer: TimeoutAnswer::Refused(Refusal::State),
-            };
+                answer: TimeoutAnswer::Nothing,
+            },
+            TimeoutDecision::Refused(r) => StopAndWaitTimedOut {
+                sender: self,
+                answer: TimeoutAnswer::Refused(r),
+            },
+        }
+    }
+
+    // What a timeout does.
+    pub fn decide_timeout(self, store: &[u8]) -> TimeoutDecision
+        ensures { λ r. ⌜ r ≡ decideTimeout (endOf self (now (store .entry))) ⌝ }
+    {
+        if self.numbers_broken() {
+            return TimeoutDecision::Refused(Refusal::State);
         }
         let window = self.window_unchecked();
-        let most = self.retries_left();
-        let result = window.resend_outstanding(false, store, most, out);
-        let answer = result.answer;
-        let window = result.window;
-        StopAndWaitTimedOut {
-            sender: self.after_timeout_unchecked(answer, window),
-            answer,
-        }
+        window.decide_timeout(store, false, self.retries_left())
     }
 
     fn unless_broken(self, answer: bool) -> WindowTest

@@ -1,4 +1,6 @@
 pub mod Write
 pub mod Tests
 pub mod Numbers
+pub mod Scans
 pub mod Laws
+pub mod Ring

@@ -1,3 +1,4 @@
 pub mod Slot
 pub mod Sound
 pub mod Numbers
+pub mod Scans

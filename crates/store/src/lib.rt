@@ -1,11 +1,11 @@
 // The lent store of a protocol end: slots of 1,404 bytes, end to end.
 ghost use mathlib.Core.Path.{_≡_};
-ghost use Prim.Native.Nat.{_+_, _*_, _%_, _≤_, _<_};
+ghost use Prim.Native.Nat.{_+_, _-_, _*_, _%_, _≤_, _<_, min};
 ghost use lib.ListN.{length, replicate, drop};
-ghost use lib.Dec.{ltb};
-ghost use mathlib.Core.Bool.{_&&_};
+ghost use mathlib.Core.Bool.{cond};
 ghost use mathlib.Core.List.{_++_};
-ghost use Rattle.store.specs.Sound.{senderSlotBroken, receiverSlotBroken, senderSlotsBroken, receiverSlotsBroken};
+ghost use Rattle.store.specs.Sound.{senderSlotsBroken, receiverSlotsBroken};
+ghost use Rattle.store.specs.Scans.{slotOutside, slotsOutside, partBroken};
 ghost use Rattle.store.specs.Numbers.{markedRun, markedCount, payloadsFrom, writtenAt, PayloadsIn};
 ghost use Rattle.store.specs.Slot.{SlotIn, headBytes, slotBytes, slotAt, lengthOf, markOf, flagsOf, payloadOf, fillSlot, emptySlot, setMark, setFlags};
 
@@ -96,22 +96,12 @@ pub fn sender_slots_broken_unchecked(
     requires { ⌜ (0 < window) × (window * 1404 ≤ length (now store)) ⌝ }
     ensures { λ r. ⌜ r ≡ senderSlotsBroken selective (now (store .entry)) window base count ⌝ }
 {
-    let mut k: usize = 0;
-    let mut slot = base as usize % window;
-    while k < window {
-        let may = may_be_acknowledged(selective, k);
-        if sender_slot_broken(
-            k < count,
-            may,
-            length_unchecked(store, slot),
-            mark_unchecked(store, slot),
-        ) {
-            return true;
-        }
-        slot = next_slot_unchecked(slot, window);
-        k += 1;
-    }
-    false
+    let first = base as usize % window;
+    let acknowledged = mark_unchecked(store, first) == 2;
+    let behind = count - lower(count, window - first);
+    let to_the_end = sender_part_broken_unchecked(store, first, window, count, selective);
+    let from_the_start = sender_part_broken_unchecked(store, 0, first, behind, selective);
+    acknowledged | to_the_end | from_the_start
 }
 
 // Whether a receiver's slots break document 01's line 9.
@@ -119,20 +109,11 @@ pub fn receiver_slots_broken_unchecked(store: &[u8], window: usize, base: u32) -
     requires { ⌜ (0 < window) × (window * 1404 ≤ length (now store)) ⌝ }
     ensures { λ r. ⌜ r ≡ receiverSlotsBroken (now (store .entry)) window base ⌝ }
 {
-    let mut k: usize = 0;
-    let mut slot = base as usize % window;
-    while k < window {
-        if receiver_slot_broken(
-            k == 0,
-            length_unchecked(store, slot),
-            mark_unchecked(store, slot),
-        ) {
-            return true;
-        }
-        slot = next_slot_unchecked(slot, window);
-        k += 1;
-    }
-    false
+    let first = base as usize % window;
+    let filled = mark_unchecked(store, first) != 0;
+    let to_the_end = slots_outside_unchecked(store, first, window, 0, 1);
+    let from_the_start = slots_outside_unchecked(store, 0, first, 0, 1);
+    filled | to_the_end | from_the_start
 }
 
 // How many of count numbers from first on have this mark, up to the first that has another.
@@ -239,46 +220,66 @@ fn next_slot_unchecked(slot: usize, window: usize) -> usize
     next
 }
 
-fn may_be_acknowledged(selective: bool, k: usize) -> bool
-    ensures { λ r. ⌜ r ≡ (selective && ltb 0 k) ⌝ }
+// Whether of the slots before `to` from `from` on the first count, outstanding, or the others, empty, break line 9; mark 2 at base is
+// left aside.
+fn sender_part_broken_unchecked(
+    store: &[u8],
+    from: usize,
+    to: usize,
+    count: usize,
+    selective: bool,
+) -> bool
+    requires { ⌜ (from ≤ to) × (to * 1404 ≤ length (now store)) ⌝ }
+    ensures { λ r. ⌜ r ≡ partBroken selective (now (store .entry)) from (to - from) count ⌝ }
+{
+    let middle = from + lower(count, to - from);
+    let high = highest_mark(selective);
+    let outstanding = slots_outside_unchecked(store, from, middle, 1, high);
+    let others = slots_outside_unchecked(store, middle, to, 0, 0);
+    outstanding | others
+}
+
+// The highest mark of an outstanding number.
+fn highest_mark(selective: bool) -> u8
+    ensures { λ r. ⌜ r ≡ cond selective 2 1 ⌝ }
 {
     if selective {
-        return 0 < k;
+        return 2;
     }
-    false
+    1
 }
 
-fn sender_slot_broken(outstanding: bool, may: bool, length: u16, mark: u8) -> bool
-    ensures { λ r. ⌜ r ≡ senderSlotBroken outstanding may length mark ⌝ }
+// Whether one of the slots before `to` from `from` on has a length out of bounds, or a mark below low or above high. No exit in the loop: it is
+// faster so.
+fn slots_outside_unchecked(store: &[u8], from: usize, to: usize, low: u8, high: u8) -> bool
+    requires { ⌜ (from ≤ to) × (to * 1404 ≤ length (now store)) ⌝ }
+    ensures { λ r. ⌜ r ≡ slotsOutside low high (now (store .entry)) from (to - from) ⌝ }
 {
-    if 1400 < length {
-        return true;
+    let mut outside = false;
+    let mut slot = from;
+    while slot < to {
+        outside = slot_outside_unchecked(store, slot, low, high) | outside;
+        slot += 1;
     }
-    if 2 < mark {
-        return true;
-    }
-    if !outstanding {
-        return mark != 0;
-    }
-    if mark == 2 {
-        return !may;
-    }
-    mark == 0
+    outside
 }
 
-fn receiver_slot_broken(is_base: bool, length: u16, mark: u8) -> bool
-    ensures { λ r. ⌜ r ≡ receiverSlotBroken «is_base» length mark ⌝ }
+fn slot_outside_unchecked(store: &[u8], slot: usize, low: u8, high: u8) -> bool
+    requires { ⌜ SlotIn (now store) slot ⌝ }
+    ensures { λ r. ⌜ r ≡ slotOutside low high (slotAt (now (store .entry)) slot) ⌝ }
 {
-    if 1400 < length {
-        return true;
+    let length = length_unchecked(store, slot);
+    let mark = mark_unchecked(store, slot);
+    (1400 < length) | (mark < low) | (high < mark)
+}
+
+fn lower(a: usize, b: usize) -> usize
+    ensures { λ r. ⌜ r ≡ min a b ⌝ }
+{
+    if a < b {
+        return a;
     }
-    if 2 < mark {
-        return true;
-    }
-    if is_base {
-        return mark != 0;
-    }
-    mark == 2
+    b
 }
 
 fn write_slot(slot: &mut [u8], payload: &[u8], mark: u8, flags: u8)

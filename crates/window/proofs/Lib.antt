@@ -4,4 +4,5 @@ pub mod Handed
 pub mod Outstanding
 pub mod Acknowledging
 pub mod Resending
+pub mod Timeouts
 pub mod Laws

@@ -10,14 +10,14 @@ use lib.ListN.{length, getD, set, take, drop, length-append, length-drop, length
 use lib.Seq.{getD-set-other, length-take-le, take-all, take-at, drop-append-add, drop-drop}
 use Rattle.refusal.specs.declared.Refusal.{Refusal}
 use Rattle.refusal.specs.declared.Refusal.the-variants.{State, Counts, Full}
-use Rattle.refusal.specs.Order.{Verdict, check, verdict, accepted, refused, order, orElse, numbered, firstOf, decide}
+use Rattle.refusal.specs.Order.{check, verdict, accepted, order, orElse, numbered, firstOf, decide}
 use Rattle.refusal.proofs.Laws.{none-true-accepted, on-accepted}
 use Rattle.store.specs.Slot.{slotAt, lengthOf, flagsOf}
 use Rattle.store.proofs.Laws.{slot-byte, slot-in}
 use Rattle.octets.proofs.Laws.{tail-written}
 use Rattle.packet.proofs.Laws.{made-length}
 use Rattle.window.specs.Slots.{Sender, slotFor, packetFor, markRetransmitted, datagramFor}
-use Rattle.window.specs.Resending.{datagramsFrom, markFrom, sentAgain, Resending, resending, resend, Resendable}
+use Rattle.window.specs.Resending.{datagramsFrom, markFrom, sentAgain, resending, resend, Resendable}
 use Rattle.window.specs.declared.SendWindow.{SendWindow}
 use Rattle.window.specs.declared.TimeoutAnswer.the-variants as timeoutAnswer
 use Rattle.window.proofs.Sound.{Sound, slot-low}
@@ -192,10 +192,6 @@ module _ (broken counts : Bool) (v : Sender) (n k : ℕ) (out : List ℕ) where
   unfolding resend verdict firstOf numbered orElse order decide
   resend-counts e f = rw (e, f)
 
-  -- state and counters checked beforehand
-  pub resend-checked : {r : Resending Sender} → broken ≡ false → counts ≡ false → r ≡ resend false false v n k out → r ≡ resend broken counts v n k out
-  resend-checked e f q = rw (e, f) q
-
   pub resend-full : broken ≡ false → counts ≡ false → length out < length (sentAgain v n k) → resending (timeoutAnswer.Refused Full) v out ≡ resend broken counts v n k out
   unfolding resend verdict firstOf numbered orElse order decide
   resend-full e f h = rw (e, f, lt-ltb _ _ h)
@@ -221,12 +217,3 @@ module _ (broken counts : Bool) (v : Sender) (n k : ℕ) (out : List ℕ) where
 pub resend-count : (broken counts : Bool) (v : Sender) (n k m : ℕ) (out : List ℕ) → (broken ≡ false → k ≡ m) → resend broken counts v n k out ≡ resend broken counts v n m out
 resend-count true counts v n k m out h = sym (resend-state true counts v n k out refl) ∙ resend-state true counts v n m out refl
 resend-count false counts v n k m out h = ap (λ (j : ℕ). resend false counts v n j out) (h refl)
-
--- something was sent again, so there was something to send
-pub resent-some : (broken counts : Bool) (v : Sender) (n k total : ℕ) (out : List ℕ) → timeoutAnswer.Resent total ≡ resend broken counts v n k out .answer → 0 < k
-unfolding resend decide
-resent-some broken counts v n zero total out e = by-verdict (verdict (check broken State ∷ check counts Counts ∷ check (ltb (length out) (length (sentAgain v n 0))) Full ∷ [])) e where
-  by-verdict : (d : Verdict) → timeoutAnswer.Resent total ≡ decide d (λ r. resending (timeoutAnswer.Refused r) v out) (resending timeoutAnswer.Nothing v out) .answer → 0 < 0
-  by-verdict accepted f = let z : _≡_ {A = ℕ} 0 1 = cc in omega arith
-  by-verdict (refused r) f = let z : _≡_ {A = ℕ} 0 1 = cc in omega arith
-resent-some broken counts v n (suc k) total out e = omega arith

@@ -1,7 +1,7 @@
 -- Document 01, "Turned away" 9, 8, 5, and arq/*.rs, `handle_timeout`: numbers sent again.
 use Prim.Native.Nat.{ℕ, zero, suc, _+_, _*_, _≤_, _<_, min}
 use mathlib.Core.List.{List, [], _∷_, _++_}
-use mathlib.Core.Bool.{Bool, cond}
+use mathlib.Core.Bool.{Bool, false, cond}
 use lib.ListN.{length, drop}
 use lib.Dec.{ltb, eqb}
 use Rattle.refusal.specs.declared.Refusal.the-variants.{State, Counts, Full}
@@ -12,6 +12,8 @@ use Rattle.window.specs.Slots.{Sender, slotFor, markRetransmitted, datag
 use Rattle.window.specs.declared.SendWindow.{SendWindow}
 use Rattle.window.specs.declared.TimeoutAnswer.{TimeoutAnswer}
 use Rattle.window.specs.declared.TimeoutAnswer.the-variants as timeoutAnswer
+use Rattle.window.specs.declared.TimeoutDecision.{TimeoutDecision}
+use Rattle.window.specs.declared.TimeoutDecision.the-variants as decision
 
 -- the datagrams of k numbers from n on, one after another
 unfoldable pub datagramsFrom : Sender → ℕ → ℕ → List ℕ
@@ -48,6 +50,20 @@ resend stateBroken countsBroken v n k out =
 abbrev pub resendOutstanding : Bool → Sender → ℕ → List ℕ → Resending Sender
 resendOutstanding selective v most out =
     resend (stateBroken selective (v .window) (v .store)) (countsBroken (v .window)) v (v .window .«send_base») (min most (outstanding (v .window))) out
+
+-- which numbers that is, decided before anything is written and whatever the room
+unfoldable pub timeoutDecision : Bool → Bool → ℕ → ℕ → TimeoutDecision
+timeoutDecision stateBroken countsBroken n k =
+    decide (verdict (check stateBroken State ∷ check countsBroken Counts ∷ [])) decision.Refused (cond (eqb k 0) decision.Nothing (decision.Resend n k))
+
+abbrev pub outstandingDecision : Bool → SendWindow → List ℕ → ℕ → TimeoutDecision
+outstandingDecision selective s store most = timeoutDecision (stateBroken selective s store) (countsBroken s) (s .«send_base») (min most (outstanding s))
+
+-- such a decision carried out
+unfoldable pub byTimeoutDecision : TimeoutDecision → Sender → List ℕ → Resending Sender
+byTimeoutDecision (decision.Resend n k) v out = resend false false v n k out
+byTimeoutDecision decision.Nothing v out = resending timeoutAnswer.Nothing v out
+byTimeoutDecision (decision.Refused r) v out = resending (timeoutAnswer.Refused r) v out
 
 -- what the functions below the entry points ask: k numbers from n on have slots with lengths in bounds
 pub record Resendable (s : SendWindow) (store : List ℕ) (n k : ℕ) : Type 0 where

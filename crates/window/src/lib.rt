@@ -7,7 +7,7 @@ ghost use mathlib.Core.List.{_++_};
 ghost use Rattle.window.specs.Acknowledgement.{readAck, ackDecision};
 ghost use Rattle.window.specs.Sending.{making, makeWindow, sending, sendChunk};
 ghost use Rattle.window.specs.Slots.{sender, fresh, slotFor, hold, firstDatagram, markRetransmitted, datagramFor, emptyFrom, release};
-ghost use Rattle.window.specs.Resending.{datagramsFrom, markFrom, resending, resend, resendOutstanding, Resendable};
+ghost use Rattle.window.specs.Resending.{datagramsFrom, markFrom, resending, resend, resendOutstanding, outstandingDecision, Resendable};
 ghost use Rattle.store.specs.Slot.{slotAt, lengthOf};
 ghost use Rattle.window.specs.State.{stateBroken, numbersBroken, countsBroken, windowBroken, storeShort};
 ghost use Rattle.window.specs.Outstanding.{inFlightCount, canSend, hasUnackedPackets};
@@ -73,6 +73,13 @@ pub enum AckAnswer {
 // How many bytes of datagrams were written.
 pub enum TimeoutAnswer {
     Resent(usize),
+    Nothing,
+    Refused(Refusal),
+}
+
+// Which numbers a timeout sends again, decided before anything is written.
+pub enum TimeoutDecision {
+    Resend { first: u32, count: u32 },
     Nothing,
     Refused(Refusal),
 }
@@ -200,20 +207,19 @@ impl SendWindow {
     ) -> TimeoutResult
         ensures { λ r. ⌜ resending (r .answer) (sender (r .window) (now (store .exit))) (now (out .exit)) ≡ resendOutstanding selective (sender self (now (store .entry))) most (now (out .entry)) ⌝ }
     {
-        if self.state_broken(store, selective) {
-            return TimeoutResult {
+        match self.decide_timeout(store, selective, most) {
+            TimeoutDecision::Resend { first, count } => {
+                self.resend_unchecked(store, first, count, out)
+            }
+            TimeoutDecision::Nothing => TimeoutResult {
                 window: self,
-                answer: TimeoutAnswer::Refused(Refusal::State),
-            };
-        }
-        if self.counts_broken() {
-            return TimeoutResult {
+                answer: TimeoutAnswer::Nothing,
+            },
+            TimeoutDecision::Refused(r) => TimeoutResult {
                 window: self,
-                answer: TimeoutAnswer::Refused(Refusal::Counts),
-            };
+                answer: TimeoutAnswer::Refused(r),
+            },
         }
-        let count = lower(most, self.next_seq_num - self.send_base);
-        self.resend_unchecked(store, self.send_base, count, out)
     }
 
     pub fn new_unchecked(window: usize, store: &mut [u8]) -> SendWindow
@@ -405,6 +411,26 @@ impl SendWindow {
                 }
                 AckDecision::Accept(n)
             }
+        }
+    }
+
+    // What a timeout of the lowest outstanding numbers does, at most so many.
+    pub fn decide_timeout(self, store: &[u8], selective: bool, most: u32) -> TimeoutDecision
+        ensures { λ r. ⌜ r ≡ outstandingDecision selective self (now (store .entry)) most ⌝ }
+    {
+        if self.state_broken(store, selective) {
+            return TimeoutDecision::Refused(Refusal::State);
+        }
+        if self.counts_broken() {
+            return TimeoutDecision::Refused(Refusal::Counts);
+        }
+        let count = lower(most, self.next_seq_num - self.send_base);
+        if count == 0 {
+            return TimeoutDecision::Nothing;
+        }
+        TimeoutDecision::Resend {
+            first: self.send_base,
+            count,
         }
     }
 

@@ -1,53 +1,55 @@
-use mathlib.Core.Path.{_∙_}
-use Prim.Native.Nat.{_-_}
+use Prim.Native.Nat.{ℕ, _+_, _-_, _≤_}
+use mathlib.Core.Path.{_≡_, ap, sym, _∙_}
+use mathlib.Core.Bool.{true}
+use mathlib.Core.List.{List}
 use native.Mathlib.Omega.{arith}
-use Rattle.selective_repeat.specs.Sender.{acknowledgeOne}
-use Rattle.store.proofs.Laws.{slot-in, run-within}
+use Rattle.store.proofs.Laws.{slot-in}
 use Rattle.window.specs.State.{outstanding}
+use Rattle.window.specs.Slots.{sender, release}
+use Rattle.window.proofs.Laws.{sound}
+use Rattle.selective_repeat.specs.Sender.{advance}
+use Rattle.selective_repeat.proofs.Due.{in-window}
+use Rattle.selective_repeat.proofs.Advance.{advance-within, marked-only, released-only}
 use borrow.Author.Needs.{needs}
 use Rattle.selective_repeat.proofs.acknowledge_one_unchecked.Statement.{statement}
 use Rattle.selective_repeat.proofs.acknowledge_one_unchecked.Tie as tie
 
 rem-set-mark-unchecked : tie.Need-rem-set-mark-unchecked
-rem-set-mark-unchecked c = c .before .before .pre .0 .0
+rem-set-mark-unchecked c = let s = sound true (c .before .before .before .before .args .window) (c .before .before .before .before .args .store .now) (c .before .before .before .before .pre .0 .0) in s .positive
 
 set-mark-unchecked-requires : tie.Need-set-mark-unchecked-requires
-set-mark-unchecked-requires c κs = slot-in (c .before .before .args .store .now) (c .before .before .args .n) (c .before .before .args .window .«window_size») (c .before .before .pre .0 .0) (c .before .before .pre .0 .1)
-
-sub-count : tie.Need-sub-count
-sub-count c = c .before .before .before .before .before .before .pre .1 .0
-
-cast-count : tie.Need-cast-count
-cast-count c = search needs
-
-marked-run-unchecked-requires : tie.Need-marked-run-unchecked-requires
-marked-run-unchecked-requires c κs = search needs
-
-cast-release-unchecked : tie.Need-cast-release-unchecked
-cast-release-unchecked c =
-    let run = run-within 2 (c .before .before .before .before .before .before .set-mark-unchecked .last .0) (c .before .before .before .before .before .before .before .before .before .args .window .«window_size») (c .before .before .before .before .before .before .before .before .before .args .window .«send_base») (outstanding (c .before .before .before .before .before .before .before .before .before .args .window)) in
-    let r = c .before .marked-run-unchecked .ensures in
-    let ordered = c .before .before .before .before .before .before .before .before .before .pre .1 .0 in
-    let few = c .before .before .before .before .before .before .before .before .before .pre .1 .1 in
-    omega arith
-
-add-release-unchecked : tie.Need-add-release-unchecked
-add-release-unchecked c =
-    let run = run-within 2 (c .before .before .before .before .before .before .set-mark-unchecked .last .0) (c .before .before .before .before .before .before .before .before .before .args .window .«window_size») (c .before .before .before .before .before .before .before .before .before .args .window .«send_base») (outstanding (c .before .before .before .before .before .before .before .before .before .args .window)) in
-    let r = c .before .marked-run-unchecked .ensures in
-    let ordered = c .before .before .before .before .before .before .before .before .before .pre .1 .0 in
-    let few = c .before .before .before .before .before .before .before .before .before .pre .1 .1 in
-    omega arith
-
-release-unchecked-requires : tie.Need-release-unchecked-requires
-release-unchecked-requires c κs = search needs
+set-mark-unchecked-requires c κs = let s = sound true (c .before .before .before .before .args .window) (c .before .before .before .before .args .store .now) (c .before .before .before .before .pre .0 .0) in slot-in (c .before .before .before .before .args .store .now) (c .before .before .before .before .args .n) (c .before .before .before .before .args .window .«window_size») (s .positive) (s .room)
 
 same-length : tie.Need-same-length
 same-length c = search needs
 
 returns : tie.Need-returns
-unfolding acknowledgeOne
-returns c = c .before .before .release-unchecked .ensures ∙ rw (c .before .before .before .before .marked-run-unchecked .ensures, c .before .before .before .before .before .before .before .before .before .set-mark-unchecked .ensures)
+returns c = let s = sound true (c .before .before .before .before .before .before .before .args .window) (c .before .before .before .before .before .before .before .args .store .now) (c .before .before .before .before .before .before .before .pre .0 .0) in let within = in-window (c .before .before .before .before .before .before .before .args .window) (c .before .before .before .before .before .before .before .args .n) (c .before .before .before .before .before .before .before .pre .0 .1) in ap (sender (c .before .before .before .before .before .before .before .args .window)) (c .before .before .set-mark-unchecked .ensures) ∙ marked-only (sender (c .before .before .before .before .before .before .before .args .window) (c .before .before .before .before .before .before .before .args .store .now)) (c .before .before .before .before .before .before .before .args .n) s (within .0) (within .1) (sym (c .before .before .before .before .before .before .before .pre .1) ∙ c .before .before .before .before .before .if1 .taken)
+
+add-release-unchecked : tie.Need-add-release-unchecked
+add-release-unchecked c =
+    let s = sound true (c .before .before .before .before .args .window) (c .before .before .before .before .args .store .now) (c .before .before .before .before .pre .0 .0) in
+    let within = in-window (c .before .before .before .before .args .window) (c .before .before .before .before .args .n) (c .before .before .before .before .pre .0 .1) in
+    let from = within .0 in
+    let below = within .1 in
+    let moved = c .before .before .before .before .pre .1 in
+    let most = advance-within (sender (c .before .before .before .before .args .window) (c .before .before .before .before .args .store .now)) (c .before .before .before .before .args .n) (omega arith) in
+    let low = s .low in
+    omega arith
+
+release-unchecked-requires : tie.Need-release-unchecked-requires
+release-unchecked-requires c κs = let s = sound true (c .before .before .before .before .args .window) (c .before .before .before .before .args .store .now) (c .before .before .before .before .pre .0 .0) in ((s .positive, s .room), omega arith)
+
+same-length-2 : tie.Need-same-length-2
+same-length-2 c = search needs
+
+returns-2 : tie.Need-returns-2
+returns-2 c =
+    let s = sound true (c .before .before .before .before .before .before .before .args .window) (c .before .before .before .before .before .before .before .args .store .now) (c .before .before .before .before .before .before .before .pre .0 .0) in
+    let within = in-window (c .before .before .before .before .before .before .before .args .window) (c .before .before .before .before .before .before .before .args .n) (c .before .before .before .before .before .before .before .pre .0 .1) in
+    c .before .before .release-unchecked .ensures
+    ∙ ap (λ (k : ℕ). release (sender (c .before .before .before .before .before .before .before .args .window) (c .before .before .before .before .before .before .before .args .store .now)) (c .before .before .before .before .before .before .before .args .window .«send_base» + k)) (c .before .before .before .before .before .before .before .pre .1)
+    ∙ released-only (sender (c .before .before .before .before .before .before .before .args .window) (c .before .before .before .before .before .before .before .args .store .now)) (c .before .before .before .before .before .before .before .args .n) s (within .0) (within .1) (λ e. c .before .before .before .before .before .if1 .left (c .before .before .before .before .before .before .before .pre .1 ∙ e))
 
 pub acknowledge-one-unchecked-spec : {M : Type 1} → statement M
 acknowledge-one-unchecked-spec =
@@ -55,11 +57,9 @@ acknowledge-one-unchecked-spec =
     (tie.spec
     rem-set-mark-unchecked
     set-mark-unchecked-requires
-    sub-count
-    cast-count
-    marked-run-unchecked-requires
-    cast-release-unchecked
+    same-length
+    returns
     add-release-unchecked
     release-unchecked-requires
-    same-length
-    returns)
+    same-length-2
+    returns-2)

@@ -1,78 +1,38 @@
-use mathlib.Core.Path.{_≡_, refl, sym, ap, _∙_}
-use Prim.Native.Nat.{ℕ, _+_, _-_, _%_, _≤_}
+use Prim.Native.Nat.{ℕ, _+_, _-_, _*_, _%_}
+use mathlib.Core.Path.{_≡_, ap, sym, _∙_}
+use mathlib.Core.Bool.{Bool, _||_, not}
 use native.Mathlib.Omega.{arith}
-use mathlib.Core.Bool.{false}
-use Rattle.store.specs.Sound.{anyBelow, receiverTest, receiverSlotsBroken}
-use Rattle.store.proofs.Tests.{none-more, some-found, carried-in, carried-below, carried-on}
+use native.Mathlib.Nat.{mod-lt, sub-zero}
+use Rattle.store.proofs.Tests.{slot-in}
+use Rattle.store.proofs.Scans.{receiver-scan}
+use borrow.Author.Needs.{needs}
 use Rattle.store.proofs.receiver_slots_broken_unchecked.Statement.{statement}
 use Rattle.store.proofs.receiver_slots_broken_unchecked.Tie as tie
 
-abbrev Inv-loop : tie.InvT-loop
-Inv-loop store window base k₀ slot₀ k slot = (k ≤ window) × (slot ≡ (base + k) % window) × (anyBelow k (receiverTest store window base) ≡ false)
+rem-first : tie.Need-rem-first
+rem-first c = search needs
 
-abbrev μ-loop : tie.MeasureT-loop
-μ-loop store window base k₀ slot₀ k slot = window - k
+mark-unchecked-requires : tie.Need-mark-unchecked-requires
+mark-unchecked-requires c κs = slot-in (c .before .args .store .now) (c .before .args .base) (c .before .args .window) (c .before .pre .0) (c .before .pre .1)
 
-rem-slot : tie.Need-rem-slot Inv-loop μ-loop
-rem-slot c = omega arith
+slots-outside-unchecked-requires : tie.Need-slots-outside-unchecked-requires
+slots-outside-unchecked-requires c κs = (omega (arith, mod-lt (c .before .before .args .base) (c .before .before .pre .0)), c .before .before .pre .1)
 
-loop-holds : tie.Need-loop-holds Inv-loop μ-loop
-unfolding anyBelow
-loop-holds c = (omega arith, ap (λ (n : ℕ). n % c .before .args .window) (omega arith), refl)
+slots-outside-unchecked-requires-2 : tie.Need-slots-outside-unchecked-requires-2
+slots-outside-unchecked-requires-2 c κs = (omega arith, omega (arith, mod-lt (c .before .before .before .args .base) (c .before .before .before .pre .0), c .before .before .before .pre .1))
 
-length-unchecked-requires : tie.Need-length-unchecked-requires Inv-loop μ-loop
-length-unchecked-requires c κs = carried-in (c .before .before .before .args .store .now) _ (c .before .before .before .args .base + c .before .loop .k) (c .before .before .before .args .window) (c .before .loop .inv .1) (c .before .before .before .pre .0) (c .before .before .before .pre .1)
-
-mark-unchecked-requires : tie.Need-mark-unchecked-requires Inv-loop μ-loop
-mark-unchecked-requires c κs = carried-in (c .before .before .before .before .args .store .now) _ (c .before .before .before .before .args .base + c .before .before .loop .k) (c .before .before .before .before .args .window) (c .before .before .loop .inv .1) (c .before .before .before .before .pre .0) (c .before .before .before .before .pre .1)
-
-receiver-slot-broken-requires : tie.Need-receiver-slot-broken-requires Inv-loop μ-loop
-receiver-slot-broken-requires c κs = tt
-
-returns : tie.Need-returns Inv-loop μ-loop
-unfolding receiverSlotsBroken
-returns c = let a = c .before .before .before .before .before .before .before .args in
-    let k = c .before .before .before .before .before .loop .k in
-    let test : c .before .receiver-slot-broken .result ≡ receiverTest (a .store .now) (a .window) (a .base) k =
-    c .before .receiver-slot-broken .ensures ∙ rw (c .before .before .before .length-unchecked .ensures, c .before .before .mark-unchecked .ensures, c .before .before .before .before .before .loop .inv .1) in
-    sym (some-found (a .window) k _ (omega arith) (sym test ∙ c .if1 .taken))
-
-next-slot-unchecked-requires : tie.Need-next-slot-unchecked-requires Inv-loop μ-loop
-next-slot-unchecked-requires c κs = carried-below _ (c .before .before .before .before .before .before .before .args .base + c .before .before .before .before .before .loop .k) (c .before .before .before .before .before .before .before .args .window) (c .before .before .before .before .before .loop .inv .1) (c .before .before .before .before .before .before .before .pre .0)
-
-add-k : tie.Need-add-k Inv-loop μ-loop
-add-k c = omega arith
-
-loop-less : tie.Need-loop-less Inv-loop μ-loop
-loop-less c = omega arith
-
-loop-again : tie.Need-loop-again Inv-loop μ-loop
-loop-again c = let a = c .before .before .before .before .before .before .before .before .args in
-    let k = c .before .before .before .before .before .before .loop .k in
-    let test : c .before .before .receiver-slot-broken .result ≡ receiverTest (a .store .now) (a .window) (a .base) k =
-    c .before .before .receiver-slot-broken .ensures ∙ rw (c .before .before .before .before .length-unchecked .ensures, c .before .before .before .mark-unchecked .ensures, c .before .before .before .before .before .before .loop .inv .1) in
-    (omega arith, carried-on _ _ (a .base) k (a .window) (c .before .before .before .before .before .before .loop .inv .1) (c .next-slot-unchecked .ensures), none-more k _ (c .before .before .before .before .before .before .loop .inv .2) (sym test ∙ c .before .if1 .left))
-
-returns-2 : tie.Need-returns-2 Inv-loop μ-loop
-unfolding receiverSlotsBroken
-returns-2 c = let a = c .before .before .before .args in
-    let k : c .before .loop .k ≡ a .window = omega arith in
-    sym (ap (λ (n : ℕ). anyBelow n (receiverTest (a .store .now) (a .window) (a .base))) (sym k) ∙ c .before .loop .inv .2)
+returns : tie.Need-returns
+returns c =
+    let a = c .before .before .before .before .args in
+    rw (c .before .before .mark-unchecked .ensures, c .before .slots-outside-unchecked .ensures, c .slots-outside-unchecked2 .ensures, sub-zero)
+    (receiver-scan (a .store .now) (a .window) (a .base) (c .before .before .before .before .pre .0))
 
 pub receiver-slots-broken-unchecked-spec : {M : Type 1} → statement M
 receiver-slots-broken-unchecked-spec =
     tie.close
     (tie.spec
-    Inv-loop
-    μ-loop
-    rem-slot
-    loop-holds
-    length-unchecked-requires
+    rem-first
     mark-unchecked-requires
-    receiver-slot-broken-requires
-    returns
-    next-slot-unchecked-requires
-    add-k
-    loop-less
-    loop-again
-    returns-2)
+    slots-outside-unchecked-requires
+    slots-outside-unchecked-requires-2
+    returns)

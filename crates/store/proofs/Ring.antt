@@ -62,3 +62,15 @@ module _ (store : List ℕ) (w base j : ℕ) (positive : 0 < w) (room : w * 1404
 
   pub set-read-other : (b v : ℕ) → b < 1404 → (i : ℕ) → i < w → j < w → (i ≡ j → ⊥) → slotOf (set store ((base + j) % w * 1404 + b) v) w base i ≡ slotOf store w base i
   set-read-other b v l i h k n = set-other store ((base + j) % w) b v ((base + i) % w) (slot-in store (base + i) w positive room) l (one-side w base i j h k n)
+
+-- a byte set in the slot of number n, of the window from base on
+module _ (store : List ℕ) (w base n : ℕ) (positive : 0 < w) (room : w * 1404 ≤ length store) (from : base ≤ n) (below : n < base + w) where
+  number : base + (n - base) ≡ n
+  number = omega arith
+
+  pub set-number : (b v : ℕ) → b < 1404 → slotOf (set store (n % w * 1404 + b) v) w base (n - base) ≡ set (slotOf store w base (n - base)) b v
+  set-number b v l = ap (λ (m : ℕ). slotOf (set store (m % w * 1404 + b) v) w base (n - base)) (sym number) ∙ set-read store w base (n - base) positive room b v l
+
+  pub set-number-other : (b v : ℕ) → b < 1404 → (i : ℕ) → i < w → (i ≡ n - base → ⊥) → slotOf (set store (n % w * 1404 + b) v) w base i ≡ slotOf store w base i
+  set-number-other b v l i h ne =
+      ap (λ (m : ℕ). slotOf (set store (m % w * 1404 + b) v) w base i) (sym number) ∙ set-read-other store w base (n - base) positive room b v l i h (omega arith) ne
