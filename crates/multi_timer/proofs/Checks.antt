@@ -46,6 +46,10 @@ pub record Good (n : ℕ) (ks ds : List ℕ) : Type 0 where
   pub within : n ≤ length ks
   pub sorted : ascending (take n ks) ≡ true
 
+-- what a search asks for
+pub in-order : {n : ℕ} {ks ds : List ℕ} → Good n ks ds → (n ≤ length ks) × (ascending (take n ks) ≡ true)
+in-order g = (g .within, g .sorted)
+
 pub good-of : (n : ℕ) (ks ds : List ℕ) → broken n ks ds ≡ false → Good n ks ds
 good-of n ks ds e = go (eqb (length ks) (length ds)) (ltb (length ks) n) (ascending (take n ks)) (eqb-true _ _) (ltb-false _ _) (λ h. h) e
   where

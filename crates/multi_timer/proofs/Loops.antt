@@ -1,5 +1,5 @@
 -- One turn of each reading loop: what is left to read gives what the whole gives.
-use mathlib.Core.Path.{_≡_, refl, sym, ap}
+use mathlib.Core.Path.{_≡_, refl, sym, ap, subst}
 use mathlib.Core.Bool.{Bool, true, false, _&&_}
 use Prim.Native.Nat.{ℕ, zero, suc, zero-le, _+_, _-_, _≤_, _<_}
 use native.Mathlib.Nat.{not-suc-le-zero, le-of-eq, add-assoc, add-zero, zero-add}
@@ -15,7 +15,9 @@ use Rattle.multi_timer.specs.MultiTimer.{anyLate}
 use Rattle.multi_timer.specs.Search.{searchIn, later, digitsOf}
 use Rattle.multi_timer.specs.declared.Place.{Place}
 use Rattle.multi_timer.specs.declared.Place.the-variants.{At, Absent}
+use lib.Seq.{length-take-le, getD-take}
 use Rattle.multi_timer.proofs.Lists.{rest, rest-cons, rest-nil}
+use Rattle.multi_timer.proofs.Sorted.{search-behind}
 
 module _ (n i : ℕ) (xs : List ℕ) where
   -- ---- ascending
@@ -80,6 +82,13 @@ module _ (n i : ℕ) (xs : List ℕ) where
   pub search-end : (key : ℕ) → n ≤ i → n ≤ length xs → Absent i ≡ later i (searchIn key (rest n i xs))
   unfolding searchIn
   search-end key h l = rw (rest-nil n i xs h l) (ap Absent (sym (add-zero i)))
+
+-- four keys passed by
+pub skip-step : (n i : ℕ) (xs : List ℕ) (key : ℕ) → i + 3 < n → n ≤ length xs → ascending (take n xs) ≡ true → getD xs (i + 3) 0 < key → later (i + 4) (searchIn key (rest n (i + 4) xs)) ≡ searchIn key (take n xs)
+skip-step n i xs key h l a k =
+    let e : suc (i + 3) ≡ i + 4 = omega arith in
+    subst (λ (j : ℕ). later j (searchIn key (rest n j xs)) ≡ searchIn key (take n xs)) e
+    (search-behind key 0 (i + 3) (take n xs) a (subst (λ (m : ℕ). i + 3 < m) (sym (length-take-le n xs l)) h) (subst (λ (m : ℕ). m < key) (sym (getD-take n xs (i + 3) 0 h)) k))
 
 pub ascending-start : (n : ℕ) (xs : List ℕ) → n ≤ length xs → (true && ascendingFrom (suc (getD xs 0 0)) (rest n 1 xs)) ≡ ascending (take n xs)
 unfolding ascendingFrom

@@ -2,14 +2,14 @@
 use duration::MAX_TIME;
 use refusal::Refusal;
 ghost use mathlib.Core.Path.{_≡_};
-ghost use mathlib.Core.Bool.{false, not, cond};
+ghost use mathlib.Core.Bool.{true, false, not, cond};
 ghost use lib.Dec.{leb, ltb, eqb};
 ghost use mathlib.Core.List.{_∷_, _++_};
 ghost use mathlib.Core.Option.{some};
 ghost use Prim.Native.Nat.{suc, min, _≤_, _<_};
 ghost use lib.ListN.{length, take, drop, set, replicate};
 ghost use Rattle.multi_timer.specs.Map.{entriesOf, ascending, keep, due, pending, lookup, isSome, dueAt, earliest};
-ghost use Rattle.multi_timer.specs.Search.{searchIn, digitsOf, dueIn, Partitioned, insertedAt, removedAt, clearedIn};
+ghost use Rattle.multi_timer.specs.Search.{searchIn, later, digitsOf, dueIn, Partitioned, insertedAt, removedAt, clearedIn};
 ghost use Rattle.multi_timer.specs.MultiTimer.{used, after, afterPop, broken, heldTooLate, readTooLate, startTooLate, startFull, startUnchecked, cancelUnchecked, popUnchecked, clearUnchecked, earliestAnswer, newDef, startTimerAtDef, cancelTimerDef, isExpiredAtDef, popExpiredAtDef, earliestDeadlineDef, clearDef};
 
 // The first count entries of the lent keys and deadlines are used, by ascending key.
@@ -166,11 +166,26 @@ fn start_too_late(count: usize, deadlines: &[u64], time: u64, duration: u64) -> 
     duration::start_late(time, duration)
 }
 
-fn search(count: usize, keys: &[u32], key: u32) -> Place
-    requires { ⌜ count ≤ length (now keys) ⌝ }
-    ensures { λ r. ⌜ r ≡ searchIn key (take count (now (keys .entry))) ⌝ }
+// Passes by four keys at a time while the last of them is below key.
+fn skip_below(count: usize, keys: &[u32], key: u32) -> usize
+    requires { ⌜ (count ≤ length (now keys)) × (ascending (take count (now keys)) ≡ true) ⌝ }
+    ensures { λ r. ⌜ (r ≤ count) × (later r (searchIn key (drop r (take count (now (keys .entry))))) ≡ searchIn key (take count (now (keys .entry)))) ⌝ }
 {
     let mut i = 0;
+    while 4 <= count - i {
+        if keys[i + 3] >= key {
+            return i;
+        }
+        i += 4;
+    }
+    i
+}
+
+fn search(count: usize, keys: &[u32], key: u32) -> Place
+    requires { ⌜ (count ≤ length (now keys)) × (ascending (take count (now keys)) ≡ true) ⌝ }
+    ensures { λ r. ⌜ r ≡ searchIn key (take count (now (keys .entry))) ⌝ }
+{
+    let mut i = skip_below(count, keys, key);
     while i < count {
         let k = keys[i];
         if k >= key {
