@@ -15,18 +15,18 @@ use Rattle.multi_timer.specs.Search.{searchIn, later}
 use Rattle.multi_timer.specs.declared.Place.{Place}
 use Rattle.multi_timer.specs.declared.Place.the-variants.{At, Absent}
 
-and-both : (a b : Bool) → (a && b) ≡ true → (a ≡ true) × (b ≡ true)
-and-both true b e = (refl, e)
-and-both false b e = absurd (false≢true e)
+pub both-true : (a b : Bool) → (a && b) ≡ true → (a ≡ true) × (b ≡ true)
+both-true true b e = (refl, e)
+both-true false b e = absurd (false≢true e)
 
 -- the first key is at least low, and the others are above it
 pub first-key : (low k : ℕ) (ks : List ℕ) → ascendingFrom low (k ∷ ks) ≡ true → low ≤ k
 unfolding ascendingFrom
-first-key low k ks e = leb-true low k (and-both (leb low k) (ascendingFrom (suc k) ks) e .0)
+first-key low k ks e = leb-true low k (both-true (leb low k) (ascendingFrom (suc k) ks) e .0)
 
 pub other-keys : (low k : ℕ) (ks : List ℕ) → ascendingFrom low (k ∷ ks) ≡ true → ascendingFrom (suc k) ks ≡ true
 unfolding ascendingFrom
-other-keys low k ks e = and-both (leb low k) (ascendingFrom (suc k) ks) e .1
+other-keys low k ks e = both-true (leb low k) (ascendingFrom (suc k) ks) e .1
 
 -- no key is below the first
 pub at-least : (low p : ℕ) (ks : List ℕ) → ascendingFrom low ks ≡ true → p < length ks → low ≤ getD ks p 0
