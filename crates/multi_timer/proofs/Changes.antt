@@ -10,12 +10,12 @@ use lib.Dec.{leb}
 use lib.ListN.{length, getD, take, drop, set, replicate}
 use lib.Seq.{take-at, drop-at, drop-drop}
 use borrow.Author.Tests.{leb-false}
-use Rattle.multi_timer.specs.Map.{Entry, keysOf, deadlinesOf, lookup, isSome, keep, due, pending, least, earliest}
+use Rattle.multi_timer.specs.Map.{Entry, keysOf, deadlinesOf, ascending, lookup, isSome, keep, due, pending, least, earliest}
 use Rattle.multi_timer.specs.Search.{searchIn, insertedAt, removedAt, clearedIn, dueIn, Partitioned}
 use Rattle.multi_timer.specs.MultiTimer.{used, laid, after, After, afterPop, timers, nextGeneration, broken, startFull, startUnchecked, cancelUnchecked, popUnchecked, clearUnchecked}
 use Rattle.multi_timer.specs.declared.MultiTimer.{MultiTimer}
 use Rattle.multi_timer.specs.declared.Place.the-variants.{At, Absent}
-use Rattle.multi_timer.proofs.Checks.{Good, good-of}
+use Rattle.multi_timer.proofs.Checks.{Good, good-of, in-order}
 use Rattle.multi_timer.proofs.Lists.{rest, rest-cons, rest-nil}
 use Rattle.multi_timer.proofs.Sorted.{length-keys, length-deadlines}
 use Rattle.multi_timer.proofs.Parting.{both, entries-length, next-length}
@@ -38,6 +38,9 @@ module _ (t : MultiTimer) (ks ds : List ℕ) (b : broken (t .count) ks ds ≡ fa
 
   pub count-fits : t .count ≤ length ks
   count-fits = g .within
+
+  pub keys-in-order : (t .count ≤ length ks) × (ascending (take (t .count) ks) ≡ true)
+  keys-in-order = in-order g
 
   pub count-fits-deadlines : t .count ≤ length ds
   count-fits-deadlines = subst (λ (m : ℕ). t .count ≤ m) (g .same) (g .within)

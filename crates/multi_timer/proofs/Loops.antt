@@ -1,21 +1,23 @@
 -- One turn of each reading loop: what is left to read gives what the whole gives.
-use mathlib.Core.Path.{_≡_, refl, sym, ap}
-use mathlib.Core.Bool.{Bool, true, false, _&&_}
+use mathlib.Core.Path.{_≡_, refl, sym, ap, ap₂, _∙_, subst}
+use mathlib.Core.Bool.{Bool, true, false, not, _&&_, and-false, and-assoc, false≢true, true≢false}
 use Prim.Native.Nat.{ℕ, zero, suc, zero-le, _+_, _-_, _≤_, _<_}
 use native.Mathlib.Nat.{not-suc-le-zero, le-of-eq, add-assoc, add-zero, zero-add}
 use native.Mathlib.Omega.{arith}
 use mathlib.Core.List.{List, [], _∷_}
 use lib.ListN.{length, getD, take}
-use lib.Dec.{ltb}
-use lib.Bits.{bitAnd, bitOr, or-add-and, and-le-l, and-le-r}
-use borrow.Author.Tests.{le-leb, lt-ltb, le-ltb, eq-eqb, ne-eqb}
+use lib.Dec.{ltb, lit≤}
+use lib.Bits.{bitAnd, bitOr, or-lt, or-add-and, and-le-l, and-le-r}
+use borrow.Author.Tests.{le-leb, lt-ltb, le-ltb, ltb-true, ltb-false, eq-eqb, ne-eqb}
 use Rattle.duration.specs.Bounds.{maxTime}
 use Rattle.multi_timer.specs.Map.{ascending, ascendingFrom}
 use Rattle.multi_timer.specs.MultiTimer.{anyLate}
-use Rattle.multi_timer.specs.Search.{searchIn, later, digitsOf}
+use Rattle.multi_timer.specs.Search.{searchIn, later, risingFrom, soon}
 use Rattle.multi_timer.specs.declared.Place.{Place}
 use Rattle.multi_timer.specs.declared.Place.the-variants.{At, Absent}
+use lib.Seq.{length-take-le, getD-take}
 use Rattle.multi_timer.proofs.Lists.{rest, rest-cons, rest-nil}
+use Rattle.multi_timer.proofs.Sorted.{both-true, search-behind}
 
 module _ (n i : ℕ) (xs : List ℕ) where
   -- ---- ascending
@@ -37,15 +39,6 @@ module _ (n i : ℕ) (xs : List ℕ) where
       alone : (s : Bool) → s ≡ (s && true)
       alone true = refl
       alone false = refl
-
-  -- ---- the digits
-  pub digits-step : (all : ℕ) → i < n → n ≤ length xs → digitsOf (bitOr all (getD xs i 0)) (rest n (i + 1) xs) ≡ digitsOf all (rest n i xs)
-  unfolding digitsOf
-  digits-step all h l = rw (rest-cons n i xs h l)
-
-  pub digits-end : (all : ℕ) → n ≤ i → n ≤ length xs → all ≡ digitsOf all (rest n i xs)
-  unfolding digitsOf
-  digits-end all h l = rw (rest-nil n i xs h l)
 
   -- ---- late
   pub late-found : i < n → n ≤ length xs → maxTime < getD xs i 0 → true ≡ anyLate (rest n i xs)
@@ -81,29 +74,162 @@ module _ (n i : ℕ) (xs : List ℕ) where
   unfolding searchIn
   search-end key h l = rw (rest-nil n i xs h l) (ap Absent (sym (add-zero i)))
 
+-- four keys passed by
+pub skip-step : (n i : ℕ) (xs : List ℕ) (key : ℕ) → i + 3 < n → n ≤ length xs → ascending (take n xs) ≡ true → getD xs (i + 3) 0 < key → later (i + 4) (searchIn key (rest n (i + 4) xs)) ≡ searchIn key (take n xs)
+skip-step n i xs key h l a k =
+    let e : suc (i + 3) ≡ i + 4 = omega arith in
+    subst (λ (j : ℕ). later j (searchIn key (rest n j xs)) ≡ searchIn key (take n xs)) e
+    (search-behind key 0 (i + 3) (take n xs) a (subst (λ (m : ℕ). i + 3 < m) (sym (length-take-le n xs l)) h) (subst (λ (m : ℕ). m < key) (sym (getD-take n xs (i + 3) 0 h)) k))
+
 pub ascending-start : (n : ℕ) (xs : List ℕ) → n ≤ length xs → (true && ascendingFrom (suc (getD xs 0 0)) (rest n 1 xs)) ≡ ascending (take n xs)
 unfolding ascendingFrom
 ascending-start zero xs h = refl
 ascending-start (suc n) [] h = absurd (not-suc-le-zero h)
 ascending-start (suc n) (x ∷ xs) h = simp (le-leb 0 x zero-le)
 
--- where no digit from 2 ^ 47 on is set, no number is late
-pub digits-late : (a : ℕ) (xs : List ℕ) → digitsOf a xs < 140737488355328 → (a < 140737488355328) × (anyLate xs ≡ false)
-unfolding digitsOf anyLate
-digits-late a [] h = (h, refl)
-digits-late a (x ∷ xs) h =
-    let r = digits-late (bitOr a x) xs h in
-    let s = or-add-and a x in
-    let p = and-le-l a x in
-    let q = and-le-r a x in
-    let l : x ≤ maxTime = small a x (r .0) s p in
-    (first a x (r .0) s q, simp (le-ltb maxTime x l, r .1))
+-- no deadline below 2 ^ 47 is late
+pub soon-late : (ds : List ℕ) → soon ds ≡ true → anyLate ds ≡ false
+unfolding soon anyLate
+soon-late [] e = refl
+soon-late (d ∷ ds) e =
+    let b = both-true (ltb d 140737488355328) (soon ds) e in
+    simp (le-ltb maxTime d (small d (ltb-true d _ (b .0))), soon-late ds (b .1))
   where
-    first : (a x : ℕ) → bitOr a x < 140737488355328 → bitOr a x + bitAnd a x ≡ a + x → bitAnd a x ≤ x → a < 140737488355328
-    first a x h s q = omega arith
+    small : (d : ℕ) → d < 140737488355328 → d ≤ maxTime
+    small d h = omega arith
 
-    small : (a x : ℕ) → bitOr a x < 140737488355328 → bitOr a x + bitAnd a x ≡ a + x → bitAnd a x ≤ a → x ≤ maxTime
-    small a x h s q = omega arith
+-- ---- four entries a turn
+swap : (a x b y : Bool) → ((a && x) && (b && y)) ≡ ((a && b) && (x && y))
+swap true x true y = refl
+swap true x false y = and-false x
+swap false x b y = refl
+
+four : (r0 r1 r2 r3 x0 x1 x2 x3 a : Bool) → ((((r0 && x0) && (r1 && x1)) && ((r2 && x2) && (r3 && x3))) && a) ≡ (((r0 && r1) && (r2 && r3)) && (x0 && (x1 && (x2 && (x3 && a)))))
+four r0 r1 r2 r3 x0 x1 x2 x3 a =
+    ap₂ (λ (p q : Bool). (p && q) && a) (swap r0 x0 r1 x1) (swap r2 x2 r3 x3)
+    ∙ ap (λ (p : Bool). p && a) (swap (r0 && r1) (x0 && x1) (r2 && r3) (x2 && x3))
+    ∙ and-assoc ((r0 && r1) && (r2 && r3)) ((x0 && x1) && (x2 && x3)) a
+    ∙ ap (λ (p : Bool). ((r0 && r1) && (r2 && r3)) && p) (and-assoc (x0 && x1) (x2 && x3) a ∙ and-assoc x0 x1 ((x2 && x3) && a) ∙ ap (λ (p : Bool). x0 && (x1 && p)) (and-assoc x2 x3 a))
+
+module _ (n i : ℕ) (xs : List ℕ) (l : n ≤ length xs) where
+  rise-one : (j : ℕ) → i + 1 ≡ j → j < n → risingFrom n i xs ≡ (ltb (getD xs i 0) (getD xs j 0) && risingFrom n j xs)
+  unfolding ascendingFrom
+  rise-one j e = subst (λ (k : ℕ). k < n → risingFrom n i xs ≡ (ltb (getD xs i 0) (getD xs k 0) && risingFrom n k xs)) e next
+    where
+      next : i + 1 < n → risingFrom n i xs ≡ (ltb (getD xs i 0) (getD xs (i + 1) 0) && risingFrom n (i + 1) xs)
+      next h = rw (rest-cons n (i + 1) xs h l)
+
+  soon-one : (j : ℕ) → i + 1 ≡ j → i < n → soon (rest n i xs) ≡ (ltb (getD xs i 0) 140737488355328 && soon (rest n j xs))
+  unfolding soon
+  soon-one j e h = subst (λ (k : ℕ). soon (rest n i xs) ≡ (ltb (getD xs i 0) 140737488355328 && soon (rest n k xs))) e next
+    where
+      next : soon (rest n i xs) ≡ (ltb (getD xs i 0) 140737488355328 && soon (rest n (i + 1) xs))
+      next = rw (rest-cons n i xs h l)
+
+-- ---- one entry a turn: the key at i and the one before it, and the deadline at i
+module _ (n i : ℕ) (ks ds : List ℕ) (p : 1 ≤ i) (k : n ≤ length ks) (d : n ≤ length ds) where
+  back : i - 1 + 1 ≡ i
+  back = omega arith
+
+  forth : i + 1 - 1 ≡ i
+  forth = omega arith
+
+  pub plain-step : i < n → getD ks (i - 1) 0 < getD ks i 0 → getD ds i 0 < 140737488355328 → (risingFrom n (i + 1 - 1) ks && soon (rest n (i + 1) ds)) ≡ (risingFrom n (i - 1) ks && soon (rest n i ds))
+  plain-step h u v = rw (rise-one n (i - 1) ks k i back h, lt-ltb _ _ u, soon-one n i ds d (i + 1) refl h, lt-ltb _ _ v, forth)
+
+  pub plain-falls : i < n → getD ks i 0 ≤ getD ks (i - 1) 0 → false ≡ (risingFrom n (i - 1) ks && soon (rest n i ds))
+  plain-falls h u = rw (rise-one n (i - 1) ks k i back h, le-ltb _ _ u)
+
+  pub plain-far : i < n → 140737488355328 ≤ getD ds i 0 → false ≡ (risingFrom n (i - 1) ks && soon (rest n i ds))
+  plain-far h u = rw (soon-one n i ds d (i + 1) refl h, le-ltb _ _ u, and-false (risingFrom n (i - 1) ks))
+
+  pub plain-end : n ≤ i → true ≡ (risingFrom n (i - 1) ks && soon (rest n i ds))
+  unfolding ascendingFrom soon
+  plain-end h = rw (back, rest-nil n i ks h k, rest-nil n i ds h d)
+
+pub plain-start : (n i : ℕ) (ks ds : List ℕ) → i < n → n ≤ length ds → getD ds i 0 < 140737488355328 → (risingFrom n (i + 1 - 1) ks && soon (rest n (i + 1) ds)) ≡ (risingFrom n i ks && soon (rest n i ds))
+plain-start n i ks ds h d u = let e : i + 1 - 1 ≡ i = omega arith in rw (e, soon-one n i ds d (i + 1) refl h, lt-ltb _ _ u)
+
+pub plain-far-first : (n i : ℕ) (ks ds : List ℕ) → i < n → n ≤ length ds → 140737488355328 ≤ getD ds i 0 → false ≡ (risingFrom n i ks && soon (rest n i ds))
+plain-far-first n i ks ds h d u = rw (soon-one n i ds d (i + 1) refl h, le-ltb _ _ u, and-false (risingFrom n i ks))
+
+-- joined digits are below 2 ^ 47 where each number is
+pub joined-small : (a x : ℕ) → ltb (bitOr a x) 140737488355328 ≡ (ltb a 140737488355328 && ltb x 140737488355328)
+joined-small a x = go (ltb a 140737488355328) (ltb x 140737488355328) (ltb-true a _) (ltb-false a _) (ltb-true x _) (ltb-false x _)
+  where
+    s : bitOr a x + bitAnd a x ≡ a + x
+    s = or-add-and a x
+
+    above-left : bitOr a x + bitAnd a x ≡ a + x → bitAnd a x ≤ x → 140737488355328 ≤ a → 140737488355328 ≤ bitOr a x
+    above-left s q h = omega arith
+
+    above-right : bitOr a x + bitAnd a x ≡ a + x → bitAnd a x ≤ a → 140737488355328 ≤ x → 140737488355328 ≤ bitOr a x
+    above-right s q h = omega arith
+
+    go : (p q : Bool) → (p ≡ true → a < 140737488355328) → (p ≡ false → 140737488355328 ≤ a) → (q ≡ true → x < 140737488355328) → (q ≡ false → 140737488355328 ≤ x) → ltb (bitOr a x) 140737488355328 ≡ (p && q)
+    go true true h _ k _ = lt-ltb _ _ (or-lt 47 a x (h refl) (k refl))
+    go true false _ _ _ k = le-ltb _ _ (above-right s (and-le-l a x) (k refl))
+    go false q _ h _ _ = le-ltb _ _ (above-left s (and-le-r a x) (h refl))
+
+abbrev joined-of : ℕ → ℕ → ℕ → ℕ → Bool
+joined-of d0 d1 d2 d3 = (ltb d0 140737488355328 && ltb d1 140737488355328) && (ltb d2 140737488355328 && ltb d3 140737488355328)
+
+joined : (d0 d1 d2 d3 : ℕ) → ltb (bitOr (bitOr d0 d1) (bitOr d2 d3)) 140737488355328 ≡ joined-of d0 d1 d2 d3
+joined d0 d1 d2 d3 = joined-small (bitOr d0 d1) (bitOr d2 d3) ∙ ap₂ (λ (p q : Bool). p && q) (joined-small d0 d1) (joined-small d2 d3)
+
+-- the next four keys and deadlines
+module _ (n i : ℕ) (xs : List ℕ) (h : i + 4 < n) (l : n ≤ length xs) where
+  abbrev at : ℕ → ℕ
+  at j = getD xs (i + j) 0
+
+  within : (j : ℕ) → j ≤ 4 → i + j < n
+  within j q = omega arith
+
+  first : i < n
+  first = omega arith
+
+  pub rising-four : (r0 r1 r2 r3 : Bool) → ((((r0 && ltb (getD xs i 0) (at 1)) && (r1 && ltb (at 1) (at 2))) && ((r2 && ltb (at 2) (at 3)) && (r3 && ltb (at 3) (at 4)))) && risingFrom n (i + 4) xs) ≡ (((r0 && r1) && (r2 && r3)) && risingFrom n i xs)
+  rising-four r0 r1 r2 r3 =
+      four r0 r1 r2 r3 (ltb (getD xs i 0) (at 1)) (ltb (at 1) (at 2)) (ltb (at 2) (at 3)) (ltb (at 3) (at 4)) (risingFrom n (i + 4) xs)
+      ∙ sym (ap (λ (p : Bool). ((r0 && r1) && (r2 && r3)) && p)
+      (rise-one n i xs l (i + 1) refl (within 1 (lit≤ tt)) ∙ ap (λ (p : Bool). ltb (getD xs i 0) (at 1) && p)
+      (rise-one n (i + 1) xs l (i + 2) (omega arith) (within 2 (lit≤ tt)) ∙ ap (λ (p : Bool). ltb (at 1) (at 2) && p)
+      (rise-one n (i + 2) xs l (i + 3) (omega arith) (within 3 (lit≤ tt)) ∙ ap (λ (p : Bool). ltb (at 2) (at 3) && p) (rise-one n (i + 3) xs l (i + 4) (omega arith) (within 4 (lit≤ tt)))))))
+
+  abbrev small : ℕ → Bool
+  small d = ltb d 140737488355328
+
+  pub soon-four : (d0 d1 d2 d3 : ℕ) → (((small (bitOr d0 (getD xs i 0)) && small (bitOr d1 (at 1))) && (small (bitOr d2 (at 2)) && small (bitOr d3 (at 3)))) && soon (rest n (i + 4) xs)) ≡ (((small d0 && small d1) && (small d2 && small d3)) && soon (rest n i xs))
+  soon-four d0 d1 d2 d3 =
+      ap₂ (λ (p q : Bool). (p && q) && soon (rest n (i + 4) xs)) (ap₂ (λ (p q : Bool). p && q) (joined-small d0 (getD xs i 0)) (joined-small d1 (at 1))) (ap₂ (λ (p q : Bool). p && q) (joined-small d2 (at 2)) (joined-small d3 (at 3)))
+      ∙ four (small d0) (small d1) (small d2) (small d3) (small (getD xs i 0)) (small (at 1)) (small (at 2)) (small (at 3)) (soon (rest n (i + 4) xs))
+      ∙ sym (ap (λ (p : Bool). ((small d0 && small d1) && (small d2 && small d3)) && p)
+      (soon-one n i xs l (i + 1) refl first ∙ ap (λ (p : Bool). small (getD xs i 0) && p)
+      (soon-one n (i + 1) xs l (i + 2) (omega arith) (within 1 (lit≤ tt)) ∙ ap (λ (p : Bool). small (at 1) && p)
+      (soon-one n (i + 2) xs l (i + 3) (omega arith) (within 2 (lit≤ tt)) ∙ ap (λ (p : Bool). small (at 2) && p) (soon-one n (i + 3) xs l (i + 4) (omega arith) (within 3 (lit≤ tt)))))))
+
+-- what the loop's four tests and joined digits leave to the rest
+module _ (n i : ℕ) (ks ds : List ℕ) (r0 r1 r2 r3 : Bool) (d0 d1 d2 d3 : ℕ) where
+  abbrev rising : Bool
+  rising = (r0 && r1) && (r2 && r3)
+
+  pub not-rising : not rising ≡ true → (rising && risingFrom n i ks) ≡ ascending (take n ks) → false ≡ (ascending (take n ks) && soon (take n ds))
+  not-rising e a = rw (← a) (go rising e)
+    where
+      go : (r : Bool) → not r ≡ true → false ≡ ((r && risingFrom n i ks) && soon (take n ds))
+      go false e = refl
+      go true e = absurd (false≢true e)
+
+  pub not-soon : 140737488355328 ≤ bitOr (bitOr d0 d1) (bitOr d2 d3) → (joined-of d0 d1 d2 d3 && soon (rest n i ds)) ≡ soon (take n ds) → false ≡ (ascending (take n ks) && soon (take n ds))
+  not-soon h s = rw (← s, ← joined d0 d1 d2 d3, le-ltb _ _ h, and-false (ascending (take n ks)))
+
+  pub rest-decides : (x : Bool) → not rising ≡ false → bitOr (bitOr d0 d1) (bitOr d2 d3) < 140737488355328 → (rising && risingFrom n i ks) ≡ ascending (take n ks) → (joined-of d0 d1 d2 d3 && soon (rest n i ds)) ≡ soon (take n ds)
+      → x ≡ (risingFrom n i ks && soon (rest n i ds)) → x ≡ (ascending (take n ks) && soon (take n ds))
+  rest-decides x e h a s k = rw (← a, ← s, ← joined d0 d1 d2 d3, lt-ltb _ _ h) (go rising e)
+    where
+      go : (r : Bool) → not r ≡ false → x ≡ ((r && risingFrom n i ks) && soon (rest n i ds))
+      go true e = k
+      go false e = absurd (true≢false e)
 
 pub later-none : (p : Place) → later 0 p ≡ p
 later-none (At p) = ap At (zero-add p)

@@ -3,30 +3,56 @@ use mathlib.Core.Path.{_≡_, refl, sym, ap, ap₂, _∙_, subst}
 use mathlib.Core.Bool.{Bool, true, false, not, cond, _&&_, false≢true}
 use mathlib.Core.Option.{Option, none, some}
 use mathlib.Core.List.{List, [], _∷_, _++_}
-use Prim.Native.Nat.{ℕ, suc, _≤_, _<_, zero-le, suc-le-suc}
+use Prim.Native.Nat.{ℕ, zero, suc, _≤_, _<_, zero-le, suc-le-suc}
 use native.Mathlib.Numerals.{one-add}
-use native.Mathlib.Nat.{zero-lt-suc, suc-inj}
+use native.Mathlib.Nat.{zero-lt-suc, suc-inj, le-of-suc-le-suc, not-suc-le-zero}
 use native.Mathlib.Omega.{arith}
 use lib.Dec.{leb, ltb, eqb}
 use lib.ListN.{length, getD, take, drop, set}
-use borrow.Author.Tests.{ltb-true, ltb-false, eqb-true, eqb-false, leb-true, ne-eqb}
+use borrow.Author.Tests.{lt-ltb, ltb-true, ltb-false, eqb-true, eqb-false, leb-true, ne-eqb}
 use Rattle.multi_timer.specs.Map.{Entry, entry, entriesOf, keysOf, deadlinesOf, ascendingFrom, lookup, keep, put, other}
 use Rattle.multi_timer.specs.Search.{searchIn, later}
 use Rattle.multi_timer.specs.declared.Place.{Place}
 use Rattle.multi_timer.specs.declared.Place.the-variants.{At, Absent}
 
-and-both : (a b : Bool) → (a && b) ≡ true → (a ≡ true) × (b ≡ true)
-and-both true b e = (refl, e)
-and-both false b e = absurd (false≢true e)
+pub both-true : (a b : Bool) → (a && b) ≡ true → (a ≡ true) × (b ≡ true)
+both-true true b e = (refl, e)
+both-true false b e = absurd (false≢true e)
 
 -- the first key is at least low, and the others are above it
 pub first-key : (low k : ℕ) (ks : List ℕ) → ascendingFrom low (k ∷ ks) ≡ true → low ≤ k
 unfolding ascendingFrom
-first-key low k ks e = leb-true low k (and-both (leb low k) (ascendingFrom (suc k) ks) e .0)
+first-key low k ks e = leb-true low k (both-true (leb low k) (ascendingFrom (suc k) ks) e .0)
 
 pub other-keys : (low k : ℕ) (ks : List ℕ) → ascendingFrom low (k ∷ ks) ≡ true → ascendingFrom (suc k) ks ≡ true
 unfolding ascendingFrom
-other-keys low k ks e = and-both (leb low k) (ascendingFrom (suc k) ks) e .1
+other-keys low k ks e = both-true (leb low k) (ascendingFrom (suc k) ks) e .1
+
+-- no key is below the first
+pub at-least : (low p : ℕ) (ks : List ℕ) → ascendingFrom low ks ≡ true → p < length ks → low ≤ getD ks p 0
+at-least low p [] a h = absurd (not-suc-le-zero h)
+at-least low zero (k ∷ ks) a h = first-key low k ks a
+at-least low (suc p) (k ∷ ks) a h = more (first-key low k ks a) (at-least (suc k) p ks (other-keys low k ks a) (le-of-suc-le-suc h))
+  where
+    more : {k m : ℕ} → low ≤ k → suc k ≤ m → low ≤ m
+    more f g = omega arith
+
+-- a search may start behind any key that is below the one looked for
+pub search-behind : (key low p : ℕ) (ks : List ℕ) → ascendingFrom low ks ≡ true → p < length ks → getD ks p 0 < key → later (suc p) (searchIn key (drop (suc p) ks)) ≡ searchIn key ks
+unfolding searchIn
+search-behind key low p [] a h l = absurd (not-suc-le-zero h)
+search-behind key low zero (k ∷ ks) a h l = simp (lt-ltb k key l)
+search-behind key low (suc p) (k ∷ ks) a h l =
+    let b = other-keys low k ks a in
+    let i = le-of-suc-le-suc h in
+    simp (lt-ltb k key (below (at-least (suc k) p ks b i) l)) (later-suc (suc p) (searchIn key (drop (suc p) ks)) ∙ ap (later 1) (search-behind key (suc k) p ks b i l))
+  where
+    below : {m : ℕ} → suc k ≤ m → m < key → k < key
+    below f g = omega arith
+
+    later-suc : (n : ℕ) (q : Place) → later (suc n) q ≡ later 1 (later n q)
+    later-suc n (At q) = ap At (omega arith)
+    later-suc n (Absent q) = ap Absent (omega arith)
 
 -- ---- the entries of two lists of one length
 pub keys-entries : (ks ds : List ℕ) → length ks ≡ length ds → keysOf (entriesOf ks ds) ≡ ks

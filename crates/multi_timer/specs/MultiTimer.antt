@@ -1,6 +1,6 @@
 -- Document 01, "What the Rust forms turn into", `timing/timer.rs` and "Turned away", lines 9, 10 and 5; the reference's MultiTimer.
 use Prim.Native.Nat.{ℕ, _+_, _-_, _%_, _^_, max}
-use mathlib.Core.Bool.{Bool, false, not, _||_, _&&_}
+use mathlib.Core.Bool.{Bool, false, not, cond, _||_, _&&_}
 use mathlib.Core.List.{List, [], _∷_, _++_}
 use mathlib.Core.Option.{Option, none, some}
 use lib.Dec.{leb, ltb, eqb}
@@ -65,6 +65,10 @@ readTooLate n ds now = heldTooLate n ds || ltb maxTime now
 
 abbrev pub startTooLate : ℕ → List ℕ → ℕ → ℕ → Bool
 startTooLate n ds now duration = heldTooLate n ds || startLate now duration
+
+-- the first of lines 9 and 10 that turns the held entries away, or 0
+abbrev pub heldLine : ℕ → List ℕ → List ℕ → ℕ
+heldLine n ks ds = cond (broken n ks ds) 9 (cond (heldTooLate n ds) 10 0)
 
 -- "a new key with no timer entry unused"
 abbrev pub startFull : MultiTimer → List ℕ → List ℕ → ℕ → Bool

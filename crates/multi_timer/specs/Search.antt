@@ -1,12 +1,11 @@
 -- Helpers of the code below the entry points. Where a key stands among ascending keys, or where it would stand.
 use Prim.Native.Nat.{ℕ, suc, _+_, _-_}
-use mathlib.Core.Bool.{cond}
+use mathlib.Core.Bool.{Bool, true, cond, _&&_}
 use mathlib.Core.Path.{_≡_}
 use mathlib.Core.List.{List, [], _∷_, _++_}
-use lib.ListN.{length, take, drop, replicate}
+use lib.ListN.{length, getD, take, drop, replicate}
 use lib.Dec.{leb, ltb, eqb}
-use lib.Bits.{bitOr}
-use Rattle.multi_timer.specs.Map.{entriesOf, keysOf, deadlinesOf, keep, due, pending}
+use Rattle.multi_timer.specs.Map.{ascendingFrom, entriesOf, keysOf, deadlinesOf, keep, due, pending}
 use Rattle.multi_timer.specs.declared.Place.{Place}
 use Rattle.multi_timer.specs.declared.Place.the-variants.{At, Absent}
 
@@ -18,10 +17,14 @@ unfoldable pub searchIn : ℕ → List ℕ → Place
 searchIn k [] = Absent 0
 searchIn k (x ∷ xs) = cond (ltb x k) (later 1 (searchIn k xs)) (cond (eqb x k) (At 0) (Absent 0))
 
--- the binary digits that are set in a number or in any of a list
-unfoldable pub digitsOf : ℕ → List ℕ → ℕ
-digitsOf a [] = a
-digitsOf a (x ∷ xs) = digitsOf (bitOr a x) xs
+-- of the first n keys, those behind place i rise from the one there
+abbrev pub risingFrom : ℕ → ℕ → List ℕ → Bool
+risingFrom n i ks = ascendingFrom (suc (getD ks i 0)) (drop (i + 1) (take n ks))
+
+-- every deadline is below 2 ^ 47
+unfoldable pub soon : List ℕ → Bool
+soon [] = true
+soon (d ∷ ds) = ltb d 140737488355328 && soon ds
 
 -- how many deadlines are due
 unfoldable pub dueIn : ℕ → List ℕ → ℕ

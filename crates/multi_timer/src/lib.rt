@@ -2,15 +2,16 @@
 use duration::MAX_TIME;
 use refusal::Refusal;
 ghost use mathlib.Core.Path.{_≡_};
-ghost use mathlib.Core.Bool.{false, not, cond};
+ghost use mathlib.Core.Bool.{true, false, not, cond, _&&_, _||_};
 ghost use lib.Dec.{leb, ltb, eqb};
 ghost use mathlib.Core.List.{_∷_, _++_};
 ghost use mathlib.Core.Option.{some};
 ghost use Prim.Native.Nat.{suc, min, _≤_, _<_};
 ghost use lib.ListN.{length, take, drop, set, replicate};
+ghost use Rattle.duration.specs.Bounds.{maxTime, startLate};
 ghost use Rattle.multi_timer.specs.Map.{entriesOf, ascending, keep, due, pending, lookup, isSome, dueAt, earliest};
-ghost use Rattle.multi_timer.specs.Search.{searchIn, digitsOf, dueIn, Partitioned, insertedAt, removedAt, clearedIn};
-ghost use Rattle.multi_timer.specs.MultiTimer.{used, after, afterPop, broken, heldTooLate, readTooLate, startTooLate, startFull, startUnchecked, cancelUnchecked, popUnchecked, clearUnchecked, earliestAnswer, newDef, startTimerAtDef, cancelTimerDef, isExpiredAtDef, popExpiredAtDef, earliestDeadlineDef, clearDef};
+ghost use Rattle.multi_timer.specs.Search.{searchIn, later, risingFrom, soon, dueIn, Partitioned, insertedAt, removedAt, clearedIn};
+ghost use Rattle.multi_timer.specs.MultiTimer.{used, after, afterPop, broken, heldTooLate, heldLine, startFull, startUnchecked, cancelUnchecked, popUnchecked, clearUnchecked, earliestAnswer, newDef, startTimerAtDef, cancelTimerDef, isExpiredAtDef, popExpiredAtDef, earliestDeadlineDef, clearDef};
 
 // The first count entries of the lent keys and deadlines are used, by ascending key.
 pub struct MultiTimer {
@@ -95,41 +96,84 @@ fn is_ascending(count: usize, keys: &[u32]) -> bool
     sorted
 }
 
-fn is_broken(count: usize, keys: &[u32], deadlines: &[u64]) -> bool
-    ensures { λ r. ⌜ r ≡ broken count (now (keys .entry)) (now (deadlines .entry)) ⌝ }
+// Whether the keys from a place on rise and the deadlines are below 2^47.
+fn rest_plain(count: usize, keys: &[u32], deadlines: &[u64], from: usize) -> bool
+    requires { ⌜ (from < count) × (count ≤ length (now keys)) × (count ≤ length (now deadlines)) ⌝ }
+    ensures { λ r. ⌜ r ≡ (risingFrom count from (now (keys .entry)) && soon (drop from (take count (now (deadlines .entry))))) ⌝ }
 {
-    if keys.len() != deadlines.len() {
-        return true;
-    }
-    if count > keys.len() {
-        return true;
-    }
-    !is_ascending(count, keys)
-}
-
-// The binary digits that are set in any of the first count deadlines.
-fn digits_of(count: usize, deadlines: &[u64]) -> u64
-    requires { ⌜ count ≤ length (now deadlines) ⌝ }
-    ensures { λ r. ⌜ r ≡ digitsOf 0 (take count (now (deadlines .entry))) ⌝ }
-{
-    let mut all: u64 = 0;
-    let mut i = 0;
-    while i < count {
-        all = all | deadlines[i];
-        i += 1;
-    }
-    all
-}
-
-// Below 2^47 in all of their digits, all are below the bound.
-fn held_too_late(count: usize, deadlines: &[u64]) -> bool
-    requires { ⌜ count ≤ length (now deadlines) ⌝ }
-    ensures { λ r. ⌜ r ≡ heldTooLate count (now (deadlines .entry)) ⌝ }
-{
-    if digits_of(count, deadlines) < 140737488355328 {
+    if deadlines[from] >= 140737488355328 {
         return false;
     }
-    any_late(count, deadlines)
+    let mut i = from + 1;
+    while i < count {
+        if keys[i - 1] >= keys[i] {
+            return false;
+        }
+        if deadlines[i] >= 140737488355328 {
+            return false;
+        }
+        i += 1;
+    }
+    true
+}
+
+// Whether lines 9 and 10 can be passed at once: one pass, four entries a turn. The digits of the deadlines are joined.
+fn is_plain(count: usize, keys: &[u32], deadlines: &[u64]) -> bool
+    requires { ⌜ (0 < count) × (count ≤ length (now keys)) × (count ≤ length (now deadlines)) ⌝ }
+    ensures { λ r. ⌜ r ≡ (ascending (take count (now (keys .entry))) && soon (take count (now (deadlines .entry)))) ⌝ }
+{
+    let mut r0 = true;
+    let mut r1 = true;
+    let mut r2 = true;
+    let mut r3 = true;
+    let mut d0: u64 = 0;
+    let mut d1: u64 = 0;
+    let mut d2: u64 = 0;
+    let mut d3: u64 = 0;
+    let mut i = 0;
+    while 4 < count - i {
+        r0 = r0 & (keys[i] < keys[i + 1]);
+        r1 = r1 & (keys[i + 1] < keys[i + 2]);
+        r2 = r2 & (keys[i + 2] < keys[i + 3]);
+        r3 = r3 & (keys[i + 3] < keys[i + 4]);
+        d0 = d0 | deadlines[i];
+        d1 = d1 | deadlines[i + 1];
+        d2 = d2 | deadlines[i + 2];
+        d3 = d3 | deadlines[i + 3];
+        i += 4;
+    }
+    if !((r0 & r1) & (r2 & r3)) {
+        return false;
+    }
+    if ((d0 | d1) | (d2 | d3)) >= 140737488355328 {
+        return false;
+    }
+    rest_plain(count, keys, deadlines, i)
+}
+
+// The first of lines 9 and 10 that turns the held entries away, or 0.
+fn held_line(count: usize, keys: &[u32], deadlines: &[u64]) -> u8
+    ensures { λ r. ⌜ r ≡ heldLine count (now (keys .entry)) (now (deadlines .entry)) ⌝ }
+{
+    if keys.len() != deadlines.len() {
+        return 9;
+    }
+    if count > keys.len() {
+        return 9;
+    }
+    if count == 0 {
+        return 0;
+    }
+    if is_plain(count, keys, deadlines) {
+        return 0;
+    }
+    if !is_ascending(count, keys) {
+        return 9;
+    }
+    if any_late(count, deadlines) {
+        return 10;
+    }
+    0
 }
 
 fn any_late(count: usize, deadlines: &[u64]) -> bool
@@ -146,31 +190,44 @@ fn any_late(count: usize, deadlines: &[u64]) -> bool
     false
 }
 
-fn read_too_late(count: usize, deadlines: &[u64], time: u64) -> bool
-    requires { ⌜ count ≤ length (now deadlines) ⌝ }
-    ensures { λ r. ⌜ r ≡ readTooLate count (now (deadlines .entry)) time ⌝ }
+fn read_too_late(line: u8, time: u64) -> bool
+    ensures { λ r. ⌜ r ≡ (eqb line 10 || ltb maxTime time) ⌝ }
 {
-    if held_too_late(count, deadlines) {
+    if line == 10 {
         return true;
     }
     time > MAX_TIME
 }
 
-fn start_too_late(count: usize, deadlines: &[u64], time: u64, duration: u64) -> bool
-    requires { ⌜ count ≤ length (now deadlines) ⌝ }
-    ensures { λ r. ⌜ r ≡ startTooLate count (now (deadlines .entry)) time duration ⌝ }
+fn start_too_late(line: u8, time: u64, duration: u64) -> bool
+    ensures { λ r. ⌜ r ≡ (eqb line 10 || startLate time duration) ⌝ }
 {
-    if held_too_late(count, deadlines) {
+    if line == 10 {
         return true;
     }
     duration::start_late(time, duration)
 }
 
-fn search(count: usize, keys: &[u32], key: u32) -> Place
-    requires { ⌜ count ≤ length (now keys) ⌝ }
-    ensures { λ r. ⌜ r ≡ searchIn key (take count (now (keys .entry))) ⌝ }
+// Passes by four keys at a time while the last of them is below key.
+fn skip_below(count: usize, keys: &[u32], key: u32) -> usize
+    requires { ⌜ (count ≤ length (now keys)) × (ascending (take count (now keys)) ≡ true) ⌝ }
+    ensures { λ r. ⌜ (r ≤ count) × (later r (searchIn key (drop r (take count (now (keys .entry))))) ≡ searchIn key (take count (now (keys .entry)))) ⌝ }
 {
     let mut i = 0;
+    while 4 <= count - i {
+        if keys[i + 3] >= key {
+            return i;
+        }
+        i += 4;
+    }
+    i
+}
+
+fn search(count: usize, keys: &[u32], key: u32) -> Place
+    requires { ⌜ (count ≤ length (now keys)) × (ascending (take count (now keys)) ≡ true) ⌝ }
+    ensures { λ r. ⌜ r ≡ searchIn key (take count (now (keys .entry))) ⌝ }
+{
+    let mut i = skip_below(count, keys, key);
     while i < count {
         let k = keys[i];
         if k >= key {
@@ -546,13 +603,14 @@ impl MultiTimer {
         ensures { λ r. ⌜ after r (keys .exit .now) (deadlines .exit .now) ≡ startTimerAtDef self (keys .entry .now) (deadlines .entry .now) key now duration ⌝ }
     {
         let count = self.count;
-        if is_broken(count, keys, deadlines) {
+        let line = held_line(count, keys, deadlines);
+        if line == 9 {
             return Started {
                 timers: self,
                 answer: StartAnswer::Refused(Refusal::State),
             };
         }
-        if start_too_late(count, deadlines, now, duration) {
+        if start_too_late(line, now, duration) {
             return Started {
                 timers: self,
                 answer: StartAnswer::Refused(Refusal::Time),
@@ -575,13 +633,14 @@ impl MultiTimer {
         ensures { λ r. ⌜ after r (now (keys .exit)) (now (deadlines .exit)) ≡ cancelTimerDef self (now (keys .entry)) (now (deadlines .entry)) key ⌝ }
     {
         let count = self.count;
-        if is_broken(count, keys, deadlines) {
+        let line = held_line(count, keys, deadlines);
+        if line == 9 {
             return Cancelled {
                 timers: self,
                 answer: CancelAnswer::Refused(Refusal::State),
             };
         }
-        if held_too_late(count, deadlines) {
+        if line == 10 {
             return Cancelled {
                 timers: self,
                 answer: CancelAnswer::Refused(Refusal::Time),
@@ -598,10 +657,11 @@ impl MultiTimer {
         ensures { λ r. ⌜ r ≡ isExpiredAtDef self (keys .entry .now) (deadlines .entry .now) key now ⌝ }
     {
         let count = self.count;
-        if is_broken(count, keys, deadlines) {
+        let line = held_line(count, keys, deadlines);
+        if line == 9 {
             return ExpiredAnswer::Refused(Refusal::State);
         }
-        if read_too_late(count, deadlines, now) {
+        if read_too_late(line, now) {
             return ExpiredAnswer::Refused(Refusal::Time);
         }
         ExpiredAnswer::Is(is_due(count, keys, deadlines, key, now))
@@ -618,13 +678,14 @@ impl MultiTimer {
         ensures { λ r. ⌜ afterPop (after r (keys .exit .now) (deadlines .exit .now)) (out .exit .now) ≡ popExpiredAtDef self (keys .entry .now) (deadlines .entry .now) now (out .entry .now) ⌝ }
     {
         let count = self.count;
-        if is_broken(count, keys, deadlines) {
+        let line = held_line(count, keys, deadlines);
+        if line == 9 {
             return Popped {
                 timers: self,
                 answer: PopAnswer::Refused(Refusal::State),
             };
         }
-        if read_too_late(count, deadlines, now) {
+        if read_too_late(line, now) {
             return Popped {
                 timers: self,
                 answer: PopAnswer::Refused(Refusal::Time),
@@ -647,10 +708,11 @@ impl MultiTimer {
         ensures { λ r. ⌜ r ≡ earliestDeadlineDef self (now (keys .entry)) (now (deadlines .entry)) ⌝ }
     {
         let count = self.count;
-        if is_broken(count, keys, deadlines) {
+        let line = held_line(count, keys, deadlines);
+        if line == 9 {
             return EarliestAnswer::Refused(Refusal::State);
         }
-        if held_too_late(count, deadlines) {
+        if line == 10 {
             return EarliestAnswer::Refused(Refusal::Time);
         }
         if count == 0 {
@@ -663,13 +725,14 @@ impl MultiTimer {
         ensures { λ r. ⌜ after r (now (keys .exit)) (now (deadlines .exit)) ≡ clearDef self (now (keys .entry)) (now (deadlines .entry)) ⌝ }
     {
         let count = self.count;
-        if is_broken(count, keys, deadlines) {
+        let line = held_line(count, keys, deadlines);
+        if line == 9 {
             return Cleared {
                 timers: self,
                 answer: ClearAnswer::Refused(Refusal::State),
             };
         }
-        if held_too_late(count, deadlines) {
+        if line == 10 {
             return Cleared {
                 timers: self,
                 answer: ClearAnswer::Refused(Refusal::Time),

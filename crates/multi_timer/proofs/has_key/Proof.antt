@@ -1,13 +1,13 @@
 use mathlib.Core.Path.{sym, ap, _∙_}
 use borrow.Author.Needs.{needs}
 use Rattle.multi_timer.specs.Map.{isSome}
-use Rattle.multi_timer.proofs.Checks.{good-of}
+use Rattle.multi_timer.proofs.Checks.{good-of, in-order}
 use Rattle.multi_timer.proofs.Places.{at-lookup, absent-lookup}
 use Rattle.multi_timer.proofs.has_key.Statement.{statement}
 use Rattle.multi_timer.proofs.has_key.Tie as tie
 
 search-requires : tie.Need-search-requires
-search-requires c κs = let s = c .before .before in good-of (s .args .count) (s .args .keys .now) (s .args .deadlines .now) (s .pre) .within
+search-requires c κs = let s = c .before .before in in-order (good-of (s .args .count) (s .args .keys .now) (s .args .deadlines .now) (s .pre))
 
 enum-told : tie.Need-enum-told
 enum-told c = search needs

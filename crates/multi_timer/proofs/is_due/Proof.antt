@@ -5,7 +5,7 @@ use borrow.Author.Needs.{needs}
 use lib.ListN.{length}
 use native.Mathlib.Nat.{lt-of-lt-of-le}
 use Rattle.multi_timer.specs.Map.{dueAt}
-use Rattle.multi_timer.proofs.Checks.{good-of}
+use Rattle.multi_timer.proofs.Checks.{good-of, in-order}
 use Rattle.multi_timer.proofs.Places.{at-bound, at-lookup, absent-lookup}
 use Rattle.multi_timer.proofs.is_due.Statement.{statement}
 use Rattle.multi_timer.proofs.is_due.Tie as tie
@@ -17,7 +17,7 @@ within : (c : tie.Start) → c .args .count ≤ length (c .args .deadlines .now)
 within c = let g = good-of (c .args .count) (c .args .keys .now) (c .args .deadlines .now) (c .pre) in subst (λ (m : ℕ). c .args .count ≤ m) (g .same) (g .within)
 
 search-requires : tie.Need-search-requires
-search-requires c κs = let s = c .before .before in good-of (s .args .count) (s .args .keys .now) (s .args .deadlines .now) (s .pre) .within
+search-requires c κs = let s = c .before .before in in-order (good-of (s .args .count) (s .args .keys .now) (s .args .deadlines .now) (s .pre))
 
 enum-known-place : tie.Need-enum-known-place
 enum-known-place c = search needs

@@ -1,16 +1,12 @@
-use mathlib.Core.Path.{sym}
-use borrow.Author.Needs.{needs}
+use borrow.Author.Tests.{eq-eqb, ne-eqb}
 use Rattle.multi_timer.proofs.read_too_late.Statement.{statement}
 use Rattle.multi_timer.proofs.read_too_late.Tie as tie
 
-held-too-late-requires : tie.Need-held-too-late-requires
-held-too-late-requires c κs = search needs
-
 returns : tie.Need-returns
-returns c = simp (sym (c .before .held-too-late .ensures), c .if1 .taken)
+returns c = simp (eq-eqb _ _ (c .if1 .taken))
 
 returns-2 : tie.Need-returns-2
-returns-2 c = simp (sym (c .before .held-too-late .ensures), c .if1 .left)
+returns-2 c = simp (ne-eqb _ _ (c .if1 .left))
 
 pub read-too-late-spec : {M : Type 1} → statement M
-read-too-late-spec = tie.close (tie.spec held-too-late-requires returns returns-2)
+read-too-late-spec = tie.close (tie.spec returns returns-2)

@@ -1,14 +1,14 @@
-use mathlib.Core.Path.{_≡_, sym, _∙_}
+use mathlib.Core.Path.{_≡_}
 use mathlib.Core.Bool.{true, false}
 use borrow.Author.Needs.{needs}
 use Rattle.multi_timer.specs.MultiTimer.{broken, heldTooLate}
-use Rattle.multi_timer.proofs.Changes.{count-fits-deadlines}
 use Rattle.multi_timer.proofs.Calls.{existed, cancel-state, cancel-time, cancel-done}
+use Rattle.multi_timer.proofs.Checks.{told-state, told-good, told-time, told-timely}
 use Rattle.multi_timer.proofs.MultiTimer.cancel_timer.Statement.{statement}
 use Rattle.multi_timer.proofs.MultiTimer.cancel_timer.Tie as tie
 
-is-broken-requires : tie.Need-is-broken-requires
-is-broken-requires c κs = search needs
+held-line-requires : tie.Need-held-line-requires
+held-line-requires c κs = search needs
 
 same-length : tie.Need-same-length
 same-length c = search needs
@@ -19,14 +19,8 @@ same-length-2 c = search needs
 returns : tie.Need-returns
 returns c =
     let s = c .before .before .before .before .before .before .args in
-    let e1 : broken (s .self .count) (s .keys .now) (s .deadlines .now) ≡ true = sym (c .before .is-broken .ensures) ∙ c .if1 .taken in
+    let e1 : broken (s .self .count) (s .keys .now) (s .deadlines .now) ≡ true = told-state (s .self .count) (s .keys .now) (s .deadlines .now) _ (c .before .held-line .ensures) (c .if1 .taken) in
     cancel-state (s .self) (s .keys .now) (s .deadlines .now) (s .key) e1
-
-held-too-late-requires : tie.Need-held-too-late-requires
-held-too-late-requires c κs =
-    let s = c .before .before .before .before .before .before .before .args in
-    let e1 : broken (s .self .count) (s .keys .now) (s .deadlines .now) ≡ false = sym (c .before .before .is-broken .ensures) ∙ c .before .if1 .left in
-    count-fits-deadlines (s .self) (s .keys .now) (s .deadlines .now) e1
 
 same-length-3 : tie.Need-same-length-3
 same-length-3 c = search needs
@@ -36,15 +30,15 @@ same-length-4 c = search needs
 
 returns-2 : tie.Need-returns-2
 returns-2 c =
-    let s = c .before .before .before .before .before .before .before .before .before .args in
-    let e1 : broken (s .self .count) (s .keys .now) (s .deadlines .now) ≡ false = sym (c .before .before .before .before .is-broken .ensures) ∙ c .before .before .before .if1 .left in
-    let e2 : heldTooLate (s .self .count) (s .deadlines .now) ≡ true = sym (c .before .held-too-late .ensures) ∙ c .if2 .taken in
+    let s = c .before .before .before .before .before .before .before .args in
+    let e1 : broken (s .self .count) (s .keys .now) (s .deadlines .now) ≡ false = told-good (s .self .count) (s .keys .now) (s .deadlines .now) _ (c .before .before .held-line .ensures) (c .before .if1 .left) in
+    let e2 : heldTooLate (s .self .count) (s .deadlines .now) ≡ true = told-time (s .self .count) (s .keys .now) (s .deadlines .now) _ (c .before .before .held-line .ensures) e1 (c .if2 .taken) in
     cancel-time (s .self) (s .keys .now) (s .deadlines .now) (s .key) e1 e2
 
 cancel-timer-unchecked-requires : tie.Need-cancel-timer-unchecked-requires
 cancel-timer-unchecked-requires c κs =
-    let s = c .before .before .before .before .before .before .before .before .before .before .before .args in
-    let e1 : broken (s .self .count) (s .keys .now) (s .deadlines .now) ≡ false = sym (c .before .before .before .before .before .before .is-broken .ensures) ∙ c .before .before .before .before .before .if1 .left in
+    let s = c .before .before .before .before .before .before .before .before .before .args in
+    let e1 : broken (s .self .count) (s .keys .now) (s .deadlines .now) ≡ false = told-good (s .self .count) (s .keys .now) (s .deadlines .now) _ (c .before .before .before .before .held-line .ensures) (c .before .before .before .if1 .left) in
     e1
 
 same-length-5 : tie.Need-same-length-5
@@ -55,11 +49,11 @@ same-length-6 c = search needs
 
 returns-3 : tie.Need-returns-3
 returns-3 c =
-    let s = c .before .before .before .before .before .before .before .before .before .before .before .before .before .before .before .before .before .args in
-    let e1 : broken (s .self .count) (s .keys .now) (s .deadlines .now) ≡ false = sym (c .before .before .before .before .before .before .before .before .before .before .before .before .is-broken .ensures) ∙ c .before .before .before .before .before .before .before .before .before .before .before .if1 .left in
-    let e2 : heldTooLate (s .self .count) (s .deadlines .now) ≡ false = sym (c .before .before .before .before .before .before .before .before .before .held-too-late .ensures) ∙ c .before .before .before .before .before .before .before .before .if2 .left in
+    let s = c .before .before .before .before .before .before .before .before .before .before .before .before .before .before .before .args in
+    let e1 : broken (s .self .count) (s .keys .now) (s .deadlines .now) ≡ false = told-good (s .self .count) (s .keys .now) (s .deadlines .now) _ (c .before .before .before .before .before .before .before .before .before .before .held-line .ensures) (c .before .before .before .before .before .before .before .before .before .if1 .left) in
+    let e2 : heldTooLate (s .self .count) (s .deadlines .now) ≡ false = told-timely (s .self .count) (s .keys .now) (s .deadlines .now) _ (c .before .before .before .before .before .before .before .before .before .before .held-line .ensures) e1 (c .before .before .before .before .before .before .before .before .if2 .left) in
     let e = c .before .before .before .before .before .cancel-timer-unchecked .ensures in
     cancel-done (s .self) (s .keys .now) (s .deadlines .now) (s .key) _ _ _ _ e1 e2 (existed (s .self) (s .keys .now) (s .deadlines .now) (s .key) _ _ _ e1 e) e
 
 pub cancel-timer-spec : {M : Type 1} → statement M
-cancel-timer-spec = tie.close (tie.spec is-broken-requires same-length same-length-2 returns held-too-late-requires same-length-3 same-length-4 returns-2 cancel-timer-unchecked-requires same-length-5 same-length-6 returns-3)
+cancel-timer-spec = tie.close (tie.spec held-line-requires same-length same-length-2 returns same-length-3 same-length-4 returns-2 cancel-timer-unchecked-requires same-length-5 same-length-6 returns-3)

@@ -1,12 +1,12 @@
 use mathlib.Core.Path.{refl, sym, _∙_}
 use native.Mathlib.Omega.{arith}
 use borrow.Author.Needs.{needs}
-use Rattle.multi_timer.proofs.Changes.{place-at, cancelled-at, cancelled-absent, count-fits, count-fits-deadlines}
+use Rattle.multi_timer.proofs.Changes.{place-at, cancelled-at, cancelled-absent, count-fits, count-fits-deadlines, keys-in-order}
 use Rattle.multi_timer.proofs.MultiTimer.cancel_timer_unchecked.Statement.{statement}
 use Rattle.multi_timer.proofs.MultiTimer.cancel_timer_unchecked.Tie as tie
 
 search-requires : tie.Need-search-requires
-search-requires c κs = let s = c .before .before .before in count-fits (s .args .self) (s .args .keys .now) (s .args .deadlines .now) (s .pre)
+search-requires c κs = let s = c .before .before .before in keys-in-order (s .args .self) (s .args .keys .now) (s .args .deadlines .now) (s .pre)
 
 enum-known-place : tie.Need-enum-known-place
 enum-known-place c = search needs

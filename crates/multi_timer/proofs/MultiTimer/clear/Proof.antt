@@ -1,14 +1,14 @@
-use mathlib.Core.Path.{_≡_, sym, _∙_}
+use mathlib.Core.Path.{_≡_}
 use mathlib.Core.Bool.{true, false}
 use borrow.Author.Needs.{needs}
 use Rattle.multi_timer.specs.MultiTimer.{broken, heldTooLate}
-use Rattle.multi_timer.proofs.Changes.{count-fits-deadlines}
 use Rattle.multi_timer.proofs.Calls.{clear-state, clear-time, clear-done}
+use Rattle.multi_timer.proofs.Checks.{told-state, told-good, told-time, told-timely}
 use Rattle.multi_timer.proofs.MultiTimer.clear.Statement.{statement}
 use Rattle.multi_timer.proofs.MultiTimer.clear.Tie as tie
 
-is-broken-requires : tie.Need-is-broken-requires
-is-broken-requires c κs = search needs
+held-line-requires : tie.Need-held-line-requires
+held-line-requires c κs = search needs
 
 same-length : tie.Need-same-length
 same-length c = search needs
@@ -18,15 +18,8 @@ same-length-2 c = search needs
 
 returns : tie.Need-returns
 returns c =
-    let s = c .before .before .before .before .before .before in
-    let e1 : broken (s .args .self .count) (s .args .keys .now) (s .args .deadlines .now) ≡ true = sym (c .before .is-broken .ensures) ∙ c .if1 .taken in
-    clear-state (s .args .self) (s .args .keys .now) (s .args .deadlines .now) e1
-
-held-too-late-requires : tie.Need-held-too-late-requires
-held-too-late-requires c κs =
-    let s = c .before .before .before .before .before .before .before in
-    let e1 : broken (s .args .self .count) (s .args .keys .now) (s .args .deadlines .now) ≡ false = sym (c .before .before .is-broken .ensures) ∙ c .before .if1 .left in
-    count-fits-deadlines (s .args .self) (s .args .keys .now) (s .args .deadlines .now) e1
+    let e1 : broken (c .before .before .before .before .before .before .args .self .count) (c .before .before .before .before .before .before .args .keys .now) (c .before .before .before .before .before .before .args .deadlines .now) ≡ true = told-state (c .before .before .before .before .before .before .args .self .count) (c .before .before .before .before .before .before .args .keys .now) (c .before .before .before .before .before .before .args .deadlines .now) _ (c .before .held-line .ensures) (c .if1 .taken) in
+    clear-state (c .before .before .before .before .before .before .args .self) (c .before .before .before .before .before .before .args .keys .now) (c .before .before .before .before .before .before .args .deadlines .now) e1
 
 same-length-3 : tie.Need-same-length-3
 same-length-3 c = search needs
@@ -36,15 +29,13 @@ same-length-4 c = search needs
 
 returns-2 : tie.Need-returns-2
 returns-2 c =
-    let s = c .before .before .before .before .before .before .before .before .before in
-    let e1 : broken (s .args .self .count) (s .args .keys .now) (s .args .deadlines .now) ≡ false = sym (c .before .before .before .before .is-broken .ensures) ∙ c .before .before .before .if1 .left in
-    let e2 : heldTooLate (s .args .self .count) (s .args .deadlines .now) ≡ true = sym (c .before .held-too-late .ensures) ∙ c .if2 .taken in
-    clear-time (s .args .self) (s .args .keys .now) (s .args .deadlines .now) e1 e2
+    let e1 : broken (c .before .before .before .before .before .before .before .args .self .count) (c .before .before .before .before .before .before .before .args .keys .now) (c .before .before .before .before .before .before .before .args .deadlines .now) ≡ false = told-good (c .before .before .before .before .before .before .before .args .self .count) (c .before .before .before .before .before .before .before .args .keys .now) (c .before .before .before .before .before .before .before .args .deadlines .now) _ (c .before .before .held-line .ensures) (c .before .if1 .left) in
+    let e2 : heldTooLate (c .before .before .before .before .before .before .before .args .self .count) (c .before .before .before .before .before .before .before .args .deadlines .now) ≡ true = told-time (c .before .before .before .before .before .before .before .args .self .count) (c .before .before .before .before .before .before .before .args .keys .now) (c .before .before .before .before .before .before .before .args .deadlines .now) _ (c .before .before .held-line .ensures) e1 (c .if2 .taken) in
+    clear-time (c .before .before .before .before .before .before .before .args .self) (c .before .before .before .before .before .before .before .args .keys .now) (c .before .before .before .before .before .before .before .args .deadlines .now) e1 e2
 
 clear-unchecked-requires : tie.Need-clear-unchecked-requires
 clear-unchecked-requires c κs =
-    let s = c .before .before .before .before .before .before .before .before .before .before .before in
-    let e1 : broken (s .args .self .count) (s .args .keys .now) (s .args .deadlines .now) ≡ false = sym (c .before .before .before .before .before .before .is-broken .ensures) ∙ c .before .before .before .before .before .if1 .left in
+    let e1 : broken (c .before .before .before .before .before .before .before .before .before .args .self .count) (c .before .before .before .before .before .before .before .before .before .args .keys .now) (c .before .before .before .before .before .before .before .before .before .args .deadlines .now) ≡ false = told-good (c .before .before .before .before .before .before .before .before .before .args .self .count) (c .before .before .before .before .before .before .before .before .before .args .keys .now) (c .before .before .before .before .before .before .before .before .before .args .deadlines .now) _ (c .before .before .before .before .held-line .ensures) (c .before .before .before .if1 .left) in
     e1
 
 same-length-5 : tie.Need-same-length-5
@@ -55,10 +46,9 @@ same-length-6 c = search needs
 
 returns-3 : tie.Need-returns-3
 returns-3 c =
-    let s = c .before .before .before .before .before .before .before .before .before .before .before .before .before .before .before .before in
-    let e1 : broken (s .args .self .count) (s .args .keys .now) (s .args .deadlines .now) ≡ false = sym (c .before .before .before .before .before .before .before .before .before .before .before .is-broken .ensures) ∙ c .before .before .before .before .before .before .before .before .before .before .if1 .left in
-    let e2 : heldTooLate (s .args .self .count) (s .args .deadlines .now) ≡ false = sym (c .before .before .before .before .before .before .before .before .held-too-late .ensures) ∙ c .before .before .before .before .before .before .before .if2 .left in
-    clear-done (s .args .self) (s .args .keys .now) (s .args .deadlines .now) _ _ _ e1 e2 (c .before .before .before .before .clear-unchecked .ensures)
+    let e1 : broken (c .before .before .before .before .before .before .before .before .before .before .before .before .before .before .args .self .count) (c .before .before .before .before .before .before .before .before .before .before .before .before .before .before .args .keys .now) (c .before .before .before .before .before .before .before .before .before .before .before .before .before .before .args .deadlines .now) ≡ false = told-good (c .before .before .before .before .before .before .before .before .before .before .before .before .before .before .args .self .count) (c .before .before .before .before .before .before .before .before .before .before .before .before .before .before .args .keys .now) (c .before .before .before .before .before .before .before .before .before .before .before .before .before .before .args .deadlines .now) _ (c .before .before .before .before .before .before .before .before .before .held-line .ensures) (c .before .before .before .before .before .before .before .before .if1 .left) in
+    let e2 : heldTooLate (c .before .before .before .before .before .before .before .before .before .before .before .before .before .before .args .self .count) (c .before .before .before .before .before .before .before .before .before .before .before .before .before .before .args .deadlines .now) ≡ false = told-timely (c .before .before .before .before .before .before .before .before .before .before .before .before .before .before .args .self .count) (c .before .before .before .before .before .before .before .before .before .before .before .before .before .before .args .keys .now) (c .before .before .before .before .before .before .before .before .before .before .before .before .before .before .args .deadlines .now) _ (c .before .before .before .before .before .before .before .before .before .held-line .ensures) e1 (c .before .before .before .before .before .before .before .if2 .left) in
+    clear-done (c .before .before .before .before .before .before .before .before .before .before .before .before .before .before .args .self) (c .before .before .before .before .before .before .before .before .before .before .before .before .before .before .args .keys .now) (c .before .before .before .before .before .before .before .before .before .before .before .before .before .before .args .deadlines .now) _ _ _ e1 e2 (c .before .before .before .before .clear-unchecked .ensures)
 
 pub clear-spec : {M : Type 1} → statement M
-clear-spec = tie.close (tie.spec is-broken-requires same-length same-length-2 returns held-too-late-requires same-length-3 same-length-4 returns-2 clear-unchecked-requires same-length-5 same-length-6 returns-3)
+clear-spec = tie.close (tie.spec held-line-requires same-length same-length-2 returns same-length-3 same-length-4 returns-2 clear-unchecked-requires same-length-5 same-length-6 returns-3)

@@ -1,54 +1,44 @@
-use mathlib.Core.Path.{_≡_, sym, _∙_}
+use mathlib.Core.Path.{_≡_}
 use mathlib.Core.Bool.{true, false}
 use native.Mathlib.Omega.{arith}
 use borrow.Author.Needs.{needs}
 use Rattle.multi_timer.specs.MultiTimer.{broken, heldTooLate}
 use Rattle.multi_timer.proofs.Changes.{count-fits-deadlines}
 use Rattle.multi_timer.proofs.Calls.{earliest-state, earliest-time, earliest-none, earliest-done}
+use Rattle.multi_timer.proofs.Checks.{told-state, told-good, told-time, told-timely}
 use Rattle.multi_timer.proofs.MultiTimer.earliest_deadline.Statement.{statement}
 use Rattle.multi_timer.proofs.MultiTimer.earliest_deadline.Tie as tie
 
-is-broken-requires : tie.Need-is-broken-requires
-is-broken-requires c κs = search needs
+held-line-requires : tie.Need-held-line-requires
+held-line-requires c κs = search needs
 
 returns : tie.Need-returns
 returns c =
-    let s = c .before .before .before .before in
-    let e1 : broken (s .args .self .count) (s .args .keys .now) (s .args .deadlines .now) ≡ true = sym (c .before .is-broken .ensures) ∙ c .if1 .taken in
-    earliest-state (s .args .self) (s .args .keys .now) (s .args .deadlines .now) e1
-
-held-too-late-requires : tie.Need-held-too-late-requires
-held-too-late-requires c κs =
-    let s = c .before .before .before .before in
-    let e1 : broken (s .args .self .count) (s .args .keys .now) (s .args .deadlines .now) ≡ false = sym (c .before .is-broken .ensures) ∙ c .if1 .left in
-    count-fits-deadlines (s .args .self) (s .args .keys .now) (s .args .deadlines .now) e1
+    let e1 : broken (c .before .before .before .before .args .self .count) (c .before .before .before .before .args .keys .now) (c .before .before .before .before .args .deadlines .now) ≡ true = told-state (c .before .before .before .before .args .self .count) (c .before .before .before .before .args .keys .now) (c .before .before .before .before .args .deadlines .now) _ (c .before .held-line .ensures) (c .if1 .taken) in
+    earliest-state (c .before .before .before .before .args .self) (c .before .before .before .before .args .keys .now) (c .before .before .before .before .args .deadlines .now) e1
 
 returns-2 : tie.Need-returns-2
 returns-2 c =
-    let s = c .before .before .before .before .before .before in
-    let e1 : broken (s .args .self .count) (s .args .keys .now) (s .args .deadlines .now) ≡ false = sym (c .before .before .before .is-broken .ensures) ∙ c .before .before .if1 .left in
-    let e2 : heldTooLate (s .args .self .count) (s .args .deadlines .now) ≡ true = sym (c .before .held-too-late .ensures) ∙ c .if2 .taken in
-    earliest-time (s .args .self) (s .args .keys .now) (s .args .deadlines .now) e1 e2
+    let e1 : broken (c .before .before .before .before .before .args .self .count) (c .before .before .before .before .before .args .keys .now) (c .before .before .before .before .before .args .deadlines .now) ≡ false = told-good (c .before .before .before .before .before .args .self .count) (c .before .before .before .before .before .args .keys .now) (c .before .before .before .before .before .args .deadlines .now) _ (c .before .before .held-line .ensures) (c .before .if1 .left) in
+    let e2 : heldTooLate (c .before .before .before .before .before .args .self .count) (c .before .before .before .before .before .args .deadlines .now) ≡ true = told-time (c .before .before .before .before .before .args .self .count) (c .before .before .before .before .before .args .keys .now) (c .before .before .before .before .before .args .deadlines .now) _ (c .before .before .held-line .ensures) e1 (c .if2 .taken) in
+    earliest-time (c .before .before .before .before .before .args .self) (c .before .before .before .before .before .args .keys .now) (c .before .before .before .before .before .args .deadlines .now) e1 e2
 
 returns-3 : tie.Need-returns-3
 returns-3 c =
-    let s = c .before .before .before .before .before .before .before in
-    let e1 : broken (s .args .self .count) (s .args .keys .now) (s .args .deadlines .now) ≡ false = sym (c .before .before .before .before .is-broken .ensures) ∙ c .before .before .before .if1 .left in
-    let e2 : heldTooLate (s .args .self .count) (s .args .deadlines .now) ≡ false = sym (c .before .before .held-too-late .ensures) ∙ c .before .if2 .left in
-    earliest-none (s .args .self) (s .args .keys .now) (s .args .deadlines .now) e1 e2 (c .if3 .taken)
+    let e1 : broken (c .before .before .before .before .before .before .args .self .count) (c .before .before .before .before .before .before .args .keys .now) (c .before .before .before .before .before .before .args .deadlines .now) ≡ false = told-good (c .before .before .before .before .before .before .args .self .count) (c .before .before .before .before .before .before .args .keys .now) (c .before .before .before .before .before .before .args .deadlines .now) _ (c .before .before .before .held-line .ensures) (c .before .before .if1 .left) in
+    let e2 : heldTooLate (c .before .before .before .before .before .before .args .self .count) (c .before .before .before .before .before .before .args .deadlines .now) ≡ false = told-timely (c .before .before .before .before .before .before .args .self .count) (c .before .before .before .before .before .before .args .keys .now) (c .before .before .before .before .before .before .args .deadlines .now) _ (c .before .before .before .held-line .ensures) e1 (c .before .if2 .left) in
+    earliest-none (c .before .before .before .before .before .before .args .self) (c .before .before .before .before .before .before .args .keys .now) (c .before .before .before .before .before .before .args .deadlines .now) e1 e2 (c .if3 .taken)
 
 least-deadline-requires : tie.Need-least-deadline-requires
 least-deadline-requires c κs =
-    let s = c .before .before .before .before .before .before .before in
-    let e1 : broken (s .args .self .count) (s .args .keys .now) (s .args .deadlines .now) ≡ false = sym (c .before .before .before .before .is-broken .ensures) ∙ c .before .before .before .if1 .left in
-    (omega (arith, c .if3 .left), count-fits-deadlines (s .args .self) (s .args .keys .now) (s .args .deadlines .now) e1)
+    let e1 : broken (c .before .before .before .before .before .before .args .self .count) (c .before .before .before .before .before .before .args .keys .now) (c .before .before .before .before .before .before .args .deadlines .now) ≡ false = told-good (c .before .before .before .before .before .before .args .self .count) (c .before .before .before .before .before .before .args .keys .now) (c .before .before .before .before .before .before .args .deadlines .now) _ (c .before .before .before .held-line .ensures) (c .before .before .if1 .left) in
+    (omega (arith, c .if3 .left), count-fits-deadlines (c .before .before .before .before .before .before .args .self) (c .before .before .before .before .before .before .args .keys .now) (c .before .before .before .before .before .before .args .deadlines .now) e1)
 
 returns-4 : tie.Need-returns-4
 returns-4 c =
-    let s = c .before .before .before .before .before .before .before .before in
-    let e1 : broken (s .args .self .count) (s .args .keys .now) (s .args .deadlines .now) ≡ false = sym (c .before .before .before .before .before .is-broken .ensures) ∙ c .before .before .before .before .if1 .left in
-    let e2 : heldTooLate (s .args .self .count) (s .args .deadlines .now) ≡ false = sym (c .before .before .before .held-too-late .ensures) ∙ c .before .before .if2 .left in
-    earliest-done (s .args .self) (s .args .keys .now) (s .args .deadlines .now) _ e1 e2 (c .least-deadline .ensures)
+    let e1 : broken (c .before .before .before .before .before .before .before .args .self .count) (c .before .before .before .before .before .before .before .args .keys .now) (c .before .before .before .before .before .before .before .args .deadlines .now) ≡ false = told-good (c .before .before .before .before .before .before .before .args .self .count) (c .before .before .before .before .before .before .before .args .keys .now) (c .before .before .before .before .before .before .before .args .deadlines .now) _ (c .before .before .before .before .held-line .ensures) (c .before .before .before .if1 .left) in
+    let e2 : heldTooLate (c .before .before .before .before .before .before .before .args .self .count) (c .before .before .before .before .before .before .before .args .deadlines .now) ≡ false = told-timely (c .before .before .before .before .before .before .before .args .self .count) (c .before .before .before .before .before .before .before .args .keys .now) (c .before .before .before .before .before .before .before .args .deadlines .now) _ (c .before .before .before .before .held-line .ensures) e1 (c .before .before .if2 .left) in
+    earliest-done (c .before .before .before .before .before .before .before .args .self) (c .before .before .before .before .before .before .before .args .keys .now) (c .before .before .before .before .before .before .before .args .deadlines .now) _ e1 e2 (c .least-deadline .ensures)
 
 pub earliest-deadline-spec : {M : Type 1} → statement M
-earliest-deadline-spec = tie.close (tie.spec is-broken-requires returns held-too-late-requires returns-2 returns-3 least-deadline-requires returns-4)
+earliest-deadline-spec = tie.close (tie.spec held-line-requires returns returns-2 returns-3 least-deadline-requires returns-4)

@@ -4,13 +4,14 @@ use native.Mathlib.Omega.{arith}
 use borrow.Author.Needs.{needs}
 use Rattle.multi_timer.specs.MultiTimer.{broken, heldTooLate, startTooLate, startFull}
 use Rattle.duration.proofs.Laws.{start-in-time}
-use Rattle.multi_timer.proofs.Changes.{count-fits-deadlines}
 use Rattle.multi_timer.proofs.Calls.{start-state, start-time, start-full, start-done}
+use Rattle.duration.specs.Bounds.{startLate}
+use Rattle.multi_timer.proofs.Checks.{told-state, told-good, told-either}
 use Rattle.multi_timer.proofs.MultiTimer.start_timer_at.Statement.{statement}
 use Rattle.multi_timer.proofs.MultiTimer.start_timer_at.Tie as tie
 
-is-broken-requires : tie.Need-is-broken-requires
-is-broken-requires c κs = search needs
+held-line-requires : tie.Need-held-line-requires
+held-line-requires c κs = search needs
 
 same-length : tie.Need-same-length
 same-length c = search needs
@@ -20,15 +21,11 @@ same-length-2 c = search needs
 
 returns : tie.Need-returns
 returns c =
-    let s = c .before .before .before .before .before .before in
-    let e1 : broken (s .args .self .count) (s .args .keys .now) (s .args .deadlines .now) ≡ true = sym (c .before .is-broken .ensures) ∙ c .if1 .taken in
-    start-state (s .args .self) (s .args .keys .now) (s .args .deadlines .now) (s .args .key) (s .args .now) (s .args .duration) e1
+    let e1 : broken (c .before .before .before .before .before .before .args .self .count) (c .before .before .before .before .before .before .args .keys .now) (c .before .before .before .before .before .before .args .deadlines .now) ≡ true = told-state (c .before .before .before .before .before .before .args .self .count) (c .before .before .before .before .before .before .args .keys .now) (c .before .before .before .before .before .before .args .deadlines .now) _ (c .before .held-line .ensures) (c .if1 .taken) in
+    start-state (c .before .before .before .before .before .before .args .self) (c .before .before .before .before .before .before .args .keys .now) (c .before .before .before .before .before .before .args .deadlines .now) (c .before .before .before .before .before .before .args .key) (c .before .before .before .before .before .before .args .now) (c .before .before .before .before .before .before .args .duration) e1
 
 start-too-late-requires : tie.Need-start-too-late-requires
-start-too-late-requires c κs =
-    let s = c .before .before .before .before .before .before .before in
-    let e1 : broken (s .args .self .count) (s .args .keys .now) (s .args .deadlines .now) ≡ false = sym (c .before .before .is-broken .ensures) ∙ c .before .if1 .left in
-    count-fits-deadlines (s .args .self) (s .args .keys .now) (s .args .deadlines .now) e1
+start-too-late-requires c κs = search needs
 
 same-length-3 : tie.Need-same-length-3
 same-length-3 c = search needs
@@ -38,15 +35,13 @@ same-length-4 c = search needs
 
 returns-2 : tie.Need-returns-2
 returns-2 c =
-    let s = c .before .before .before .before .before .before .before .before .before in
-    let e1 : broken (s .args .self .count) (s .args .keys .now) (s .args .deadlines .now) ≡ false = sym (c .before .before .before .before .is-broken .ensures) ∙ c .before .before .before .if1 .left in
-    let e2 : startTooLate (s .args .self .count) (s .args .deadlines .now) (s .args .now) (s .args .duration) ≡ true = sym (c .before .start-too-late .ensures) ∙ c .if2 .taken in
-    start-time (s .args .self) (s .args .keys .now) (s .args .deadlines .now) (s .args .key) (s .args .now) (s .args .duration) e1 e2
+    let e1 : broken (c .before .before .before .before .before .before .before .before .args .self .count) (c .before .before .before .before .before .before .before .before .args .keys .now) (c .before .before .before .before .before .before .before .before .args .deadlines .now) ≡ false = told-good (c .before .before .before .before .before .before .before .before .args .self .count) (c .before .before .before .before .before .before .before .before .args .keys .now) (c .before .before .before .before .before .before .before .before .args .deadlines .now) _ (c .before .before .before .held-line .ensures) (c .before .before .if1 .left) in
+    let e2 : startTooLate (c .before .before .before .before .before .before .before .before .args .self .count) (c .before .before .before .before .before .before .before .before .args .deadlines .now) (c .before .before .before .before .before .before .before .before .args .now) (c .before .before .before .before .before .before .before .before .args .duration) ≡ true = told-either (c .before .before .before .before .before .before .before .before .args .self .count) (c .before .before .before .before .before .before .before .before .args .keys .now) (c .before .before .before .before .before .before .before .before .args .deadlines .now) _ (c .before .before .before .held-line .ensures) e1 (startLate (c .before .before .before .before .before .before .before .before .args .now) (c .before .before .before .before .before .before .before .before .args .duration)) _ _ (c .before .start-too-late .ensures) (c .if2 .taken) in
+    start-time (c .before .before .before .before .before .before .before .before .args .self) (c .before .before .before .before .before .before .before .before .args .keys .now) (c .before .before .before .before .before .before .before .before .args .deadlines .now) (c .before .before .before .before .before .before .before .before .args .key) (c .before .before .before .before .before .before .before .before .args .now) (c .before .before .before .before .before .before .before .before .args .duration) e1 e2
 
 start-full-requires : tie.Need-start-full-requires
 start-full-requires c κs =
-    let s = c .before .before .before .before .before .before .before .before .before .before .before in
-    let e1 : broken (s .args .self .count) (s .args .keys .now) (s .args .deadlines .now) ≡ false = sym (c .before .before .before .before .before .before .is-broken .ensures) ∙ c .before .before .before .before .before .if1 .left in
+    let e1 : broken (c .before .before .before .before .before .before .before .before .before .before .args .self .count) (c .before .before .before .before .before .before .before .before .before .before .args .keys .now) (c .before .before .before .before .before .before .before .before .before .before .args .deadlines .now) ≡ false = told-good (c .before .before .before .before .before .before .before .before .before .before .args .self .count) (c .before .before .before .before .before .before .before .before .before .before .args .keys .now) (c .before .before .before .before .before .before .before .before .before .before .args .deadlines .now) _ (c .before .before .before .before .before .held-line .ensures) (c .before .before .before .before .if1 .left) in
     e1
 
 same-length-5 : tie.Need-same-length-5
@@ -57,24 +52,22 @@ same-length-6 c = search needs
 
 returns-3 : tie.Need-returns-3
 returns-3 c =
-    let s = c .before .before .before .before .before .before .before .before .before .before .before .before .before in
-    let e1 : broken (s .args .self .count) (s .args .keys .now) (s .args .deadlines .now) ≡ false = sym (c .before .before .before .before .before .before .before .before .is-broken .ensures) ∙ c .before .before .before .before .before .before .before .if1 .left in
-    let e2 : startTooLate (s .args .self .count) (s .args .deadlines .now) (s .args .now) (s .args .duration) ≡ false = sym (c .before .before .before .before .before .start-too-late .ensures) ∙ c .before .before .before .before .if2 .left in
-    let e3 : startFull (s .args .self) (s .args .keys .now) (s .args .deadlines .now) (s .args .key) ≡ true = sym (c .before .start-full .ensures) ∙ c .if3 .taken in
-    start-full (s .args .self) (s .args .keys .now) (s .args .deadlines .now) (s .args .key) (s .args .now) (s .args .duration) e1 e2 e3
+    let e1 : broken (c .before .before .before .before .before .before .before .before .before .before .before .before .args .self .count) (c .before .before .before .before .before .before .before .before .before .before .before .before .args .keys .now) (c .before .before .before .before .before .before .before .before .before .before .before .before .args .deadlines .now) ≡ false = told-good (c .before .before .before .before .before .before .before .before .before .before .before .before .args .self .count) (c .before .before .before .before .before .before .before .before .before .before .before .before .args .keys .now) (c .before .before .before .before .before .before .before .before .before .before .before .before .args .deadlines .now) _ (c .before .before .before .before .before .before .before .held-line .ensures) (c .before .before .before .before .before .before .if1 .left) in
+    let e2 : startTooLate (c .before .before .before .before .before .before .before .before .before .before .before .before .args .self .count) (c .before .before .before .before .before .before .before .before .before .before .before .before .args .deadlines .now) (c .before .before .before .before .before .before .before .before .before .before .before .before .args .now) (c .before .before .before .before .before .before .before .before .before .before .before .before .args .duration) ≡ false = told-either (c .before .before .before .before .before .before .before .before .before .before .before .before .args .self .count) (c .before .before .before .before .before .before .before .before .before .before .before .before .args .keys .now) (c .before .before .before .before .before .before .before .before .before .before .before .before .args .deadlines .now) _ (c .before .before .before .before .before .before .before .held-line .ensures) e1 (startLate (c .before .before .before .before .before .before .before .before .before .before .before .before .args .now) (c .before .before .before .before .before .before .before .before .before .before .before .before .args .duration)) _ _ (c .before .before .before .before .before .start-too-late .ensures) (c .before .before .before .before .if2 .left) in
+    let e3 : startFull (c .before .before .before .before .before .before .before .before .before .before .before .before .args .self) (c .before .before .before .before .before .before .before .before .before .before .before .before .args .keys .now) (c .before .before .before .before .before .before .before .before .before .before .before .before .args .deadlines .now) (c .before .before .before .before .before .before .before .before .before .before .before .before .args .key) ≡ true = sym (c .before .start-full .ensures) ∙ c .if3 .taken in
+    start-full (c .before .before .before .before .before .before .before .before .before .before .before .before .args .self) (c .before .before .before .before .before .before .before .before .before .before .before .before .args .keys .now) (c .before .before .before .before .before .before .before .before .before .before .before .before .args .deadlines .now) (c .before .before .before .before .before .before .before .before .before .before .before .before .args .key) (c .before .before .before .before .before .before .before .before .before .before .before .before .args .now) (c .before .before .before .before .before .before .before .before .before .before .before .before .args .duration) e1 e2 e3
 
 add-start-timer-at-unchecked : tie.Need-add-start-timer-at-unchecked
 add-start-timer-at-unchecked c =
-    let s = c .before .before .before .before .before .before .before .before .before .before .before .before .before .before .before in
-    let e2 : startTooLate (s .args .self .count) (s .args .deadlines .now) (s .args .now) (s .args .duration) ≡ false = sym (c .before .before .before .before .before .before .before .start-too-late .ensures) ∙ c .before .before .before .before .before .before .if2 .left in
-    let h = start-in-time (heldTooLate (s .args .self .count) (s .args .deadlines .now)) (s .args .now) (s .args .duration) e2 in
+    let e1 : broken (c .before .before .before .before .before .before .before .before .before .before .before .before .before .before .args .self .count) (c .before .before .before .before .before .before .before .before .before .before .before .before .before .before .args .keys .now) (c .before .before .before .before .before .before .before .before .before .before .before .before .before .before .args .deadlines .now) ≡ false = told-good (c .before .before .before .before .before .before .before .before .before .before .before .before .before .before .args .self .count) (c .before .before .before .before .before .before .before .before .before .before .before .before .before .before .args .keys .now) (c .before .before .before .before .before .before .before .before .before .before .before .before .before .before .args .deadlines .now) _ (c .before .before .before .before .before .before .before .before .before .held-line .ensures) (c .before .before .before .before .before .before .before .before .if1 .left) in
+    let e2 : startTooLate (c .before .before .before .before .before .before .before .before .before .before .before .before .before .before .args .self .count) (c .before .before .before .before .before .before .before .before .before .before .before .before .before .before .args .deadlines .now) (c .before .before .before .before .before .before .before .before .before .before .before .before .before .before .args .now) (c .before .before .before .before .before .before .before .before .before .before .before .before .before .before .args .duration) ≡ false = told-either (c .before .before .before .before .before .before .before .before .before .before .before .before .before .before .args .self .count) (c .before .before .before .before .before .before .before .before .before .before .before .before .before .before .args .keys .now) (c .before .before .before .before .before .before .before .before .before .before .before .before .before .before .args .deadlines .now) _ (c .before .before .before .before .before .before .before .before .before .held-line .ensures) e1 (startLate (c .before .before .before .before .before .before .before .before .before .before .before .before .before .before .args .now) (c .before .before .before .before .before .before .before .before .before .before .before .before .before .before .args .duration)) _ _ (c .before .before .before .before .before .before .before .start-too-late .ensures) (c .before .before .before .before .before .before .if2 .left) in
+    let h = start-in-time (heldTooLate (c .before .before .before .before .before .before .before .before .before .before .before .before .before .before .args .self .count) (c .before .before .before .before .before .before .before .before .before .before .before .before .before .before .args .deadlines .now)) (c .before .before .before .before .before .before .before .before .before .before .before .before .before .before .args .now) (c .before .before .before .before .before .before .before .before .before .before .before .before .before .before .args .duration) e2 in
     omega arith
 
 start-timer-at-unchecked-requires : tie.Need-start-timer-at-unchecked-requires
 start-timer-at-unchecked-requires c κs =
-    let s = c .before .before .before .before .before .before .before .before .before .before .before .before .before .before .before in
-    let e1 : broken (s .args .self .count) (s .args .keys .now) (s .args .deadlines .now) ≡ false = sym (c .before .before .before .before .before .before .before .before .before .before .is-broken .ensures) ∙ c .before .before .before .before .before .before .before .before .before .if1 .left in
-    let e3 : startFull (s .args .self) (s .args .keys .now) (s .args .deadlines .now) (s .args .key) ≡ false = sym (c .before .before .before .start-full .ensures) ∙ c .before .before .if3 .left in
+    let e1 : broken (c .before .before .before .before .before .before .before .before .before .before .before .before .before .before .args .self .count) (c .before .before .before .before .before .before .before .before .before .before .before .before .before .before .args .keys .now) (c .before .before .before .before .before .before .before .before .before .before .before .before .before .before .args .deadlines .now) ≡ false = told-good (c .before .before .before .before .before .before .before .before .before .before .before .before .before .before .args .self .count) (c .before .before .before .before .before .before .before .before .before .before .before .before .before .before .args .keys .now) (c .before .before .before .before .before .before .before .before .before .before .before .before .before .before .args .deadlines .now) _ (c .before .before .before .before .before .before .before .before .before .held-line .ensures) (c .before .before .before .before .before .before .before .before .if1 .left) in
+    let e3 : startFull (c .before .before .before .before .before .before .before .before .before .before .before .before .before .before .args .self) (c .before .before .before .before .before .before .before .before .before .before .before .before .before .before .args .keys .now) (c .before .before .before .before .before .before .before .before .before .before .before .before .before .before .args .deadlines .now) (c .before .before .before .before .before .before .before .before .before .before .before .before .before .before .args .key) ≡ false = sym (c .before .before .before .start-full .ensures) ∙ c .before .before .if3 .left in
     (e1, e3)
 
 same-length-7 : tie.Need-same-length-7
@@ -85,11 +78,10 @@ same-length-8 c = search needs
 
 returns-4 : tie.Need-returns-4
 returns-4 c =
-    let s = c .before .before .before .before .before .before .before .before .before .before .before .before .before .before .before .before .before .before .before .before in
-    let e1 : broken (s .args .self .count) (s .args .keys .now) (s .args .deadlines .now) ≡ false = sym (c .before .before .before .before .before .before .before .before .before .before .before .before .before .before .before .is-broken .ensures) ∙ c .before .before .before .before .before .before .before .before .before .before .before .before .before .before .if1 .left in
-    let e2 : startTooLate (s .args .self .count) (s .args .deadlines .now) (s .args .now) (s .args .duration) ≡ false = sym (c .before .before .before .before .before .before .before .before .before .before .before .before .start-too-late .ensures) ∙ c .before .before .before .before .before .before .before .before .before .before .before .if2 .left in
-    let e3 : startFull (s .args .self) (s .args .keys .now) (s .args .deadlines .now) (s .args .key) ≡ false = sym (c .before .before .before .before .before .before .before .before .start-full .ensures) ∙ c .before .before .before .before .before .before .before .if3 .left in
-    start-done (s .args .self) (s .args .keys .now) (s .args .deadlines .now) (s .args .key) (s .args .now) (s .args .duration) _ _ _ e1 e2 e3 (c .before .before .before .before .start-timer-at-unchecked .ensures)
+    let e1 : broken (c .before .before .before .before .before .before .before .before .before .before .before .before .before .before .before .before .before .before .before .args .self .count) (c .before .before .before .before .before .before .before .before .before .before .before .before .before .before .before .before .before .before .before .args .keys .now) (c .before .before .before .before .before .before .before .before .before .before .before .before .before .before .before .before .before .before .before .args .deadlines .now) ≡ false = told-good (c .before .before .before .before .before .before .before .before .before .before .before .before .before .before .before .before .before .before .before .args .self .count) (c .before .before .before .before .before .before .before .before .before .before .before .before .before .before .before .before .before .before .before .args .keys .now) (c .before .before .before .before .before .before .before .before .before .before .before .before .before .before .before .before .before .before .before .args .deadlines .now) _ (c .before .before .before .before .before .before .before .before .before .before .before .before .before .before .held-line .ensures) (c .before .before .before .before .before .before .before .before .before .before .before .before .before .if1 .left) in
+    let e2 : startTooLate (c .before .before .before .before .before .before .before .before .before .before .before .before .before .before .before .before .before .before .before .args .self .count) (c .before .before .before .before .before .before .before .before .before .before .before .before .before .before .before .before .before .before .before .args .deadlines .now) (c .before .before .before .before .before .before .before .before .before .before .before .before .before .before .before .before .before .before .before .args .now) (c .before .before .before .before .before .before .before .before .before .before .before .before .before .before .before .before .before .before .before .args .duration) ≡ false = told-either (c .before .before .before .before .before .before .before .before .before .before .before .before .before .before .before .before .before .before .before .args .self .count) (c .before .before .before .before .before .before .before .before .before .before .before .before .before .before .before .before .before .before .before .args .keys .now) (c .before .before .before .before .before .before .before .before .before .before .before .before .before .before .before .before .before .before .before .args .deadlines .now) _ (c .before .before .before .before .before .before .before .before .before .before .before .before .before .before .held-line .ensures) e1 (startLate (c .before .before .before .before .before .before .before .before .before .before .before .before .before .before .before .before .before .before .before .args .now) (c .before .before .before .before .before .before .before .before .before .before .before .before .before .before .before .before .before .before .before .args .duration)) _ _ (c .before .before .before .before .before .before .before .before .before .before .before .before .start-too-late .ensures) (c .before .before .before .before .before .before .before .before .before .before .before .if2 .left) in
+    let e3 : startFull (c .before .before .before .before .before .before .before .before .before .before .before .before .before .before .before .before .before .before .before .args .self) (c .before .before .before .before .before .before .before .before .before .before .before .before .before .before .before .before .before .before .before .args .keys .now) (c .before .before .before .before .before .before .before .before .before .before .before .before .before .before .before .before .before .before .before .args .deadlines .now) (c .before .before .before .before .before .before .before .before .before .before .before .before .before .before .before .before .before .before .before .args .key) ≡ false = sym (c .before .before .before .before .before .before .before .before .start-full .ensures) ∙ c .before .before .before .before .before .before .before .if3 .left in
+    start-done (c .before .before .before .before .before .before .before .before .before .before .before .before .before .before .before .before .before .before .before .args .self) (c .before .before .before .before .before .before .before .before .before .before .before .before .before .before .before .before .before .before .before .args .keys .now) (c .before .before .before .before .before .before .before .before .before .before .before .before .before .before .before .before .before .before .before .args .deadlines .now) (c .before .before .before .before .before .before .before .before .before .before .before .before .before .before .before .before .before .before .before .args .key) (c .before .before .before .before .before .before .before .before .before .before .before .before .before .before .before .before .before .before .before .args .now) (c .before .before .before .before .before .before .before .before .before .before .before .before .before .before .before .before .before .before .before .args .duration) _ _ _ e1 e2 e3 (c .before .before .before .before .start-timer-at-unchecked .ensures)
 
 pub start-timer-at-spec : {M : Type 1} → statement M
-start-timer-at-spec = tie.close (tie.spec is-broken-requires same-length same-length-2 returns start-too-late-requires same-length-3 same-length-4 returns-2 start-full-requires same-length-5 same-length-6 returns-3 add-start-timer-at-unchecked start-timer-at-unchecked-requires same-length-7 same-length-8 returns-4)
+start-timer-at-spec = tie.close (tie.spec held-line-requires same-length same-length-2 returns start-too-late-requires same-length-3 same-length-4 returns-2 start-full-requires same-length-5 same-length-6 returns-3 add-start-timer-at-unchecked start-timer-at-unchecked-requires same-length-7 same-length-8 returns-4)

@@ -2,7 +2,7 @@ use mathlib.Core.Path.{sym, _∙_}
 use native.Mathlib.Omega.{arith}
 use borrow.Author.Needs.{needs}
 use native.Mathlib.Nat.{lt-of-lt-of-le}
-use Rattle.multi_timer.proofs.Changes.{started-at, started-absent, place-at, place-absent, unused, unused-deadline, count-fits, count-fits-deadlines}
+use Rattle.multi_timer.proofs.Changes.{started-at, started-absent, place-at, place-absent, unused, unused-deadline, count-fits-deadlines, keys-in-order}
 use Rattle.multi_timer.proofs.MultiTimer.start_timer_at_unchecked.Statement.{statement}
 use Rattle.multi_timer.proofs.MultiTimer.start_timer_at_unchecked.Tie as tie
 
@@ -10,7 +10,7 @@ wrapping-add-u64-requires : tie.Need-wrapping-add-u64-requires
 wrapping-add-u64-requires c κs = search needs
 
 search-requires : tie.Need-search-requires
-search-requires c κs = let s = c .before .before .before .before in count-fits (s .args .self) (s .args .keys .now) (s .args .deadlines .now) (s .pre .0)
+search-requires c κs = let s = c .before .before .before .before in keys-in-order (s .args .self) (s .args .keys .now) (s .args .deadlines .now) (s .pre .0)
 
 enum-known-place : tie.Need-enum-known-place
 enum-known-place c = search needs
