@@ -2,9 +2,9 @@
 use mathlib.Core.Path.{_≡_, refl, sym, _∙_, ap}
 use Prim.Native.Nat.{ℕ, zero, suc, _<_, _≤_, _+_}
 use native.Mathlib.Omega.{arith}
+use mathlib.Core.Logic.{_⊎_, inl, inr}
 use mathlib.Core.Bool.{Bool, true, false, _&&_, _||_, or-true, and-false}
 use mathlib.Core.List.{List, [], _∷_}
-use lib.ListN.{drop}
 use lib.Dec.{ltb, leb}
 use borrow.Author.Tests.{lt-ltb, le-ltb, le-leb, lt-leb, ltb-false, leb-false}
 use Rattle.refusal.proofs.Laws.{or-false}
@@ -30,23 +30,12 @@ in-cons : (p : ℕ) (r : List ℕ) (rs : List (List ℕ)) → doubledIn p (r ∷
 unfolding doubledIn
 in-cons p r rs = refl
 
-pub in-hit : (p : ℕ) (r : List ℕ) (rs : List (List ℕ)) → p ≤ placeOf r → placeOf r < p + blockSize → placeIn (placeOf r) rs ≡ true → doubledIn p (r ∷ rs) ≡ true
-in-hit p r rs a b h = in-cons p r rs ∙ rw (le-leb p (placeOf r) a, lt-ltb (placeOf r) (p + blockSize) b, h)
+pub in-first : (p : ℕ) (r : List ℕ) (rs : List (List ℕ)) → p ≤ placeOf r → placeOf r < p + blockSize → doubledIn p (r ∷ rs) ≡ (placeIn (placeOf r) rs || doubledIn p rs)
+in-first p r rs a b = in-cons p r rs ∙ rw (le-leb p (placeOf r) a, lt-ltb (placeOf r) (p + blockSize) b)
 
-pub in-new : (p : ℕ) (r : List ℕ) (rs : List (List ℕ)) → placeIn (placeOf r) rs ≡ false → doubledIn p (r ∷ rs) ≡ doubledIn p rs
-in-new p r rs h = in-cons p r rs ∙ ap (λ (b : Bool). (within p r && b) || doubledIn p rs) h ∙ ap (λ (b : Bool). b || doubledIn p rs) (and-false (within p r))
-
-pub in-low : (p : ℕ) (r : List ℕ) (rs : List (List ℕ)) → placeOf r < p → doubledIn p (r ∷ rs) ≡ doubledIn p rs
-in-low p r rs h = in-cons p r rs ∙ rw (lt-leb p (placeOf r) h)
-
-pub in-high : (p : ℕ) (r : List ℕ) (rs : List (List ℕ)) → p + blockSize ≤ placeOf r → doubledIn p (r ∷ rs) ≡ doubledIn p rs
-in-high p r rs h = in-cons p r rs ∙ ap (λ (b : Bool). ((leb p (placeOf r) && b) && placeIn (placeOf r) rs) || doubledIn p rs) (le-ltb (placeOf r) (p + blockSize) h) ∙ ap (λ (b : Bool). (b && placeIn (placeOf r) rs) || doubledIn p rs) (and-false (leb p (placeOf r)))
-
--- doubled in a part from the end, doubled in the whole
-pub in-whole : (p j : ℕ) (l : List (List ℕ)) → doubledIn p (drop j l) ≡ true → doubledIn p l ≡ true
-in-whole p zero l h = h
-in-whole p (suc j) [] h = h
-in-whole p (suc j) (x ∷ xs) h = in-cons p x xs ∙ ap (λ (b : Bool). (within p x && placeIn (placeOf x) xs) || b) (in-whole p j xs h) ∙ or-true (within p x && placeIn (placeOf x) xs)
+pub in-outside : (p : ℕ) (r : List ℕ) (rs : List (List ℕ)) → (placeOf r < p) ⊎ (p + blockSize ≤ placeOf r) → doubledIn p (r ∷ rs) ≡ doubledIn p rs
+in-outside p r rs (inl h) = in-cons p r rs ∙ rw (lt-leb p (placeOf r) h)
+in-outside p r rs (inr h) = in-cons p r rs ∙ ap (λ (b : Bool). ((leb p (placeOf r) && b) && placeIn (placeOf r) rs) || doubledIn p rs) (le-ltb (placeOf r) (p + blockSize) h) ∙ ap (λ (b : Bool). (b && placeIn (placeOf r) rs) || doubledIn p rs) (and-false (leb p (placeOf r)))
 
 -- ---- all blocks
 pub in-doubled : (p : ℕ) (l : List (List ℕ)) → doubledIn p l ≡ true → doubled l ≡ true

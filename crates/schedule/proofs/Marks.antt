@@ -3,14 +3,20 @@ use mathlib.Core.Path.{_≡_, refl, sym, _∙_, ap}
 use mathlib.Core.Logic.{_⊎_}
 use Prim.Native.Nat.{ℕ, _≤_, _<_, _+_, _-_}
 use native.Mathlib.Omega.{arith}
-use mathlib.Core.Bool.{Bool, true, false, cond}
+use mathlib.Core.Bool.{Bool, true, false, cond, _||_}
 use mathlib.Core.List.{List, [], _∷_}
 use lib.ListN.{length, drop, take, getD, set}
+use lib.Bits.{bitOr}
+use lib.Dec.{eqb}
 use Rattle.schedule.specs.Record.{placeOf, placeIn}
 use Rattle.schedule.specs.Scans.{blockSize, placeMarks, doubledIn}
 use Rattle.schedule.proofs.Lists.{rest-cons}
 use Rattle.schedule.proofs.Checks.{marks-outside, marks-set, marks-at}
-use Rattle.schedule.proofs.Doubled.{in-hit, in-new, in-low, in-high, in-whole}
+use Rattle.schedule.proofs.Doubled.{in-first, in-outside}
+
+-- a bool as 1 or 0
+abbrev pub flag : Bool → ℕ
+flag b = cond b 1 0
 
 -- what a mark says of its place
 module _ (p q : ℕ) (rs : List (List ℕ)) (low : p ≤ q) (high : q < p + blockSize) where
@@ -33,13 +39,6 @@ module _ (p q : ℕ) (rs : List (List ℕ)) (low : p ≤ q) (high : q < p + bloc
       read : (b : Bool) → (_≡_ {A = ℕ} (cond b 1 0) 0 → ⊥) → b ≡ true
       read true z = refl
       read false z = absurd (z refl)
-
-  pub mark-not : (getD (placeMarks blockSize p rs) (q - p) 0 ≡ 1 → ⊥) → placeIn q rs ≡ false
-  mark-not e = read (placeIn q rs) (λ z. e (mark-is ∙ z))
-    where
-      read : (b : Bool) → (_≡_ {A = ℕ} (cond b 1 0) 1 → ⊥) → b ≡ false
-      read true z = absurd (z refl)
-      read false z = refl
 
 -- one turn: the record below i
 module _ (s : List (List ℕ)) (count base i : ℕ) {used : List ℕ} (some : 0 < i) (low : i ≤ count) (high : count ≤ length s) (marked : used ≡ placeMarks blockSize base (drop i (take count s))) where
@@ -65,20 +64,26 @@ module _ (s : List (List ℕ)) (count base i : ℕ) {used : List ℕ} (some : 0 
   marks-no h = marked ∙ marks-outside blockSize base (getD s (i - 1) []) (drop i (take count s)) h ∙ ap (placeMarks blockSize base) one-more
 
   -- doubled places
-  pub turn-hit : base ≤ place → place - base < blockSize → getD used (place - base) 0 ≡ 1 → doubledIn base (take count s) ≡ true
-  turn-hit a b e =
-      in-whole base (i - 1) (take count s)
-      (ap (doubledIn base) (sym one-more) ∙ in-hit base (getD s (i - 1) []) (drop i (take count s)) a (omega arith) (mark-set base place (drop i (take count s)) a (omega arith) (λ z. differ (getD used (place - base) 0) e (ap (λ (xs : List ℕ). getD xs (place - base) 0) marked ∙ z))))
+  pub turn-in : base ≤ place → place - base < blockSize → {twice : ℕ} → twice ≡ flag (doubledIn base (drop i (take count s))) → bitOr twice (getD used (place - base) 0) ≡ flag (doubledIn base (drop (i - 1) (take count s)))
+  turn-in a b {twice} e =
+      let rs = drop i (take count s) in
+      ap (λ (x : ℕ). bitOr x (getD used (place - base) 0)) e
+      ∙ ap (bitOr (flag (doubledIn base rs))) (ap (λ (xs : List ℕ). getD xs (place - base) 0) marked ∙ mark-is base place rs a (omega arith))
+      ∙ joined (doubledIn base rs) (placeIn place rs)
+      ∙ ap flag (sym (in-first base (getD s (i - 1) []) rs a (omega arith)) ∙ ap (doubledIn base) one-more)
     where
-      differ : (x : ℕ) → x ≡ 1 → x ≡ 0 → ⊥
-      differ x p q = omega arith
+      joined : (d p : Bool) → bitOr (flag d) (flag p) ≡ flag (p || d)
+      joined true true = refl
+      joined true false = refl
+      joined false true = refl
+      joined false false = refl
 
-  pub turn-new : base ≤ place → place - base < blockSize → (getD used (place - base) 0 ≡ 1 → ⊥) → doubledIn base (drop i (take count s)) ≡ false → doubledIn base (drop (i - 1) (take count s)) ≡ false
-  turn-new a b e h =
-      ap (doubledIn base) (sym one-more) ∙ in-new base (getD s (i - 1) []) (drop i (take count s)) (mark-not base place (drop i (take count s)) a (omega arith) (λ z. e (ap (λ (xs : List ℕ). getD xs (place - base) 0) marked ∙ z))) ∙ h
+  pub turn-out : (place < base) ⊎ (base + blockSize ≤ place) → {twice : ℕ} → twice ≡ flag (doubledIn base (drop i (take count s))) → twice ≡ flag (doubledIn base (drop (i - 1) (take count s)))
+  turn-out h e = e ∙ ap flag (sym (in-outside base (getD s (i - 1) []) (drop i (take count s)) h) ∙ ap (doubledIn base) one-more)
 
-  pub turn-high : base + blockSize ≤ place → doubledIn base (drop i (take count s)) ≡ false → doubledIn base (drop (i - 1) (take count s)) ≡ false
-  turn-high a h = ap (doubledIn base) (sym one-more) ∙ in-high base (getD s (i - 1) []) (drop i (take count s)) a ∙ h
-
-  pub turn-low : place < base → doubledIn base (drop i (take count s)) ≡ false → doubledIn base (drop (i - 1) (take count s)) ≡ false
-  turn-low a h = ap (doubledIn base) (sym one-more) ∙ in-low base (getD s (i - 1) []) (drop i (take count s)) a ∙ h
+pub flag-is : (b : Bool) {x : ℕ} → x ≡ flag b → eqb x 1 ≡ b
+flag-is b e = ap (λ (n : ℕ). eqb n 1) e ∙ read b
+  where
+    read : (b : Bool) → eqb (flag b) 1 ≡ b
+    read true = refl
+    read false = refl
