@@ -5,13 +5,14 @@ use native.Mathlib.Omega.{arith}
 use mathlib.Core.Logic.{_⊎_, inl, inr}
 use mathlib.Core.Bool.{Bool, true, false, _&&_, _||_, or-true, and-false}
 use mathlib.Core.List.{List, [], _∷_}
+use lib.ListN.{length, getD}
 use lib.Dec.{ltb, leb}
 use borrow.Author.Tests.{lt-ltb, le-ltb, le-leb, lt-leb, ltb-false, leb-false}
 use Rattle.refusal.proofs.Laws.{or-false}
 use Rattle.schedule.specs.Record.{orderOf, lengthOf, placeOf, after, placeIn}
 use Rattle.schedule.specs.Scans.{blockSize, doubled, outside, doubledIn, brokenAlone}
 use Rattle.schedule.specs.State.{recordBroken, brokenFrom}
-use Rattle.schedule.proofs.Sound.{or-both}
+use Rattle.schedule.proofs.Sound.{or-both, fine}
 
 -- a place below m is doubled
 unfoldable pub doubledBelow : ℕ → List (List ℕ) → Bool
@@ -75,6 +76,25 @@ below-all n m (r ∷ rs) o h k =
     or-both (placeIn (placeOf r) rs) (doubled rs)
     (sym (ap (λ (b : Bool). b && placeIn (placeOf r) rs) (lt-ltb (placeOf r) m (omega arith))) ∙ first)
     (below-all n m rs (or-false (leb n (placeOf r)) (outside n rs) o .1) h (or-false (ltb (placeOf r) m && placeIn (placeOf r) rs) (doubledBelow m rs) k .1))
+
+-- ---- places below n
+pub outside-at : (n i : ℕ) (l : List (List ℕ)) → outside n l ≡ false → i < length l → placeOf (getD l i []) < n
+unfolding outside
+outside-at n i [] o h = absurd (omega arith)
+outside-at n zero (r ∷ rs) o h = leb-false n (placeOf r) (or-false (leb n (placeOf r)) (outside n rs) o .0)
+outside-at n (suc i) (r ∷ rs) o h = outside-at n i rs (or-false (leb n (placeOf r)) (outside n rs) o .1) (omega arith)
+
+pub outside-more : (n m : ℕ) (l : List (List ℕ)) → n ≤ m → outside n l ≡ false → outside m l ≡ false
+unfolding outside
+outside-more n m [] h o = refl
+outside-more n m (r ∷ rs) h o =
+    let low = leb-false n (placeOf r) (or-false (leb n (placeOf r)) (outside n rs) o .0) in
+    or-both (leb m (placeOf r)) (outside m rs) (lt-leb m (placeOf r) (omega arith)) (outside-more n m rs h (or-false (leb n (placeOf r)) (outside n rs) o .1))
+
+pub sound-inside : (next n : ℕ) (front : List ℕ) (rs : List (List ℕ)) → brokenFrom next n front rs ≡ false → outside n rs ≡ false
+unfolding outside
+sound-inside next n front [] h = refl
+sound-inside next n front (r ∷ rs) h = let f = fine next n front r rs h in or-both (leb n (placeOf r)) (outside n rs) (lt-leb n (placeOf r) (f .inside)) (sound-inside next n r rs (f .rest))
 
 -- ---- line 9: a broken record, or else a doubled place
 pub alone-none : (next n : ℕ) (front : List ℕ) {l : List (List ℕ)} → l ≡ [] → brokenAlone next n front l ≡ false

@@ -3,7 +3,7 @@ use Prim.Native.Nat.{ℕ, zero, suc, _+_}
 use mathlib.Core.Bool.{Bool, true, false, cond, _&&_, _||_}
 use mathlib.Core.List.{List, [], _∷_, _++_}
 use lib.ListN.{take, drop}
-use lib.Dec.{ltb, leb}
+use lib.Dec.{ltb, leb, eqb}
 use Rattle.schedule.specs.Record.{orderOf, lengthOf, placeOf, placeIn}
 use Rattle.schedule.specs.State.{recordBroken}
 
@@ -53,3 +53,9 @@ placeMarks (suc n) p rs = cond (placeIn p rs) 1 0 ∷ placeMarks n (suc p) rs
 unfoldable pub firstFree : ℕ → ℕ → List (List ℕ) → ℕ
 firstFree zero p rs = p
 firstFree (suc n) p rs = cond (placeIn p rs) (firstFree n (suc p) rs) p
+
+-- how many of the first n marks stand before one that is 0
+unfoldable pub firstUnset : ℕ → List ℕ → ℕ
+firstUnset zero ms = 0
+firstUnset (suc n) [] = 0
+firstUnset (suc n) (m ∷ ms) = cond (eqb m 0) 0 (suc (firstUnset n ms))

@@ -7,7 +7,7 @@ ghost use lib.ListN.{length, getD, take, drop, replicate};
 ghost use Rattle.duration.specs.Bounds.{maxTime};
 ghost use Rattle.schedule.specs.Record.{vacant, after, ordered, inserted, freePlaces, lowestFree};
 ghost use Rattle.schedule.specs.State.{mem, recordBroken, brokenFrom, stateBroken, heldLate, late, delayLate, deliveriesLate, copies, CanPut, CanSchedule};
-ghost use Rattle.schedule.specs.Scans.{placeFor, raised, blockSize, boundsBroken, brokenAlone, doubled, outside, doubledIn, placeMarks, firstFree};
+ghost use Rattle.schedule.specs.Scans.{placeFor, raised, blockSize, boundsBroken, brokenAlone, doubled, outside, doubledIn, placeMarks, firstFree, firstUnset};
 ghost use Rattle.schedule.specs.Schedule.{newDef, placed, filled, putDef, putAllDef, scheduleExit, scheduleDef, bytesOf, outShort, popExit, takeDef, popDef, CanPop, reading, firstTime, deadlineDef, lenDef, emptyDef, roomOf, roomDef};
 use duration::MAX_TIME;
 use refusal::Refusal;
@@ -182,29 +182,62 @@ fn used_places(s: &[Scheduled], count: usize, base: u64) -> [u8; 256]
     used
 }
 
+// Which places a waiting record has, where all lie below 256.
+fn low_places(s: &[Scheduled], count: usize) -> [u8; 256]
+    requires { ⌜ (count ≤ length (now s)) × (outside blockSize (take count (now s)) ≡ false) ⌝ }
+    ensures { λ r. ⌜ r ≡ placeMarks blockSize 0 (take count (now (s .entry))) ⌝ }
+{
+    let mut used = [0u8; 256];
+    let mut i = count;
+    while 0 < i {
+        i -= 1;
+        let r = s[i];
+        let place = r[3] as usize;
+        used[place] = 1;
+    }
+    used
+}
+
+// How many of the first `n` marks stand before one that is 0.
+fn first_unset(used: &[u8; 256], n: usize) -> usize
+    requires { ⌜ n ≤ blockSize ⌝ }
+    ensures { λ k. ⌜ k ≡ firstUnset n (now (used .entry)) ⌝ }
+{
+    let mut k: usize = 0;
+    while k < n {
+        if used[k] == 0 {
+            return k;
+        }
+        k += 1;
+    }
+    n
+}
+
 // The first place from `base` up to `end` that no waiting record has, or `end`.
 fn first_free(s: &[Scheduled], count: usize, base: usize, end: usize) -> usize
     requires { ⌜ (count ≤ length (now s)) × (base ≤ end) × (end ≤ base + blockSize) ⌝ }
     ensures { λ p. ⌜ p ≡ firstFree (end - base) base (take count (now (s .entry))) ⌝ }
 {
     let used = used_places(s, count, base as u64);
-    let mut p = base;
-    while p < end {
-        if used[p - base] == 0 {
-            return p;
-        }
-        p += 1;
-    }
-    end
+    base + first_unset(&used, end - base)
+}
+
+// The same from 0 up to `end`, where all waiting records have places below 256.
+fn first_low(s: &[Scheduled], count: usize, end: usize) -> usize
+    requires { ⌜ (count ≤ length (now s)) × (end ≤ blockSize) × (outside blockSize (take count (now s)) ≡ false) ⌝ }
+    ensures { λ p. ⌜ p ≡ firstFree end 0 (take count (now (s .entry))) ⌝ }
+{
+    let used = low_places(s, count);
+    first_unset(&used, end)
 }
 
 // The lowest place that no waiting record has.
 fn lowest_free(s: &[Scheduled], count: usize, places: usize) -> usize
-    requires { ⌜ (count ≤ length (now s)) × (0 < length (freePlaces places (take count (now s)))) ⌝ }
+    requires { ⌜ (count ≤ length (now s)) × (0 < length (freePlaces places (take count (now s)))) × (outside places (take count (now s)) ≡ false) ⌝ }
     ensures { λ p. ⌜ p ≡ lowestFree places (take count (now (s .entry))) ⌝ }
 {
-    if places < 256 {
-        return first_free(s, count, 0, places);
+    if places <= 256 {
+        return first_low(s, count, places);
     }
     let mut base: usize = 0;
     while 256 <= places - base {
