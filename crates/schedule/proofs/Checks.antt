@@ -72,7 +72,7 @@ held-last (r ∷ rs) (suc n) p h o =
     one-less n = omega arith
 
 -- ---- marks of places
-marks-next : (n p : ℕ) (rs : List (List ℕ)) → placeMarks (suc n) p rs ≡ cond (placeIn p rs) 1 0 ∷ placeMarks n (suc p) rs
+pub marks-next : (n p : ℕ) (rs : List (List ℕ)) → placeMarks (suc n) p rs ≡ cond (placeIn p rs) 1 0 ∷ placeMarks n (suc p) rs
 unfolding placeMarks
 marks-next n p rs = refl
 
@@ -130,27 +130,13 @@ marks-at (suc n) p (suc j) rs h = ap (λ (xs : List ℕ). getD xs (suc j) 0) (ma
     shift p j = omega arith
 
 -- ---- the first free place
-first-next : (n p : ℕ) (rs : List (List ℕ)) (t : Bool) → placeIn p rs ≡ t → firstFree (suc n) p rs ≡ cond t (firstFree n (suc p) rs) p
+pub first-next : (n p : ℕ) (rs : List (List ℕ)) (t : Bool) → placeIn p rs ≡ t → firstFree (suc n) p rs ≡ cond t (firstFree n (suc p) rs) p
 unfolding firstFree
 first-next n p rs t e = ap (λ (b : Bool). cond b (firstFree n (suc p) rs) p) e
 
-first-zero : (p : ℕ) (rs : List (List ℕ)) → firstFree zero p rs ≡ p
+pub first-zero : (p : ℕ) (rs : List (List ℕ)) → firstFree zero p rs ≡ p
 unfolding firstFree
 first-zero p rs = refl
-
-pub first-none : (e p : ℕ) (rs : List (List ℕ)) → e ≤ p → firstFree (e - p) p rs ≡ p
-unfolding firstFree
-first-none e p rs h = let k : e - p ≡ 0 = omega arith in ap (λ (n : ℕ). firstFree n p rs) k
-
-pub first-taken : (e p : ℕ) (rs : List (List ℕ)) → p < e → placeIn p rs ≡ true → firstFree (e - (p + 1)) (p + 1) rs ≡ firstFree (e - p) p rs
-first-taken e p rs h t =
-    let k : e - p ≡ suc (e - (p + 1)) = omega arith in
-    ap (λ (q : ℕ). firstFree (e - (p + 1)) q rs) (add-one p) ∙ sym (ap (λ (n : ℕ). firstFree n p rs) k ∙ first-next (e - (p + 1)) p rs true t)
-
-pub first-found : (e p : ℕ) (rs : List (List ℕ)) → p < e → placeIn p rs ≡ false → p ≡ firstFree (e - p) p rs
-first-found e p rs h t =
-    let k : e - p ≡ suc (e - (p + 1)) = omega arith in
-    sym (ap (λ (n : ℕ). firstFree n p rs) k ∙ first-next (e - (p + 1)) p rs false t)
 
 free-next : (k p : ℕ) (rs : List (List ℕ)) (t : Bool) → placeIn p rs ≡ t → freeFrom (suc k) p rs ≡ cond t (freeFrom k (suc p) rs) (p ∷ freeFrom k (suc p) rs)
 unfolding freeFrom

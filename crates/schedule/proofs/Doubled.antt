@@ -2,16 +2,17 @@
 use mathlib.Core.Path.{_≡_, refl, sym, _∙_, ap}
 use Prim.Native.Nat.{ℕ, zero, suc, _<_, _≤_, _+_}
 use native.Mathlib.Omega.{arith}
+use mathlib.Core.Logic.{_⊎_, inl, inr}
 use mathlib.Core.Bool.{Bool, true, false, _&&_, _||_, or-true, and-false}
 use mathlib.Core.List.{List, [], _∷_}
-use lib.ListN.{drop}
+use lib.ListN.{length, getD}
 use lib.Dec.{ltb, leb}
 use borrow.Author.Tests.{lt-ltb, le-ltb, le-leb, lt-leb, ltb-false, leb-false}
 use Rattle.refusal.proofs.Laws.{or-false}
 use Rattle.schedule.specs.Record.{orderOf, lengthOf, placeOf, after, placeIn}
 use Rattle.schedule.specs.Scans.{blockSize, doubled, outside, doubledIn, brokenAlone}
 use Rattle.schedule.specs.State.{recordBroken, brokenFrom}
-use Rattle.schedule.proofs.Sound.{or-both}
+use Rattle.schedule.proofs.Sound.{or-both, fine}
 
 -- a place below m is doubled
 unfoldable pub doubledBelow : ℕ → List (List ℕ) → Bool
@@ -30,23 +31,12 @@ in-cons : (p : ℕ) (r : List ℕ) (rs : List (List ℕ)) → doubledIn p (r ∷
 unfolding doubledIn
 in-cons p r rs = refl
 
-pub in-hit : (p : ℕ) (r : List ℕ) (rs : List (List ℕ)) → p ≤ placeOf r → placeOf r < p + blockSize → placeIn (placeOf r) rs ≡ true → doubledIn p (r ∷ rs) ≡ true
-in-hit p r rs a b h = in-cons p r rs ∙ rw (le-leb p (placeOf r) a, lt-ltb (placeOf r) (p + blockSize) b, h)
+pub in-first : (p : ℕ) (r : List ℕ) (rs : List (List ℕ)) → p ≤ placeOf r → placeOf r < p + blockSize → doubledIn p (r ∷ rs) ≡ (placeIn (placeOf r) rs || doubledIn p rs)
+in-first p r rs a b = in-cons p r rs ∙ rw (le-leb p (placeOf r) a, lt-ltb (placeOf r) (p + blockSize) b)
 
-pub in-new : (p : ℕ) (r : List ℕ) (rs : List (List ℕ)) → placeIn (placeOf r) rs ≡ false → doubledIn p (r ∷ rs) ≡ doubledIn p rs
-in-new p r rs h = in-cons p r rs ∙ ap (λ (b : Bool). (within p r && b) || doubledIn p rs) h ∙ ap (λ (b : Bool). b || doubledIn p rs) (and-false (within p r))
-
-pub in-low : (p : ℕ) (r : List ℕ) (rs : List (List ℕ)) → placeOf r < p → doubledIn p (r ∷ rs) ≡ doubledIn p rs
-in-low p r rs h = in-cons p r rs ∙ rw (lt-leb p (placeOf r) h)
-
-pub in-high : (p : ℕ) (r : List ℕ) (rs : List (List ℕ)) → p + blockSize ≤ placeOf r → doubledIn p (r ∷ rs) ≡ doubledIn p rs
-in-high p r rs h = in-cons p r rs ∙ ap (λ (b : Bool). ((leb p (placeOf r) && b) && placeIn (placeOf r) rs) || doubledIn p rs) (le-ltb (placeOf r) (p + blockSize) h) ∙ ap (λ (b : Bool). (b && placeIn (placeOf r) rs) || doubledIn p rs) (and-false (leb p (placeOf r)))
-
--- doubled in a part from the end, doubled in the whole
-pub in-whole : (p j : ℕ) (l : List (List ℕ)) → doubledIn p (drop j l) ≡ true → doubledIn p l ≡ true
-in-whole p zero l h = h
-in-whole p (suc j) [] h = h
-in-whole p (suc j) (x ∷ xs) h = in-cons p x xs ∙ ap (λ (b : Bool). (within p x && placeIn (placeOf x) xs) || b) (in-whole p j xs h) ∙ or-true (within p x && placeIn (placeOf x) xs)
+pub in-outside : (p : ℕ) (r : List ℕ) (rs : List (List ℕ)) → (placeOf r < p) ⊎ (p + blockSize ≤ placeOf r) → doubledIn p (r ∷ rs) ≡ doubledIn p rs
+in-outside p r rs (inl h) = in-cons p r rs ∙ rw (lt-leb p (placeOf r) h)
+in-outside p r rs (inr h) = in-cons p r rs ∙ ap (λ (b : Bool). ((leb p (placeOf r) && b) && placeIn (placeOf r) rs) || doubledIn p rs) (le-ltb (placeOf r) (p + blockSize) h) ∙ ap (λ (b : Bool). (b && placeIn (placeOf r) rs) || doubledIn p rs) (and-false (leb p (placeOf r)))
 
 -- ---- all blocks
 pub in-doubled : (p : ℕ) (l : List (List ℕ)) → doubledIn p l ≡ true → doubled l ≡ true
@@ -86,6 +76,25 @@ below-all n m (r ∷ rs) o h k =
     or-both (placeIn (placeOf r) rs) (doubled rs)
     (sym (ap (λ (b : Bool). b && placeIn (placeOf r) rs) (lt-ltb (placeOf r) m (omega arith))) ∙ first)
     (below-all n m rs (or-false (leb n (placeOf r)) (outside n rs) o .1) h (or-false (ltb (placeOf r) m && placeIn (placeOf r) rs) (doubledBelow m rs) k .1))
+
+-- ---- places below n
+pub outside-at : (n i : ℕ) (l : List (List ℕ)) → outside n l ≡ false → i < length l → placeOf (getD l i []) < n
+unfolding outside
+outside-at n i [] o h = absurd (omega arith)
+outside-at n zero (r ∷ rs) o h = leb-false n (placeOf r) (or-false (leb n (placeOf r)) (outside n rs) o .0)
+outside-at n (suc i) (r ∷ rs) o h = outside-at n i rs (or-false (leb n (placeOf r)) (outside n rs) o .1) (omega arith)
+
+pub outside-more : (n m : ℕ) (l : List (List ℕ)) → n ≤ m → outside n l ≡ false → outside m l ≡ false
+unfolding outside
+outside-more n m [] h o = refl
+outside-more n m (r ∷ rs) h o =
+    let low = leb-false n (placeOf r) (or-false (leb n (placeOf r)) (outside n rs) o .0) in
+    or-both (leb m (placeOf r)) (outside m rs) (lt-leb m (placeOf r) (omega arith)) (outside-more n m rs h (or-false (leb n (placeOf r)) (outside n rs) o .1))
+
+pub sound-inside : (next n : ℕ) (front : List ℕ) (rs : List (List ℕ)) → brokenFrom next n front rs ≡ false → outside n rs ≡ false
+unfolding outside
+sound-inside next n front [] h = refl
+sound-inside next n front (r ∷ rs) h = let f = fine next n front r rs h in or-both (leb n (placeOf r)) (outside n rs) (lt-leb n (placeOf r) (f .inside)) (sound-inside next n r rs (f .rest))
 
 -- ---- line 9: a broken record, or else a doubled place
 pub alone-none : (next n : ℕ) (front : List ℕ) {l : List (List ℕ)} → l ≡ [] → brokenAlone next n front l ≡ false

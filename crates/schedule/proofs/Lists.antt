@@ -1,12 +1,13 @@
--- Lists: what a loop that clears, and one that moves all elements down by one, have made after i turns.
+-- Lists: what a loop that clears, and those that move elements down or up by one, have made after i turns.
 use mathlib.Core.Path.{_≡_, refl, sym, _∙_, ap}
 use Prim.Native.Nat.{ℕ, zero, suc, _<_, _≤_, _+_, _-_}
 use native.Mathlib.Omega.{arith}
 use native.Mathlib.Numerals.{add-one}
-use native.Mathlib.Nat.{add-comm, add-sub-cancel-left}
+use native.Mathlib.Nat.{le-refl, add-comm, add-sub-cancel-left}
 use mathlib.Core.List.{List, [], _∷_, _++_, append-assoc}
-use lib.ListN.{length, set, getD, take, drop, replicate, length-replicate, length-append, length-drop, replicate-append-replicate, drop-of-length-le}
-use lib.Seq.{take-suc, drop-cons, set-at, length-take-le, append-snoc, getD-append-add, getD-drop, drop-length, take-at, drop-at, getD-take}
+use lib.ListN.{length, set, getD, take, drop, replicate, length-replicate, length-append, length-drop, replicate-append-replicate, drop-of-length-le, take-append-drop, List·getD-append}
+use lib.Seq.{take-suc, drop-cons, set-at, length-take-le, append-snoc, getD-append-add, getD-drop, drop-length, take-at, drop-at, getD-take, take-take}
+use Rattle.schedule.specs.Scans.{raised}
 use borrow.Rule.Slice.PartMut.{midOf, postOf, putMid, post-is, mid-len}
 
 module _ {A : Type 0} where
@@ -86,6 +87,47 @@ module _ {A : Type 0} where
 
   pub rest-none : (n i : ℕ) (l : List A) → n ≤ i → n ≤ length l → drop i (take n l) ≡ []
   rest-none n i l h k = drop-of-length-le (take n l) {i = i} (rw length-take-le h)
+
+  -- ---- the loop that moves those from i up to n up by one
+  pub raise-none : (n : ℕ) (l : List A) → n ≤ length l → l ≡ raised n n l
+  raise-none n l h = sym (ap (λ (xs : List A). take (n + 1) l ++ (xs ++ drop (n + 1) l)) (rest-none n n l (le-refl n) h) ∙ take-append-drop (n + 1) l)
+
+  -- the i-th and what stands above it
+  raise-split : (d : A) (n i : ℕ) (l : List A) → i < length l → raised n i l ≡ take i l ++ getD l i d ∷ (drop i (take n l) ++ drop (n + 1) l)
+  raise-split d n i l h =
+      let e : take (i + 1) l ≡ take i l ++ getD l i d ∷ [] = ap (λ (k : ℕ). take k l) (add-one i) ∙ take-suc l i d h in
+      ap (λ (xs : List A). xs ++ (drop i (take n l) ++ drop (n + 1) l)) e ∙ append-snoc (take i l) (getD l i d) (drop i (take n l) ++ drop (n + 1) l)
+
+  raise-set : (d v : A) (n i : ℕ) (l : List A) → i < length l → set (raised n i l) i v ≡ take i l ++ v ∷ (drop i (take n l) ++ drop (n + 1) l)
+  raise-set d v n i l h = ap (λ (xs : List A). set xs i v) (raise-split d n i l h) ∙ set-at (take i l) (getD l i d) (drop i (take n l) ++ drop (n + 1) l) v i (length-take-le i l (omega arith))
+
+  pub raise-more : (d : A) (n i : ℕ) (l : List A) → 0 < i → i ≤ n → n < length l → set (raised n i l) i (getD (raised n i l) (i - 1) d) ≡ raised n (i - 1) l
+  raise-more d n zero l p h k = absurd (omega arith)
+  raise-more d n (suc j) l p h k =
+      let e : suc j - 1 ≡ j = omega arith in
+      let f : length (take (suc j) l) ≡ suc j = length-take-le (suc j) l (omega arith) in
+      let read : getD (raised n (suc j) l) j d ≡ getD l j d =
+      ap (λ (xs : List A). getD xs j d) (raise-split d n (suc j) l (omega arith))
+      ∙ List·getD-append (take (suc j) l) (getD l (suc j) d ∷ (drop (suc j) (take n l) ++ drop (n + 1) l)) d j (omega arith)
+      ∙ getD-take (suc j) l j d (omega arith) in
+      ap (λ (m : ℕ). set (raised n (suc j) l) (suc j) (getD (raised n (suc j) l) m d)) e
+      ∙ raise-set d (getD (raised n (suc j) l) j d) n (suc j) l (omega arith)
+      ∙ ap (λ (x : A). take (suc j) l ++ x ∷ (drop (suc j) (take n l) ++ drop (n + 1) l)) read
+      ∙ ap (λ (m : ℕ). take m l ++ (getD l j d ∷ drop m (take n l) ++ drop (n + 1) l)) (sym (add-one j))
+      ∙ ap (λ (xs : List A). take (j + 1) l ++ (xs ++ drop (n + 1) l)) (sym (rest-cons d n j l (omega arith) (omega arith)))
+      ∙ ap (λ (m : ℕ). raised n m l) (sym e)
+
+  pub raise-length : (n i : ℕ) (l : List A) → i ≤ n → n < length l → length (raised n i l) ≡ length l
+  raise-length n i l h k =
+      length-append (take (i + 1) l) (drop i (take n l) ++ drop (n + 1) l)
+      ∙ ap (λ (m : ℕ). length (take (i + 1) l) + m) (length-append (drop i (take n l)) (drop (n + 1) l))
+      ∙ rw (length-take-le (i + 1) l (omega arith), length-drop i (take n l), length-take-le n l (omega arith), length-drop (n + 1) l) (omega arith)
+
+  pub raise-put : (d v : A) (n i : ℕ) (l : List A) → i ≤ n → n < length l → set (raised n i l) i v ≡ take i (take n l) ++ v ∷ drop i (take n l) ++ drop (n + 1) l
+  raise-put d v n i l h k =
+      raise-set d v n i l (omega arith)
+      ∙ ap (λ (xs : List A). xs ++ v ∷ (drop i (take n l) ++ drop (n + 1) l)) (sym (take-take i n l h))
+      ∙ sym (append-assoc (take i (take n l)) (v ∷ drop i (take n l)) (drop (n + 1) l))
 
 -- ---- a part of a store, written in two pieces
 first-part : (l p : List ℕ) (a : ℕ) → a + length p ≤ length l → putMid a (a + length p - a) l p ≡ take a l ++ p ++ drop (a + length p) l

@@ -1,16 +1,26 @@
 -- Marks of the places of a block, as loops over the waiting records from the last to the first make them.
-use mathlib.Core.Path.{_≡_, refl, sym, _∙_, ap}
+use mathlib.Core.Path.{_≡_, refl, sym, _∙_, ap, subst}
 use mathlib.Core.Logic.{_⊎_}
-use Prim.Native.Nat.{ℕ, _≤_, _<_, _+_, _-_}
+use Prim.Native.Nat.{ℕ, zero, suc, _≤_, _<_, _+_, _-_}
 use native.Mathlib.Omega.{arith}
-use mathlib.Core.Bool.{Bool, true, false, cond}
+use native.Mathlib.Numerals.{add-one}
+use native.Mathlib.Nat.{add-zero, sub-zero}
+use mathlib.Core.Bool.{Bool, true, false, cond, _||_, true≢false}
 use mathlib.Core.List.{List, [], _∷_}
 use lib.ListN.{length, drop, take, getD, set}
+use lib.Seq.{drop-nil, length-take-le, getD-take}
+use lib.Bits.{bitOr}
+use lib.Dec.{eqb}
+use borrow.Author.Tests.{eq-eqb, ne-eqb}
 use Rattle.schedule.specs.Record.{placeOf, placeIn}
-use Rattle.schedule.specs.Scans.{blockSize, placeMarks, doubledIn}
+use Rattle.schedule.specs.Scans.{blockSize, placeMarks, firstFree, firstUnset, outside, doubledIn}
 use Rattle.schedule.proofs.Lists.{rest-cons}
-use Rattle.schedule.proofs.Checks.{marks-outside, marks-set, marks-at}
-use Rattle.schedule.proofs.Doubled.{in-hit, in-new, in-low, in-high, in-whole}
+use Rattle.schedule.proofs.Checks.{marks-next, marks-outside, marks-set, marks-at, first-next, first-zero}
+use Rattle.schedule.proofs.Doubled.{in-first, in-outside, outside-at}
+
+-- a bool as 1 or 0
+abbrev pub flag : Bool → ℕ
+flag b = cond b 1 0
 
 -- what a mark says of its place
 module _ (p q : ℕ) (rs : List (List ℕ)) (low : p ≤ q) (high : q < p + blockSize) where
@@ -20,26 +30,64 @@ module _ (p q : ℕ) (rs : List (List ℕ)) (low : p ≤ q) (high : q < p + bloc
       whole : (p q : ℕ) → p ≤ q → p + (q - p) ≡ q
       whole p q l = omega arith
 
-  pub mark-clear : getD (placeMarks blockSize p rs) (q - p) 0 ≡ 0 → placeIn q rs ≡ false
-  mark-clear e = read (placeIn q rs) (sym mark-is ∙ e)
-    where
-      read : (b : Bool) → _≡_ {A = ℕ} (cond b 1 0) 0 → b ≡ false
-      read true z = absurd (omega arith)
-      read false z = refl
+-- the first mark that is 0 is that of the first free place
+unset-zero : (ms : List ℕ) → firstUnset zero ms ≡ 0
+unfolding firstUnset
+unset-zero ms = refl
 
-  pub mark-set : (getD (placeMarks blockSize p rs) (q - p) 0 ≡ 0 → ⊥) → placeIn q rs ≡ true
-  mark-set e = read (placeIn q rs) (λ z. e (mark-is ∙ z))
-    where
-      read : (b : Bool) → (_≡_ {A = ℕ} (cond b 1 0) 0 → ⊥) → b ≡ true
-      read true z = refl
-      read false z = absurd (z refl)
+unset-next : (n m : ℕ) (ms : List ℕ) (t : Bool) → eqb m 0 ≡ t → firstUnset (suc n) (m ∷ ms) ≡ cond t 0 (suc (firstUnset n ms))
+unfolding firstUnset
+unset-next n m ms t e = ap (λ (b : Bool). cond b 0 (suc (firstUnset n ms))) e
 
-  pub mark-not : (getD (placeMarks blockSize p rs) (q - p) 0 ≡ 1 → ⊥) → placeIn q rs ≡ false
-  mark-not e = read (placeIn q rs) (λ z. e (mark-is ∙ z))
-    where
-      read : (b : Bool) → (_≡_ {A = ℕ} (cond b 1 0) 1 → ⊥) → b ≡ false
-      read true z = absurd (z refl)
-      read false z = refl
+unset-nil : (n : ℕ) → firstUnset (suc n) [] ≡ 0
+unfolding firstUnset
+unset-nil n = refl
+
+pub unset-le : (n : ℕ) (ms : List ℕ) → firstUnset n ms ≤ n
+unset-le zero ms = let z = unset-zero ms in omega arith
+unset-le (suc n) [] = let z = unset-nil n in omega arith
+unset-le (suc n) (m ∷ ms) = go (eqb m 0) refl (unset-le n ms)
+  where
+    go : (t : Bool) → eqb m 0 ≡ t → firstUnset n ms ≤ n → firstUnset (suc n) (m ∷ ms) ≤ suc n
+    go true e ih = let z : firstUnset (suc n) (m ∷ ms) ≡ 0 = unset-next n m ms true e in omega arith
+    go false e ih = let z : firstUnset (suc n) (m ∷ ms) ≡ suc (firstUnset n ms) = unset-next n m ms false e in omega arith
+
+pub unset-free : (k m p : ℕ) (rs : List (List ℕ)) → k ≤ m → p + firstUnset k (placeMarks m p rs) ≡ firstFree k p rs
+unset-free zero m p rs h = ap (λ (x : ℕ). p + x) (unset-zero (placeMarks m p rs)) ∙ add-zero p ∙ sym (first-zero p rs)
+unset-free (suc k) zero p rs h = absurd (omega arith)
+unset-free (suc k) (suc m) p rs h = go (placeIn p rs) refl (unset-free k m (suc p) rs (omega arith))
+  where
+    shift : (p x : ℕ) → p + suc x ≡ suc p + x
+    shift p x = omega arith
+
+    head : (t : Bool) → placeIn p rs ≡ t → p + firstUnset (suc k) (placeMarks (suc m) p rs) ≡ p + firstUnset (suc k) (cond t 1 0 ∷ placeMarks m (suc p) rs)
+    head t e = ap (λ (xs : List ℕ). p + firstUnset (suc k) xs) (marks-next m p rs ∙ ap (λ (b : Bool). cond b 1 0 ∷ placeMarks m (suc p) rs) e)
+
+    go : (t : Bool) → placeIn p rs ≡ t → suc p + firstUnset k (placeMarks m (suc p) rs) ≡ firstFree k (suc p) rs → p + firstUnset (suc k) (placeMarks (suc m) p rs) ≡ firstFree (suc k) p rs
+    go true e ih = head true e ∙ ap (λ (x : ℕ). p + x) (unset-next k 1 (placeMarks m (suc p) rs) false refl) ∙ shift p (firstUnset k (placeMarks m (suc p) rs)) ∙ ih ∙ sym (first-next k p rs true e)
+    go false e ih = head false e ∙ ap (λ (x : ℕ). p + x) (unset-next k 0 (placeMarks m (suc p) rs) true refl) ∙ add-zero p ∙ sym (first-next k p rs false e)
+
+-- the loop that looks for it; what stands behind the marks reads as 0
+unset-at : (n i : ℕ) (ms : List ℕ) (t : Bool) → eqb (getD ms i 0) 0 ≡ t → firstUnset (suc n) (drop i ms) ≡ cond t 0 (suc (firstUnset n (drop (suc i) ms)))
+unset-at n i [] true e = ap (firstUnset (suc n)) (drop-nil i) ∙ unset-nil n
+unset-at n i [] false e = absurd (true≢false e)
+unset-at n zero (m ∷ ms) t e = unset-next n m ms t e
+unset-at n (suc i) (m ∷ ms) t e = unset-at n i ms t e
+
+module _ (ms : List ℕ) (n i : ℕ) (h : i < n) where
+  unset-step : (t : Bool) → eqb (getD ms i 0) 0 ≡ t → firstUnset (n - i) (drop i ms) ≡ cond t 0 (suc (firstUnset (n - (i + 1)) (drop (i + 1) ms)))
+  unset-step t e =
+      let k : n - i ≡ suc (n - (i + 1)) = omega arith in
+      ap (λ (x : ℕ). firstUnset x (drop i ms)) k ∙ unset-at (n - (i + 1)) i ms t e ∙ ap (λ (x : ℕ). cond t 0 (suc (firstUnset (n - (i + 1)) (drop x ms)))) (sym (add-one i))
+
+  pub unset-found : getD ms i 0 ≡ 0 → i ≡ i + firstUnset (n - i) (drop i ms)
+  unset-found e = sym (ap (λ (x : ℕ). i + x) (unset-step true (eq-eqb (getD ms i 0) 0 e)) ∙ add-zero i)
+
+  pub unset-passed : (getD ms i 0 ≡ 0 → ⊥) → i + 1 + firstUnset (n - (i + 1)) (drop (i + 1) ms) ≡ i + firstUnset (n - i) (drop i ms)
+  unset-passed e = let q : firstUnset (n - i) (drop i ms) ≡ suc (firstUnset (n - (i + 1)) (drop (i + 1) ms)) = unset-step false (ne-eqb (getD ms i 0) 0 e) in omega arith
+
+pub unset-none : (ms : List ℕ) (n i : ℕ) → n ≤ i → i + firstUnset (n - i) (drop i ms) ≡ i
+unset-none ms n i h = let k : n - i ≡ 0 = omega arith in ap (λ (x : ℕ). i + firstUnset x (drop i ms)) k ∙ ap (λ (x : ℕ). i + x) (unset-zero (drop i ms)) ∙ add-zero i
 
 -- one turn: the record below i
 module _ (s : List (List ℕ)) (count base i : ℕ) {used : List ℕ} (some : 0 < i) (low : i ≤ count) (high : count ≤ length s) (marked : used ≡ placeMarks blockSize base (drop i (take count s))) where
@@ -64,21 +112,39 @@ module _ (s : List (List ℕ)) (count base i : ℕ) {used : List ℕ} (some : 0 
   pub marks-no : (place < base) ⊎ (base + blockSize ≤ place) → used ≡ placeMarks blockSize base (drop (i - 1) (take count s))
   marks-no h = marked ∙ marks-outside blockSize base (getD s (i - 1) []) (drop i (take count s)) h ∙ ap (placeMarks blockSize base) one-more
 
+  -- the same where no place lies outside the block from 0 on
+  pub inside : outside blockSize (take count s) ≡ false → place < blockSize
+  inside o =
+      let z = length-take-le count s high in
+      let e : getD (take count s) (i - 1) [] ≡ getD s (i - 1) [] = getD-take count s (i - 1) [] (omega arith) in
+      subst (λ (r : List ℕ). placeOf r < blockSize) e (outside-at blockSize (i - 1) (take count s) o (omega arith))
+
   -- doubled places
-  pub turn-hit : base ≤ place → place - base < blockSize → getD used (place - base) 0 ≡ 1 → doubledIn base (take count s) ≡ true
-  turn-hit a b e =
-      in-whole base (i - 1) (take count s)
-      (ap (doubledIn base) (sym one-more) ∙ in-hit base (getD s (i - 1) []) (drop i (take count s)) a (omega arith) (mark-set base place (drop i (take count s)) a (omega arith) (λ z. differ (getD used (place - base) 0) e (ap (λ (xs : List ℕ). getD xs (place - base) 0) marked ∙ z))))
+  pub turn-in : base ≤ place → place - base < blockSize → {twice : ℕ} → twice ≡ flag (doubledIn base (drop i (take count s))) → bitOr twice (getD used (place - base) 0) ≡ flag (doubledIn base (drop (i - 1) (take count s)))
+  turn-in a b {twice} e =
+      let rs = drop i (take count s) in
+      ap (λ (x : ℕ). bitOr x (getD used (place - base) 0)) e
+      ∙ ap (bitOr (flag (doubledIn base rs))) (ap (λ (xs : List ℕ). getD xs (place - base) 0) marked ∙ mark-is base place rs a (omega arith))
+      ∙ joined (doubledIn base rs) (placeIn place rs)
+      ∙ ap flag (sym (in-first base (getD s (i - 1) []) rs a (omega arith)) ∙ ap (doubledIn base) one-more)
     where
-      differ : (x : ℕ) → x ≡ 1 → x ≡ 0 → ⊥
-      differ x p q = omega arith
+      joined : (d p : Bool) → bitOr (flag d) (flag p) ≡ flag (p || d)
+      joined true true = refl
+      joined true false = refl
+      joined false true = refl
+      joined false false = refl
 
-  pub turn-new : base ≤ place → place - base < blockSize → (getD used (place - base) 0 ≡ 1 → ⊥) → doubledIn base (drop i (take count s)) ≡ false → doubledIn base (drop (i - 1) (take count s)) ≡ false
-  turn-new a b e h =
-      ap (doubledIn base) (sym one-more) ∙ in-new base (getD s (i - 1) []) (drop i (take count s)) (mark-not base place (drop i (take count s)) a (omega arith) (λ z. e (ap (λ (xs : List ℕ). getD xs (place - base) 0) marked ∙ z))) ∙ h
+  pub turn-out : (place < base) ⊎ (base + blockSize ≤ place) → {twice : ℕ} → twice ≡ flag (doubledIn base (drop i (take count s))) → twice ≡ flag (doubledIn base (drop (i - 1) (take count s)))
+  turn-out h e = e ∙ ap flag (sym (in-outside base (getD s (i - 1) []) (drop i (take count s)) h) ∙ ap (doubledIn base) one-more)
 
-  pub turn-high : base + blockSize ≤ place → doubledIn base (drop i (take count s)) ≡ false → doubledIn base (drop (i - 1) (take count s)) ≡ false
-  turn-high a h = ap (doubledIn base) (sym one-more) ∙ in-high base (getD s (i - 1) []) (drop i (take count s)) a ∙ h
+pub flag-is : (b : Bool) {x : ℕ} → x ≡ flag b → eqb x 1 ≡ b
+flag-is b e = ap (λ (n : ℕ). eqb n 1) e ∙ read b
+  where
+    read : (b : Bool) → eqb (flag b) 1 ≡ b
+    read true = refl
+    read false = refl
 
-  pub turn-low : place < base → doubledIn base (drop i (take count s)) ≡ false → doubledIn base (drop (i - 1) (take count s)) ≡ false
-  turn-low a h = ap (doubledIn base) (sym one-more) ∙ in-low base (getD s (i - 1) []) (drop i (take count s)) a ∙ h
+pub marks-low : (s : List (List ℕ)) (count i : ℕ) {used : List ℕ} (some : 0 < i) (low : i ≤ count) (high : count ≤ length s) → used ≡ placeMarks blockSize 0 (drop i (take count s)) → placeOf (getD s (i - 1) []) < blockSize → set used (placeOf (getD s (i - 1) [])) 1 ≡ placeMarks blockSize 0 (drop (i - 1) (take count s))
+marks-low s count i {used} some low high marked h =
+    let p = placeOf (getD s (i - 1) []) in
+    ap (λ (n : ℕ). set used n 1) (sym (sub-zero p)) ∙ marks-it s count 0 i some low high marked (omega arith) (rw (sub-zero p) h)

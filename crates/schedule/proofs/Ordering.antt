@@ -1,15 +1,16 @@
--- The leaving order, insertion into a list that is in order, and what the loops of `insert` and `remove_first` make of a list.
+-- The leaving order, and insertion into a list that is in order.
 use mathlib.Core.Path.{_≡_, refl, sym, _∙_, ap, subst}
 use Prim.Native.Nat.{ℕ, zero, suc, _<_, _≤_, _-_}
 use native.Mathlib.Omega.{arith}
 use mathlib.Core.Bool.{Bool, true, false, cond, not, _&&_, true≢false, false≢true}
 use mathlib.Core.Logic.{_⊎_, inl, inr}
 use mathlib.Core.List.{List, [], _∷_, _++_, append-assoc}
-use lib.ListN.{length, set, getD, take, drop, length-set}
-use lib.Seq.{take-suc, drop-cons, set-split, take-set-le, drop-set-lt, getD-set-same}
+use lib.ListN.{length, getD, take, drop}
+use lib.Seq.{length-take-le}
 use lib.Dec.{ltb}
 use borrow.Author.Tests.{ltb-true, ltb-false, lt-ltb, le-ltb}
 use Rattle.schedule.specs.Record.{later, after, inserted, orderedFrom, timeOf, orderOf}
+use Rattle.schedule.specs.Scans.{placeFor}
 
 -- ---- the order, as arithmetic
 abbrev UpTo : ℕ → ℕ → ℕ → ℕ → Type 0
@@ -86,11 +87,6 @@ module _ {A : Type 0} (aft : A → A → Bool) where
   unfolding orderedFrom
   none p = refl
 
-  -- a part of it from the start is in order
-  front : (p₀ : A) (xs ys : List A) → orderedFrom aft p₀ (xs ++ ys) ≡ true → orderedFrom aft p₀ xs ≡ true
-  front p₀ [] ys h = none p₀
-  front p₀ (x ∷ xs) ys h = put-first p₀ x xs (first-of p₀ x (xs ++ ys) h .0) (front x xs ys (first-of p₀ x (xs ++ ys) h .1))
-
   -- ---- insertion
   pub insert-none : (r : A) → inserted aft r [] ≡ r ∷ []
   unfolding inserted
@@ -104,15 +100,6 @@ module _ {A : Type 0} (aft : A → A → Bool) where
   unfolding inserted
   insert-later r p ps e = ap (λ (t : Bool). cond t (r ∷ p ∷ ps) (p ∷ inserted aft r ps)) e
 
-  -- where the last leaves after r, it stays the last
-  insert-snoc : (r p : A) (xs : List A) → aft p r ≡ true → inserted aft r (xs ++ p ∷ []) ≡ inserted aft r xs ++ p ∷ []
-  insert-snoc r p [] e = insert-here r p [] e ∙ ap (λ (l : List A). l ++ p ∷ []) (sym (insert-none r))
-  insert-snoc r p (x ∷ xs) e = go (insert-snoc r p xs e) (aft x r) refl
-    where
-      go : inserted aft r (xs ++ p ∷ []) ≡ inserted aft r xs ++ p ∷ [] → (t : Bool) → aft x r ≡ t → inserted aft r (x ∷ (xs ++ p ∷ [])) ≡ inserted aft r (x ∷ xs) ++ p ∷ []
-      go ih true a = insert-here r x (xs ++ p ∷ []) a ∙ ap (λ (l : List A). l ++ p ∷ []) (sym (insert-here r x xs a))
-      go ih false a = insert-later r x (xs ++ p ∷ []) a ∙ ap (λ (l : List A). x ∷ l) ih ∙ ap (λ (l : List A). l ++ p ∷ []) (sym (insert-later r x xs a))
-
   pub inserted-length : (r : A) (xs : List A) → length (inserted aft r xs) ≡ suc (length xs)
   inserted-length r [] = ap length (insert-none r)
   inserted-length r (x ∷ xs) = go (inserted-length r xs) (aft x r) refl
@@ -121,47 +108,59 @@ module _ {A : Type 0} (aft : A → A → Bool) where
       go ih true a = ap length (insert-here r x xs a)
       go ih false a = ap length (insert-later r x xs a) ∙ ap suc ih
 
-  -- ---- what the loop of `insert` makes: those below i that leave after r move up by one, and r is put in the place that is left
-  unfoldable pub sifted : A → A → ℕ → List A → List A
-  sifted d r zero zs = set zs zero r
-  sifted d r (suc i) zs = cond (aft (getD zs i d) r) (sifted d r i (set zs (suc i) (getD zs i d))) (set zs (suc i) r)
+  -- ---- where it is put
+  for-none : (r : A) → placeFor aft r [] ≡ 0
+  unfolding placeFor
+  for-none r = refl
 
-  sifted-none : (d r : A) (zs : List A) → sifted d r zero zs ≡ set zs zero r
-  unfolding sifted
-  sifted-none d r zs = refl
+  for-cons : (r y : A) (ys : List A) (t : Bool) → aft y r ≡ t → placeFor aft r (y ∷ ys) ≡ cond t 0 (suc (placeFor aft r ys))
+  unfolding placeFor
+  for-cons r y ys t e = ap (λ (u : Bool). cond u 0 (suc (placeFor aft r ys))) e
 
-  sifted-on : (d r : A) (j : ℕ) (zs : List A) (t : Bool) → aft (getD zs j d) r ≡ t → sifted d r (suc j) zs ≡ cond t (sifted d r j (set zs (suc j) (getD zs j d))) (set zs (suc j) r)
-  unfolding sifted
-  sifted-on d r j zs t e = ap (λ (u : Bool). cond u (sifted d r j (set zs (suc j) (getD zs j d))) (set zs (suc j) r)) e
+  pub for-inserts : (r : A) (xs : List A) → inserted aft r xs ≡ take (placeFor aft r xs) xs ++ r ∷ drop (placeFor aft r xs) xs
+  for-inserts r [] = insert-none r ∙ ap (λ (n : ℕ). take n [] ++ r ∷ drop n []) (sym (for-none r))
+  for-inserts r (x ∷ xs) = go (for-inserts r xs) (aft x r) refl
+    where
+      split : ℕ → List A
+      split n = take n (x ∷ xs) ++ r ∷ drop n (x ∷ xs)
 
-  -- one turn: the one below i leaves after r, or not; or i is 0
-  pub sift-moves : (d r : A) (i : ℕ) (zs : List A) → 0 < i → aft (getD zs (i - 1) d) r ≡ true → sifted d r (i - 1) (set zs i (getD zs (i - 1) d)) ≡ sifted d r i zs
-  sift-moves d r zero zs l e = absurd (omega arith)
-  sift-moves d r (suc j) zs l e =
-      let p : suc j - 1 ≡ j = omega arith in
-      ap (λ (k : ℕ). sifted d r k (set zs (suc j) (getD zs k d))) p ∙ sym (sifted-on d r j zs true (ap (λ (k : ℕ). aft (getD zs k d) r) (sym p) ∙ e))
+      go : inserted aft r xs ≡ take (placeFor aft r xs) xs ++ r ∷ drop (placeFor aft r xs) xs → (t : Bool) → aft x r ≡ t → inserted aft r (x ∷ xs) ≡ split (placeFor aft r (x ∷ xs))
+      go ih true a = insert-here r x xs a ∙ ap split (sym (for-cons r x xs true a))
+      go ih false a = insert-later r x xs a ∙ ap (λ (l : List A). x ∷ l) ih ∙ ap split (sym (for-cons r x xs false a))
 
-  pub sift-stays : (d r : A) (i : ℕ) (zs : List A) → 0 < i → aft (getD zs (i - 1) d) r ≡ false → set zs i r ≡ sifted d r i zs
-  sift-stays d r zero zs l e = absurd (omega arith)
-  sift-stays d r (suc j) zs l e =
-      let p : suc j - 1 ≡ j = omega arith in
-      sym (sifted-on d r j zs false (ap (λ (k : ℕ). aft (getD zs k d) r) (sym p) ∙ e))
+  for-le : (r : A) (xs : List A) → placeFor aft r xs ≤ length xs
+  for-le r [] = let z = for-none r in omega arith
+  for-le r (x ∷ xs) = go (for-le r xs) (aft x r) refl
+    where
+      go : placeFor aft r xs ≤ length xs → (t : Bool) → aft x r ≡ t → placeFor aft r (x ∷ xs) ≤ suc (length xs)
+      go ih true a = let z : placeFor aft r (x ∷ xs) ≡ 0 = for-cons r x xs true a in omega arith
+      go ih false a = let z : placeFor aft r (x ∷ xs) ≡ suc (placeFor aft r xs) = for-cons r x xs false a in omega arith
 
-  pub sift-zero : (d r : A) (i : ℕ) (zs : List A) → i ≤ 0 → set zs i r ≡ sifted d r i zs
-  sift-zero d r zero zs l = sym (sifted-none d r zs)
-  sift-zero d r (suc j) zs l = absurd (omega arith)
+  pub for-within : (r : A) (n : ℕ) (xs : List A) → n ≤ length xs → placeFor aft r (take n xs) ≤ n
+  for-within r n xs h = let f = for-le r (take n xs) in let z = length-take-le n xs h in omega arith
+
+  -- one that leaves after r is not before its place
+  pub for-below : (d r : A) (i : ℕ) (xs : List A) → i < length xs → aft (getD xs i d) r ≡ true → placeFor aft r xs ≤ i
+  for-below d r i [] h e = absurd (omega arith)
+  for-below d r zero (x ∷ xs) h e = let z : placeFor aft r (x ∷ xs) ≡ 0 = for-cons r x xs true e in omega arith
+  for-below d r (suc i) (x ∷ xs) h e = go (for-below d r i xs (omega arith) e) (aft x r) refl
+    where
+      go : placeFor aft r xs ≤ i → (t : Bool) → aft x r ≡ t → placeFor aft r (x ∷ xs) ≤ suc i
+      go ih true a = let z : placeFor aft r (x ∷ xs) ≡ 0 = for-cons r x xs true a in omega arith
+      go ih false a = let z : placeFor aft r (x ∷ xs) ≡ suc (placeFor aft r xs) = for-cons r x xs false a in omega arith
 
   module _ (o : Order aft) where
-    -- where the last does not leave after r, none does
-    below-last : (p₀ p r : A) (xs : List A) → orderedFrom aft p₀ (xs ++ p ∷ []) ≡ true → aft p r ≡ false → aft p₀ r ≡ false
-    below-last p₀ p r [] h e = o .chain p₀ p r (first-of p₀ p [] h .0) e
-    below-last p₀ p r (x ∷ xs) h e = o .chain p₀ x r (first-of p₀ x (xs ++ p ∷ []) h .0) (below-last x p r xs (first-of p₀ x (xs ++ p ∷ []) h .1) e)
-
-    insert-last : (p₀ r p : A) (xs : List A) → orderedFrom aft p₀ (xs ++ p ∷ []) ≡ true → aft p r ≡ false → inserted aft r (xs ++ p ∷ []) ≡ (xs ++ p ∷ []) ++ r ∷ []
-    insert-last p₀ r p [] h e = insert-later r p [] e ∙ ap (λ (l : List A). p ∷ l) (insert-none r)
-    insert-last p₀ r p (x ∷ xs) h e =
-        insert-later r x (xs ++ p ∷ []) (below-last x p r xs (first-of p₀ x (xs ++ p ∷ []) h .1) e)
-        ∙ ap (λ (l : List A). x ∷ l) (insert-last x r p xs (first-of p₀ x (xs ++ p ∷ []) h .1) e)
+    -- among records in order one that doesn't leave after r is before its place
+    pub for-above : (d p₀ r : A) (i : ℕ) (xs : List A) → i < length xs → orderedFrom aft p₀ xs ≡ true → aft (getD xs i d) r ≡ false → (aft p₀ r ≡ false) × (i < placeFor aft r xs)
+    for-above d p₀ r i [] l h e = absurd (omega arith)
+    for-above d p₀ r zero (x ∷ xs) l h e =
+        let z : placeFor aft r (x ∷ xs) ≡ suc (placeFor aft r xs) = for-cons r x xs false e in
+        (o .chain p₀ x r (first-of p₀ x xs h .0) e, omega arith)
+    for-above d p₀ r (suc i) (x ∷ xs) l h e =
+        let f = first-of p₀ x xs h in
+        let ih = for-above d x r i xs (omega arith) (f .1) e in
+        let z : placeFor aft r (x ∷ xs) ≡ suc (placeFor aft r xs) = for-cons r x xs false (ih .0) in
+        (o .chain p₀ x r (f .0) (ih .0), omega arith)
 
     pub insert-ordered : (p₀ r : A) (xs : List A) → aft p₀ r ≡ false → orderedFrom aft p₀ xs ≡ true → orderedFrom aft p₀ (inserted aft r xs) ≡ true
     insert-ordered p₀ r [] e h = subst (λ (l : List A). orderedFrom aft p₀ l ≡ true) (sym (insert-none r)) (put-first p₀ r [] e (none r))
@@ -170,41 +169,3 @@ module _ {A : Type 0} (aft : A → A → Bool) where
         go : (aft x r ≡ false → orderedFrom aft x (inserted aft r xs) ≡ true) → (t : Bool) → aft x r ≡ t → orderedFrom aft p₀ (inserted aft r (x ∷ xs)) ≡ true
         go ih true a = subst (λ (l : List A). orderedFrom aft p₀ l ≡ true) (sym (insert-here r x xs a)) (put-first p₀ r (x ∷ xs) e (put-first r x xs (o .asym x r a) (first-of p₀ x xs h .1)))
         go ih false a = subst (λ (l : List A). orderedFrom aft p₀ l ≡ true) (sym (insert-later r x xs a)) (put-first p₀ x (inserted aft r xs) (first-of p₀ x xs h .0) (ih a))
-
-    -- of records in order the loop makes the first n with r put in, and the rest but one
-    pub sifted-inserts : (d p₀ r : A) (n : ℕ) (zs : List A) → n < length zs → orderedFrom aft p₀ (take n zs) ≡ true → sifted d r n zs ≡ inserted aft r (take n zs) ++ drop (suc n) zs
-    sifted-inserts d p₀ r zero zs l h = sifted-none d r zs ∙ set-split zs zero r l ∙ ap (λ (xs : List A). xs ++ drop 1 zs) (sym (insert-none r))
-    sifted-inserts d p₀ r (suc j) zs l h = go (λ us l h. sifted-inserts d p₀ r j us l h) (aft (getD zs j d) r) refl
-      where
-        p : A
-        p = getD zs j d
-
-        j-in : j < length zs
-        j-in = omega arith
-
-        in-two : take (suc j) zs ≡ take j zs ++ p ∷ []
-        in-two = take-suc zs j d j-in
-
-        sorted : orderedFrom aft p₀ (take j zs ++ p ∷ []) ≡ true
-        sorted = subst (λ (xs : List A). orderedFrom aft p₀ xs ≡ true) in-two h
-
-        us : List A
-        us = set zs (suc j) p
-
-        go : ((us : List A) → j < length us → orderedFrom aft p₀ (take j us) ≡ true → sifted d r j us ≡ inserted aft r (take j us) ++ drop (suc j) us) → (t : Bool) → aft p r ≡ t → sifted d r (suc j) zs ≡ inserted aft r (take (suc j) zs) ++ drop (suc (suc j)) zs
-        go ih true a =
-            sifted-on d r j zs true a
-            ∙ ih us (subst (λ (m : ℕ). j < m) (sym (length-set zs (suc j) p)) j-in) (subst (λ (xs : List A). orderedFrom aft p₀ xs ≡ true) (sym (take-set-le j zs (suc j) p (omega arith))) (front p₀ (take j zs) (p ∷ []) sorted))
-            ∙ ap (λ (xs : List A). inserted aft r xs ++ drop (suc j) us) (take-set-le j zs (suc j) p (omega arith))
-            ∙ ap (λ (xs : List A). inserted aft r (take j zs) ++ xs) (drop-cons us (suc j) d (subst (λ (m : ℕ). suc j < m) (sym (length-set zs (suc j) p)) l))
-            ∙ ap (λ (x : A). inserted aft r (take j zs) ++ x ∷ drop (suc (suc j)) us) (getD-set-same zs (suc j) p d l)
-            ∙ ap (λ (xs : List A). inserted aft r (take j zs) ++ p ∷ xs) (drop-set-lt (suc (suc j)) zs (suc j) p (omega arith))
-            ∙ sym (append-assoc (inserted aft r (take j zs)) (p ∷ []) (drop (suc (suc j)) zs))
-            ∙ ap (λ (xs : List A). xs ++ drop (suc (suc j)) zs) (sym (insert-snoc r p (take j zs) a))
-            ∙ ap (λ (xs : List A). inserted aft r xs ++ drop (suc (suc j)) zs) (sym in-two)
-        go ih false a =
-            sifted-on d r j zs false a ∙ set-split zs (suc j) r l
-            ∙ sym (append-assoc (take (suc j) zs) (r ∷ []) (drop (suc (suc j)) zs))
-            ∙ ap (λ (xs : List A). (xs ++ r ∷ []) ++ drop (suc (suc j)) zs) in-two
-            ∙ ap (λ (xs : List A). xs ++ drop (suc (suc j)) zs) (sym (insert-last p₀ r p (take j zs) sorted a))
-            ∙ ap (λ (xs : List A). inserted aft r xs ++ drop (suc (suc j)) zs) (sym in-two)

@@ -1,10 +1,24 @@
 -- Document 01, "Turned away", line 9, and "What the Rust forms turn into" (BinaryHeap), in the parts that the private scans over records compute.
 use Prim.Native.Nat.{ℕ, zero, suc, _+_}
 use mathlib.Core.Bool.{Bool, true, false, cond, _&&_, _||_}
-use mathlib.Core.List.{List, [], _∷_}
-use lib.Dec.{ltb, leb}
-use Rattle.schedule.specs.Record.{placeOf, placeIn}
+use mathlib.Core.List.{List, [], _∷_, _++_}
+use lib.ListN.{take, drop}
+use lib.Dec.{ltb, leb, eqb}
+use Rattle.schedule.specs.Record.{orderOf, lengthOf, placeOf, placeIn}
 use Rattle.schedule.specs.State.{recordBroken}
+
+-- how many stand before the first that leaves after x
+unfoldable pub placeFor : {A : Type 0} → (A → A → Bool) → A → List A → ℕ
+placeFor aft x [] = 0
+placeFor aft x (y ∷ ys) = cond (aft y x) 0 (suc (placeFor aft x ys))
+
+-- those from i up to n one place higher; the i-th stands twice, the n-th is gone
+abbrev pub raised : {A : Type 0} → ℕ → ℕ → List A → List A
+raised n i l = take (i + 1) l ++ (drop i (take n l) ++ drop (n + 1) l)
+
+-- line 9 of a record by itself
+abbrev pub boundsBroken : ℕ → ℕ → List ℕ → Bool
+boundsBroken next n r = ltb 1410 (lengthOf r) || (leb next (orderOf r) || leb n (placeOf r))
 
 -- one of these records is broken, doubled places apart
 unfoldable pub brokenAlone : ℕ → ℕ → List ℕ → List (List ℕ) → Bool
@@ -39,3 +53,9 @@ placeMarks (suc n) p rs = cond (placeIn p rs) 1 0 ∷ placeMarks n (suc p) rs
 unfoldable pub firstFree : ℕ → ℕ → List (List ℕ) → ℕ
 firstFree zero p rs = p
 firstFree (suc n) p rs = cond (placeIn p rs) (firstFree n (suc p) rs) p
+
+-- how many of the first n marks stand before one that is 0
+unfoldable pub firstUnset : ℕ → List ℕ → ℕ
+firstUnset zero ms = 0
+firstUnset (suc n) [] = 0
+firstUnset (suc n) (m ∷ ms) = cond (eqb m 0) 0 (suc (firstUnset n ms))

@@ -7,7 +7,7 @@ ghost use lib.ListN.{length, getD, take, drop, replicate};
 ghost use Rattle.duration.specs.Bounds.{maxTime};
 ghost use Rattle.schedule.specs.Record.{vacant, after, ordered, inserted, freePlaces, lowestFree};
 ghost use Rattle.schedule.specs.State.{mem, recordBroken, brokenFrom, stateBroken, heldLate, late, delayLate, deliveriesLate, copies, CanPut, CanSchedule};
-ghost use Rattle.schedule.specs.Scans.{blockSize, brokenAlone, doubled, outside, doubledIn, placeMarks, firstFree};
+ghost use Rattle.schedule.specs.Scans.{placeFor, raised, blockSize, boundsBroken, brokenAlone, doubled, outside, doubledIn, placeMarks, firstFree, firstUnset};
 ghost use Rattle.schedule.specs.Schedule.{newDef, placed, filled, putDef, putAllDef, scheduleExit, scheduleDef, bytesOf, outShort, popExit, takeDef, popDef, CanPop, reading, firstTime, deadlineDef, lenDef, emptyDef, roomOf, roomDef};
 use duration::MAX_TIME;
 use refusal::Refusal;
@@ -102,22 +102,48 @@ pub fn leaves_after(p: Scheduled, r: Scheduled) -> bool
     ro < po
 }
 
+// How many of the first `count` records don't leave after `r`.
+fn place_for(s: &[Scheduled], count: usize, r: Scheduled) -> usize
+    requires { ⌜ (count ≤ length (now s)) × (ordered (take count (now s)) ≡ true) ⌝ }
+    ensures { λ n. ⌜ n ≡ placeFor after r (take count (now (s .entry))) ⌝ }
+{
+    let mut low: usize = 0;
+    let mut n = count;
+    while 0 < n {
+        let half = n / 2;
+        let at = low + half;
+        let p = s[at];
+        if leaves_after(p, r) {
+            n = half;
+        } else {
+            low = at + 1;
+            n = n - half - 1;
+        }
+    }
+    low
+}
+
+// Moves the records from `from` up to `count` up by one.
+fn move_up(s: &mut [Scheduled], from: usize, count: usize)
+    requires { ⌜ (from ≤ count) × (count < length (now s)) ⌝ }
+    ensures { λ _. ⌜ now (s .exit) ≡ raised count from (now (s .entry)) ⌝ }
+{
+    let mut i = count;
+    while from < i {
+        let p = s[i - 1];
+        s[i] = p;
+        i -= 1;
+    }
+}
+
 // Puts `r` among the first `count` records: those that leave after it move up by one.
 fn insert(s: &mut [Scheduled], count: usize, r: Scheduled)
     requires { ⌜ (count < length (now s)) × (ordered (take count (now s)) ≡ true) ⌝ }
     ensures { λ _. ⌜ now (s .exit) ≡ inserted after r (take count (now (s .entry))) ++ drop (count + 1) (now (s .entry)) ⌝ }
 {
-    let mut i = count;
-    while 0 < i {
-        let p = s[i - 1];
-        if leaves_after(p, r) {
-            s[i] = p;
-            i -= 1;
-        } else {
-            break;
-        }
-    }
-    s[i] = r;
+    let at = place_for(s, count, r);
+    move_up(s, at, count);
+    s[at] = r;
 }
 
 // Moves all but the first of the first `count` records down by one; the record left over becomes zeros.
@@ -156,27 +182,63 @@ fn used_places(s: &[Scheduled], count: usize, base: u64) -> [u8; 256]
     used
 }
 
+// Which places a waiting record has, where all lie below 256.
+fn low_places(s: &[Scheduled], count: usize) -> [u8; 256]
+    requires { ⌜ (count ≤ length (now s)) × (outside blockSize (take count (now s)) ≡ false) ⌝ }
+    ensures { λ r. ⌜ r ≡ placeMarks blockSize 0 (take count (now (s .entry))) ⌝ }
+{
+    let mut used = [0u8; 256];
+    let mut i = count;
+    while 0 < i {
+        i -= 1;
+        let r = s[i];
+        let place = r[3] as usize;
+        used[place] = 1;
+    }
+    used
+}
+
+// How many of the first `n` marks stand before one that is 0.
+fn first_unset(used: &[u8; 256], n: usize) -> usize
+    requires { ⌜ n ≤ blockSize ⌝ }
+    ensures { λ k. ⌜ k ≡ firstUnset n (now (used .entry)) ⌝ }
+{
+    let mut k: usize = 0;
+    while k < n {
+        if used[k] == 0 {
+            return k;
+        }
+        k += 1;
+    }
+    n
+}
+
 // The first place from `base` up to `end` that no waiting record has, or `end`.
 fn first_free(s: &[Scheduled], count: usize, base: usize, end: usize) -> usize
     requires { ⌜ (count ≤ length (now s)) × (base ≤ end) × (end ≤ base + blockSize) ⌝ }
     ensures { λ p. ⌜ p ≡ firstFree (end - base) base (take count (now (s .entry))) ⌝ }
 {
     let used = used_places(s, count, base as u64);
-    let mut p = base;
-    while p < end {
-        if used[p - base] == 0 {
-            return p;
-        }
-        p += 1;
-    }
-    end
+    base + first_unset(&used, end - base)
+}
+
+// The same from 0 up to `end`, where all waiting records have places below 256.
+fn first_low(s: &[Scheduled], count: usize, end: usize) -> usize
+    requires { ⌜ (count ≤ length (now s)) × (end ≤ blockSize) × (outside blockSize (take count (now s)) ≡ false) ⌝ }
+    ensures { λ p. ⌜ p ≡ firstFree end 0 (take count (now (s .entry))) ⌝ }
+{
+    let used = low_places(s, count);
+    first_unset(&used, end)
 }
 
 // The lowest place that no waiting record has.
 fn lowest_free(s: &[Scheduled], count: usize, places: usize) -> usize
-    requires { ⌜ (count ≤ length (now s)) × (0 < length (freePlaces places (take count (now s)))) ⌝ }
+    requires { ⌜ (count ≤ length (now s)) × (0 < length (freePlaces places (take count (now s)))) × (outside places (take count (now s)) ≡ false) ⌝ }
     ensures { λ p. ⌜ p ≡ lowestFree places (take count (now (s .entry))) ⌝ }
 {
+    if places <= 256 {
+        return first_low(s, count, places);
+    }
     let mut base: usize = 0;
     while 256 <= places - base {
         let p = first_free(s, count, base, base + 256);
@@ -194,6 +256,7 @@ fn block_doubled(s: &[Scheduled], count: usize, base: u64) -> bool
     ensures { λ b. ⌜ b ≡ doubledIn base (take count (now (s .entry))) ⌝ }
 {
     let mut used = [0u8; 256];
+    let mut twice: u8 = 0;
     let mut i = count;
     while 0 < i {
         i -= 1;
@@ -203,14 +266,12 @@ fn block_doubled(s: &[Scheduled], count: usize, base: u64) -> bool
             let k = place - base;
             if k < 256 {
                 let at = k as usize;
-                if used[at] == 1 {
-                    return true;
-                }
+                twice = twice | used[at];
                 used[at] = 1;
             }
         }
     }
-    false
+    twice == 1
 }
 
 // Whether two waiting records have the same place, where all places lie below `places`.
@@ -218,7 +279,10 @@ fn place_doubled(s: &[Scheduled], count: usize, places: usize) -> bool
     requires { ⌜ (count ≤ length (now s)) × (places < 9223372036854775808) × (outside places (take count (now s)) ≡ false) ⌝ }
     ensures { λ b. ⌜ b ≡ doubled (take count (now (s .entry))) ⌝ }
 {
-    let mut base: usize = 0;
+    if block_doubled(s, count, 0) {
+        return true;
+    }
+    let mut base: usize = 256;
     while base < places {
         if block_doubled(s, count, base as u64) {
             return true;
@@ -257,13 +321,10 @@ fn records_broken(s: &[Scheduled], count: usize, next: u64, places: usize) -> bo
     place_doubled(s, count, places)
 }
 
-// Line 9 of a record and the one in front of it.
-fn record_broken(front: Scheduled, r: Scheduled, next: u64, places: u64) -> bool
-    ensures { λ b. ⌜ b ≡ recordBroken next places front r ⌝ }
+// Line 9 of a record by itself.
+fn bounds_broken(r: Scheduled, next: u64, places: u64) -> bool
+    ensures { λ b. ⌜ b ≡ boundsBroken next places r ⌝ }
 {
-    if leaves_after(front, r) {
-        return true;
-    }
     let len = r[2];
     if 1410 < len {
         return true;
@@ -273,6 +334,21 @@ fn record_broken(front: Scheduled, r: Scheduled, next: u64, places: u64) -> bool
         return true;
     }
     places <= r[3]
+}
+
+// Line 9 of a record and the one in front of it. Mostly the time alone tells the order.
+fn record_broken(front: Scheduled, r: Scheduled, next: u64, places: u64) -> bool
+    ensures { λ b. ⌜ b ≡ recordBroken next places front r ⌝ }
+{
+    let before = front[0];
+    let time = r[0];
+    if before < time {
+        return bounds_broken(r, next, places);
+    }
+    if leaves_after(front, r) {
+        return true;
+    }
+    bounds_broken(r, next, places)
 }
 
 // Whether one of the first `count` records, which are in leaving order, has a time above its bound: the last one's is the latest.

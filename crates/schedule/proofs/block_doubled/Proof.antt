@@ -1,7 +1,6 @@
 use native.Mathlib.Omega.{arith}
 use borrow.Author.Needs.{needs}
 use mathlib.Core.Path.{_≡_, sym, _∙_, ap}
-use mathlib.Core.Bool.{false}
 use mathlib.Core.Logic.{inl, inr}
 use Prim.Native.Nat.{ℕ, _≤_}
 use lib.ListN.{drop, take}
@@ -9,20 +8,20 @@ use Rattle.schedule.specs.Scans.{blockSize, placeMarks, doubledIn}
 use Rattle.schedule.proofs.Lists.{rest-none}
 use Rattle.schedule.proofs.Checks.{marks-none}
 use Rattle.schedule.proofs.Doubled.{in-none}
-use Rattle.schedule.proofs.Marks.{marks-it, marks-no, turn-hit, turn-new, turn-high, turn-low}
+use Rattle.schedule.proofs.Marks.{flag, marks-it, marks-no, turn-in, turn-out, flag-is}
 use Rattle.schedule.proofs.block_doubled.Statement.{statement}
 use Rattle.schedule.proofs.block_doubled.Tie as tie
 
 abbrev Inv-loop : tie.InvT-loop
-Inv-loop s count base used₀ i₀ used i = (i ≤ count) × ((used ≡ placeMarks blockSize base (drop i (take count s))) × (doubledIn base (drop i (take count s)) ≡ false))
+Inv-loop s count base used₀ twice₀ i₀ used twice i = (i ≤ count) × ((used ≡ placeMarks blockSize base (drop i (take count s))) × (twice ≡ flag (doubledIn base (drop i (take count s)))))
 
 abbrev μ-loop : tie.MeasureT-loop
-μ-loop s count base used₀ i₀ used i = i
+μ-loop s count base used₀ twice₀ i₀ used twice i = i
 
 loop-holds : tie.Need-loop-holds Inv-loop μ-loop
 loop-holds c =
     let e = rest-none (c .args .count) (c .args .count) (c .args .s .now) (omega arith) (omega arith) in
-    (omega arith, (marks-none blockSize (c .args .base) e, in-none (c .args .base) e))
+    (omega arith, (marks-none blockSize (c .args .base) e, sym (ap flag (in-none (c .args .base) e))))
 
 sub-i : tie.Need-sub-i Inv-loop μ-loop
 sub-i c = search needs
@@ -36,29 +35,23 @@ shared-slice-copy-out-r c = search needs
 array-read-place : tie.Need-array-read-place Inv-loop μ-loop
 array-read-place c = search needs
 
-array-read-if3 : tie.Need-array-read-if3 Inv-loop μ-loop
-array-read-if3 c = c .if2 .taken
-
-returns : tie.Need-returns Inv-loop μ-loop
-returns c =
-    let l = c .before .before .before .before .before in
-    let s = l .before in
-    sym (turn-hit (s .args .s .now) (s .args .count) (s .args .base) (l .loop .i) (c .before .before .before .before .loop-test .taken) (l .loop .inv .0) (s .pre .0) (l .loop .inv .1 .0) (c .before .before .if1 .taken) (c .before .if2 .taken) (c .if3 .taken))
+array-read-twice : tie.Need-array-read-twice Inv-loop μ-loop
+array-read-twice c = c .if2 .taken
 
 array-write-used : tie.Need-array-write-used Inv-loop μ-loop
-array-write-used c = c .before .if2 .taken
+array-write-used c = c .if2 .taken
 
 loop-less : tie.Need-loop-less Inv-loop μ-loop
 loop-less c = search needs
 
 loop-again : tie.Need-loop-again Inv-loop μ-loop
 loop-again c =
-    let l = c .before .before .before .before .before in
+    let l = c .before .before .before .before in
     let s = l .before in (
       omega arith,
       (
-        marks-it (s .args .s .now) (s .args .count) (s .args .base) (l .loop .i) (c .before .before .before .before .loop-test .taken) (l .loop .inv .0) (s .pre .0) (l .loop .inv .1 .0) (c .before .before .if1 .taken) (c .before .if2 .taken),
-        turn-new (s .args .s .now) (s .args .count) (s .args .base) (l .loop .i) (c .before .before .before .before .loop-test .taken) (l .loop .inv .0) (s .pre .0) (l .loop .inv .1 .0) (c .before .before .if1 .taken) (c .before .if2 .taken) (c .if3 .left) (l .loop .inv .1 .1),
+        marks-it (s .args .s .now) (s .args .count) (s .args .base) (l .loop .i) (c .before .before .before .loop-test .taken) (l .loop .inv .0) (s .pre .0) (l .loop .inv .1 .0) (c .before .if1 .taken) (c .if2 .taken),
+        turn-in (s .args .s .now) (s .args .count) (s .args .base) (l .loop .i) (c .before .before .before .loop-test .taken) (l .loop .inv .0) (s .pre .0) (l .loop .inv .1 .0) (c .before .if1 .taken) (c .if2 .taken) (l .loop .inv .1 .1),
       ),
     )
 
@@ -72,7 +65,7 @@ loop-again-2 c =
       omega arith,
       (
         marks-no (s .args .s .now) (s .args .count) (s .args .base) (l .loop .i) (c .before .before .before .loop-test .taken) (l .loop .inv .0) (s .pre .0) (l .loop .inv .1 .0) (inr (omega arith)),
-        turn-high (s .args .s .now) (s .args .count) (s .args .base) (l .loop .i) (c .before .before .before .loop-test .taken) (l .loop .inv .0) (s .pre .0) (l .loop .inv .1 .0) (omega arith) (l .loop .inv .1 .1),
+        turn-out (s .args .s .now) (s .args .count) (s .args .base) (l .loop .i) (c .before .before .before .loop-test .taken) (l .loop .inv .0) (s .pre .0) (l .loop .inv .1 .0) (inr (omega arith)) (l .loop .inv .1 .1),
       ),
     )
 
@@ -86,15 +79,15 @@ loop-again-3 c =
       omega arith,
       (
         marks-no (s .args .s .now) (s .args .count) (s .args .base) (l .loop .i) (c .before .before .loop-test .taken) (l .loop .inv .0) (s .pre .0) (l .loop .inv .1 .0) (inl (c .if1 .left)),
-        turn-low (s .args .s .now) (s .args .count) (s .args .base) (l .loop .i) (c .before .before .loop-test .taken) (l .loop .inv .0) (s .pre .0) (l .loop .inv .1 .0) (c .if1 .left) (l .loop .inv .1 .1),
+        turn-out (s .args .s .now) (s .args .count) (s .args .base) (l .loop .i) (c .before .before .loop-test .taken) (l .loop .inv .0) (s .pre .0) (l .loop .inv .1 .0) (inl (c .if1 .left)) (l .loop .inv .1 .1),
       ),
     )
 
-returns-2 : tie.Need-returns-2 Inv-loop μ-loop
-returns-2 c =
+returns : tie.Need-returns Inv-loop μ-loop
+returns c =
     let a = c .before .before .args in
     let e : c .before .loop .i ≡ 0 = omega arith in
-    sym (c .before .loop .inv .1 .1) ∙ ap (λ (k : ℕ). doubledIn (a .base) (drop k (take (a .count) (a .s .now)))) e
+    flag-is (doubledIn (a .base) (take (a .count) (a .s .now))) (c .before .loop .inv .1 .1 ∙ ap (λ (k : ℕ). flag (doubledIn (a .base) (drop k (take (a .count) (a .s .now))))) e)
 
 pub block-doubled-spec : {M : Type 1} → statement M
 block-doubled-spec =
@@ -107,8 +100,7 @@ block-doubled-spec =
     mul-r
     shared-slice-copy-out-r
     array-read-place
-    array-read-if3
-    returns
+    array-read-twice
     array-write-used
     loop-less
     loop-again
@@ -116,4 +108,4 @@ block-doubled-spec =
     loop-again-2
     loop-less-3
     loop-again-3
-    returns-2)
+    returns)

@@ -5,8 +5,8 @@ use native.Mathlib.Omega.{arith}
 use native.Mathlib.Numerals.{add-one}
 use lib.ListN.{length, take, getD, length-set}
 use lib.Seq.{take-suc, take-suc-set, take-all}
-use Rattle.octets.proofs.copy_unchecked.Statement.{statement}
-use Rattle.octets.proofs.copy_unchecked.Tie as tie
+use Rattle.octets.proofs.copy_each.Statement.{statement}
+use Rattle.octets.proofs.copy_each.Tie as tie
 
 abbrev Inv-loop : tie.InvT-loop
 Inv-loop src dst₀ i₀ dst i = (i ≤ length src) × (take i dst ≡ take i src) × (length dst ≡ length dst₀)
@@ -49,8 +49,8 @@ returns c =
     let s = l .before .args .src .now in
     sym (take-all (l .loop .i) (l .loop .dst) (omega arith)) ∙ l .loop .inv .1 ∙ take-all (l .loop .i) s (omega arith)
 
-pub copy-unchecked-spec : {M : Type 1} → statement M
-copy-unchecked-spec =
+pub copy-each-spec : {M : Type 1} → statement M
+copy-each-spec =
     tie.close
     (tie.spec
     Inv-loop
