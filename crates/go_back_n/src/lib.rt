@@ -11,7 +11,6 @@ ghost use Rattle.go_back_n.specs.Sender.{madeWindow, handleAck, handleTi
 ghost use Rattle.go_back_n.specs.Receiver.{newReceiver, decided, dataDecision, decision, handlePacket};
 ghost use Rattle.receiver.specs.Receive.{receiving};
 ghost use Rattle.receiver.specs.State.{countsBroken};
-use packet::Packet;
 use receiver::Decision;
 use receiver::Handed;
 use receiver::ReceiveAnswer;
@@ -199,10 +198,9 @@ impl GoBackNReceiver {
                 answer: ReceiveAnswer::Refused(r),
             };
         }
-        let payload = Packet::payload(raw);
         let after = self.decide_unchecked(handed);
         let decision = after.decision;
-        let result = receiver::finish_unchecked(decision, payload, self.filled, output, ack);
+        let result = receiver::finish_unchecked(decision, raw, self.filled, output, ack);
         let answer = result.answer;
         if let ReceiveAnswer::Refused(_) = answer {
             return GoBackNReceived {

@@ -91,7 +91,7 @@ finish-done d payload filled output ack written acked n a g q v =
     rw g (ap (λ (x : ReceiveAnswer). receiving x n written acked) q ∙ ap (carried (λ n. n) d) v)
 
 -- a datagram that is taken, and `finish` of the decision on it
-module _ {R : Type 0} (broken counts : Bool) (r : R) (filled : ℕ) (d : Handed → Decision) (after : Handed → ℕ → R) (delivered raw output ack part : List ℕ) (h : Handed) (v : Receiving ℕ) (is-read : h ≡ readChecked broken counts raw) (t : Taken h) (same : part ≡ delivered) (e : v ≡ finish (d h) part filled output ack) where
+module _ {R : Type 0} (broken counts : Bool) (r : R) (filled : ℕ) (d : Handed → Decision) (after : Handed → ℕ → R) (delivered raw output ack : List ℕ) (h : Handed) (v : Receiving ℕ) (is-read : h ≡ readChecked broken counts raw) (t : Taken h) (e : v ≡ finish (d h) delivered filled output ack) where
   taken-checked : Taken (readChecked broken counts raw)
   taken-checked s q = t s (is-read ∙ q)
 
@@ -105,12 +105,12 @@ module _ {R : Type 0} (broken counts : Bool) (r : R) (filled : ℕ) (d : Handed 
       → ((s : Refusal) → v .answer ≡ answer.Refused s → Received r) × (((s : Refusal) → v .answer ≡ answer.Refused s → ⊥) → Received (after h (v .receiver)))
   unfolding finish
   by-room true g =
-      let full : v ≡ receiving (answer.Refused Full) filled output ack = e ∙ rw (same, is-packet, g) in (
+      let full : v ≡ receiving (answer.Refused Full) filled output ack = e ∙ rw (is-packet, g) in (
         λ s q. ap (λ (x : Receiving ℕ). receiving (x .answer) r (x .output) (x .ack)) full ∙ refused-full broken counts r filled _ delivered (after (readPacket raw)) raw output ack taken-checked g,
         λ n. absurd (n Full (ap (λ (x : Receiving ℕ). x .answer) full)),
       )
   by-room false g =
-      let done : v ≡ carried (λ n. n) (d (readPacket raw)) (carriedOut (d (readPacket raw)) delivered filled output ack) = e ∙ rw (same, is-packet, g) in (
+      let done : v ≡ carried (λ n. n) (d (readPacket raw)) (carriedOut (d (readPacket raw)) delivered filled output ack) = e ∙ rw (is-packet, g) in (
         λ s q. absurd (never-refused (d (readPacket raw) .reply) s (sym (ap (λ (x : Receiving ℕ). x .answer) done) ∙ q)),
         λ n. rw is-packet (ap (λ (x : Receiving ℕ). receiving (x .answer) (after (readPacket raw) (x .receiver)) (x .output) (x .ack)) done ∙ received broken counts r filled _ delivered (after (readPacket raw)) raw output ack delivered _ _ _ _ taken-checked g refl refl refl),
       )

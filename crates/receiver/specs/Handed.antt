@@ -37,6 +37,6 @@ readPacket raw =
     decide (verdict (packetChecks raw)) handed.Refused
     (cond (matches (headerOf raw) (payloadOf raw)) (byType (headerOf raw .«pkt_type») (headerOf raw .«seq_num»)) handed.Corrupted)
 
--- with 9 and 8 before
+-- the same with 9 and 8 before
 unfoldable pub readChecked : Bool → Bool → List ℕ → Handed
 readChecked stateBroken countsBroken raw = cond stateBroken (handed.Refused State) (cond countsBroken (handed.Refused Counts) (readPacket raw))

@@ -4,6 +4,7 @@ ghost use Prim.Native.Nat.{_+_, _≤_};
 ghost use lib.ListN.{length};
 ghost use lib.Dec.{ltb};
 ghost use mathlib.Core.Bool.{_&&_};
+ghost use Rattle.packet.specs.Reading.{payloadOf};
 ghost use Rattle.receiver.specs.State.{marksBroken, countsBroken};
 ghost use Rattle.receiver.specs.Handed.{readPacket, readChecked};
 ghost use Rattle.receiver.specs.Reply.{replied, carriedOut, roomMissing, RoomFor, RoomForReply, ackAfter, answerOf};
@@ -63,7 +64,7 @@ impl Reply {
     }
 }
 
-// A datagram for a receiver with these counters, and whether line 9 is true of it.
+// A datagram for a receiver: broken is whether line 9 is true of its state; a, b, c are its counters.
 pub fn read_checked(broken: bool, a: u64, b: u64, c: u64, raw: &[u8]) -> Handed
     ensures { λ r. ⌜ r ≡ readChecked broken (countsBroken a b c) (now (raw .entry)) ⌝ }
 {
@@ -105,17 +106,18 @@ fn read_packet(raw: &[u8]) -> Handed
     }
 }
 
-// Carries a decision out, or refuses it where a buffer is too short.
+// Carries a decision on a datagram out, or refuses it where a buffer is too short.
 pub fn finish_unchecked(
     decision: Decision,
-    payload: &[u8],
+    raw: &[u8],
     filled: usize,
     output: &mut [u8],
     ack: &mut [u8],
 ) -> Finished
     requires { ⌜ filled ≤ length (now output) ⌝ }
-    ensures { λ r. ⌜ receiving (r .answer) (r .filled) (now (output .exit)) (now (ack .exit)) ≡ finish decision (now (payload .entry)) filled (now (output .entry)) (now (ack .entry)) ⌝ }
+    ensures { λ r. ⌜ receiving (r .answer) (r .filled) (now (output .exit)) (now (ack .exit)) ≡ finish decision (payloadOf (now (raw .entry))) filled (now (output .entry)) (now (ack .entry)) ⌝ }
 {
+    let payload = Packet::payload(raw);
     if room_missing_unchecked(decision, payload.len(), filled, output, ack) {
         return Finished {
             filled,

@@ -13,7 +13,6 @@ ghost use Rattle.stop_and_wait.specs.Sender.{windowOf, endOf, newSender,
 ghost use Rattle.stop_and_wait.specs.Receiver.{newReceiver, decided, dataDecision, decision, handlePacket};
 ghost use Rattle.receiver.specs.Receive.{receiving};
 ghost use Rattle.receiver.specs.State.{countsBroken};
-use packet::Packet;
 use receiver::Decision;
 use receiver::Handed;
 use receiver::ReceiveAnswer;
@@ -318,10 +317,9 @@ impl StopAndWaitReceiver {
                 answer: ReceiveAnswer::Refused(r),
             };
         }
-        let payload = Packet::payload(raw);
         let after = self.decide_unchecked(handed);
         let decision = after.decision;
-        let result = receiver::finish_unchecked(decision, payload, self.filled, output, ack);
+        let result = receiver::finish_unchecked(decision, raw, self.filled, output, ack);
         let answer = result.answer;
         if let ReceiveAnswer::Refused(_) = answer {
             return StopAndWaitReceived {

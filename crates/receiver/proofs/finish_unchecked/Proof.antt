@@ -5,6 +5,9 @@ use borrow.Author.Needs.{needs}
 use Rattle.receiver.proofs.finish_unchecked.Statement.{statement}
 use Rattle.receiver.proofs.finish_unchecked.Tie as tie
 
+payload-requires : tie.Need-payload-requires
+payload-requires c κs = search needs
+
 room-missing-unchecked-requires : tie.Need-room-missing-unchecked-requires
 room-missing-unchecked-requires c κs = search needs
 
@@ -16,10 +19,10 @@ same-length-2 c = search needs
 
 returns : tie.Need-returns
 unfolding finish
-returns c = rw (sym (c .before .room-missing-unchecked .ensures) ∙ c .if1 .taken)
+returns c = rw (← (c .before .before .before .before .payload .ensures), sym (c .before .room-missing-unchecked .ensures) ∙ c .if1 .taken)
 
 carry-out-unchecked-requires : tie.Need-carry-out-unchecked-requires
-carry-out-unchecked-requires c κs = record { mark = c .before .before .before .before .before .before .before .before .before .pre; room = sym (c .before .before .before .room-missing-unchecked .ensures) ∙ c .before .before .if1 .left }
+carry-out-unchecked-requires c κs = record { mark = c .before .before .before .before .before .before .before .before .before .before .pre; room = sym (c .before .before .before .room-missing-unchecked .ensures) ∙ c .before .before .if1 .left }
 
 answer-requires : tie.Need-answer-requires
 answer-requires c κs = search needs
@@ -31,12 +34,13 @@ same-length-4 : tie.Need-same-length-4
 same-length-4 c = search needs
 
 returns-2 : tie.Need-returns-2
-returns-2 c = finish-done _ _ _ _ _ _ _ _ _ (sym (c .before .before .before .before .before .before .before .before .before .room-missing-unchecked .ensures) ∙ c .before .before .before .before .before .before .before .before .if1 .left) (c .answer .ensures) (c .before .before .before .before .before .carry-out-unchecked .ensures)
+returns-2 c = rw (← (c .before .before .before .before .before .before .before .before .before .before .before .before .payload .ensures)) (finish-done _ _ _ _ _ _ _ _ _ (sym (c .before .before .before .before .before .before .before .before .before .room-missing-unchecked .ensures) ∙ c .before .before .before .before .before .before .before .before .if1 .left) (c .answer .ensures) (c .before .before .before .before .before .carry-out-unchecked .ensures))
 
 pub finish-unchecked-spec : {M : Type 1} → statement M
 finish-unchecked-spec =
     tie.close
     (tie.spec
+    payload-requires
     room-missing-unchecked-requires
     same-length
     same-length-2
