@@ -1,8 +1,7 @@
 use native.Mathlib.Omega.{arith}
 use borrow.Author.Needs.{needs}
-use mathlib.Core.Path.{_≡_, _∙_, ap}
+use mathlib.Core.Path.{_∙_, ap}
 use Prim.Native.Nat.{ℕ, _+_, _-_}
-use mathlib.Core.List.{List}
 use lib.ListN.{take}
 use Rattle.schedule.specs.Scans.{blockSize, firstUnset, placeMarks}
 use Rattle.schedule.proofs.Marks.{unset-le, unset-free}

@@ -1,5 +1,5 @@
 use borrow.Author.Needs.{needs}
-use mathlib.Core.Path.{_≡_, sym, _∙_, ap}
+use mathlib.Core.Path.{sym, _∙_, ap}
 use native.Mathlib.Nat.{zero-add}
 use lib.ListN.{take}
 use Rattle.schedule.specs.Scans.{blockSize, firstUnset, placeMarks}
