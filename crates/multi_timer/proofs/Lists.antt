@@ -1,7 +1,7 @@
 -- Lists of numbers: what is left of a prefix, and a prefix that moves up or down by one.
 use mathlib.Core.Path.{_≡_, refl, sym, ap, ap₂, _∙_, subst}
 use Prim.Native.Nat.{ℕ, zero, suc, _+_, _-_, _≤_, _<_}
-use native.Mathlib.Nat.{le-refl, le-of-lt, not-suc-le-zero, zero-lt-suc, le-antisymm}
+use native.Mathlib.Nat.{le-refl, le-of-lt, not-suc-le-zero, le-of-suc-le-suc, le-antisymm}
 use native.Mathlib.Numerals.{add-one}
 use native.Mathlib.Omega.{arith}
 use mathlib.Core.List.{List, [], _∷_, _++_, append-assoc, append-nil}
@@ -56,38 +56,40 @@ up-is v (suc i) xs h =
     ∙ ap₂ (λ (p q : List ℕ). v ∷ (p ++ q)) (take-set-le i xs (suc i) a (le-of-lt (le-refl (suc i)))) (set-drop xs (suc i) a h)
     ∙ ap (λ (p : List ℕ). v ∷ p) (sym (snoc (take i xs) (drop (suc (suc i)) xs) a) ∙ ap (λ (p : List ℕ). p ++ drop (suc (suc i)) xs) (sym (take-suc xs i 0 l)))
 
--- ---- of the first i all but the first move down by one, and c comes last
+-- ---- m more move down by one, to i and on, and a 0 comes last
 unfoldable pub movedDown : ℕ → ℕ → List ℕ → List ℕ
-movedDown c zero xs = xs
-movedDown c (suc i) xs = movedDown (getD xs i 0) i (set xs i c)
+movedDown zero i xs = set xs i 0
+movedDown (suc m) i xs = movedDown m (suc i) (set xs i (getD xs (suc i) 0))
 
-pub down-step : (c i : ℕ) (xs : List ℕ) → 0 < i → movedDown (getD xs (i - 1) 0) (i - 1) (set xs (i - 1) c) ≡ movedDown c i xs
+pub down-step : (n i : ℕ) (xs : List ℕ) → 1 ≤ i → i < n → movedDown (n - (i + 1)) (i + 1 - 1) (set xs (i - 1) (getD xs i 0)) ≡ movedDown (n - i) (i - 1) xs
 unfolding movedDown
-down-step c zero xs h = absurd (omega arith)
-down-step c (suc i) xs h = let p : suc i - 1 ≡ i = omega arith in ap (λ (k : ℕ). movedDown (getD xs k 0) k (set xs k c)) p
+down-step n i xs p h = go (n - i) (n - (i + 1)) (i - 1) (i + 1 - 1) i (omega arith) (omega arith) (omega arith)
+  where
+    go : (m m' j j' k : ℕ) → suc m' ≡ m → suc j ≡ j' → suc j ≡ k → movedDown m' j' (set xs j (getD xs k 0)) ≡ movedDown m j xs
+    go m m' j j' k e f g = rw (← e, ← f, ← g)
 
-pub down-end : (c i : ℕ) (xs : List ℕ) → i ≤ 0 → xs ≡ movedDown c i xs
+pub down-end : (n i : ℕ) (xs : List ℕ) → i ≤ n → n ≤ i → set xs (n - 1) 0 ≡ movedDown (n - i) (i - 1) xs
 unfolding movedDown
-down-end c zero xs h = refl
-down-end c (suc i) xs h = absurd (omega arith)
+down-end n i xs h k = go (n - i) (i - 1) (n - 1) (omega arith) (omega arith)
+  where
+    go : (m j l : ℕ) → m ≡ 0 → l ≡ j → set xs l 0 ≡ movedDown m j xs
+    go m j l e f = rw (e, f)
 
-drop-first : (xs ys : List ℕ) → 0 < length xs → drop 1 (xs ++ ys) ≡ drop 1 xs ++ ys
-drop-first [] ys h = absurd (not-suc-le-zero h)
-drop-first (x ∷ xs) ys h = refl
-
-pub down-is : (c i : ℕ) (xs : List ℕ) → 0 < i → i ≤ length xs → movedDown c i xs ≡ drop 1 (take i xs) ++ (c ∷ drop i xs)
+down-cons : (m i x : ℕ) (xs : List ℕ) → movedDown m (suc i) (x ∷ xs) ≡ x ∷ movedDown m i xs
 unfolding movedDown
-down-is c zero xs p h = absurd (not-suc-le-zero p)
-down-is c (suc zero) [] p h = absurd (not-suc-le-zero h)
-down-is c (suc zero) (x ∷ xs) p h = refl
-down-is c (suc (suc i)) xs p h =
-    let j = suc i in
-    let a = getD xs j 0 in
-    let l : j ≤ length xs = le-of-lt h in
-    down-is a (suc i) (set xs (suc i) c) (zero-lt-suc i) (subst (λ (k : ℕ). j ≤ k) (sym (length-set xs j c)) l)
-    ∙ ap₂ (λ (s t : List ℕ). drop 1 s ++ (a ∷ t)) (take-set-le j xs j c (le-refl j)) (set-drop xs j c h)
-    ∙ sym (snoc (drop 1 (take j xs)) (c ∷ drop (suc j) xs) a)
-    ∙ ap (λ (s : List ℕ). s ++ (c ∷ drop (suc j) xs)) (sym (drop-first (take j xs) (a ∷ []) (subst (λ (k : ℕ). 0 < k) (sym (length-take-le j xs l)) (zero-lt-suc i))) ∙ ap (drop 1) (sym (take-suc xs j 0 h)))
+down-cons zero i x xs = refl
+down-cons (suc m) i x xs = down-cons m (suc i) x (set xs i (getD xs (suc i) 0))
+
+down-first : (m x : ℕ) (xs : List ℕ) → m ≤ length xs → movedDown m 0 (x ∷ xs) ≡ take m xs ++ 0 ∷ drop m xs
+unfolding movedDown
+down-first zero x xs h = refl
+down-first (suc m) x [] h = absurd (not-suc-le-zero h)
+down-first (suc m) x (y ∷ xs) h = down-cons m 0 y (y ∷ xs) ∙ ap (λ (t : List ℕ). y ∷ t) (down-first m y xs (le-of-suc-le-suc h))
+
+pub down-is : (n : ℕ) (xs : List ℕ) → 0 < n → n ≤ length xs → movedDown (n - 1) (1 - 1) xs ≡ drop 1 (take n xs) ++ (0 ∷ drop n xs)
+down-is zero xs p h = absurd (not-suc-le-zero p)
+down-is (suc n) [] p h = absurd (not-suc-le-zero h)
+down-is (suc n) (x ∷ xs) p h = let e : suc n - 1 ≡ n = omega arith in ap (λ (m : ℕ). movedDown m 0 (x ∷ xs)) e ∙ down-first n x xs (le-of-suc-le-suc h)
 
 -- ---- zeros from the front
 pub length-filled : (i : ℕ) (xs ys : List ℕ) → ys ≡ replicate i 0 ++ drop i xs → i ≤ length xs → length ys ≡ length xs

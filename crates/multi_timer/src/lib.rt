@@ -261,58 +261,34 @@ fn clear_deadlines(deadlines: &mut [u64])
     }
 }
 
-// The first n move up by one, and key comes first.
-fn insert_key(keys: &mut [u32], n: usize, key: u32)
-    requires { ⌜ n < length (now keys) ⌝ }
-    ensures { λ _. ⌜ now (keys .exit) ≡ key ∷ (take n (now (keys .entry)) ++ drop (suc n) (now (keys .entry))) ⌝ }
+// The first n entries move up by one, and a new one comes first. One loop for both slices is faster than one for each.
+fn insert_first(keys: &mut [u32], deadlines: &mut [u64], n: usize, key: u32, deadline: u64)
+    requires { ⌜ (n < length (now keys)) × (n < length (now deadlines)) ⌝ }
+    ensures { λ _. ⌜ (now (keys .exit) ≡ key ∷ (take n (now (keys .entry)) ++ drop (suc n) (now (keys .entry)))) × (now (deadlines .exit) ≡ deadline ∷ (take n (now (deadlines .entry)) ++ drop (suc n) (now (deadlines .entry)))) ⌝ }
 {
     let mut i = n;
     while 0 < i {
         keys[i] = keys[i - 1];
-        i -= 1;
-    }
-    keys[0] = key;
-}
-
-fn insert_deadline(deadlines: &mut [u64], n: usize, deadline: u64)
-    requires { ⌜ n < length (now deadlines) ⌝ }
-    ensures { λ _. ⌜ now (deadlines .exit) ≡ deadline ∷ (take n (now (deadlines .entry)) ++ drop (suc n) (now (deadlines .entry))) ⌝ }
-{
-    let mut i = n;
-    while 0 < i {
         deadlines[i] = deadlines[i - 1];
         i -= 1;
     }
+    keys[0] = key;
     deadlines[0] = deadline;
 }
 
-// Of the first n, all but the first move down by one, and a 0 comes last.
-fn remove_key(keys: &mut [u32], n: usize)
-    requires { ⌜ (0 < n) × (n ≤ length (now keys)) ⌝ }
-    ensures { λ _. ⌜ now (keys .exit) ≡ drop 1 (take n (now (keys .entry))) ++ (0 ∷ drop n (now (keys .entry))) ⌝ }
+// Of the first n entries, all but the first move down by one, and a 0 comes last.
+fn remove_first(keys: &mut [u32], deadlines: &mut [u64], n: usize)
+    requires { ⌜ (0 < n) × (n ≤ length (now keys)) × (n ≤ length (now deadlines)) ⌝ }
+    ensures { λ _. ⌜ (now (keys .exit) ≡ drop 1 (take n (now (keys .entry))) ++ (0 ∷ drop n (now (keys .entry)))) × (now (deadlines .exit) ≡ drop 1 (take n (now (deadlines .entry))) ++ (0 ∷ drop n (now (deadlines .entry)))) ⌝ }
 {
-    let mut moved = 0;
-    let mut i = n;
-    while 0 < i {
-        i -= 1;
-        let key = keys[i];
-        keys[i] = moved;
-        moved = key;
+    let mut i = 1;
+    while i < n {
+        keys[i - 1] = keys[i];
+        deadlines[i - 1] = deadlines[i];
+        i += 1;
     }
-}
-
-fn remove_deadline(deadlines: &mut [u64], n: usize)
-    requires { ⌜ (0 < n) × (n ≤ length (now deadlines)) ⌝ }
-    ensures { λ _. ⌜ now (deadlines .exit) ≡ drop 1 (take n (now (deadlines .entry))) ++ (0 ∷ drop n (now (deadlines .entry))) ⌝ }
-{
-    let mut moved = 0;
-    let mut i = n;
-    while 0 < i {
-        i -= 1;
-        let deadline = deadlines[i];
-        deadlines[i] = moved;
-        moved = deadline;
-    }
+    keys[n - 1] = 0;
+    deadlines[n - 1] = 0;
 }
 
 fn has_key(count: usize, keys: &[u32], deadlines: &[u64], key: u32) -> bool
@@ -425,32 +401,31 @@ fn partition(
     left
 }
 
-fn insert_key_at(keys: &mut [u32], i: usize, count: usize, key: u32)
-    requires { ⌜ (i ≤ count) × (count < length (now keys)) ⌝ }
-    ensures { λ _. ⌜ now (keys .exit) ≡ insertedAt i count key (now (keys .entry)) ⌝ }
+fn insert_at(
+    keys: &mut [u32],
+    deadlines: &mut [u64],
+    i: usize,
+    count: usize,
+    key: u32,
+    deadline: u64,
+)
+    requires { ⌜ (i ≤ count) × (count < length (now keys)) × (count < length (now deadlines)) ⌝ }
+    ensures { λ _. ⌜ (now (keys .exit) ≡ insertedAt i count key (now (keys .entry))) × (now (deadlines .exit) ≡ insertedAt i count deadline (now (deadlines .entry))) ⌝ }
 {
-    insert_key(&mut keys[i..], count - i, key);
+    insert_first(
+        &mut keys[i..],
+        &mut deadlines[i..],
+        count - i,
+        key,
+        deadline,
+    );
 }
 
-fn remove_key_at(keys: &mut [u32], i: usize, count: usize)
-    requires { ⌜ (i < count) × (count ≤ length (now keys)) ⌝ }
-    ensures { λ _. ⌜ now (keys .exit) ≡ removedAt i count (now (keys .entry)) ⌝ }
+fn remove_at(keys: &mut [u32], deadlines: &mut [u64], i: usize, count: usize)
+    requires { ⌜ (i < count) × (count ≤ length (now keys)) × (count ≤ length (now deadlines)) ⌝ }
+    ensures { λ _. ⌜ (now (keys .exit) ≡ removedAt i count (now (keys .entry))) × (now (deadlines .exit) ≡ removedAt i count (now (deadlines .entry))) ⌝ }
 {
-    remove_key(&mut keys[i..], count - i);
-}
-
-fn insert_deadline_at(deadlines: &mut [u64], i: usize, count: usize, deadline: u64)
-    requires { ⌜ (i ≤ count) × (count < length (now deadlines)) ⌝ }
-    ensures { λ _. ⌜ now (deadlines .exit) ≡ insertedAt i count deadline (now (deadlines .entry)) ⌝ }
-{
-    insert_deadline(&mut deadlines[i..], count - i, deadline);
-}
-
-fn remove_deadline_at(deadlines: &mut [u64], i: usize, count: usize)
-    requires { ⌜ (i < count) × (count ≤ length (now deadlines)) ⌝ }
-    ensures { λ _. ⌜ now (deadlines .exit) ≡ removedAt i count (now (deadlines .entry)) ⌝ }
-{
-    remove_deadline(&mut deadlines[i..], count - i);
+    remove_first(&mut keys[i..], &mut deadlines[i..], count - i);
 }
 
 fn set_deadline(deadlines: &mut [u64], i: usize, deadline: u64)
@@ -512,8 +487,7 @@ impl MultiTimer {
                 }
             }
             Place::Absent(i) => {
-                insert_key_at(keys, i, count, key);
-                insert_deadline_at(deadlines, i, count, deadline);
+                insert_at(keys, deadlines, i, count, key, deadline);
                 MultiTimer {
                     count: count + 1,
                     global_generation: next,
@@ -535,8 +509,7 @@ impl MultiTimer {
         let place = search(count, keys, key);
         match place {
             Place::At(i) => {
-                remove_key_at(keys, i, count);
-                remove_deadline_at(deadlines, i, count);
+                remove_at(keys, deadlines, i, count);
                 MultiTimer {
                     count: count - 1,
                     global_generation: self.global_generation,
