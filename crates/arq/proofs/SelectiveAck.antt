@@ -1,5 +1,5 @@
 -- An ACK of one number in Selective Repeat: its slot marked, then what is marked from base on released.
-use Prim.Native.Nat.{ℕ, zero, suc, _+_, _-_, _*_, _%_, _≤_, _<_}
+use Prim.Native.Nat.{ℕ, zero, suc, _+_, _-_, _*_, _≤_, _<_}
 use mathlib.Core.Path.{_≡_, refl, sym, ap, _∙_}
 use mathlib.Core.Bool.{Bool, true, false, cond}
 use mathlib.Core.List.{List, _∷_}
@@ -47,9 +47,6 @@ module _ (v : Sender) (n : ℕ) (s : SoundWith (λ k. true) v) (from : v .window
 
   abbrev place : ℕ
   place = n - v .window .«send_base»
-
-  number : v .window .«send_base» + place ≡ n
-  number = omega arith
 
   placed : place < v .window .«window_size»
   placed = let few = s .few in omega arith

@@ -1,6 +1,6 @@
 -- One turn of each reading loop: what is left to read gives what the whole gives.
 use mathlib.Core.Path.{_≡_, refl, sym, ap, ap₂, _∙_, subst}
-use mathlib.Core.Bool.{Bool, true, false, not, _&&_, and-false, and-assoc, false≢true, true≢false}
+use mathlib.Core.Bool.{Bool, true, false, not, _&&_, and-false, and-assoc, false≢true, true≢false, and-eq-true-iff}
 use Prim.Native.Nat.{ℕ, zero, suc, zero-le, _+_, _-_, _≤_, _<_}
 use native.Mathlib.Nat.{not-suc-le-zero, le-of-eq, add-assoc, add-zero, zero-add}
 use native.Mathlib.Omega.{arith}
@@ -17,7 +17,7 @@ use Rattle.multi_timer.specs.declared.Place.{Place}
 use Rattle.multi_timer.specs.declared.Place.the-variants.{At, Absent}
 use lib.Seq.{length-take-le, getD-take}
 use Rattle.multi_timer.proofs.Lists.{rest, rest-cons, rest-nil}
-use Rattle.multi_timer.proofs.Sorted.{both-true, search-behind}
+use Rattle.multi_timer.proofs.Sorted.{search-behind}
 
 module _ (n i : ℕ) (xs : List ℕ) where
   -- ---- ascending
@@ -92,7 +92,7 @@ pub soon-late : (ds : List ℕ) → soon ds ≡ true → anyLate ds ≡ false
 unfolding soon anyLate
 soon-late [] e = refl
 soon-late (d ∷ ds) e =
-    let b = both-true (ltb d 140737488355328) (soon ds) e in
+    let b = and-eq-true-iff (ltb d 140737488355328) (soon ds) .0 e in
     simp (le-ltb maxTime d (small d (ltb-true d _ (b .0))), soon-late ds (b .1))
   where
     small : (d : ℕ) → d < 140737488355328 → d ≤ maxTime

@@ -1,6 +1,6 @@
 -- Entries by ascending key, and the place that a search finds in them.
 use mathlib.Core.Path.{_≡_, refl, sym, ap, ap₂, _∙_, subst}
-use mathlib.Core.Bool.{Bool, true, false, not, cond, _&&_, false≢true}
+use mathlib.Core.Bool.{Bool, true, false, not, cond, and-eq-true-iff}
 use mathlib.Core.Option.{Option, none, some}
 use mathlib.Core.List.{List, [], _∷_, _++_}
 use Prim.Native.Nat.{ℕ, zero, suc, _≤_, _<_, zero-le, suc-le-suc}
@@ -15,18 +15,14 @@ use Rattle.multi_timer.specs.Search.{searchIn, later}
 use Rattle.multi_timer.specs.declared.Place.{Place}
 use Rattle.multi_timer.specs.declared.Place.the-variants.{At, Absent}
 
-pub both-true : (a b : Bool) → (a && b) ≡ true → (a ≡ true) × (b ≡ true)
-both-true true b e = (refl, e)
-both-true false b e = absurd (false≢true e)
-
 -- the first key is at least low, and the others are above it
 pub first-key : (low k : ℕ) (ks : List ℕ) → ascendingFrom low (k ∷ ks) ≡ true → low ≤ k
 unfolding ascendingFrom
-first-key low k ks e = leb-true low k (both-true (leb low k) (ascendingFrom (suc k) ks) e .0)
+first-key low k ks e = leb-true low k (and-eq-true-iff (leb low k) (ascendingFrom (suc k) ks) .0 e .0)
 
 pub other-keys : (low k : ℕ) (ks : List ℕ) → ascendingFrom low (k ∷ ks) ≡ true → ascendingFrom (suc k) ks ≡ true
 unfolding ascendingFrom
-other-keys low k ks e = both-true (leb low k) (ascendingFrom (suc k) ks) e .1
+other-keys low k ks e = and-eq-true-iff (leb low k) (ascendingFrom (suc k) ks) .0 e .1
 
 -- no key is below the first
 pub at-least : (low p : ℕ) (ks : List ℕ) → ascendingFrom low ks ≡ true → p < length ks → low ≤ getD ks p 0

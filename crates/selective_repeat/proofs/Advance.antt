@@ -1,5 +1,5 @@
 -- How far base moves, decided before anything is written: the same as marking first.
-use Prim.Native.Nat.{ℕ, zero, suc, _+_, _-_, _*_, _%_, _≤_, _<_}
+use Prim.Native.Nat.{ℕ, zero, suc, _+_, _-_, _*_, _≤_, _<_}
 use mathlib.Core.Path.{_≡_, refl, sym, ap, _∙_}
 use mathlib.Core.Bool.{Bool, true, false, cond, not, _||_, _&&_}
 use mathlib.Core.List.{List}
@@ -9,14 +9,14 @@ use lib.Dec.{ltb, eqb}
 use lib.ListN.{length, set}
 use lib.Seq.{getD-set-same, take-set-le, drop-set-lt}
 use Rattle.refusal.proofs.Laws.{or-false}
-use Rattle.store.specs.Slot.{slotAt, markOf, putSlot, emptySlot, setMark}
+use Rattle.store.specs.Slot.{markOf, putSlot, emptySlot, setMark}
 use Rattle.store.specs.Sound.{filled, outOfBounds, senderTest, senderSlotBroken, senderSlotsBroken, slotOf}
 use Rattle.store.specs.Numbers.{marked, markedRun}
 use Rattle.store.proofs.Laws.{slot-in, slot-length, none-found, run-within}
 use Rattle.store.proofs.Numbers.{run-stop}
 use Rattle.store.proofs.Ring.{set-number, set-number-other}
 use Rattle.window.specs.State.{outstanding}
-use Rattle.window.specs.Slots.{Sender, sender, slotFor, emptyFrom, release}
+use Rattle.window.specs.Slots.{Sender, slotFor, emptyFrom, release}
 use Rattle.window.proofs.Laws.{Sound}
 use Rattle.selective_repeat.specs.Sender.{markAcknowledged, acknowledgedRun, advance, acknowledgeOne}
 

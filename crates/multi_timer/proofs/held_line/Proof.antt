@@ -1,11 +1,10 @@
 use mathlib.Core.Path.{sym, _∙_}
-use mathlib.Core.Bool.{true, false}
+use mathlib.Core.Bool.{true, false, and-eq-true-iff}
 use lib.ListN.{take}
 use Rattle.multi_timer.specs.Map.{ascending}
 use Rattle.multi_timer.specs.Search.{soon}
 use Rattle.multi_timer.proofs.Checks.{broken-length, broken-count, broken-order, told, told-broken, told-empty}
 use Rattle.multi_timer.proofs.Loops.{soon-late}
-use Rattle.multi_timer.proofs.Sorted.{both-true}
 use borrow.Author.Needs.{needs}
 use Rattle.multi_timer.proofs.held_line.Statement.{statement}
 use Rattle.multi_timer.proofs.held_line.Tie as tie
@@ -24,7 +23,7 @@ is-plain-requires c κs = search needs
 
 returns-4 : tie.Need-returns-4
 returns-4 c =
-    let b = both-true (ascending (take (c .before .before .before .before .before .before .before .args .count) (c .before .before .before .before .before .before .before .args .keys .now))) (soon (take (c .before .before .before .before .before .before .before .args .count) (c .before .before .before .before .before .before .before .args .deadlines .now))) (sym (c .before .is-plain .ensures) ∙ c .if4 .taken) in
+    let b = and-eq-true-iff (ascending (take (c .before .before .before .before .before .before .before .args .count) (c .before .before .before .before .before .before .before .args .keys .now))) (soon (take (c .before .before .before .before .before .before .before .args .count) (c .before .before .before .before .before .before .before .args .deadlines .now))) .0 (sym (c .before .is-plain .ensures) ∙ c .if4 .taken) in
     told (c .before .before .before .before .before .before .before .args .count) (c .before .before .before .before .before .before .before .args .keys .now) (c .before .before .before .before .before .before .before .args .deadlines .now) false false (broken-order (c .before .before .before .before .before .before .before .args .count) (c .before .before .before .before .before .before .before .args .keys .now) (c .before .before .before .before .before .before .before .args .deadlines .now) true (c .before .before .before .before .if1 .left) (c .before .before .before .if2 .left) (sym (b .0))) (sym (soon-late (take (c .before .before .before .before .before .before .before .args .count) (c .before .before .before .before .before .before .before .args .deadlines .now)) (b .1)))
 
 is-ascending-requires : tie.Need-is-ascending-requires

@@ -1,13 +1,10 @@
-use Prim.Native.Nat.{ℕ, _+_, _-_, _≤_}
-use mathlib.Core.Path.{_≡_, ap, sym, _∙_}
+use Prim.Native.Nat.{ℕ, _+_}
+use mathlib.Core.Path.{ap, sym, _∙_}
 use mathlib.Core.Bool.{true}
-use mathlib.Core.List.{List}
 use native.Mathlib.Omega.{arith}
 use Rattle.store.proofs.Laws.{slot-in}
-use Rattle.window.specs.State.{outstanding}
 use Rattle.window.specs.Slots.{sender, release}
 use Rattle.window.proofs.Laws.{sound}
-use Rattle.selective_repeat.specs.Sender.{advance}
 use Rattle.selective_repeat.proofs.Due.{in-window}
 use Rattle.selective_repeat.proofs.Advance.{advance-within, marked-only, released-only}
 use borrow.Author.Needs.{needs}

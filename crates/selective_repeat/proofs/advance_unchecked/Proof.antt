@@ -1,5 +1,5 @@
 use Prim.Native.Nat.{ℕ, _+_, _-_}
-use mathlib.Core.Path.{ap, sym, _∙_}
+use mathlib.Core.Path.{ap, _∙_}
 use native.Mathlib.Omega.{arith}
 use borrow.Author.Tests.{eq-eqb, ne-eqb}
 use Rattle.store.proofs.Laws.{run-within}
@@ -30,7 +30,6 @@ cast-result : tie.Need-cast-result
 cast-result c =
     let run = run-within 2 (c .before .before .before .before .args .store .now) (c .before .before .before .before .args .window .«window_size») (c .before .before .before .before .args .window .«send_base» + 1) (outstanding (c .before .before .before .before .args .window) - 1) in
     let r = c .marked-run-unchecked .ensures in
-    let less = c .before .before .before .before .args .window .«next_seq_num» - c .before .before .before .before .args .window .«send_base» - 1 in
     let some = c .before .before .before .before .pre .1 .0 in
     let few = c .before .before .before .before .pre .1 .1 in
     omega arith
@@ -39,7 +38,6 @@ add-result : tie.Need-add-result
 add-result c =
     let run = run-within 2 (c .before .before .before .before .args .store .now) (c .before .before .before .before .args .window .«window_size») (c .before .before .before .before .args .window .«send_base» + 1) (outstanding (c .before .before .before .before .args .window) - 1) in
     let r = c .marked-run-unchecked .ensures in
-    let less = c .before .before .before .before .args .window .«next_seq_num» - c .before .before .before .before .args .window .«send_base» - 1 in
     let some = c .before .before .before .before .pre .1 .0 in
     let few = c .before .before .before .before .pre .1 .1 in
     omega arith

@@ -1,6 +1,3 @@
-use Prim.Native.Nat.{ℕ, _+_, _-_, _*_, _%_}
-use mathlib.Core.Path.{_≡_, ap, sym, _∙_}
-use mathlib.Core.Bool.{Bool, _||_, not}
 use native.Mathlib.Omega.{arith}
 use native.Mathlib.Nat.{mod-lt, sub-zero}
 use Rattle.store.proofs.Tests.{slot-in}

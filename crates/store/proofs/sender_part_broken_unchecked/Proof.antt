@@ -1,8 +1,6 @@
-use Prim.Native.Nat.{ℕ, _+_, _-_, min}
-use mathlib.Core.Path.{_≡_, ap, sym, _∙_}
-use mathlib.Core.Bool.{Bool, cond, _||_}
+use Prim.Native.Nat.{_+_, _-_, min}
+use mathlib.Core.Path.{_≡_}
 use native.Mathlib.Omega.{arith}
-use Rattle.store.specs.Scans.{slotsOutside}
 use Rattle.store.proofs.Scans.{part-broken}
 use borrow.Author.Needs.{needs}
 use Rattle.store.proofs.sender_part_broken_unchecked.Statement.{statement}

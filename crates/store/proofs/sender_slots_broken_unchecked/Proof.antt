@@ -1,9 +1,5 @@
-use Prim.Native.Nat.{ℕ, _+_, _-_, _*_, _%_, min}
-use mathlib.Core.Path.{_≡_, ap, sym, _∙_}
-use mathlib.Core.Bool.{Bool, _||_}
 use native.Mathlib.Omega.{arith}
 use native.Mathlib.Nat.{mod-lt, sub-zero}
-use lib.Dec.{eqb}
 use Rattle.store.proofs.Tests.{slot-in}
 use Rattle.store.proofs.Scans.{sender-scan}
 use borrow.Author.Needs.{needs}

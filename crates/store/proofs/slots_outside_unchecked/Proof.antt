@@ -1,9 +1,7 @@
-use Prim.Native.Nat.{ℕ, _+_, _-_, _≤_}
-use mathlib.Core.Path.{_≡_, ap, sym, _∙_}
-use mathlib.Core.Bool.{Bool, _||_}
+use Prim.Native.Nat.{ℕ, _-_, _≤_}
+use mathlib.Core.Path.{_≡_, ap, _∙_}
 use native.Mathlib.Omega.{arith}
-use Rattle.store.specs.Slot.{slotAt}
-use Rattle.store.specs.Scans.{slotOutside, slotsOutside}
+use Rattle.store.specs.Scans.{slotsOutside}
 use Rattle.store.proofs.Scans.{outside-none, outside-more}
 use Rattle.store.proofs.slots_outside_unchecked.Statement.{statement}
 use Rattle.store.proofs.slots_outside_unchecked.Tie as tie

@@ -1,4 +1,4 @@
-use Prim.Native.Nat.{ℕ, min}
+use Prim.Native.Nat.{min}
 use mathlib.Core.Path.{sym, ap, _∙_}
 use mathlib.Core.Bool.{false}
 use Rattle.window.specs.State.{outstanding, stateBroken, countsBroken}

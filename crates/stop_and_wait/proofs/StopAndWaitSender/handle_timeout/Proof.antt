@@ -1,5 +1,5 @@
-use Prim.Native.Nat.{ℕ, _<_, min}
-use mathlib.Core.Path.{_≡_, refl, sym, ap, subst, _∙_}
+use Prim.Native.Nat.{_<_, min}
+use mathlib.Core.Path.{refl, sym, ap, subst, _∙_}
 use mathlib.Core.Bool.{false}
 use native.Mathlib.Omega.{arith}
 use Rattle.window.specs.State.{outstanding, stateBroken, countsBroken}
