@@ -7,6 +7,8 @@ if [ $# -gt 0 ]; then
   set -- "$(realpath "$1")"
 fi
 cd "$(dirname "$0")"
+# rt waits for its crates and edits in batches of RT_JOBS: with as many as processors, some would stand idle.
+export RT_JOBS="${RT_JOBS:-$((2 * $(nproc)))}"
 rt fmt --check
 bash compare/run "$@"
 exec rt ci
