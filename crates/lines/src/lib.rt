@@ -46,7 +46,7 @@ fn digit(b: u8) -> u64
 }
 
 // Where the line that starts at `from` ends, for a text that goes on there.
-pub fn line_end(text: &[u8], from: usize) -> usize
+pub fn line_end_unchecked(text: &[u8], from: usize) -> usize
     requires { ⌜ from < length (now text) ⌝ }
     ensures { λ r. ⌜ (from ≤ r) × (r ≤ length (now (text .entry))) ⌝ }
 {

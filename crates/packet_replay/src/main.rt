@@ -32,7 +32,7 @@ fn main() {
 fn replay(text: &[u8]) {
     let mut at: usize = 0;
     while at < text.len() {
-        let end = lines::line_end(text, at);
+        let end = lines::line_end_unchecked(text, at);
         case(&text[at..end]);
         at = end;
         if at < text.len() {

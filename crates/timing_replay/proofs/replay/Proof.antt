@@ -13,8 +13,8 @@ abbrev μ-loop : tie.MeasureT-loop
 loop-holds : tie.Need-loop-holds Inv-loop μ-loop
 loop-holds c = search needs
 
-line-end-requires : tie.Need-line-end-requires Inv-loop μ-loop
-line-end-requires c κs = search needs
+line-end-unchecked-requires : tie.Need-line-end-unchecked-requires Inv-loop μ-loop
+line-end-unchecked-requires c κs = search needs
 
 sub-case : tie.Need-sub-case Inv-loop μ-loop
 sub-case c = search needs
@@ -53,7 +53,7 @@ replay-spec =
     Inv-loop
     μ-loop
     loop-holds
-    line-end-requires
+    line-end-unchecked-requires
     sub-case
     part-case-start
     part-case-end
