@@ -13,6 +13,9 @@ ghost use Rattle.multi_timer.specs.Map.{entriesOf, ascending, keep, due,
 ghost use Rattle.multi_timer.specs.Search.{searchIn, later, risingFrom, soon, dueIn, Partitioned, insertedAt, removedAt, clearedIn};
 ghost use Rattle.multi_timer.specs.MultiTimer.{used, after, afterPop, broken, heldTooLate, heldLine, startFull, startUnchecked, cancelUnchecked, popUnchecked, clearUnchecked, earliestAnswer, newDef, startTimerAtDef, cancelTimerDef, isExpiredAtDef, popExpiredAtDef, earliestDeadlineDef, clearDef};
 
+// 2^47, the greatest power of two within MAX_TIME: numbers below it stay below it when their digits are joined.
+const TIME_POWER: u64 = 140737488355328;
+
 // The first count entries of the lent keys and deadlines are used, by ascending key.
 pub struct MultiTimer {
     pub count: usize,
@@ -101,7 +104,7 @@ fn rest_plain(count: usize, keys: &[u32], deadlines: &[u64], from: usize) -> boo
     requires { ⌜ (from < count) × (count ≤ length (now keys)) × (count ≤ length (now deadlines)) ⌝ }
     ensures { λ r. ⌜ r ≡ (risingFrom count from (now (keys .entry)) && soon (drop from (take count (now (deadlines .entry))))) ⌝ }
 {
-    if deadlines[from] >= 140737488355328 {
+    if deadlines[from] >= TIME_POWER {
         return false;
     }
     let mut i = from + 1;
@@ -109,7 +112,7 @@ fn rest_plain(count: usize, keys: &[u32], deadlines: &[u64], from: usize) -> boo
         if keys[i - 1] >= keys[i] {
             return false;
         }
-        if deadlines[i] >= 140737488355328 {
+        if deadlines[i] >= TIME_POWER {
             return false;
         }
         i += 1;
@@ -145,7 +148,7 @@ fn is_plain(count: usize, keys: &[u32], deadlines: &[u64]) -> bool
     if !((r0 & r1) & (r2 & r3)) {
         return false;
     }
-    if ((d0 | d1) | (d2 | d3)) >= 140737488355328 {
+    if ((d0 | d1) | (d2 | d3)) >= TIME_POWER {
         return false;
     }
     rest_plain(count, keys, deadlines, i)

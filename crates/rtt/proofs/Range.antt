@@ -86,9 +86,6 @@ mul-up x y N M h a b =
     let r = mul-units x y (a .units) (b .units) (a .is) (b .is) (far (a .units) (b .units) N M (le-trans h (lit≤ tt)) (a .most) (b .most)) in
     record { units = r .units; is = r .is; most = r .whole (N * M) h (times (a .units) (b .units) N M (2 ^ 1074) (a .most) (b .most)) }
 
-is-one : UpTo one64 1
-is-one = record { units = 2 ^ 1074; is = refl; most = lit≤ tt }
-
 is-thousand : UpTo thousand64 1000
 is-thousand = record { units = 1000 * 2 ^ 1074; is = refl; most = le-refl (1000 * 2 ^ 1074) }
 

@@ -31,9 +31,6 @@ module _ {A : Type 0} where
       nil [] = refl
       nil (x ∷ xs) = ap (λ (ys : List A). x ∷ ys) (nil xs)
 
-  pub clear-length : (v : A) (i : ℕ) (l : List A) → i ≤ length l → length (cleared v i l) ≡ length l
-  clear-length v i l h = simp (length-append, length-replicate, length-drop) (omega arith)
-
   -- the first i from one place up
   abbrev pub shifted : ℕ → List A → List A
   shifted i l = take i (drop 1 l) ++ drop i l
@@ -57,9 +54,6 @@ module _ {A : Type 0} where
     where
       x : A
       x = getD l (i + 1) d
-
-  pub shift-length : (i : ℕ) (l : List A) → i < length l → length (shifted i l) ≡ length l
-  shift-length i l h = length-append (take i (drop 1 l)) (drop i l) ∙ ap (λ (n : ℕ). n + length (drop i l)) (shift-front i l h) ∙ rw length-drop (omega arith)
 
   pub shift-last : (v d : A) (n : ℕ) (l : List A) → 0 < n → n ≤ length l → set (shifted (n - 1) l) (n - 1) v ≡ drop 1 (take n l) ++ v ∷ drop n l
   shift-last v d zero l p h = absurd (omega arith)

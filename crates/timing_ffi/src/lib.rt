@@ -491,13 +491,6 @@ fn store_estimator(w: &mut [u64], d: &mut [f64], e: RtoEstimator) {
 }
 
 #[no_mangle]
-pub extern "C" fn timing_rto_default(w: &mut [u64], d: &mut [f64]) {
-    let c = RtoConfig::default();
-    store_durations(w, c);
-    store_doubles(d, c, 0.0);
-}
-
-#[no_mangle]
 pub extern "C" fn timing_rto_new(w: &mut [u64], d: &mut [f64]) {
     store_estimator(w, d, RtoEstimator::new());
 }
