@@ -341,7 +341,8 @@ fn read_check(o: &Ours, m: &Model, shown: &str) {
 // Random calls on a small schedule, beside the reference and the model; records and places are compared whole after each call.
 fn schedule_runs(g: &mut Gen, calls: &mut u64, refused: &mut u64) {
     let large = g.below(200) == 0;
-    let (nr, np) = if large { (60 + g.below(90) as usize, 60 + g.below(90) as usize) } else { (g.below(7) as usize, g.below(7) as usize) };
+    let mut size = || if !large { g.below(7) as usize } else if g.below(4) == 0 { 250 + g.below(20) as usize } else { 60 + g.below(90) as usize };
+    let (nr, np) = (size(), size());
     let spare = g.below(PLACE as u64) as usize;
     let dirty_records = (0..nr).map(|_| [g.next(), g.next(), g.next(), g.next()]).collect();
     let places_len = np * PLACE + spare;

@@ -328,12 +328,22 @@ fn estimators(r: &mut Rng, n: &mut u64) {
         let (x0, mut y) = (x, d);
         let got = unsafe { (timing_rto_update(x.as_mut_ptr(), 23, y.as_mut_ptr(), 5, 1, true, a.as_mut_ptr(), 1), timing_rto_timeout(x.as_mut_ptr(), 23, y.as_mut_ptr(), 5, a.as_mut_ptr(), 1), timing_rto_reset(x.as_mut_ptr(), 23, y.as_mut_ptr(), 5), timing_rto_limit(x.as_ptr(), 23, y.as_ptr(), 5, 0, a.as_mut_ptr(), 1)) };
         same!((got, x, bits(&y)), ((want, want, want, want), x0, bits(&d)), "held {i} {v}");
-        let mut one = x0;
-        one[6] = 0;
-        one[i] = one[i].min(DAY);
-        same!(unsafe { timing_rto_reset(one.as_mut_ptr(), 23, y.as_mut_ptr(), 5) }, 9, "only SRTT set");
-        *n += 5;
+        for (j, what) in [(6usize, "only SRTT set"), (4, "only RTTVAR set")] {
+            let mut one = x0;
+            one[j] = 0;
+            one[i] = one[i].min(DAY);
+            same!(unsafe { timing_rto_reset(one.as_mut_ptr(), 23, y.as_mut_ptr(), 5) }, 9, "{what}");
+        }
+        *n += 6;
     }
+    // held values at their bounds
+    let mut x = w;
+    for j in [4, 6, 16, 18, 20] { x[j] = 1; }
+    for j in [5, 7] { x[j] = 86_401_000_000_000; }
+    for j in [8, 9, 17, 19, 21] { x[j] = DAY; }
+    for j in 12..16 { x[j] = (1 << 60) - 1; }
+    same!(unsafe { (timing_rto_limit(x.as_ptr(), 23, d.as_ptr(), 5, 0, a.as_mut_ptr(), 1), timing_rto_timeout(x.as_mut_ptr(), 23, d.as_mut_ptr(), 5, a.as_mut_ptr(), 1)) }, (0, 0), "held at the bounds");
+    *n += 2;
 }
 
 // Cases for crates/timing_replay and the reference's answers (what document 01 refuses, as it refuses).
@@ -360,12 +370,14 @@ fn sample(dir: &str, seed: u64) {
         let mut e = if good { Some(RtoEstimator::with_config(RtoConfig { initial_rto: d(c[0]), min_rto: d(c[1]), max_rto: d(c[2]), granularity: d(c[3]), alpha: f(c[4]), beta: f(c[5]), k: f(c[6]), rto_multiplier: f(c[7]) })) } else { answers.push_str("refused 4 ; "); None };
         let around = r.span();
         for j in 0..12 {
-            let (mut op, mut x) = (r.of(&[0u64, 0, 0, 0, 1, 2, 3]), 0);
+            let (mut op, mut x) = (r.of(&[0u64, 0, 0, 0, 1, 2, 2, 3, 4]), 0);
+            if op == 4 { x = r.below(3); }
             if op < 2 { x = if r.below(2) == 0 { around } else { r.maybe_out() }; }
             if i < 2 && j == 0 { op = 0; x = 100_000_000; }
             if i == 2 && j == 0 { op = 2; x = 0; }
             write!(cases, "{op:016x}{x:016x}").unwrap();
             if let Some(e) = &mut e {
+                if op == 4 { write!(answers, "{} ; ", e.has_exceeded_retry_limit(x as u32) as u64).unwrap(); continue; }
                 if x > DAY { answers.push_str("refused 10 ; "); continue; }
                 match op { 2 => { e.on_timeout(); } 3 => e.reset_backoff(), _ => { e.update_rtt(d(x), op == 1); } }
                 let o = |x: Option<Duration>| x.map_or("-".to_string(), |d| ns(d).to_string());
@@ -379,18 +391,23 @@ fn sample(dir: &str, seed: u64) {
         let room = r.of(&[0u64, 1, 2, 4, 8, 32]);
         write!(cases, "m{room:016x}").unwrap();
         let mut t: MultiTimer<u32> = MultiTimer::new();
-        let mut keys = std::collections::BTreeSet::new();
-        for _ in 0..12 {
-            let (op, key, now, dur) = (r.of(&[0u64, 0, 0, 1, 2, 3]), r.below(12) as u32, if r.below(30) == 0 { TWO_DAYS + 1 } else { r.span() }, r.maybe_out());
-            let (key, now, dur) = match op { 0 => (key, now, dur), 1 => (key, 0, 0), 2 => (0, now, 0), _ => (0, 0, 0) };
+        let mut keys = std::collections::BTreeMap::new();
+        for _ in 0..14 {
+            let (op, key, mut now, dur) = (r.of(&[0u64, 0, 0, 0, 1, 2, 3, 4, 4, 5]), r.below(12) as u32, if r.below(30) == 0 { TWO_DAYS + 1 } else { r.span() }, r.maybe_out());
+            // often at a deadline
+            if op != 0 && r.below(2) == 0 { now = keys.get(&key).or(keys.values().next()).copied().unwrap_or(now); }
+            let (key, now, dur) = match op { 0 => (key, now, dur), 1 => (key, 0, 0), 2 => (0, now, 0), 4 => (key, now, 0), _ => (0, 0, 0) };
             write!(cases, "{op:016x}{key:016x}{now:016x}{dur:016x}").unwrap();
             match op {
                 0 if now > TWO_DAYS || dur > DAY || now + dur > TWO_DAYS => answers.push_str("refused 10 ; "),
-                0 if !keys.contains(&key) && keys.len() as u64 == room => answers.push_str("refused 5 ; "),
-                0 => { keys.insert(key); write!(answers, "{} ; ", t.start_timer_at(key, at(now), Duration::from_nanos(dur))).unwrap(); }
+                0 if !keys.contains_key(&key) && keys.len() as u64 == room => answers.push_str("refused 5 ; "),
+                0 => { keys.insert(key, now + dur); write!(answers, "{} ; ", t.start_timer_at(key, at(now), Duration::from_nanos(dur))).unwrap(); }
                 1 => { keys.remove(&key); write!(answers, "{} ; ", t.cancel_timer(&key) as u64).unwrap(); }
                 2 if now > TWO_DAYS => answers.push_str("refused 10 ; "),
                 2 => { let mut out = t.pop_expired_at(at(now)); out.sort(); for k in &out { keys.remove(k); write!(answers, "{k} ").unwrap(); } answers.push_str("; "); }
+                4 if now > TWO_DAYS => answers.push_str("refused 10 ; "),
+                4 => write!(answers, "{} ; ", t.is_expired_at(&key, at(now)) as u64).unwrap(),
+                5 => { t.clear(); keys.clear(); write!(answers, "{} ; ", t.len()).unwrap(); }
                 _ => { match t.earliest_deadline() { Some(i) => write!(answers, "{} ; ", ns(i - zero)).unwrap(), None => answers.push_str("- ; ") } }
             }
         }

@@ -11,7 +11,7 @@ use lib.ListN.{length}
 use Rattle.checksum.specs.Below.{Octets}
 use Rattle.checksum.specs.Flip.{flip}
 use Rattle.checksum.proofs.Laws.{below-nil}
-use Rattle.protocol.specs.Machine.{Chunk, Segment}
+use Rattle.protocol.specs.Machine.{Segment}
 use Rattle.refusal.specs.Order.{verdict, accepted}
 use Rattle.refusal.proofs.Laws.{none-true-accepted, on-accepted, decided}
 use Rattle.packet.specs.Format.{newPacket, headerBytes, checksumOf, withChecksum, made, matches}
@@ -20,7 +20,7 @@ use Rattle.packet.specs.declared.Packet.{Packet}
 use Rattle.packet.specs.declared.PacketType.the-variants as packetType
 use Rattle.packet.specs.declared.PacketAnswer.the-variants as packetAnswer
 use Rattle.packet.specs.declared.ValidityAnswer.the-variants as validityAnswer
-use Rattle.packet.proofs.Laws.{Fits, read-back, payload-back, read-header, validity-is, made-length, made-flip-caught, made-flip-length}
+use Rattle.packet.proofs.Laws.{Fits, read-back, payload-back, validity-is, made-length, made-flip-caught, made-flip-length}
 use Rattle.window.specs.Acknowledgement.{handedChecks, readAck}
 use Rattle.window.specs.declared.AckRead.{AckRead}
 use Rattle.window.specs.declared.AckRead.the-variants as ackRead
@@ -29,7 +29,6 @@ use Rattle.receiver.specs.Handed.{packetChecks, readPacket}
 use Rattle.receiver.specs.declared.Handed.{Handed}
 use Rattle.receiver.specs.declared.Handed.the-variants as handed
 use Rattle.receiver.proofs.Laws.{packet-read}
-use Rattle.arq.specs.Follows.{segmentOf}
 use Rattle.arq.specs.Copies.{DataOf, AckOf, Flipped, NoPacket, NoAck}
 use Rattle.arq.specs.Copies
 
@@ -37,9 +36,6 @@ use Rattle.arq.specs.Copies
 module _ (p : Packet) (payload : List ℕ) where
   pub made-read : fromBytes (made p payload) ≡ packetAnswer.Packet (withChecksum p payload)
   made-read = ap fromBytes (sym (append-nil (made p payload))) ∙ read-back (withChecksum p payload) payload []
-
-  pub made-header : headerOf (made p payload) ≡ withChecksum p payload
-  made-header = read-header (made p payload) (withChecksum p payload) made-read
 
   pub made-payload : payloadOf (made p payload) ≡ payload
   made-payload = ap payloadOf (sym (append-nil (made p payload))) ∙ payload-back (withChecksum p payload) payload []
@@ -119,9 +115,6 @@ flipped-empty-ack p i b fits h k = elim (ℕ-discrete i 6) [
         (λ prefix. let x = prefix .proper in absurd (omega arith))
         (made-flip-length p [] i b at)
 
-segment-is : {n m : ℕ} {c d : Chunk} → n ≡ m → c ≡ d → _≡_ {A = Segment} (record { number = n; payload = c }) (record { number = m; payload = d })
-segment-is e f = rw (e, f)
-
 -- copies of Data of a segment, handed to a receiver
 module _ (q : Segment) (original : List ℕ) (d : DataOf q original) where
   data-fits : Fits (d .packet)
@@ -133,9 +126,6 @@ module _ (q : Segment) (original : List ℕ) (d : DataOf q original) where
 
   pub data-payload : payloadOf original ≡ q .payload
   data-payload = ap payloadOf (d .is) ∙ made-payload (d .packet) (q .payload)
-
-  pub data-segment : segmentOf original ≡ q
-  data-segment = segment-is (ap (λ (raw : List ℕ). headerOf raw .«seq_num») (d .is) ∙ ap (λ (p : Packet). p .«seq_num») (made-header (d .packet) (q .payload)) ∙ d .number) data-payload
 
   pub data-flipped : (raw : List ℕ) → Flipped original raw → NoPacket raw
   data-flipped raw f = flipped-packet (d .packet) (q .payload) raw data-fits (d .octets) (d .short) (rw (d .is) at f)

@@ -69,7 +69,6 @@ pub record Took {R : Type 0} (view : R → ReceiverState) (filledOf : R → ℕ)
   pub fits : filledOf r + length (flatten (m .delivered)) ≤ length output
   pub acks : acksOf (result .answer) ≡ m .acks
   pub ack-made : (n : ℕ) → result .answer ≡ answer.Ack n → AckOf n (take 10 (result .ack))
-  pub ack-rest : drop 10 (result .ack) ≡ drop 10 ack
 
 -- no Data: state, fill mark and output as they were; nothing is answered to what isn't valid
 pub record Ignored {R : Type 0} (view : R → ReceiverState) (filledOf : R → ℕ) (r : R) (raw output ack : List ℕ) (result : Receiving R) : Type 0 where
@@ -122,11 +121,6 @@ ack-front : (r : Reply) (n : ℕ) (ack : List ℕ) → answerOf r ≡ answer.Ack
 unfolding ackAfter
 ack-front (reply.Ack m) n ack e = let f : m ≡ n = cc in rw f (take-at (made (newPacket n Ack) []) (drop 10 ack) 10 (made-length (newPacket n Ack) []))
 ack-front reply.Silent n ack e = let z : _≡_ {A = ℕ} 0 1 = cc in absurd (omega arith)
-
-ack-behind : (r : Reply) (ack : List ℕ) → drop 10 (ackAfter r ack) ≡ drop 10 ack
-unfolding ackAfter
-ack-behind (reply.Ack m) ack = drop-at (made (newPacket m Ack) []) (drop 10 ack) 10 (made-length (newPacket m Ack) [])
-ack-behind reply.Silent ack = refl
 
 -- a number that the machine acknowledges is the segment's, or below base
 module _ (n : ℕ) (q : Segment) (limit : ℕ) (low : q .number < limit) where
@@ -208,7 +202,6 @@ module _ {R : Type 0} (p : ProtocolType) (w : ℕ) (view : R → ReceiverState) 
         ack-made = λ n e.
             let l = acks-low n q 4294901760 low p w (view r) (decides .base-low sound) (ap acksOf (sym e) ∙ f .acks) in
             record { is = ap (take 10) (carried-ack d bytes (filledOf r) output ack) ∙ ack-front (d .reply) n ack e; low = omega arith };
-        ack-rest = ap (drop 10) (carried-ack d bytes (filledOf r) output ack) ∙ ack-behind (d .reply) ack;
       })
 
   ignored : verdict (packetChecks raw) ≡ accepted → result ≡ carried after d (carriedOut d bytes (filledOf r) output ack) → Leaves view after r d (readPacket raw) → Ignored view filledOf r raw output ack result

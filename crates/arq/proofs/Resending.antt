@@ -156,13 +156,6 @@ module _ (selective : Bool) (v : Sender) (n k : ℕ) (out : List ℕ)
     | sent-again s ↦ s .good
   ]
 
-  pub resend-octets : Octets (v .store) → Octets (result .after .store)
-  resend-octets o = elim resend-outcome [
-    | timeout-refused s e ↦ rw e o
-    | nothing-sent z e ↦ rw e o
-    | sent-again s ↦ rw (s .marked) (marks-octets v n k o)
-  ]
-
 -- Go-Back-N: all outstanding numbers, or the lowest
 pub go-back-n-timeout : (v : Sender) (out : List ℕ) → ResendOutcome false v (v .window .«send_base») (outstanding (v .window)) out (handleTimeout v out)
 go-back-n-timeout v out =

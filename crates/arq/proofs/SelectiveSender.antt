@@ -1,7 +1,7 @@
 -- The Selective Repeat sender: ACKs and timeouts.
 use Prim.Native.Nat.{ℕ, _+_, _-_, _≤_, _<_}
 use mathlib.Core.Path.{_≡_, refl, ap, _∙_}
-use mathlib.Core.Bool.{Bool, true, false, cond, not, _&&_, and-eq-true-iff}
+use mathlib.Core.Bool.{Bool, true, false, cond, not, _&&_}
 use mathlib.Core.List.{List}
 use native.Mathlib.Omega.{arith}
 use borrow.Author.Tests.{leb-true, ltb-true}
@@ -10,16 +10,12 @@ use Rattle.protocol.specs.Machine.{slide}
 use Rattle.protocol.specs.Machine
 use Rattle.protocol.specs.declared.ProtocolType.the-variants.{SelectiveRepeat}
 use Rattle.store.specs.Numbers.{marked}
-use Rattle.window.specs.State.{outstanding}
 use Rattle.window.specs.Slots.{Sender}
-use Rattle.window.specs.Acknowledgement.{inWindow}
 use Rattle.window.proofs.Laws.{not-broken, Accepted}
 use Rattle.selective_repeat.specs.Sender.{acknowledgeOne, handleAck, due, handleTimeout}
-use Rattle.arq.specs.Follows.{acknowledgedIn, senderOf}
+use Rattle.arq.specs.Follows.{senderOf}
 use Rattle.arq.specs.Good.{Good}
-use Rattle.arq.proofs.Rows.{read-at}
 use Rattle.arq.proofs.Good.{SoundWith, good-sound, base-too}
-use Rattle.arq.proofs.Sending.{next-number}
 use Rattle.arq.proofs.Acknowledging.{AckOutcome, ack-outcome}
 use Rattle.arq.proofs.Resending.{ResendOutcome, resend-outcome}
 use Rattle.arq.proofs.SelectiveAck.{markedSender, marked-sound, marked-follows, slid-follows, slid-good}
@@ -51,22 +47,3 @@ pub selective-timeout : (v : Sender) (n : ℕ) (out : List ℕ) → ResendOutcom
 selective-timeout v n out =
     resend-outcome true v n (cond (due v n) 1 0) out
     (λ g h. in-range v n (not (marked 2 (v .store) (v .window .«window_size») n)) (leb (v .window .«send_base») n) (ltb n (v .window .«next_seq_num»)) refl refl h)
-
--- such a number is one that the machine has in its window and not acknowledged
-pub due-is : (v : Sender) (n : ℕ) → Good true v → due v n ≡ (Machine.inWindow (senderOf v) n && not (Machine.isAcknowledged (senderOf v) n))
-due-is v n g = by-window (inWindow (v .window) n) refl
-  where
-    same : Machine.inWindow (senderOf v) n ≡ inWindow (v .window) n
-    same = ap (λ (m : ℕ). leb (v .window .«send_base») n && ltb n m) (next-number true v g)
-
-    by-window : (b : Bool) → inWindow (v .window) n ≡ b → due v n ≡ (Machine.inWindow (senderOf v) n && not (Machine.isAcknowledged (senderOf v) n))
-    by-window false e = rw (same, e)
-    by-window true e =
-        let range = and-eq-true-iff (leb (v .window .«send_base») n) (ltb n (v .window .«next_seq_num»)) .0 e in
-        let from = leb-true (v .window .«send_base») n (range .0) in
-        let below = ltb-true n (v .window .«next_seq_num») (range .1) in
-        let number : v .window .«send_base» + (n - v .window .«send_base») ≡ n = omega arith in
-        let mark : Machine.isAcknowledged (senderOf v) n ≡ marked 2 (v .store) (v .window .«window_size») n =
-        read-at acknowledgedIn (v .store) (v .window .«window_size») (v .window .«send_base») (outstanding (v .window)) false (n - v .window .«send_base») (omega arith)
-        ∙ ap (λ (m : ℕ). marked 2 (v .store) (v .window .«window_size») m) number in
-        rw (same, e, mark)

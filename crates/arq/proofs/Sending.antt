@@ -6,7 +6,7 @@ use mathlib.Core.List.{List, _++_}
 use native.Mathlib.Omega.{arith}
 use borrow.Author.Tests.{ltb-true, ltb-false, eqb-false}
 use lib.ListN.{length, take, drop}
-use lib.Seq.{take-at, drop-at}
+use lib.Seq.{take-at}
 use Rattle.protocol.specs.Machine.{nextNumber, send}
 use Rattle.checksum.specs.Below.{Octets}
 use Rattle.refusal.specs.declared.Refusal.{Refusal}
@@ -44,11 +44,8 @@ pub record Sent (selective : Bool) (v : Sender) (payload out : List ℕ) (r : Se
   pub same-window : r .after .window .«window_size» ≡ v .window .«window_size»
   pub held : r .after ≡ hold v payload
   pub free : length (senderOf v .chunks) < v .window .«window_size»
-  pub number-low : nextNumber (senderOf v) < 4294901760
   pub short : length payload ≤ 1400
-  pub datagram : take (10 + length payload) (r .out) ≡ made (newPacket (nextNumber (senderOf v)) Data) payload
   pub data-made : Octets payload → DataOf (record { number = nextNumber (senderOf v); payload = payload }) (take (10 + length payload) (r .out))
-  pub rest : drop (10 + length payload) (r .out) ≡ drop (10 + length payload) out
 
 pub data SendOutcome (selective : Bool) (v : Sender) (payload out : List ℕ) (r : Sending Sender) : Type 0 where
   send-refused : (s : Refusal) → r ≡ sending (answer.Refused s) v out → SendOutcome selective v payload out r
@@ -82,11 +79,8 @@ module _ (selective : Bool) (v : Sender) (payload out : List ℕ) where
         same-window = ap (λ (r : Sending Sender). r .after .window .«window_size») is ∙ hold-window v payload;
         held = ap (λ (r : Sending Sender). r .after) is;
         free = rw (chunks-length v) free;
-        number-low = rw n below;
         short = short;
-        datagram = datagram;
         data-made = λ o. record { packet = newPacket (nextNumber (senderOf v)) Data; is = datagram; kind = refl; number = refl; flags = omega arith; low = rw n below; octets = o; short = short };
-        rest = ap (λ (r : Sending Sender). drop (10 + length payload) (r .out)) is ∙ drop-at (firstDatagram v payload) (drop (10 + length payload) out) (10 + length payload) size;
       })
 
   pub send-outcome : SendOutcome selective v payload out (sendChunk selective v payload out)

@@ -5,9 +5,7 @@ use mathlib.Core.Bool.{Bool, cond}
 use mathlib.Core.Option.{Option, none, some}
 use lib.Dec.{eqb}
 use Rattle.protocol.specs.Runs.{upFrom}
-use Rattle.protocol.specs.Machine.{Chunk, Segment, SenderState, ReceiverState}
-use Rattle.packet.specs.Reading.{headerOf}
-use Rattle.packet.specs.Reading as packet
+use Rattle.protocol.specs.Machine.{Chunk, SenderState, ReceiverState}
 use Rattle.store.specs.Slot.{markOf, payloadOf}
 use Rattle.store.specs.Sound.{slotOf}
 use Rattle.window.specs.State.{outstanding}
@@ -47,7 +45,3 @@ abbrev pub acksOf : ReceiveAnswer → List ℕ
 acksOf (answer.Ack n) = n ∷ []
 acksOf answer.Silent = []
 acksOf (answer.Refused r) = []
-
--- a Data datagram
-abbrev pub segmentOf : List ℕ → Segment
-segmentOf raw = record { number = headerOf raw .«seq_num»; payload = packet.payloadOf raw }

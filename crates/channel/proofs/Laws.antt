@@ -1,5 +1,5 @@
 -- What crates above may cite: where the rolls point, what a corrupted copy is, how long a delay is, and the counters from the history of calls.
-use mathlib.Core.Path.{_≡_, refl, sym, _∙_, ap}
+use mathlib.Core.Path.{_≡_, refl, sym, _∙_, ap, subst}
 use mathlib.Core.Logic.{_≢_, ⊎-elim}
 use Prim.Native.Nat.{ℕ, _+_, _^_, _<_, _≤_, _*_, _/_}
 use native.Mathlib.Omega.{arith}
@@ -8,6 +8,7 @@ use mathlib.Core.List.{List}
 use lib.ListN.{length, getD, length-set}
 use lib.Seq.{getD-set-same, getD-set-other}
 use lib.Dec.{T}
+use borrow.Author.Tests.{le-ltb}
 use lib.Pow.{pow-pos}
 use lib.Bits.{bitXor}
 use lib.IntN.{negsuc}
@@ -16,15 +17,18 @@ use Rattle.checksum.specs.Flip.{flip}
 use Rattle.checksum.proofs.Bits.{xor-moves}
 use Rattle.float.specs.Roll.{rollInBounds, scaled}
 use Rattle.float.proofs.Laws.{scaled-below, j1}
-use Rattle.schedule.specs.State.{copies}
+use Rattle.duration.specs.Bounds.{maxTime}
+use Rattle.schedule.specs.State.{leavesAt, delayLate, deliveriesLate}
+use Rattle.schedule.specs.declared.Deliveries.the-variants.{Lost, One, Two}
+use Rattle.schedule.proofs.Laws.{or-both}
 use Rattle.channel.specs.Bounds.{configBroken, rollsBroken}
-use Rattle.channel.specs.Faults.{isReordered, isCorrupted, byteAt, bitAt, carried, holdOf, delayOf}
+use Rattle.channel.specs.Faults.{isLost, isDuplicated, isReordered, isCorrupted, byteAt, bitAt, carried, holdOf, delayOf, deliveriesOf}
 use Rattle.channel.specs.declared.ChannelConfig.{ChannelConfig}
 use Rattle.channel.specs.declared.Rolls.{Rolls}
 use Rattle.channel.proofs.Limits.{delays-within, rolls-within}
-use Rattle.channel.proofs.Carrying.{corrupt-law, spared-law}
+use Rattle.channel.proofs.Carrying.{corrupt-law, spared-law, corrupted-some}
 pub use Rattle.channel.proofs.Carrying.{granted-lost, granted-one, granted-two, granted-le}
-pub use Rattle.channel.proofs.Tallies.{refused-same, accepted-counted, history, fresh-history}
+pub use Rattle.channel.proofs.Tallies.{processed, history, refused-are}
 
 -- the rolls of a packet are doubles
 pub record Doubles (r : Rolls) : Type 0 where
@@ -71,6 +75,28 @@ delay-within c r roll good t u =
     three : (a b c : ℕ) → a ≤ 60000 → b ≤ 60000 → c ≤ 60000 → a + b + c ≤ 180000
     three a b c h k l = omega arith
 
+-- the schedule takes each delay that the channel answers, unless the time itself is too near its bound
+pub deliveries-within : (c : ChannelConfig) (r : Rolls) (now : ℕ) → Doubles r → configBroken c ≡ false → rollsBroken r ≡ false → leavesAt now 180000 ≤ maxTime → deliveriesLate now (deliveriesOf c r) ≡ false
+unfolding deliveriesOf
+deliveries-within c r now d good fine h = go (isLost c r) (isDuplicated c r)
+  where
+    in-time : (n : ℕ) → n ≤ 180000 → delayLate now n ≡ false
+    in-time n k = simp (le-ltb 180000 n k, le-ltb maxTime (leavesAt now n) (sooner n k))
+      where
+        sooner : (n : ℕ) → n ≤ 180000 → leavesAt now n ≤ maxTime
+        sooner n k = omega arith
+
+    first : delayLate now (delayOf c r (r .«jitter_roll»)) ≡ false
+    first = in-time (delayOf c r (r .«jitter_roll»)) (delay-within c r (r .«jitter_roll») good (d .jitter) (rolls-within r fine .jitter))
+
+    second : delayLate now (delayOf c r (r .«dup_jitter_roll»)) ≡ false
+    second = in-time (delayOf c r (r .«dup_jitter_roll»)) (delay-within c r (r .«dup_jitter_roll») good (d .dup-jitter) (rolls-within r fine .dup-jitter))
+
+    go : (a b : Bool) → deliveriesLate now (cond a Lost (cond b (Two (delayOf c r (r .«jitter_roll»)) (delayOf c r (r .«dup_jitter_roll»))) (One (delayOf c r (r .«jitter_roll»))))) ≡ false
+    go true b = refl
+    go false true = or-both _ _ first second
+    go false false = first
+
 -- ---- the bytes of the copies
 module _ (c : ChannelConfig) (r : Rolls) (p : List ℕ) where
   pub spared-is : isCorrupted c r (length p) ≡ false → carried c r p ≡ p
@@ -100,6 +126,22 @@ flip-differs d i b h e = ⊎-elim (λ w. up (bitXor (getD d i 0) (2 ^ b)) (getD 
 
     down : (x a p : ℕ) → 0 < p → x ≡ a → a ≡ x + p → ⊥
     down x a p h e w = omega arith
+
+-- two packets differ in exactly one bit
+pub record OneBit (p q : List ℕ) : Type 0 where
+  pub byte : ℕ
+  pub bit : ℕ
+  pub inside : byte < length p
+  pub low : bit < 8
+  pub length-same : length q ≡ length p
+  pub others-same : (j : ℕ) → j ≢ byte → getD q j 0 ≡ getD p j 0
+  pub turned : getD q byte 0 ≡ bitXor (getD p byte 0) (2 ^ bit)
+
+pub corrupted-one-bit : (c : ChannelConfig) (r : Rolls) (p : List ℕ) → Doubles r → rollsBroken r ≡ false → length p ≤ 1410 → isCorrupted c r (length p) ≡ true → OneBit p (carried c r p)
+corrupted-one-bit c r p d good h k = subst (λ (q : List ℕ). OneBit p q) (sym (corrupted-is c r p k)) (one (byteAt r (length p)) (bitAt r) (byte-below r d good (length p) (corrupted-some c r (length p) k) h) (bit-below r d good))
+  where
+    one : (i b : ℕ) → i < length p → b < 8 → OneBit p (flip p i b)
+    one i b l m = record { byte = i; bit = b; inside = l; low = m; length-same = flip-length p i b; others-same = λ j. flip-other p i b j; turned = flip-at p i b l }
 
 -- a copy has the packet's length
 pub carried-length : (c : ChannelConfig) (r : Rolls) (p : List ℕ) → length (carried c r p) ≡ length p

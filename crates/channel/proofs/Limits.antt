@@ -7,9 +7,10 @@ use lib.Dec.{T, ltb}
 use mir.Val.{Fits}
 use mir.Syntax.{w64}
 use borrow.Author.Tests.{ltb-false, leb-false}
+use Rattle.refusal.specs.Counts.{countLimit, countFull}
 use Rattle.refusal.proofs.Laws.{or-false}
 use Rattle.float.specs.Roll.{rollInBounds}
-use Rattle.channel.specs.Bounds.{chancesBroken, delaysBroken, configBroken, countFull, statsFull, fourBroken, rollsBroken}
+use Rattle.channel.specs.Bounds.{chancesBroken, delaysBroken, configBroken, statsFull, fourBroken, rollsBroken}
 use Rattle.channel.specs.Process.{one}
 use Rattle.channel.specs.declared.ChannelConfig.{ChannelConfig}
 use Rattle.channel.specs.declared.ChannelStats.{ChannelStats}
@@ -56,15 +57,15 @@ rolls-within r h =
 
 -- ---- counters
 pub record CountsBelow (s : ChannelStats) : Type 0 where
-  pub seen : s .«packets_seen» < 1152921504606846976
-  pub lost : s .lost < 1152921504606846976
-  pub corrupted : s .corrupted < 1152921504606846976
-  pub duplicated : s .duplicated < 1152921504606846976
-  pub reordered : s .reordered < 1152921504606846976
-  pub delivered : s .«copies_delivered» < 1152921504606846976
+  pub seen : s .«packets_seen» < countLimit
+  pub lost : s .lost < countLimit
+  pub corrupted : s .corrupted < countLimit
+  pub duplicated : s .duplicated < countLimit
+  pub reordered : s .reordered < countLimit
+  pub delivered : s .«copies_delivered» < countLimit
 
-below : (n : ℕ) → countFull n ≡ false → n < 1152921504606846976
-below n h = leb-false 1152921504606846976 n h
+below : (n : ℕ) → countFull n ≡ false → n < countLimit
+below n h = leb-false countLimit n h
 
 pub counts-below : (s : ChannelStats) → statsFull s ≡ false → CountsBelow s
 unfolding statsFull
@@ -89,9 +90,9 @@ counts-below s h =
     }
 
 -- a counter below the bound, raised by at most 2
-pub raised : (k : ℕ) {n m : ℕ} → n < 1152921504606846976 → m ≡ k → k ≤ 2 → Fits w64 (n + m)
+pub raised : (k : ℕ) {n m : ℕ} → n < countLimit → m ≡ k → k ≤ 2 → Fits w64 (n + m)
 raised k {n} {m} h e l = record { fits = omega arith }
 
-pub raised-one : (b : Bool) {n m : ℕ} → n < 1152921504606846976 → m ≡ one b → Fits w64 (n + m)
+pub raised-one : (b : Bool) {n m : ℕ} → n < countLimit → m ≡ one b → Fits w64 (n + m)
 raised-one true h e = raised 1 h e (omega arith)
 raised-one false h e = raised 0 h e (omega arith)

@@ -1,8 +1,9 @@
 -- Document 01, "Bounds of a setup" and "Turned away", lines 4, 5, 8, 9 and 11, as they speak of a channel.
 use Prim.Native.Nat.{ℕ}
 use mathlib.Core.Bool.{Bool, not, _||_}
-use lib.Dec.{ltb, leb}
+use lib.Dec.{ltb}
 use lib.Ieee.{Float}
+use Rattle.refusal.specs.Counts.{countFull}
 use Rattle.float.specs.Roll.{rollInBounds, chanceInBounds}
 use Rattle.channel.specs.declared.ChannelConfig.{ChannelConfig}
 use Rattle.channel.specs.declared.ChannelStats.{ChannelStats}
@@ -19,10 +20,7 @@ delaysBroken a b c = ltb 60000 a || (ltb 60000 b || ltb 60000 c)
 unfoldable pub configBroken : ChannelConfig → Bool
 configBroken c = chancesBroken (c .loss) (c .duplicate) (c .reorder) (c .corrupt) || delaysBroken (c .«reorder_extra_ms») (c .«base_delay_ms») (c .«jitter_ms»)
 
--- "at 2^60 or more"
-abbrev pub countFull : ℕ → Bool
-countFull n = leb 1152921504606846976 n
-
+-- line 8 of three counters
 abbrev pub threeFull : ℕ → ℕ → ℕ → Bool
 threeFull a b c = countFull a || (countFull b || countFull c)
 

@@ -11,6 +11,7 @@ ghost use Rattle.schedule.specs.State.{copies};
 ghost use Rattle.channel.specs.Bounds.{chancesBroken, delaysBroken, configBroken, threeFull, statsFull, fourBroken, rollsBroken};
 ghost use Rattle.channel.specs.Faults.{isLost, isDuplicated, isReordered, isCorrupted, byteAt, bitAt, carried, holdOf, delayOf, deliveriesOf};
 ghost use Rattle.channel.specs.Process.{newDef, one, countedDef, transitExit, transitDef, outShort, processExit, processDef, CanProcess};
+use refusal::COUNT_LIMIT;
 use refusal::Refusal;
 use schedule::Deliveries;
 
@@ -112,13 +113,13 @@ fn delays_broken(a: u64, b: u64, c: u64) -> bool
 fn three_full(a: u64, b: u64, c: u64) -> bool
     ensures { λ r. ⌜ r ≡ threeFull a b c ⌝ }
 {
-    if 1152921504606846976 <= a {
+    if COUNT_LIMIT <= a {
         return true;
     }
-    if 1152921504606846976 <= b {
+    if COUNT_LIMIT <= b {
         return true;
     }
-    1152921504606846976 <= c
+    COUNT_LIMIT <= c
 }
 
 fn four_broken(a: f64, b: f64, c: f64, d: f64) -> bool

@@ -15,9 +15,6 @@ carried-small n h = omega arith
 pub carried-le : (n : ℕ) → carried n ≤ 65535
 carried-le n = omega arith
 
-pub carried-remainder : (n : ℕ) → carried n % 65535 ≡ n % 65535
-carried-remainder n = omega arith
-
 -- a carry brought back now or later
 pub add-carried : (w n : ℕ) → w ≤ 65535 → onesAdd w (carried n) ≡ carried (w + n)
 unfolding onesAdd

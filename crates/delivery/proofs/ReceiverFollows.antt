@@ -1,12 +1,11 @@
 -- A receiver over bytes follows the machine, whatever its state's type.
-use Prim.Native.Nat.{ℕ, _+_, _≤_, _<_}
+use Prim.Native.Nat.{ℕ, _+_, _≤_}
 use mathlib.Core.Path.{_≡_, refl, sym, ap, ap₂, _∙_}
 use mathlib.Core.List.{List, [], _∷_, _++_, flatten, append-nil}
-use mathlib.Core.Bool.{Bool, true, false, cond}
+use mathlib.Core.Bool.{Bool, true, false}
 use native.Mathlib.Omega.{arith}
-use lib.ListN.{length, take, drop, length-append}
-use lib.Seq.{drop-append-seam, drop-drop, length-take-le}
-use Rattle.store.specs.Numbers.{writtenAt}
+use lib.ListN.{length, take, drop}
+use lib.Seq.{drop-drop}
 use Rattle.refusal.specs.Order.{Verdict, check, verdict, accepted, refused}
 use Rattle.refusal.specs.declared.Refusal.the-variants.{State, Counts, Full}
 use Rattle.refusal.proofs.Laws.{on-accepted, on-refused}
@@ -14,9 +13,9 @@ use Rattle.protocol.specs.declared.ProtocolType.{ProtocolType}
 use Rattle.protocol.specs.Machine.{Segment, ReceiverState, Received, receive}
 use Rattle.packet.specs.Reading.{payloadOf}
 use Rattle.receiver.specs.Handed.{packetChecks, readPacket}
-use Rattle.receiver.specs.Reply.{roomMissing, answerOf, carriedOut}
+use Rattle.receiver.specs.Reply.{roomMissing, answerOf}
 use Rattle.receiver.specs.Receive as receiver
-use Rattle.receiver.specs.Receive.{Receiving, receiving, carried}
+use Rattle.receiver.specs.Receive.{Receiving}
 use Rattle.receiver.specs.declared.Decision.{Decision}
 use Rattle.receiver.specs.declared.Handed.the-variants as handed
 use Rattle.receiver.specs.declared.Reply.{Reply}
@@ -24,10 +23,10 @@ use Rattle.receiver.specs.declared.Reply.the-variants as reply
 use Rattle.receiver.specs.declared.ReceiveAnswer.{ReceiveAnswer}
 use Rattle.receiver.specs.declared.ReceiveAnswer.the-variants as answer
 use Rattle.arq.specs.Follows.{acksOf}
-use Rattle.arq.specs.Copies.{DataOf, AckOf, NoPacket}
+use Rattle.arq.specs.Copies.{AckOf, NoPacket}
 use Rattle.arq.specs.Copies as Copies
-use Rattle.arq.proofs.Laws.{Took, Ignored, ReceiveOutcome, packet-refused, not-data, data-taken, took-output, outcome-mark, data-number, data-payload}
-use Rattle.delivery.specs.Calls.{Done, Ends}
+use Rattle.arq.proofs.Laws.{Took, ReceiveOutcome, packet-refused, not-data, data-taken, took-output, written-behind, outcome-mark, data-number, data-payload}
+use Rattle.delivery.specs.Calls.{Done}
 use Rattle.delivery.specs.Ends.{bytesReplied, isReceived, WithOutput, withOutput, byReceiving}
 use Rattle.delivery.proofs.Datagrams.{DataBytes, AckBytes, Each}
 use Rattle.delivery.proofs.SenderFollows.{false-true}
@@ -70,14 +69,6 @@ no-data : (n : ℕ) (raw : List ℕ) → NoPacket raw → readPacket raw ≡ han
 no-data n raw (Copies.NoPacket.refused r e) f = let g = sym e ∙ f in let z : _≡_ {A = ℕ} 0 1 = cc in absurd (omega arith)
 no-data n raw (Copies.NoPacket.corrupted e) f = let g = sym e ∙ f in let z : _≡_ {A = ℕ} 0 1 = cc in absurd (omega arith)
 
--- the output behind bytes that are written from place on
-written-behind : (output bytes : List ℕ) (place : ℕ) → place ≤ length output → drop (place + length bytes) (writtenAt output place bytes) ≡ drop (length bytes) (drop place output)
-written-behind output bytes place h =
-    let n : length (take place output ++ bytes) ≡ place + length bytes = length-append (take place output) bytes ∙ ap (λ (k : ℕ). k + length bytes) (length-take-le place output h) in
-    ap (λ (k : ℕ). drop k ((take place output ++ bytes) ++ drop (place + length bytes) output)) (sym n)
-    ∙ drop-append-seam (take place output ++ bytes) (drop (place + length bytes) output)
-    ∙ sym (drop-drop (length bytes) place output)
-
 segment-of : (n : ℕ) (payload : List ℕ) (q : Segment) → n ≡ q .number → payload ≡ q .payload → _≡_ {A = Segment} (record { number = n; payload = payload }) q
 segment-of n payload q e f = rw (e, f)
 
@@ -118,7 +109,7 @@ module _ (p : ProtocolType) (w : ℕ) (R : Type 0) (view : R → ReceiverState) 
     ]
       where
         took-behind : {m : Received} → Took view filledOf (x .receiver) (x .output) ack m y → drop (filledOf (y .receiver)) (y .output) ≡ drop (length (flatten (m .delivered))) (behindOf x)
-        took-behind {m} t = rw (t .filled, t .output-is) (written-behind (x .output) (flatten (m .delivered)) (filledOf (x .receiver)) (h .mark))
+        took-behind {m} t = rw (t .filled, t .output-is) (written-behind (x .output) (flatten (m .delivered)) (filledOf (x .receiver)) (h .mark) ∙ sym (drop-drop (length (flatten (m .delivered))) (filledOf (x .receiver)) (x .output)))
 
         taken : (q : Segment) (n : ℕ) → readPacket raw ≡ handed.Data n → readPacket raw ≡ handed.Data (q .number) → payloadOf raw ≡ q .payload
             → Took view filledOf (x .receiver) (x .output) ack (receive p w (view (x .receiver)) (record { number = n; payload = payloadOf raw })) y → Taken x (byReceiving y) m q

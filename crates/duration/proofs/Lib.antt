@@ -1,5 +1,6 @@
 pub mod Digits
 pub mod RoundTrip
+pub mod Nearest
 pub mod KnownValues
 pub mod Bounds
 pub mod Laws

@@ -1,8 +1,8 @@
 -- A duration of at most a day and a second, as a double of seconds, rounds to itself. Both error bounds of `Rounded` are used.
 
-use mathlib.Core.Path.{_≡_, ap, _∙_}
+use mathlib.Core.Path.{_≡_, ap, _∙_, subst}
 use Prim.Native.Nat.{ℕ, suc, _+_, _*_, _/_, _%_, _^_, _≤_, _<_}
-use native.Mathlib.Nat.{le-refl, le-trans, le-of-eq, le-of-lt, lt-of-le-of-lt, le-of-suc-le-suc, le-antisymm, lt-of-mul-lt-mul-right, le-of-mul-le-mul-right, mul-right-comm, mul-le-mul-right, mod-lt, div-add-mod', add-le-add}
+use native.Mathlib.Nat.{le-refl, le-trans, le-of-eq, le-of-lt, le-of-suc-le-suc, le-antisymm, lt-of-mul-lt-mul-right, le-of-mul-le-mul-right, mul-right-comm, mul-le-mul-right, mod-lt, div-add-mod', add-le-add}
 use native.Mathlib.Omega.{arith}
 use lib.IntN.{pos}
 use lib.Dec.{lit≤, lit<}
@@ -55,14 +55,25 @@ cut-down d k p L P h l u = le-of-mul-le-mul-right (line d k p L P h u) l
     line d k p L P h u = omega arith
 
 -- a * P is n * P give or take s, and 2 * s is below b * P
-close : (a n b P s : ℕ) → a * P ≤ n * P + s → s * 2 < b * P → a * 2 < n * 2 + b
+pub close : (a n b P s : ℕ) → a * P ≤ n * P + s → s * 2 < b * P → a * 2 < n * 2 + b
 close a n b P s p q = lt-of-mul-lt-mul-right P (line a n b P s p q)
   where
     line : (a n b P s : ℕ) → a * P ≤ n * P + s → s * 2 < b * P → a * 2 * P < (n * 2 + b) * P
     line a n b P s p q = omega arith
 
-pub round-trip : (ns : ℕ) → ns ≤ 86401000000000 → fromSecsF64 (asSecsF64 ns) ≡ ns
-round-trip ns H =
+-- how far the double is from ns nanoseconds, 2 ^ 53 times over
+abbrev pub slack : ℕ
+slack = 1000000000 * 2 ^ 1074 + (86401 * 2 ^ 1074 + 1 * 2 ^ 1074) * 1000000000 + 2 * 1000000000 * 2 ^ 52
+
+pub record Near (ns : ℕ) : Type 0 where
+  pub units : ℕ
+  pub is : Is (asSecsF64 ns) units
+  pub most : units ≤ 86402 * 2 ^ 1074
+  pub above : units * 1000000000 * 2 ^ 53 ≤ ns * 2 ^ 1074 * 2 ^ 53 + slack
+  pub below : ns * 2 ^ 1074 * 2 ^ 53 ≤ units * 1000000000 * 2 ^ 53 + slack
+
+pub near : (ns : ℕ) → ns ≤ 86401000000000 → Near ns
+near ns H =
     let k : ℕ = 1000000000 in
     let w = ns / k in
     let p = ns % k in
@@ -80,12 +91,23 @@ round-trip ns H =
     let A = add-units (ofInt binary64 (pos w)) (div binary64 (ofInt binary64 (pos p)) (ofInt binary64 (pos k))) (w * L) d (of-whole w (le-trans wk (lit≤ tt))) (D .is) (le-trans v (lit≤ tt)) in
     let g = A .units in
     let s = p * L + (w * L + d) * k + 2 * k * h in
-    let small : s * 2 < L * P = lt-of-le-of-lt (mul-le-mul-right 2 (add-le-add (add-le-add (mul-le-mul-right L pk) (mul-le-mul-right k v)) (le-refl (2 * k * h)))) (lit< tt) in
+    let small : s ≤ slack = add-le-add (add-le-add (mul-le-mul-right L pk) (mul-le-mul-right k v)) (le-refl (2 * k * h)) in
     let up = high k w p d g L P h (cut-up d k p L P h (pow-pos 1074) (D .upper)) (A .upper) in
     let dn = low k w p d g L P h (cut-down d k p L P h (pow-pos 1074) (D .lower)) (A .lower) in
-    nanos-units (asSecsF64 ns) g (A .is)
-    ∙ closest-is (g * k) L (w * k + p) (pow-pos 1074) (close (g * k) ((w * k + p) * L) L P s up small) (close ((w * k + p) * L) (g * k) L P s dn small)
-    ∙ e
+    record {
+      units = g;
+      is = A .is;
+      most = A .whole 86402 (lit≤ tt) (le-trans v (lit≤ tt));
+      above = subst (λ (n : ℕ). g * k * P ≤ n * L * P + slack) e (le-trans up (add-le-add (le-refl ((w * k + p) * L * P)) small));
+      below = subst (λ (n : ℕ). n * L * P ≤ g * k * P + slack) e (le-trans dn (add-le-add (le-refl (g * k * P)) small));
+    }
   where
     whole : (w p : ℕ) → w * 1000000000 + p ≤ 86401000000000 → w ≤ 86401
     whole w p h = omega arith
+
+pub round-trip : (ns : ℕ) → ns ≤ 86401000000000 → fromSecsF64 (asSecsF64 ns) ≡ ns
+round-trip ns H =
+    let n = near ns H in
+    nanos-units (asSecsF64 ns) (n .units) (n .is)
+    ∙ closest-is (n .units * 1000000000) (2 ^ 1074) ns (pow-pos 1074) (close (n .units * 1000000000) (ns * 2 ^ 1074) (2 ^ 1074) (2 ^ 53) slack (n .above) (lit< tt))
+    (close (ns * 2 ^ 1074) (n .units * 1000000000) (2 ^ 1074) (2 ^ 53) slack (n .below) (lit< tt))

@@ -2,6 +2,7 @@
 ghost use mathlib.Core.Path.{_≡_};
 ghost use Prim.Native.Nat.{_≤_, _<_};
 ghost use mathlib.Core.Bool.{false};
+ghost use Rattle.refusal.specs.Counts.{countLimit};
 ghost use Rattle.window.specs.Slots.{sender};
 ghost use Rattle.window.specs.Sending.{making, makeWindow, sending, sendChunk};
 ghost use Rattle.window.specs.Acknowledgement.{acknowledging};
@@ -230,7 +231,7 @@ impl GoBackNReceiver {
     }
 
     fn decide_data(mut self, n: u32) -> GoBackNDecision
-        requires { ⌜ (self .«expected_seq» ≤ 4294901760) × (self .«discarded_out_of_order» < 1152921504606846976) × (self .«duplicate_acks_sent» < 1152921504606846976) ⌝ }
+        requires { ⌜ (self .«expected_seq» ≤ 4294901760) × (self .«discarded_out_of_order» < countLimit) × (self .«duplicate_acks_sent» < countLimit) ⌝ }
         ensures { λ r. ⌜ r ≡ dataDecision self n ⌝ }
     {
         let expected = self.expected_seq;

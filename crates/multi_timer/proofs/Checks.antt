@@ -11,7 +11,7 @@ use Rattle.refusal.specs.Order.{check, verdict, decide, firstOf, numbered, orEl
 use Rattle.refusal.specs.declared.Refusal.{Refusal}
 use Rattle.refusal.specs.declared.Refusal.the-variants.{State, Time, Full}
 use Rattle.multi_timer.specs.Map.{ascending, ascendingFrom}
-use Rattle.multi_timer.specs.MultiTimer.{broken, anyLate, heldTooLate, heldLine}
+use Rattle.multi_timer.specs.MultiTimer.{broken, anyLate, heldTooLate, brokenLine}
 
 pub state-time-full : {A : Type 0} (s t u : Bool) (f : Refusal → A) (a : A) → decide (verdict (check s State ∷ check t Time ∷ check u Full ∷ [])) f a ≡ cond s (f State) (cond t (f Time) (cond u (f Full) a))
 unfolding decide verdict firstOf numbered orElse order
@@ -42,17 +42,17 @@ pub broken-order : (n : ℕ) (ks ds : List ℕ) (b : Bool) → length ks ≡ len
 broken-order n ks ds b e h a = simp (eq-eqb _ _ e, le-ltb _ _ h, a)
 
 -- ---- lines 9 and 10 together
-pub told : (n : ℕ) (ks ds : List ℕ) (b l : Bool) → b ≡ broken n ks ds → l ≡ heldTooLate n ds → cond b 9 (cond l 10 0) ≡ heldLine n ks ds
+pub told : (n : ℕ) (ks ds : List ℕ) (b l : Bool) → b ≡ broken n ks ds → l ≡ heldTooLate n ds → cond b 9 (cond l 10 0) ≡ brokenLine n ks ds
 told n ks ds b l e f = ap₂ (λ (x y : Bool). cond x 9 (cond y 10 0)) e f
 
-pub told-broken : (n : ℕ) (ks ds : List ℕ) → true ≡ broken n ks ds → 9 ≡ heldLine n ks ds
+pub told-broken : (n : ℕ) (ks ds : List ℕ) → true ≡ broken n ks ds → 9 ≡ brokenLine n ks ds
 told-broken n ks ds e = told n ks ds true (heldTooLate n ds) e refl
 
-pub told-empty : (n : ℕ) (ks ds : List ℕ) → length ks ≡ length ds → n ≡ 0 → 0 ≡ heldLine n ks ds
+pub told-empty : (n : ℕ) (ks ds : List ℕ) → length ks ≡ length ds → n ≡ 0 → 0 ≡ brokenLine n ks ds
 unfolding ascendingFrom anyLate
-told-empty n ks ds e z = subst (λ (m : ℕ). 0 ≡ heldLine m ks ds) (sym z) (simp (eq-eqb _ _ e, le-ltb (length ks) 0 zero-le))
+told-empty n ks ds e z = subst (λ (m : ℕ). 0 ≡ brokenLine m ks ds) (sym z) (simp (eq-eqb _ _ e, le-ltb (length ks) 0 zero-le))
 
-module _ (n : ℕ) (ks ds : List ℕ) (line : ℕ) (e : line ≡ heldLine n ks ds) where
+module _ (n : ℕ) (ks ds : List ℕ) (line : ℕ) (e : line ≡ brokenLine n ks ds) where
   pub told-state : line ≡ 9 → broken n ks ds ≡ true
   told-state h = go (broken n ks ds) (heldTooLate n ds) (sym e ∙ h)
     where

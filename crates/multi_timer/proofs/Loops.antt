@@ -12,7 +12,7 @@ use borrow.Author.Tests.{le-leb, lt-ltb, le-ltb, ltb-true, ltb-false, eq-eqb, ne
 use Rattle.duration.specs.Bounds.{maxTime}
 use Rattle.multi_timer.specs.Map.{ascending, ascendingFrom}
 use Rattle.multi_timer.specs.MultiTimer.{anyLate}
-use Rattle.multi_timer.specs.Search.{searchIn, later, risingFrom, soon}
+use Rattle.multi_timer.specs.Search.{searchIn, later, risingFrom, allBelowPower}
 use Rattle.multi_timer.specs.declared.Place.{Place}
 use Rattle.multi_timer.specs.declared.Place.the-variants.{At, Absent}
 use lib.Seq.{length-take-le, getD-take}
@@ -88,12 +88,12 @@ ascending-start (suc n) [] h = absurd (not-suc-le-zero h)
 ascending-start (suc n) (x ∷ xs) h = simp (le-leb 0 x zero-le)
 
 -- no deadline below 2 ^ 47 is late
-pub soon-late : (ds : List ℕ) → soon ds ≡ true → anyLate ds ≡ false
-unfolding soon anyLate
-soon-late [] e = refl
-soon-late (d ∷ ds) e =
-    let b = and-eq-true-iff (ltb d 140737488355328) (soon ds) .0 e in
-    simp (le-ltb maxTime d (small d (ltb-true d _ (b .0))), soon-late ds (b .1))
+pub below-late : (ds : List ℕ) → allBelowPower ds ≡ true → anyLate ds ≡ false
+unfolding allBelowPower anyLate
+below-late [] e = refl
+below-late (d ∷ ds) e =
+    let b = and-eq-true-iff (ltb d 140737488355328) (allBelowPower ds) .0 e in
+    simp (le-ltb maxTime d (small d (ltb-true d _ (b .0))), below-late ds (b .1))
   where
     small : (d : ℕ) → d < 140737488355328 → d ≤ maxTime
     small d h = omega arith
@@ -119,11 +119,11 @@ module _ (n i : ℕ) (xs : List ℕ) (l : n ≤ length xs) where
       next : i + 1 < n → risingFrom n i xs ≡ (ltb (getD xs i 0) (getD xs (i + 1) 0) && risingFrom n (i + 1) xs)
       next h = rw (rest-cons n (i + 1) xs h l)
 
-  soon-one : (j : ℕ) → i + 1 ≡ j → i < n → soon (rest n i xs) ≡ (ltb (getD xs i 0) 140737488355328 && soon (rest n j xs))
-  unfolding soon
-  soon-one j e h = subst (λ (k : ℕ). soon (rest n i xs) ≡ (ltb (getD xs i 0) 140737488355328 && soon (rest n k xs))) e next
+  below-one : (j : ℕ) → i + 1 ≡ j → i < n → allBelowPower (rest n i xs) ≡ (ltb (getD xs i 0) 140737488355328 && allBelowPower (rest n j xs))
+  unfolding allBelowPower
+  below-one j e h = subst (λ (k : ℕ). allBelowPower (rest n i xs) ≡ (ltb (getD xs i 0) 140737488355328 && allBelowPower (rest n k xs))) e next
     where
-      next : soon (rest n i xs) ≡ (ltb (getD xs i 0) 140737488355328 && soon (rest n (i + 1) xs))
+      next : allBelowPower (rest n i xs) ≡ (ltb (getD xs i 0) 140737488355328 && allBelowPower (rest n (i + 1) xs))
       next = rw (rest-cons n i xs h l)
 
 -- ---- one entry a turn: the key at i and the one before it, and the deadline at i
@@ -134,24 +134,24 @@ module _ (n i : ℕ) (ks ds : List ℕ) (p : 1 ≤ i) (k : n ≤ length ks) (d :
   forth : i + 1 - 1 ≡ i
   forth = omega arith
 
-  pub plain-step : i < n → getD ks (i - 1) 0 < getD ks i 0 → getD ds i 0 < 140737488355328 → (risingFrom n (i + 1 - 1) ks && soon (rest n (i + 1) ds)) ≡ (risingFrom n (i - 1) ks && soon (rest n i ds))
-  plain-step h u v = rw (rise-one n (i - 1) ks k i back h, lt-ltb _ _ u, soon-one n i ds d (i + 1) refl h, lt-ltb _ _ v, forth)
+  pub fast-step : i < n → getD ks (i - 1) 0 < getD ks i 0 → getD ds i 0 < 140737488355328 → (risingFrom n (i + 1 - 1) ks && allBelowPower (rest n (i + 1) ds)) ≡ (risingFrom n (i - 1) ks && allBelowPower (rest n i ds))
+  fast-step h u v = rw (rise-one n (i - 1) ks k i back h, lt-ltb _ _ u, below-one n i ds d (i + 1) refl h, lt-ltb _ _ v, forth)
 
-  pub plain-falls : i < n → getD ks i 0 ≤ getD ks (i - 1) 0 → false ≡ (risingFrom n (i - 1) ks && soon (rest n i ds))
-  plain-falls h u = rw (rise-one n (i - 1) ks k i back h, le-ltb _ _ u)
+  pub fast-falls : i < n → getD ks i 0 ≤ getD ks (i - 1) 0 → false ≡ (risingFrom n (i - 1) ks && allBelowPower (rest n i ds))
+  fast-falls h u = rw (rise-one n (i - 1) ks k i back h, le-ltb _ _ u)
 
-  pub plain-far : i < n → 140737488355328 ≤ getD ds i 0 → false ≡ (risingFrom n (i - 1) ks && soon (rest n i ds))
-  plain-far h u = rw (soon-one n i ds d (i + 1) refl h, le-ltb _ _ u, and-false (risingFrom n (i - 1) ks))
+  pub fast-far : i < n → 140737488355328 ≤ getD ds i 0 → false ≡ (risingFrom n (i - 1) ks && allBelowPower (rest n i ds))
+  fast-far h u = rw (below-one n i ds d (i + 1) refl h, le-ltb _ _ u, and-false (risingFrom n (i - 1) ks))
 
-  pub plain-end : n ≤ i → true ≡ (risingFrom n (i - 1) ks && soon (rest n i ds))
-  unfolding ascendingFrom soon
-  plain-end h = rw (back, rest-nil n i ks h k, rest-nil n i ds h d)
+  pub fast-end : n ≤ i → true ≡ (risingFrom n (i - 1) ks && allBelowPower (rest n i ds))
+  unfolding ascendingFrom allBelowPower
+  fast-end h = rw (back, rest-nil n i ks h k, rest-nil n i ds h d)
 
-pub plain-start : (n i : ℕ) (ks ds : List ℕ) → i < n → n ≤ length ds → getD ds i 0 < 140737488355328 → (risingFrom n (i + 1 - 1) ks && soon (rest n (i + 1) ds)) ≡ (risingFrom n i ks && soon (rest n i ds))
-plain-start n i ks ds h d u = let e : i + 1 - 1 ≡ i = omega arith in rw (e, soon-one n i ds d (i + 1) refl h, lt-ltb _ _ u)
+pub fast-start : (n i : ℕ) (ks ds : List ℕ) → i < n → n ≤ length ds → getD ds i 0 < 140737488355328 → (risingFrom n (i + 1 - 1) ks && allBelowPower (rest n (i + 1) ds)) ≡ (risingFrom n i ks && allBelowPower (rest n i ds))
+fast-start n i ks ds h d u = let e : i + 1 - 1 ≡ i = omega arith in rw (e, below-one n i ds d (i + 1) refl h, lt-ltb _ _ u)
 
-pub plain-far-first : (n i : ℕ) (ks ds : List ℕ) → i < n → n ≤ length ds → 140737488355328 ≤ getD ds i 0 → false ≡ (risingFrom n i ks && soon (rest n i ds))
-plain-far-first n i ks ds h d u = rw (soon-one n i ds d (i + 1) refl h, le-ltb _ _ u, and-false (risingFrom n i ks))
+pub fast-far-first : (n i : ℕ) (ks ds : List ℕ) → i < n → n ≤ length ds → 140737488355328 ≤ getD ds i 0 → false ≡ (risingFrom n i ks && allBelowPower (rest n i ds))
+fast-far-first n i ks ds h d u = rw (below-one n i ds d (i + 1) refl h, le-ltb _ _ u, and-false (risingFrom n i ks))
 
 -- joined digits are below 2 ^ 47 where each number is
 pub joined-small : (a x : ℕ) → ltb (bitOr a x) 140737488355328 ≡ (ltb a 140737488355328 && ltb x 140737488355328)
@@ -199,35 +199,35 @@ module _ (n i : ℕ) (xs : List ℕ) (h : i + 4 < n) (l : n ≤ length xs) where
   abbrev small : ℕ → Bool
   small d = ltb d 140737488355328
 
-  pub soon-four : (d0 d1 d2 d3 : ℕ) → (((small (bitOr d0 (getD xs i 0)) && small (bitOr d1 (at 1))) && (small (bitOr d2 (at 2)) && small (bitOr d3 (at 3)))) && soon (rest n (i + 4) xs)) ≡ (((small d0 && small d1) && (small d2 && small d3)) && soon (rest n i xs))
-  soon-four d0 d1 d2 d3 =
-      ap₂ (λ (p q : Bool). (p && q) && soon (rest n (i + 4) xs)) (ap₂ (λ (p q : Bool). p && q) (joined-small d0 (getD xs i 0)) (joined-small d1 (at 1))) (ap₂ (λ (p q : Bool). p && q) (joined-small d2 (at 2)) (joined-small d3 (at 3)))
-      ∙ four (small d0) (small d1) (small d2) (small d3) (small (getD xs i 0)) (small (at 1)) (small (at 2)) (small (at 3)) (soon (rest n (i + 4) xs))
+  pub below-four : (d0 d1 d2 d3 : ℕ) → (((small (bitOr d0 (getD xs i 0)) && small (bitOr d1 (at 1))) && (small (bitOr d2 (at 2)) && small (bitOr d3 (at 3)))) && allBelowPower (rest n (i + 4) xs)) ≡ (((small d0 && small d1) && (small d2 && small d3)) && allBelowPower (rest n i xs))
+  below-four d0 d1 d2 d3 =
+      ap₂ (λ (p q : Bool). (p && q) && allBelowPower (rest n (i + 4) xs)) (ap₂ (λ (p q : Bool). p && q) (joined-small d0 (getD xs i 0)) (joined-small d1 (at 1))) (ap₂ (λ (p q : Bool). p && q) (joined-small d2 (at 2)) (joined-small d3 (at 3)))
+      ∙ four (small d0) (small d1) (small d2) (small d3) (small (getD xs i 0)) (small (at 1)) (small (at 2)) (small (at 3)) (allBelowPower (rest n (i + 4) xs))
       ∙ sym (ap (λ (p : Bool). ((small d0 && small d1) && (small d2 && small d3)) && p)
-      (soon-one n i xs l (i + 1) refl first ∙ ap (λ (p : Bool). small (getD xs i 0) && p)
-      (soon-one n (i + 1) xs l (i + 2) (omega arith) (within 1 (lit≤ tt)) ∙ ap (λ (p : Bool). small (at 1) && p)
-      (soon-one n (i + 2) xs l (i + 3) (omega arith) (within 2 (lit≤ tt)) ∙ ap (λ (p : Bool). small (at 2) && p) (soon-one n (i + 3) xs l (i + 4) (omega arith) (within 3 (lit≤ tt)))))))
+      (below-one n i xs l (i + 1) refl first ∙ ap (λ (p : Bool). small (getD xs i 0) && p)
+      (below-one n (i + 1) xs l (i + 2) (omega arith) (within 1 (lit≤ tt)) ∙ ap (λ (p : Bool). small (at 1) && p)
+      (below-one n (i + 2) xs l (i + 3) (omega arith) (within 2 (lit≤ tt)) ∙ ap (λ (p : Bool). small (at 2) && p) (below-one n (i + 3) xs l (i + 4) (omega arith) (within 3 (lit≤ tt)))))))
 
 -- what the loop's four tests and joined digits leave to the rest
 module _ (n i : ℕ) (ks ds : List ℕ) (r0 r1 r2 r3 : Bool) (d0 d1 d2 d3 : ℕ) where
   abbrev rising : Bool
   rising = (r0 && r1) && (r2 && r3)
 
-  pub not-rising : not rising ≡ true → (rising && risingFrom n i ks) ≡ ascending (take n ks) → false ≡ (ascending (take n ks) && soon (take n ds))
+  pub not-rising : not rising ≡ true → (rising && risingFrom n i ks) ≡ ascending (take n ks) → false ≡ (ascending (take n ks) && allBelowPower (take n ds))
   not-rising e a = rw (← a) (go rising e)
     where
-      go : (r : Bool) → not r ≡ true → false ≡ ((r && risingFrom n i ks) && soon (take n ds))
+      go : (r : Bool) → not r ≡ true → false ≡ ((r && risingFrom n i ks) && allBelowPower (take n ds))
       go false e = refl
       go true e = absurd (false≢true e)
 
-  pub not-soon : 140737488355328 ≤ bitOr (bitOr d0 d1) (bitOr d2 d3) → (joined-of d0 d1 d2 d3 && soon (rest n i ds)) ≡ soon (take n ds) → false ≡ (ascending (take n ks) && soon (take n ds))
-  not-soon h s = rw (← s, ← joined d0 d1 d2 d3, le-ltb _ _ h, and-false (ascending (take n ks)))
+  pub not-below : 140737488355328 ≤ bitOr (bitOr d0 d1) (bitOr d2 d3) → (joined-of d0 d1 d2 d3 && allBelowPower (rest n i ds)) ≡ allBelowPower (take n ds) → false ≡ (ascending (take n ks) && allBelowPower (take n ds))
+  not-below h s = rw (← s, ← joined d0 d1 d2 d3, le-ltb _ _ h, and-false (ascending (take n ks)))
 
-  pub rest-decides : (x : Bool) → not rising ≡ false → bitOr (bitOr d0 d1) (bitOr d2 d3) < 140737488355328 → (rising && risingFrom n i ks) ≡ ascending (take n ks) → (joined-of d0 d1 d2 d3 && soon (rest n i ds)) ≡ soon (take n ds)
-      → x ≡ (risingFrom n i ks && soon (rest n i ds)) → x ≡ (ascending (take n ks) && soon (take n ds))
+  pub rest-decides : (x : Bool) → not rising ≡ false → bitOr (bitOr d0 d1) (bitOr d2 d3) < 140737488355328 → (rising && risingFrom n i ks) ≡ ascending (take n ks) → (joined-of d0 d1 d2 d3 && allBelowPower (rest n i ds)) ≡ allBelowPower (take n ds)
+      → x ≡ (risingFrom n i ks && allBelowPower (rest n i ds)) → x ≡ (ascending (take n ks) && allBelowPower (take n ds))
   rest-decides x e h a s k = rw (← a, ← s, ← joined d0 d1 d2 d3, lt-ltb _ _ h) (go rising e)
     where
-      go : (r : Bool) → not r ≡ false → x ≡ ((r && risingFrom n i ks) && soon (rest n i ds))
+      go : (r : Bool) → not r ≡ false → x ≡ ((r && risingFrom n i ks) && allBelowPower (rest n i ds))
       go true e = k
       go false e = absurd (true≢false e)
 

@@ -1,6 +1,6 @@
 -- The timer set as a finite map from keys to deadlines.
 use mathlib.Core.Path.{_≡_, refl, sym, ap, ap₂, _∙_, subst}
-use mathlib.Core.Bool.{Bool, true, false, not, cond, _||_, true≢false}
+use mathlib.Core.Bool.{Bool, true, false, not, cond, _&&_, _||_, true≢false}
 use mathlib.Core.Option.{Option, none, some}
 use mathlib.Core.List.{List, [], _∷_, _++_}
 use Prim.Native.Nat.{ℕ, zero, suc, _+_, _-_, _≤_, _<_, zero-le, suc-le-suc, min, max}
@@ -9,9 +9,9 @@ use native.Mathlib.Omega.{arith}
 use lib.Dec.{leb, ltb, eqb}
 use lib.ListN.{length, getD, take, drop, replicate, length-append, length-replicate, length-drop}
 use lib.Seq.{take-append-seam}
-use borrow.Author.Tests.{ltb-true, ltb-false, eqb-true, eqb-false, leb-true, leb-false, le-ltb, le-leb, eq-eqb, ne-eqb}
+use borrow.Author.Tests.{ltb-true, ltb-false, eqb-true, eqb-false, leb-true, leb-false, le-ltb, le-leb, lt-leb, eq-eqb, ne-eqb}
 use Rattle.duration.specs.Bounds.{maxTime}
-use Rattle.multi_timer.specs.Map.{Entry, entry, entriesOf, keysOf, deadlinesOf, ascendingFrom, ascending, lookup, keep, put, other, remove, pending, stillSet, least}
+use Rattle.multi_timer.specs.Map.{Entry, entry, entriesOf, keysOf, deadlinesOf, ascendingFrom, ascending, lookup, keep, put, other, remove, pending, isSome, dueAt, stillSet, least}
 use Rattle.multi_timer.specs.MultiTimer.{laid, broken, anyLate}
 use Rattle.multi_timer.proofs.Sorted.{first-key, other-keys, length-keys, length-deadlines}
 
@@ -134,6 +134,15 @@ lookup-pop now q low (e ∷ es) a = go (ltb now (e .deadline)) (eqb (e .key) q) 
         near : e .key ≡ q → q < suc (e .key)
         near g = omega arith
     go false false r s h = simp s h
+
+-- a key is expired exactly when it is set and a pop takes it
+pub expired-popped : (now : ℕ) (o : Option ℕ) → dueAt now o ≡ (isSome o && not (isSome (stillSet now o)))
+expired-popped now none = refl
+expired-popped now (some d) = go (ltb now d) refl
+  where
+    go : (t : Bool) → ltb now d ≡ t → leb d now ≡ not (isSome (cond (ltb now d) (some d) none))
+    go true e = simp (e, lt-leb d now (ltb-true now d e))
+    go false e = simp (e, le-leb d now (ltb-false now d e))
 
 -- ---- the earliest is the least
 pub least-first : (d : ℕ) (xs : List ℕ) → least d xs ≤ d

@@ -1,14 +1,15 @@
 -- The slices after a change at a place that a search found.
 use mathlib.Core.Path.{_≡_, refl, sym, ap, ap₂, _∙_, subst}
 use mathlib.Core.Option.{none, some}
-use mathlib.Core.List.{List, [], _∷_, _++_, append-assoc, append-nil}
+use mathlib.Core.List.{List, [], _∷_, _++_, append-assoc}
 use Prim.Native.Nat.{ℕ, zero, suc, _+_, _-_, _≤_, _<_, max}
 use native.Mathlib.Nat.{le-of-lt, le-of-suc-le-suc, sub-zero, suc-sub-suc}
 use native.Mathlib.Numerals.{add-one}
 use native.Mathlib.Omega.{arith}
 use lib.ListN.{length, getD, take, drop, set, replicate, length-append, length-set, length-drop, take-append-drop}
-use lib.Seq.{length-take-le, take-take, take-all, drop-drop, drop-length, getD-take, set-append-left}
+use lib.Seq.{length-take-le, take-take, drop-drop, getD-take, set-append-left}
 use borrow.Rule.Slice.PartMut.{putMid, post-is}
+use Rattle.refusal.proofs.Tails.{tail-is, tail-back}
 use Rattle.multi_timer.specs.Map.{Entry, entriesOf, keysOf, deadlinesOf, lookup, put, remove}
 use Rattle.multi_timer.specs.Search.{searchIn, insertedAt, removedAt, clearedIn}
 use Rattle.multi_timer.specs.MultiTimer.{laid, after}
@@ -85,20 +86,11 @@ removed-list p n xs h =
 
 -- ---- a lent part that comes back
 module _ (i : ℕ) (xs : List ℕ) where
-  tail-all : take (length xs - i) (drop i xs) ≡ drop i xs
-  tail-all = take-all (length xs - i) (drop i xs) (le-of-eq′ (length-drop i xs))
-    where
-      le-of-eq′ : {a b : ℕ} → a ≡ b → a ≤ b
-      le-of-eq′ e = omega arith
-
-  tail-back : (ys : List ℕ) → i ≤ length xs → putMid i (length xs - i) xs ys ≡ take i xs ++ ys
-  tail-back ys h = ap (λ (t : List ℕ). take i xs ++ (ys ++ t)) (post-is i (length xs) xs h ∙ drop-length xs) ∙ ap (λ (t : List ℕ). take i xs ++ t) (append-nil ys)
-
   pub inserted-back : (n v : ℕ) (ys : List ℕ) → i ≤ length xs → ys ≡ v ∷ (take (n - i) (take (length xs - i) (drop i xs)) ++ drop (suc (n - i)) (take (length xs - i) (drop i xs))) → putMid i (length xs - i) xs ys ≡ insertedAt i n v xs
-  inserted-back n v ys h e = tail-back ys h ∙ ap (λ (t : List ℕ). take i xs ++ t) (e ∙ ap (λ (t : List ℕ). v ∷ (take (n - i) t ++ drop (suc (n - i)) t)) tail-all)
+  inserted-back n v ys h e = tail-back i xs ys h ∙ ap (λ (t : List ℕ). take i xs ++ t) (e ∙ ap (λ (t : List ℕ). v ∷ (take (n - i) t ++ drop (suc (n - i)) t)) (tail-is i xs))
 
   pub removed-back : (n : ℕ) (ys : List ℕ) → i ≤ length xs → ys ≡ drop 1 (take (n - i) (take (length xs - i) (drop i xs))) ++ (0 ∷ drop (n - i) (take (length xs - i) (drop i xs))) → putMid i (length xs - i) xs ys ≡ removedAt i n xs
-  removed-back n ys h e = tail-back ys h ∙ ap (λ (t : List ℕ). take i xs ++ t) (e ∙ ap (λ (t : List ℕ). drop 1 (take (n - i) t) ++ (0 ∷ drop (n - i) t)) tail-all)
+  removed-back n ys h e = tail-back i xs ys h ∙ ap (λ (t : List ℕ). take i xs ++ t) (e ∙ ap (λ (t : List ℕ). drop 1 (take (n - i) t) ++ (0 ∷ drop (n - i) t)) (tail-is i xs))
 
   pub cleared-back : (n : ℕ) (ys : List ℕ) → i ≤ n → n ≤ length xs → ys ≡ replicate (length (take (n - i) (drop i xs))) 0 → putMid i (n - i) xs ys ≡ clearedIn i n xs
   cleared-back n ys h l e =

@@ -67,8 +67,8 @@ abbrev pub startTooLate : ℕ → List ℕ → ℕ → ℕ → Bool
 startTooLate n ds now duration = heldTooLate n ds || startLate now duration
 
 -- the first of lines 9 and 10 that turns the held entries away, or 0
-abbrev pub heldLine : ℕ → List ℕ → List ℕ → ℕ
-heldLine n ks ds = cond (broken n ks ds) 9 (cond (heldTooLate n ds) 10 0)
+abbrev pub brokenLine : ℕ → List ℕ → List ℕ → ℕ
+brokenLine n ks ds = cond (broken n ks ds) 9 (cond (heldTooLate n ds) 10 0)
 
 -- "a new key with no timer entry unused"
 abbrev pub startFull : MultiTimer → List ℕ → List ℕ → ℕ → Bool

@@ -22,9 +22,9 @@ abbrev pub risingFrom : ℕ → ℕ → List ℕ → Bool
 risingFrom n i ks = ascendingFrom (suc (getD ks i 0)) (drop (i + 1) (take n ks))
 
 -- every deadline is below 2 ^ 47
-unfoldable pub soon : List ℕ → Bool
-soon [] = true
-soon (d ∷ ds) = ltb d 140737488355328 && soon ds
+unfoldable pub allBelowPower : List ℕ → Bool
+allBelowPower [] = true
+allBelowPower (d ∷ ds) = ltb d 140737488355328 && allBelowPower ds
 
 -- how many deadlines are due
 unfoldable pub dueIn : ℕ → List ℕ → ℕ

@@ -10,8 +10,8 @@ ghost use Prim.Native.Nat.{suc, min, _≤_, _<_};
 ghost use lib.ListN.{length, take, drop, set, replicate};
 ghost use Rattle.duration.specs.Bounds.{maxTime, startLate};
 ghost use Rattle.multi_timer.specs.Map.{entriesOf, ascending, keep, due, pending, lookup, isSome, dueAt, earliest};
-ghost use Rattle.multi_timer.specs.Search.{searchIn, later, risingFrom, soon, dueIn, Partitioned, insertedAt, removedAt, clearedIn};
-ghost use Rattle.multi_timer.specs.MultiTimer.{used, after, afterPop, broken, heldTooLate, heldLine, startFull, startUnchecked, cancelUnchecked, popUnchecked, clearUnchecked, earliestAnswer, newDef, startTimerAtDef, cancelTimerDef, isExpiredAtDef, popExpiredAtDef, earliestDeadlineDef, clearDef};
+ghost use Rattle.multi_timer.specs.Search.{searchIn, later, risingFrom, allBelowPower, dueIn, Partitioned, insertedAt, removedAt, clearedIn};
+ghost use Rattle.multi_timer.specs.MultiTimer.{used, after, afterPop, broken, heldTooLate, brokenLine, startFull, startUnchecked, cancelUnchecked, popUnchecked, clearUnchecked, earliestAnswer, newDef, startTimerAtDef, cancelTimerDef, isExpiredAtDef, popExpiredAtDef, earliestDeadlineDef, clearDef};
 
 // 2^47, the greatest power of two within MAX_TIME: numbers below it stay below it when their digits are joined.
 const TIME_POWER: u64 = 140737488355328;
@@ -100,9 +100,9 @@ fn is_ascending(count: usize, keys: &[u32]) -> bool
 }
 
 // Whether the keys from a place on rise and the deadlines are below 2^47.
-fn rest_plain(count: usize, keys: &[u32], deadlines: &[u64], from: usize) -> bool
+fn fast_check_rest(count: usize, keys: &[u32], deadlines: &[u64], from: usize) -> bool
     requires { ⌜ (from < count) × (count ≤ length (now keys)) × (count ≤ length (now deadlines)) ⌝ }
-    ensures { λ r. ⌜ r ≡ (risingFrom count from (now (keys .entry)) && soon (drop from (take count (now (deadlines .entry))))) ⌝ }
+    ensures { λ r. ⌜ r ≡ (risingFrom count from (now (keys .entry)) && allBelowPower (drop from (take count (now (deadlines .entry))))) ⌝ }
 {
     if deadlines[from] >= TIME_POWER {
         return false;
@@ -121,9 +121,9 @@ fn rest_plain(count: usize, keys: &[u32], deadlines: &[u64], from: usize) -> boo
 }
 
 // Whether lines 9 and 10 can be passed at once: one pass, four entries a turn. The digits of the deadlines are joined.
-fn is_plain(count: usize, keys: &[u32], deadlines: &[u64]) -> bool
+fn fast_check(count: usize, keys: &[u32], deadlines: &[u64]) -> bool
     requires { ⌜ (0 < count) × (count ≤ length (now keys)) × (count ≤ length (now deadlines)) ⌝ }
-    ensures { λ r. ⌜ r ≡ (ascending (take count (now (keys .entry))) && soon (take count (now (deadlines .entry)))) ⌝ }
+    ensures { λ r. ⌜ r ≡ (ascending (take count (now (keys .entry))) && allBelowPower (take count (now (deadlines .entry)))) ⌝ }
 {
     let mut r0 = true;
     let mut r1 = true;
@@ -151,12 +151,12 @@ fn is_plain(count: usize, keys: &[u32], deadlines: &[u64]) -> bool
     if ((d0 | d1) | (d2 | d3)) >= TIME_POWER {
         return false;
     }
-    rest_plain(count, keys, deadlines, i)
+    fast_check_rest(count, keys, deadlines, i)
 }
 
 // The first of lines 9 and 10 that turns the held entries away, or 0.
-fn held_line(count: usize, keys: &[u32], deadlines: &[u64]) -> u8
-    ensures { λ r. ⌜ r ≡ heldLine count (now (keys .entry)) (now (deadlines .entry)) ⌝ }
+fn broken_line(count: usize, keys: &[u32], deadlines: &[u64]) -> u8
+    ensures { λ r. ⌜ r ≡ brokenLine count (now (keys .entry)) (now (deadlines .entry)) ⌝ }
 {
     if keys.len() != deadlines.len() {
         return 9;
@@ -167,7 +167,7 @@ fn held_line(count: usize, keys: &[u32], deadlines: &[u64]) -> u8
     if count == 0 {
         return 0;
     }
-    if is_plain(count, keys, deadlines) {
+    if fast_check(count, keys, deadlines) {
         return 0;
     }
     if !is_ascending(count, keys) {
@@ -579,7 +579,7 @@ impl MultiTimer {
         ensures { λ r. ⌜ after r (keys .exit .now) (deadlines .exit .now) ≡ startTimerAtDef self (keys .entry .now) (deadlines .entry .now) key now duration ⌝ }
     {
         let count = self.count;
-        let line = held_line(count, keys, deadlines);
+        let line = broken_line(count, keys, deadlines);
         if line == 9 {
             return Started {
                 timers: self,
@@ -609,7 +609,7 @@ impl MultiTimer {
         ensures { λ r. ⌜ after r (now (keys .exit)) (now (deadlines .exit)) ≡ cancelTimerDef self (now (keys .entry)) (now (deadlines .entry)) key ⌝ }
     {
         let count = self.count;
-        let line = held_line(count, keys, deadlines);
+        let line = broken_line(count, keys, deadlines);
         if line == 9 {
             return Cancelled {
                 timers: self,
@@ -633,7 +633,7 @@ impl MultiTimer {
         ensures { λ r. ⌜ r ≡ isExpiredAtDef self (keys .entry .now) (deadlines .entry .now) key now ⌝ }
     {
         let count = self.count;
-        let line = held_line(count, keys, deadlines);
+        let line = broken_line(count, keys, deadlines);
         if line == 9 {
             return ExpiredAnswer::Refused(Refusal::State);
         }
@@ -654,7 +654,7 @@ impl MultiTimer {
         ensures { λ r. ⌜ afterPop (after r (keys .exit .now) (deadlines .exit .now)) (out .exit .now) ≡ popExpiredAtDef self (keys .entry .now) (deadlines .entry .now) now (out .entry .now) ⌝ }
     {
         let count = self.count;
-        let line = held_line(count, keys, deadlines);
+        let line = broken_line(count, keys, deadlines);
         if line == 9 {
             return Popped {
                 timers: self,
@@ -684,7 +684,7 @@ impl MultiTimer {
         ensures { λ r. ⌜ r ≡ earliestDeadlineDef self (now (keys .entry)) (now (deadlines .entry)) ⌝ }
     {
         let count = self.count;
-        let line = held_line(count, keys, deadlines);
+        let line = broken_line(count, keys, deadlines);
         if line == 9 {
             return EarliestAnswer::Refused(Refusal::State);
         }
@@ -701,7 +701,7 @@ impl MultiTimer {
         ensures { λ r. ⌜ after r (now (keys .exit)) (now (deadlines .exit)) ≡ clearDef self (now (keys .entry)) (now (deadlines .entry)) ⌝ }
     {
         let count = self.count;
-        let line = held_line(count, keys, deadlines);
+        let line = broken_line(count, keys, deadlines);
         if line == 9 {
             return Cleared {
                 timers: self,

@@ -3,12 +3,15 @@ use mathlib.Core.Path.{_≡_, refl}
 use mathlib.Core.Bool.{true, false}
 use mathlib.Core.Option.{none}
 use mathlib.Core.List.{List, [], _∷_, List·Memᴰ·head, List·Memᴰ·tail}
+use Prim.Native.Nat.{ℕ}
 use native.Mathlib.Omega.{arith}
 use Rattle.protocol.specs.Machine.{Segment, send, segmentsFrom, acknowledge, receive}
 use Rattle.protocol.specs.PlainMachine.{sendChunk, handleData, handleAck, plainStart, plainSend, plainData, plainAck, plainCall, plainStep, plainRun}
 use Rattle.protocol.specs.Trace.{newWorld, Event, sent, resent, received, acknowledged, other, step, run, Fair, plainAfter, outstanding, Resending}
-use Rattle.protocol.specs.KuroseRossRuns.{AllLikeBook}
+use Rattle.protocol.specs.KuroseRoss.{Packet}
+use Rattle.protocol.specs.KuroseRossRuns.{book, newBookWorld, bookRun, WorldIs, AllLikeBook}
 use Rattle.protocol.specs.declared.ProtocolType.the-variants.{StopAndWait, GoBackN, SelectiveRepeat}
+use Rattle.protocol.proofs.KuroseRossRuns.{like-book}
 
 abbrev q0 : Segment
 q0 = record { number = 0; payload = 7 ∷ [] }
@@ -129,6 +132,9 @@ unfolding step newWorld send segmentsFrom acknowledge receive
 stopAndWait-like-book =
     (tt, (λ e. refl, ((refl, refl), (λ e. e, (λ some e. refl, (tt, (λ e. e, (λ some e. e, (λ e. refl, tt)))))))))
 
+stopAndWait-book : (f : ℕ → Packet) → WorldIs StopAndWait 1 (bookRun (book StopAndWait 1) (newBookWorld (book StopAndWait 1) f) stopAndWait) (run StopAndWait 1 (newWorld StopAndWait 1) stopAndWait)
+stopAndWait-book f = like-book StopAndWait 1 f stopAndWait refl stopAndWait-fair stopAndWait-like-book
+
 -- as `goBack`, without the segment before the first
 abbrev goBackInOrder : List Event
 goBackInOrder =
@@ -143,3 +149,6 @@ goBackInOrder-fair =
 goBackInOrder-like-book : AllLikeBook GoBackN 3 (newWorld GoBackN 3) goBackInOrder
 unfolding step newWorld send segmentsFrom acknowledge receive
 goBackInOrder-like-book = (tt, (tt, (tt, (λ e. refl, (λ e. refl, ((refl, refl), (λ e. e, (λ e. e, (omega arith, (omega arith, (tt, tt)))))))))))
+
+goBackInOrder-book : (f : ℕ → Packet) → WorldIs GoBackN 3 (bookRun (book GoBackN 3) (newBookWorld (book GoBackN 3) f) goBackInOrder) (run GoBackN 3 (newWorld GoBackN 3) goBackInOrder)
+goBackInOrder-book f = like-book GoBackN 3 f goBackInOrder tt goBackInOrder-fair goBackInOrder-like-book

@@ -436,17 +436,3 @@ resending-ok p w v s es o i r =
     (record
     { still = kept-are (v .sender) (upFrom (v .sender .base) (length (v .sender .chunks))); segments-made = every-nil; acks-made = every-nil })
     (at-start (isSelective p) w v s i) r
-
--- in Stop-and-Wait and Go-Back-N all that the sender holds is outstanding
-all-kept : (s : SenderState) (n k : ℕ) → ((i : ℕ) → n ≤ i → i < n + k → isOutstanding s i ≡ true) → outstandingOf s (upFrom n k) ≡ upFrom n k
-all-kept s n zero f = refl
-all-kept s n (suc k) f =
-    rw (f n (omega arith) (omega arith)) (ap (λ (l : List ℕ). n ∷ l) (all-kept s (suc n) k (λ i l m. f i (omega arith) (omega arith))))
-
-pub outstanding-in-order : (w : ℕ) (v : World) (s : PlainState) → Invariant false w v s
-    → outstanding (v .sender) ≡ upFrom (v .sender .base) (length (v .sender .chunks))
-unfolding outstanding
-outstanding-in-order w v s i = all-kept (v .sender) (v .sender .base) (length (v .sender .chunks)) (λ n l m.
-    let e₁ : leb (v .sender .base) n ≡ true = le-leb (v .sender .base) n l in
-    let e₂ : ltb n (nextNumber (v .sender)) ≡ true = lt-ltb n (nextNumber (v .sender)) m in
-    rw (e₁, e₂, i .own .no-marks (n - v .sender .base)))

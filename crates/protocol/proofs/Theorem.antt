@@ -1,8 +1,7 @@
 -- Demand 3 for the two ends over numbers and chunks: after every fair list, and after one resending that follows it.
-use mathlib.Core.Path.{_≡_, refl, sym, ap, ap₂, _∙_}
-use mathlib.Core.Bool.{Bool, true, false}
-use mathlib.Core.List.{List, [], _∷_, _++_, map, map-append, List·Memᴰ}
-use Prim.Native.Nat.{ℕ, _<_}
+use mathlib.Core.Path.{_≡_, refl, ap, ap₂, _∙_}
+use mathlib.Core.List.{List, [], _∷_, _++_, map, map-append}
+use Prim.Native.Nat.{ℕ}
 use native.Mathlib.Omega.{arith}
 use lib.ListN.{length, take}
 use lib.Seq.{take-length}
@@ -10,15 +9,9 @@ use Rattle.protocol.specs.Machine.{Segment, segmentsFrom, receive}
 use Rattle.protocol.specs.PlainMachine.{PlainState, plainStart, plainStep, plainRun, Fed}
 use Rattle.protocol.specs.Trace.{World, newWorld, Event, resent, received, acknowledged, step, run, Fair, callOf, plainAfter, Window, Claim, outstanding, Resending, AllDelivered}
 use Rattle.protocol.specs.declared.ProtocolType.{ProtocolType}
-use Rattle.protocol.proofs.Marks.{false-true}
-use Rattle.protocol.proofs.Invariant.{isSelective, Carries, Invariant}
+use Rattle.protocol.proofs.Invariant.{isSelective}
 use Rattle.protocol.proofs.Safety.{from-start, claimed}
 use Rattle.protocol.proofs.Resending.{Resent, resending-ok}
-
-pub run-append : (p : ProtocolType) (w : ℕ) (v : World) (es fs : List Event) → run p w v (es ++ fs) ≡ run p w (run p w v es) fs
-unfolding run
-run-append p w v [] fs = refl
-run-append p w v (e ∷ es) fs = run-append p w (step p w v e) es fs
 
 pub plain-append : (p : ProtocolType) (w : ℕ) (s : PlainState) (es fs : List Fed) → plainRun p w s (es ++ fs) ≡ plainRun p w (plainRun p w s es) fs
 unfolding plainRun
@@ -87,25 +80,3 @@ some-resending p w v [] segments acks = carry-segments p w v segments acks
 some-resending p w v (n ∷ numbers) segments acks =
     let r = some-resending p w (step p w v (resent n 1)) numbers (segments ++ segmentsFrom (v .sender) n 1) acks in
     record { events = resent n 1 ∷ r .events; resending = (omega arith, refl, r .resending) }
-
--- every segment made carries the chunk of its number
-pub segments-carry : (p : ProtocolType) (w : ℕ) (es : List Event) → Window p w → Fair p w (newWorld p w) es → (q : Segment)
-    → List·Memᴰ q (run p w (newWorld p w) es .segments) → Carries (plainAfter p w es .sent) q
-segments-carry p w es o f q m = from-start p w es o f .segments-carry .all q m
-
--- every number acknowledged was sent; in Stop-and-Wait and Go-Back-N it was delivered
-pub acks-sent : (p : ProtocolType) (w : ℕ) (es : List Event) → Window p w → Fair p w (newWorld p w) es → (n : ℕ)
-    → List·Memᴰ n (run p w (newWorld p w) es .acks) → n < length (plainAfter p w es .sent)
-acks-sent p w es o f n m = go (isSelective p) (plainAfter p w es) (run p w (newWorld p w) es) (from-start p w es o f) m
-  where
-    go : (b : Bool) (s : PlainState) (v : World) → Invariant b w v s → List·Memᴰ n (v .acks) → n < length (s .sent)
-    go false s v i m = let l : n < s .D = i .acks-noted .all n m in omega (arith, l, i .ends .D≤sent)
-    go true s v i m = i .own .noted-sent n (i .acks-noted .all n m)
-
-pub acks-delivered : (p : ProtocolType) (w : ℕ) (es : List Event) → isSelective p ≡ false → Window p w → Fair p w (newWorld p w) es → (n : ℕ)
-    → List·Memᴰ n (run p w (newWorld p w) es .acks) → n < plainAfter p w es .D
-acks-delivered p w es z o f n m = go (isSelective p) z (from-start p w es o f)
-  where
-    go : (b : Bool) → b ≡ false → Invariant b w (run p w (newWorld p w) es) (plainAfter p w es) → n < plainAfter p w es .D
-    go false z i = i .acks-noted .all n m
-    go true z i = false-true (sym z)

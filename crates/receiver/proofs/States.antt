@@ -7,6 +7,7 @@ use borrow.Author.Tests.{ltb-false, leb-false}
 use lib.ListN.{length}
 use lib.Dec.{leb}
 use Rattle.refusal.specs.Clauses.{anyOf}
+use Rattle.refusal.specs.Counts.{countLimit}
 use Rattle.refusal.proofs.Laws.{none-of}
 use Rattle.window.proofs.Laws.{or-false-right}
 use Rattle.receiver.specs.State.{marksBroken, countsBroken}
@@ -15,7 +16,7 @@ pub marks-low : (base filled : ℕ) (output : List ℕ) → marksBroken base fil
 unfolding marksBroken
 marks-low base filled output e = let none = none-of _ e in (ltb-false _ _ (none .0), ltb-false _ _ (none .1 .0))
 
-pub counts-low : (a b c : ℕ) → countsBroken a b c ≡ false → (a < 1152921504606846976) × (b < 1152921504606846976) × (c < 1152921504606846976)
+pub counts-low : (a b c : ℕ) → countsBroken a b c ≡ false → (a < countLimit) × (b < countLimit) × (c < countLimit)
 unfolding countsBroken
 counts-low a b c e = let none = none-of _ e in (leb-false _ _ (none .0), leb-false _ _ (none .1 .0), leb-false _ _ (none .1 .1 .0))
 

@@ -12,8 +12,8 @@ ghost use Rattle.receiver.specs.Receive.{receiving, finish};
 use packet::Packet;
 use packet::PacketAnswer;
 use packet::PacketType;
+use refusal::COUNT_LIMIT;
 use refusal::Refusal;
-use window::COUNT_LIMIT;
 use window::SEQ_NUM_LIMIT;
 
 // What a datagram handed to a receiver is.

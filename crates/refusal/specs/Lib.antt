@@ -1,3 +1,4 @@
 pub mod Refusal
 pub mod Clauses
+pub mod Counts
 pub mod Order

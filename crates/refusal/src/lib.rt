@@ -2,6 +2,9 @@
 ghost use mathlib.Core.Path.{_≡_};
 ghost use Rattle.refusal.specs.Refusal.{lineOf};
 
+// 2^60: a counter at this value or above it is refused.
+pub const COUNT_LIMIT: u64 = 1_152_921_504_606_846_976;
+
 // A case for each line of the table, with the values that its line names.
 pub enum Refusal {
     // The datagram's length.

@@ -8,6 +8,7 @@ use denote.Floats.{passes}
 use borrow.Author.Tests.{leb-true, leb-false, ltb-false, le-leb, lt-leb}
 use Rattle.refusal.proofs.Laws.{or-false}
 use Rattle.duration.specs.Bounds.{maxDuration, maxEstimate}
+use Rattle.refusal.specs.Counts.{countLimit, countFull}
 use Rattle.refusal.specs.Order.{check, verdict, decide, firstOf, numbered, orElse, order}
 use Rattle.refusal.specs.declared.Refusal.{Refusal}
 use Rattle.refusal.specs.declared.Refusal.the-variants.{State, Counts, Time, Setup}
@@ -71,19 +72,19 @@ config-of c e =
       multiplier = passes _ (f3 .1);
     }
 
--- ---- counters below 2 ^ 60
+-- ---- counters that line 8 lets pass
 pub record Below (s : RtoStats) : Type 0 where
-  pub sample : s .«sample_count» < 1152921504606846976
-  pub karn : s .«karn_rejected_count» < 1152921504606846976
-  pub timeout : s .«timeout_count» < 1152921504606846976
-  pub backoff : s .«backoff_count» < 1152921504606846976
+  pub sample : s .«sample_count» < countLimit
+  pub karn : s .«karn_rejected_count» < countLimit
+  pub timeout : s .«timeout_count» < countLimit
+  pub backoff : s .«backoff_count» < countLimit
 
 pub count-below : (s : RtoStats) → countsFull s ≡ false → Below s
 unfolding countsFull
 count-below s e =
-    let a = or-false (leb 1152921504606846976 (s .«sample_count»)) _ e in
-    let b = or-false (leb 1152921504606846976 (s .«karn_rejected_count»)) _ (a .1) in
-    let d = or-false (leb 1152921504606846976 (s .«timeout_count»)) _ (b .1) in
+    let a = or-false (countFull (s .«sample_count»)) _ e in
+    let b = or-false (countFull (s .«karn_rejected_count»)) _ (a .1) in
+    let d = or-false (countFull (s .«timeout_count»)) _ (b .1) in
     record { sample = leb-false _ _ (a .0); karn = leb-false _ _ (b .0); timeout = leb-false _ _ (d .0); backoff = leb-false _ _ (d .1) }
 
 -- ---- held estimates

@@ -1,13 +1,17 @@
 -- After any list of calls from a fresh estimator the tallies are what its accepted calls say, and the next call meets no 9 and no held time above its bound.
 use mathlib.Core.Path.{_≡_, refl, sym, ap, ap₂, _∙_, subst}
-use mathlib.Core.Bool.{Bool, true, false, not, cond}
+use mathlib.Core.Bool.{Bool, true, false, not, cond, _||_, true≢false}
 use mathlib.Core.List.{List, [], _∷_}
 use Prim.Native.Nat.{ℕ, suc, _≤_, max}
 use native.Mathlib.Numerals.{add-one}
+use lib.Dec.{leb, ltb, eqb}
+use lib.IntN.{pos}
+use lib.Ieee.{Float, fin, binary64, div, ofInt}
 use borrow.Author.Tests.{le-ltb}
 use Rattle.duration.specs.Bounds.{maxDuration}
-use Rattle.rto.specs.Rto.{configInBounds, stateBroken, countsFull, heldTooLong, sampleTooLong, noStats, fresh, sampled, acceptSample, rejectSample, takeSample, nextConsecutive, backOff, resetBackoff, updated, timedOut, backoffReset, updateRttDef, onTimeoutDef, resetBackoffDef}
-use Rattle.rto.specs.History.{Call, sample, timeout, reset, step, afterCalls, updateRefused, timeoutRefused, resetRefused, isRefused, accepted, samples, rejections, timeouts, consecutive, mostConsecutive, leastSample, greatestSample, latestSample, sumOfSamples}
+use Rattle.refusal.specs.Counts.{countFull}
+use Rattle.rto.specs.Rto.{configInBounds, countsFull, heldTooLong, sampleTooLong, noStats, fresh, sampled, acceptSample, rejectSample, takeSample, nextConsecutive, backOff, resetBackoff, updated, timedOut, backoffReset, updateRttDef, onTimeoutDef, resetBackoffDef, retryLimitDef, meanMs, meanRttMsDef}
+use Rattle.rto.specs.History.{Call, sample, timeout, reset, step, afterCalls, updateRefused, timeoutRefused, resetRefused, isRefused, accepted, samples, rejections, timeouts, consecutive, mostConsecutive, leastSample, greatestSample, latestSample, sumOfSamples, full, tooLong}
 use Rattle.rto.specs.declared.RtoConfig.{RtoConfig}
 use Rattle.rto.specs.declared.RtoEstimator.{RtoEstimator}
 use Rattle.rto.specs.declared.Updated.{Updated}
@@ -16,9 +20,11 @@ use Rattle.rto.specs.declared.BackoffReset.{BackoffReset}
 use Rattle.rto.specs.declared.UpdateAnswer.the-variants.{Accepted}
 use Rattle.rto.specs.declared.TimeoutAnswer.the-variants.{Rto}
 use Rattle.rto.specs.declared.ResetAnswer.the-variants.{Done}
-use Rattle.refusal.specs.Order.{check}
+use Rattle.rto.specs.declared.LimitAnswer.the-variants.{Exceeded}
+use Rattle.rto.specs.declared.MeanAnswer.the-variants.{Millis}
+use Rattle.refusal.specs.Order.{check, verdict, decide, firstOf, numbered, orElse, order}
+use Rattle.refusal.specs.declared.Refusal.{Refusal}
 use Rattle.refusal.specs.declared.Refusal.the-variants.{State, Counts, Time}
-use Rattle.refusal.proofs.Laws.{accepted-none-true, either-answer}
 use Rattle.rto.proofs.Checks.{accepted-call, sample-in-time}
 use Rattle.rto.proofs.Keeps.{Doubles, Good, fresh-good, accept-good, reject-good, backoff-good, reset-good}
 
@@ -125,20 +131,49 @@ reset-tallied c xs e t =
       sum-is = t .sum-is;
     }
 
--- one more call: a refused one leaves the estimator and the accepted calls as they were
-step-tallied : (c : RtoConfig) (x : Call) (xs : List Call) (e : RtoEstimator) → Doubles c → Tallied c xs e → Tallied c (cond (isRefused e x) xs (x ∷ xs)) (step e x)
-unfolding step isRefused updateRttDef onTimeoutDef resetBackoffDef
-step-tallied c (sample d true) xs e f t =
-    either-answer (λ (z : Updated). Tallied c (cond (updateRefused (z .answer)) xs (sample d true ∷ xs)) (z .estimator)) _ _ _ (λ r. t) (λ v. reject-tallied c d xs e t)
-step-tallied c (sample d false) xs e f t =
-    either-answer (λ (z : Updated). Tallied c (cond (updateRefused (z .answer)) xs (sample d false ∷ xs)) (z .estimator)) _ _ _ (λ r. t)
-    (λ v. accept-tallied c d xs e f (sample-in-time e d (accepted-none-true (check (stateBroken e) State ∷ check (countsFull (e .stats)) Counts ∷ check (sampleTooLong e d) Time ∷ []) v .1 .1 .0)) t)
-step-tallied c timeout xs e f t =
-    either-answer (λ (z : TimedOut). Tallied c (cond (timeoutRefused (z .answer)) xs (timeout ∷ xs)) (z .estimator)) _ _ _ (λ r. t) (λ v. timeout-tallied c xs e t)
-step-tallied c reset xs e f t =
-    either-answer (λ (z : BackoffReset). Tallied c (cond (resetRefused (z .answer)) xs (reset ∷ xs)) (z .estimator)) _ _ _ (λ r. t) (λ v. reset-tallied c xs e t)
+-- ---- which calls are refused
+full-is : (c : RtoConfig) (xs : List Call) (e : RtoEstimator) → Tallied c xs e → countsFull (e .stats) ≡ full xs
+unfolding countsFull full
+full-is c xs e t = same _ _ _ _ _ _ _ (t .samples-are) (t .rejections-are) (t .timeouts-are) (t .backoffs-are)
+  where
+    twice : (a b d : Bool) → (a || (b || (d || d))) ≡ (a || (b || d))
+    twice a b true = refl
+    twice a b false = refl
 
-pub tallies : (c : RtoConfig) (xs : List Call) → configInBounds c ≡ true → Doubles c → Tallied c (accepted c xs) (afterCalls c xs)
+    same : (n k m b n′ k′ m′ : ℕ) → n ≡ n′ → k ≡ k′ → m ≡ m′ → b ≡ m′ → (countFull n || (countFull k || (countFull m || countFull b))) ≡ (countFull n′ || (countFull k′ || countFull m′))
+    same n k m b n′ k′ m′ p q r s = rw (p, q, r, s) (twice (countFull n′) (countFull k′) (countFull m′))
+
+-- the tests of a call on a state that line 9 lets pass: refused, or the other answer
+by-tests : {A : Type 0} (P : A → Bool → Type 0) (s n t : Bool) (f : Refusal → A) (a : A) → s ≡ false → ((r : Refusal) → P (f r) true) → (t ≡ false → P a false) → P (decide (verdict (check s State ∷ check n Counts ∷ check t Time ∷ [])) f a) (n || t)
+unfolding decide verdict firstOf numbered orElse order
+by-tests P true n t f a z h k = absurd (true≢false z)
+by-tests P false true t f a z h k = h Counts
+by-tests P false false true f a z h k = h Time
+by-tests P false false false f a z h k = k refl
+
+held-in-time : (e : RtoEstimator) (b : Bool) → heldTooLong e ≡ false → (heldTooLong e || b) ≡ b
+held-in-time e b p = simp p
+
+-- one more call: a refused one leaves the estimator and the accepted calls as they were
+abbrev Told : RtoConfig → Call → List Call → RtoEstimator → Bool → Type 0
+Told c x xs e b = Tallied c (cond b xs (x ∷ xs)) (step e x) × (isRefused e x ≡ b)
+
+step-told : (c : RtoConfig) (x : Call) (xs : List Call) (e : RtoEstimator) → Doubles c → Tallied c xs e → Told c x xs e (full xs || tooLong x)
+unfolding step isRefused updateRttDef onTimeoutDef resetBackoffDef
+step-told c (sample d true) xs e f t =
+    subst (λ (b : Bool). Told c (sample d true) xs e b) (ap₂ _||_ (full-is c xs e t) (held-in-time e (ltb maxDuration d) (t .good .times)))
+    (by-tests (λ (z : Updated) (b : Bool). Tallied c (cond b xs (sample d true ∷ xs)) (z .estimator) × (updateRefused (z .answer) ≡ b)) _ _ _ _ _ (t .good .state) (λ r. (t, refl)) (λ l. (reject-tallied c d xs e t, refl)))
+step-told c (sample d false) xs e f t =
+    subst (λ (b : Bool). Told c (sample d false) xs e b) (ap₂ _||_ (full-is c xs e t) (held-in-time e (ltb maxDuration d) (t .good .times)))
+    (by-tests (λ (z : Updated) (b : Bool). Tallied c (cond b xs (sample d false ∷ xs)) (z .estimator) × (updateRefused (z .answer) ≡ b)) _ _ _ _ _ (t .good .state) (λ r. (t, refl)) (λ l. (accept-tallied c d xs e f (sample-in-time e d l) t, refl)))
+step-told c timeout xs e f t =
+    subst (λ (b : Bool). Told c timeout xs e b) (ap₂ _||_ (full-is c xs e t) (t .good .times))
+    (by-tests (λ (z : TimedOut) (b : Bool). Tallied c (cond b xs (timeout ∷ xs)) (z .estimator) × (timeoutRefused (z .answer) ≡ b)) _ _ _ _ _ (t .good .state) (λ r. (t, refl)) (λ l. (timeout-tallied c xs e t, refl)))
+step-told c reset xs e f t =
+    subst (λ (b : Bool). Told c reset xs e b) (ap₂ _||_ (full-is c xs e t) (t .good .times))
+    (by-tests (λ (z : BackoffReset) (b : Bool). Tallied c (cond b xs (reset ∷ xs)) (z .estimator) × (resetRefused (z .answer) ≡ b)) _ _ _ _ _ (t .good .state) (λ r. (t, refl)) (λ l. (reset-tallied c xs e t, refl)))
+
+pub tallies : (c : RtoConfig) (xs : List Call) → configInBounds c ≡ true → Doubles c → Tallied c (accepted xs) (afterCalls c xs)
 unfolding afterCalls accepted fresh noStats samples rejections timeouts consecutive mostConsecutive leastSample greatestSample latestSample sumOfSamples
 tallies c [] h f =
     record {
@@ -155,4 +190,29 @@ tallies c [] h f =
       latest-is = refl;
       sum-is = refl;
     }
-tallies c (x ∷ xs) h f = step-tallied c x (accepted c xs) (afterCalls c xs) f (tallies c xs h f)
+tallies c (x ∷ xs) h f = step-told c x (accepted xs) (afterCalls c xs) f (tallies c xs h f) .0
+
+-- the calls that are refused are those that the list says
+pub refused-are : (c : RtoConfig) (x : Call) (xs : List Call) → configInBounds c ≡ true → Doubles c → isRefused (afterCalls c xs) x ≡ (full (accepted xs) || tooLong x)
+refused-are c x xs h f = step-told c x (accepted xs) (afterCalls c xs) f (tallies c xs h f) .1
+
+-- what the calls that only read answer after any list
+abbrev pub mean : ℕ → Float → Float
+mean k sum = cond (eqb k 0) (fin false 0 (pos 0)) (div binary64 sum (ofInt binary64 (pos k)))
+
+module _ (c : RtoConfig) (xs : List Call) (h : configInBounds c ≡ true) (f : Doubles c) (n : full (accepted xs) ≡ false) where
+  t : Tallied c (accepted xs) (afterCalls c xs)
+  t = tallies c xs h f
+
+  below : countsFull (afterCalls c xs .stats) ≡ false
+  below = full-is c (accepted xs) (afterCalls c xs) t ∙ n
+
+  -- the limit is reached by as many timeouts since the last accepted sample or reset
+  pub limit-reached : (most : ℕ) → retryLimitDef (afterCalls c xs) most ≡ Exceeded (leb most (consecutive (accepted xs)))
+  unfolding retryLimitDef
+  limit-reached most = sym (accepted-call _ _ _ _ _ (Exceeded (leb most (consecutive (accepted xs)))) (t .good .state) below (t .good .times) (ap (λ (k : ℕ). Exceeded (leb most k)) (sym (t .consecutive-are))))
+
+  pub mean-is : meanRttMsDef (afterCalls c xs) ≡ Millis (mean (samples (accepted xs)) (sumOfSamples (accepted xs)))
+  unfolding meanRttMsDef meanMs
+  mean-is =
+      sym (accepted-call _ _ _ _ _ (Millis (mean (samples (accepted xs)) (sumOfSamples (accepted xs)))) (t .good .state) below (t .good .times) (ap₂ (λ (k : ℕ) (s : Float). Millis (mean k s)) (sym (t .samples-are)) (sym (t .sum-is))))

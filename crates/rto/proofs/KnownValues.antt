@@ -1,16 +1,21 @@
--- Document 01's proof sheet, R1 and R2, by computation.
+-- Document 01's proof sheet, R1 and R2, and the bounds' edges, by computation.
 use mathlib.Core.Path.{_≡_, refl}
 use mathlib.Core.Bool.{true, false}
 use Prim.Native.Nat.{ℕ}
 use lib.IntN.{pos, negsuc}
 use lib.Ieee.{fin, fits, add, sub, mul, div, ofInt, le, lt}
-use Rattle.rtt.specs.Rtt.{firstEstimate, nextEstimate}
-use Rattle.rto.specs.Rto.{configOf, estimatorOf, noStats, fresh, estimateFor, acceptSample, sampled, backOff, configInBounds, defaultConfig, updateRttDef, onTimeoutDef, stateBroken, countsFull, heldTooLong}
+use Rattle.rtt.specs.Rtt.{fromMs, firstRttvarMs, firstEstimate, nextEstimate}
+use Rattle.rto.specs.Rto.{configOf, statsOf, estimatorOf, noStats, fresh, estimateFor, acceptSample, sampled, backOff, configInBounds, defaultConfig, updateRttDef, onTimeoutDef, resetBackoffDef, stateBroken, countsFull, heldTooLong}
 use Rattle.refusal.specs.Order.{verdict, decide, firstOf, numbered, orElse, order}
+use Rattle.refusal.specs.declared.Refusal.the-variants.{State, Counts, Time}
+use Rattle.rto.specs.declared.UpdateAnswer as Up
 use Rattle.rto.specs.declared.UpdateAnswer.the-variants.{Accepted}
+use Rattle.rto.specs.declared.ResetAnswer.the-variants.{Done, Refused}
+use Rattle.rto.specs.declared.RtoEstimator.{RtoEstimator}
 use Rattle.rto.specs.declared.TimeoutAnswer.the-variants.{Rto}
 use Rattle.rto.specs.declared.RtoConfig.{RtoConfig}
-use Rattle.rto.specs.declared.Rtt.the-variants.{Unset}
+use Rattle.rto.specs.declared.Rtt.{Rtt}
+use Rattle.rto.specs.declared.Rtt.the-variants.{Unset, Is}
 use Rattle.rto.proofs.Keeps.{Doubles}
 
 -- k 4, granularity 1 ms, multiplier 1, alpha 1/8, beta 1/4, initial 1 s, and these limits
@@ -47,6 +52,11 @@ pub second-sample : nextEstimate (fin false 1 (negsuc 2)) (fin false 1 (negsuc 1
 unfolding nextEstimate add sub mul div ofInt
 second-sample = refl
 
+-- (2.2): half of an odd first sample goes up or down, and not always to the even nanosecond: of 1, 3 and 9 ns
+pub odd-halves : (fromMs (firstRttvarMs 1) ≡ 1) × (fromMs (firstRttvarMs 3) ≡ 1) × (fromMs (firstRttvarMs 9) ≡ 4)
+unfolding mul div add ofInt
+odd-halves = (refl, refl, refl)
+
 -- R1 and R2 as the calls answer them
 pub r1-call : updateRttDef (fresh (limits 1000000 60000000000)) 100000000 false .estimator .«current_rto» ≡ 300000000
 unfolding updateRttDef decide verdict firstOf numbered orElse order stateBroken configInBounds countsFull heldTooLong acceptSample fresh noStats sampled estimateFor firstEstimate add mul div ofInt le lt
@@ -59,3 +69,23 @@ r1-answer = refl
 pub r2-call : onTimeoutDef (estimatorOf (limits 1000000 500000000) Unset Unset 300000000 300000000 false 0 noStats) .answer ≡ Rto 500000000
 unfolding onTimeoutDef decide verdict firstOf numbered orElse order stateBroken configInBounds countsFull heldTooLong backOff noStats le
 r2-call = refl
+
+-- the bounds' edges: SRTT, RTTVAR and sample_count held, and nothing else
+abbrev held : Rtt → Rtt → ℕ → RtoEstimator
+held s v n = estimatorOf (limits 1000000 60000000000) s v 1000000000 1000000000 false 0 (statsOf n 0 0 0 Unset Unset (fin false 0 (pos 0)) Unset 0)
+
+-- line 9: 86,401 s, a nanosecond more, only one set; line 8: 2 ^ 60 - 1 and 2 ^ 60
+pub held-edges : (resetBackoffDef (held (Is 86401000000000) (Is 86401000000000) 0) .answer ≡ Done)
+    × (resetBackoffDef (held (Is 86401000000001) (Is 0) 0) .answer ≡ Refused State)
+    × (resetBackoffDef (held (Is 0) (Is 86401000000001) 0) .answer ≡ Refused State)
+    × (resetBackoffDef (held (Is 0) Unset 0) .answer ≡ Refused State)
+    × (resetBackoffDef (held Unset (Is 0) 0) .answer ≡ Refused State)
+    × (resetBackoffDef (held Unset Unset 1152921504606846975) .answer ≡ Done)
+    × (resetBackoffDef (held Unset Unset 1152921504606846976) .answer ≡ Refused Counts)
+unfolding resetBackoffDef decide verdict firstOf numbered orElse order stateBroken configInBounds countsFull heldTooLong le
+held-edges = (refl, refl, refl, refl, refl, refl, refl)
+
+-- line 10: 86,400 s and a nanosecond more, of a retransmitted sample too
+pub sample-edges : (updateRttDef (held Unset Unset 0) 86400000000000 true .answer ≡ Accepted false) × (updateRttDef (held Unset Unset 0) 86400000000001 true .answer ≡ Up.the-variants.Refused Time)
+unfolding updateRttDef decide verdict firstOf numbered orElse order stateBroken configInBounds countsFull heldTooLong le
+sample-edges = (refl, refl)

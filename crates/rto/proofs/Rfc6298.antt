@@ -2,7 +2,11 @@
 use mathlib.Core.Path.{_≡_, refl}
 use mathlib.Core.Bool.{true, false}
 use Prim.Native.Nat.{ℕ, _*_, _≤_}
+use native.Mathlib.Nat.{le-trans}
+use lib.Dec.{lit≤}
 use lib.Ieee.{Float, binary64, add, mul, div}
+use Rattle.duration.specs.Bounds.{maxDuration}
+use Rattle.rtt.proofs.FirstSample.{same-sample}
 use Rattle.rtt.specs.Rtt.{toMs, fromMs, two64, larger, weighted, distance, firstEstimate, nextEstimate}
 use Rattle.rto.specs.Rto.{stateBroken, limited, fresh, estimateFor, acceptSample, rejectSample, backOff, resetBackoff, takeSample}
 use Rattle.rto.specs.declared.RtoConfig.{RtoConfig}
@@ -16,11 +20,11 @@ pub initial-rto : (c : RtoConfig) → fresh c .«current_rto» ≡ c .«initial_
 unfolding fresh
 initial-rto c = refl
 
--- (2.2): SRTT is R, RTTVAR is R / 2, RTO is SRTT + max (G, K * RTTVAR) before the multiplier and the limits
+-- (2.2): SRTT is R; RTTVAR is R / 2, in doubles to the nearest nanosecond; RTO is SRTT + max (G, K * RTTVAR) before the multiplier and the limits
 module _ (c : RtoConfig) (r : ℕ) where
-  pub first-srtt : estimateFor c Unset Unset r .srtt ≡ fromMs (toMs r)
+  pub first-srtt : r ≤ maxDuration → estimateFor c Unset Unset r .srtt ≡ r
   unfolding estimateFor firstEstimate
-  first-srtt = refl
+  first-srtt h = same-sample r (le-trans h (lit≤ tt))
 
   pub first-rttvar : estimateFor c Unset Unset r .rttvar ≡ fromMs (div binary64 (toMs r) two64)
   unfolding estimateFor firstEstimate

@@ -1,9 +1,12 @@
--- Document 01, "Invented tallies: .. from the history of calls": what the accepted calls of any list say of the estimator's tallies. The latest call stands first.
+-- Document 01, "Invented tallies: .. from the history of calls": what any list of calls says of the estimator's tallies. The latest call stands first.
 use Prim.Native.Nat.{ℕ, suc, max}
-use mathlib.Core.Bool.{Bool, true, false, cond}
+use mathlib.Core.Bool.{Bool, true, false, cond, _||_}
 use mathlib.Core.List.{List, [], _∷_}
+use lib.Dec.{ltb}
 use lib.IntN.{pos}
 use lib.Ieee.{Float, fin, binary64, add}
+use Rattle.refusal.specs.Counts.{countFull}
+use Rattle.duration.specs.Bounds.{maxDuration}
 use Rattle.rtt.specs.Rtt.{toMs}
 use Rattle.rto.specs.declared.RtoConfig.{RtoConfig}
 use Rattle.rto.specs.declared.RtoEstimator.{RtoEstimator}
@@ -47,12 +50,7 @@ isRefused e (sample d again) = updateRefused (updateRttDef e d again .answer)
 isRefused e timeout = timeoutRefused (onTimeoutDef e .answer)
 isRefused e reset = resetRefused (resetBackoffDef e .answer)
 
--- the calls that were not refused
-unfoldable pub accepted : RtoConfig → List Call → List Call
-accepted c [] = []
-accepted c (x ∷ xs) = cond (isRefused (afterCalls c xs) x) (accepted c xs) (x ∷ accepted c xs)
-
--- ---- the tallies of a list of accepted calls
+-- ---- the tallies of a list of accepted calls; nothing from here on looks at an estimator
 unfoldable pub samples : List Call → ℕ
 samples [] = 0
 samples (sample d true ∷ xs) = samples xs
@@ -115,3 +113,16 @@ sumOfSamples (sample d true ∷ xs) = sumOfSamples xs
 sumOfSamples (sample d false ∷ xs) = add binary64 (sumOfSamples xs) (toMs d)
 sumOfSamples (timeout ∷ xs) = sumOfSamples xs
 sumOfSamples (reset ∷ xs) = sumOfSamples xs
+
+-- ---- the accepted calls of a list: not one after a counter has reached its bound (line 8), nor one with a sample above its bound (line 10)
+unfoldable pub full : List Call → Bool
+full xs = countFull (samples xs) || (countFull (rejections xs) || countFull (timeouts xs))
+
+abbrev pub tooLong : Call → Bool
+tooLong (sample d again) = ltb maxDuration d
+tooLong timeout = false
+tooLong reset = false
+
+unfoldable pub accepted : List Call → List Call
+accepted [] = []
+accepted (x ∷ xs) = cond (full (accepted xs) || tooLong x) (accepted xs) (x ∷ accepted xs)

@@ -9,6 +9,7 @@ use Rattle.float.specs.Roll.{chanceInBounds}
 use Rattle.duration.specs.Bounds.{maxDuration, maxEstimate}
 use Rattle.rtt.specs.Rtt.{factorInBounds, toMs, firstEstimate, nextEstimate}
 use Rattle.rtt.specs.declared.Estimate.{Estimate}
+use Rattle.refusal.specs.Counts.{countFull}
 use Rattle.refusal.specs.Order.{check, verdict, decide}
 use Rattle.refusal.specs.declared.Refusal.the-variants.{State, Counts, Time, Setup}
 use Rattle.rto.specs.declared.RtoConfig.{RtoConfig}
@@ -29,12 +30,9 @@ use Rattle.rto.specs.declared.LimitAnswer.{LimitAnswer}
 use Rattle.rto.specs.declared.MeanAnswer as Me
 use Rattle.rto.specs.declared.MeanAnswer.{MeanAnswer}
 
--- ---- bounds: granularity 1 s, counters below 2 ^ 60
+-- ---- bounds: granularity 1 s
 abbrev pub maxGranularity : ℕ
 maxGranularity = 1000000000
-
-abbrev pub countLimit : ℕ
-countLimit = 1152921504606846976
 
 abbrev pub durationsInBounds : RtoConfig → Bool
 durationsInBounds c =
@@ -56,9 +54,9 @@ estimateBroken (Is s) (Is v) = ltb maxEstimate s || ltb maxEstimate v
 unfoldable pub stateBroken : RtoEstimator → Bool
 stateBroken e = not (configInBounds (e .config)) || estimateBroken (e .srtt) (e .rttvar)
 
--- ---- line 8: "a counter that the source raises in plain sums stands at 2^60 or more"
+-- ---- line 8
 unfoldable pub countsFull : RtoStats → Bool
-countsFull s = leb countLimit (s .«sample_count») || (leb countLimit (s .«karn_rejected_count») || (leb countLimit (s .«timeout_count») || leb countLimit (s .«backoff_count»)))
+countsFull s = countFull (s .«sample_count») || (countFull (s .«karn_rejected_count») || (countFull (s .«timeout_count») || countFull (s .«backoff_count»)))
 
 -- ---- line 10
 abbrev pub rttTooLong : Rtt → Bool

@@ -1,6 +1,7 @@
 // The RTO estimator of RFC 6298 by value: the reference's timing/rto.rs on nanoseconds.
 use duration::MAX_DURATION;
 use duration::MAX_ESTIMATE;
+use refusal::COUNT_LIMIT;
 use refusal::Refusal;
 use rtt::Estimate;
 ghost use mathlib.Core.Path.{_≡_};
@@ -14,8 +15,6 @@ ghost use Rattle.rto.specs.Rto.{durationsInBounds, factorsInBounds, conf
 
 // 1 s in nanoseconds.
 const MAX_GRANULARITY: u64 = 1000000000;
-// 2^60.
-const COUNT_LIMIT: u64 = 1152921504606846976;
 
 pub struct RtoConfig {
     pub initial_rto: u64,

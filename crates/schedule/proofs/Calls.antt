@@ -10,6 +10,7 @@ use lib.Dec.{ltb}
 use borrow.Author.Tests.{ltb-false, leb-false, lt-ltb, le-ltb, le-leb, lt-leb}
 use Rattle.refusal.proofs.Laws.{or-false}
 use Rattle.duration.specs.Bounds.{maxTime}
+use Rattle.refusal.specs.Counts.{countLimit}
 use Rattle.schedule.specs.Record.{record4, timeOf, lengthOf, placeOf, vacant, after, inserted, lowestFree}
 use Rattle.schedule.specs.State.{Mem, mem, waitingRecords, brokenFrom, stateBroken, countsBroken, late, heldLate, leavesAt, delayLate, deliveriesLate, copies, unusedPlaces, unusedRecords, lacksRoom, CanPut, CanSchedule}
 use Rattle.schedule.specs.Schedule.{scheduler, newDef, placed, filled, putDef, putAllDef, roomOf, onSchedule, scheduleDef, firstRecord, bytesOf, takenDef, PopExit, popExit, onPop, outShort, takeDef, popDef, CanPop, reading}
@@ -75,8 +76,8 @@ module _ (m : Mem) (now : ℕ) (packet : List ℕ) {ds : Deliveries} (can : CanS
   pub second-fits : (d e : ℕ) → ds ≡ Two d e → (e ≤ 180000) × (now + e * 1000000 ≤ maxTime)
   second-fits d e q = delay-fits now e (or-false (delayLate now d) (delayLate now e) (sym (ap (deliveriesLate now) q) ∙ can .times) .1)
 
-  few : m .scheduler .«next_order» < 1152921504606846976
-  few = leb-false 1152921504606846976 (m .scheduler .«next_order») (can .counts)
+  few : m .scheduler .«next_order» < countLimit
+  few = leb-false countLimit (m .scheduler .«next_order») (can .counts)
 
   pub can-one : (d : ℕ) → ds ≡ One d → CanPut m packet
   can-one d e = record { sound = can .sound; counts = omega (arith, few); short = can .short; room = sym (ap (λ (x : Deliveries). lacksRoom m (copies x)) e) ∙ can .room }

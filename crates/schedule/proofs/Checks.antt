@@ -75,7 +75,7 @@ pub marks-next : (n p : ℕ) (rs : List (List ℕ)) → placeMarks (suc n) p rs 
 unfolding placeMarks
 marks-next n p rs = refl
 
-marks-zero : (p : ℕ) (rs : List (List ℕ)) → placeMarks zero p rs ≡ []
+pub marks-zero : (p : ℕ) (rs : List (List ℕ)) → placeMarks zero p rs ≡ []
 unfolding placeMarks
 marks-zero p rs = refl
 

@@ -4,10 +4,10 @@ use Prim.Native.Nat.{ℕ, zero, suc, _<_, _≤_, _+_}
 use native.Mathlib.Omega.{arith}
 use mathlib.Core.Logic.{_⊎_, inl, inr}
 use mathlib.Core.Bool.{Bool, true, false, _&&_, _||_, or-true, and-false}
-use mathlib.Core.List.{List, [], _∷_}
+use mathlib.Core.List.{List, [], _∷_, _++_}
 use lib.ListN.{length, getD}
-use lib.Dec.{ltb, leb}
-use borrow.Author.Tests.{lt-ltb, le-ltb, le-leb, lt-leb, ltb-false, leb-false}
+use lib.Dec.{ltb, leb, eqb}
+use borrow.Author.Tests.{lt-ltb, le-ltb, le-leb, lt-leb, ltb-false, leb-false, eq-eqb, ne-eqb, eqb-true, eqb-false}
 use Rattle.refusal.proofs.Laws.{or-false}
 use Rattle.schedule.specs.Record.{orderOf, lengthOf, placeOf, after, placeIn}
 use Rattle.schedule.specs.Scans.{blockSize, doubled, outside, doubledIn, brokenAlone}
@@ -96,7 +96,47 @@ unfolding outside
 sound-inside next n front [] h = refl
 sound-inside next n front (r ∷ rs) h = let f = fine next n front r rs h in or-both (leb n (placeOf r)) (outside n rs) (lt-leb n (placeOf r) (f .inside)) (sound-inside next n r rs (f .rest))
 
+-- ---- one record more at the end
+pub place-last : (p : ℕ) (rs : List (List ℕ)) (r : List ℕ) → placeIn p (rs ++ r ∷ []) ≡ placeIn p (r ∷ rs)
+unfolding placeIn
+place-last p [] r = refl
+place-last p (x ∷ rs) r = ap (λ (b : Bool). eqb p (placeOf x) || b) (place-last p rs r) ∙ swap (eqb p (placeOf x)) (eqb p (placeOf r)) (placeIn p rs)
+  where
+    swap : (a b c : Bool) → (a || (b || c)) ≡ (b || (a || c))
+    swap true b c = sym (or-true b)
+    swap false b c = refl
+
+pub doubled-none : doubled [] ≡ false
+unfolding doubled
+doubled-none = refl
+
+pub doubled-last : (rs : List (List ℕ)) (r : List ℕ) → doubled (rs ++ r ∷ []) ≡ (placeIn (placeOf r) rs || doubled rs)
+unfolding doubled placeIn
+doubled-last [] r = refl
+doubled-last (x ∷ rs) r =
+    ap (λ (b : Bool). placeIn (placeOf x) (rs ++ r ∷ []) || b) (doubled-last rs r)
+    ∙ ap (λ (b : Bool). b || (placeIn (placeOf r) rs || doubled rs)) (place-last (placeOf x) rs r ∙ ap (λ (b : Bool). b || placeIn (placeOf x) rs) (same (placeOf x) (placeOf r)))
+    ∙ swap (eqb (placeOf r) (placeOf x)) (placeIn (placeOf x) rs) (placeIn (placeOf r) rs) (doubled rs)
+  where
+    same : (a b : ℕ) → eqb a b ≡ eqb b a
+    same a b = go (eqb b a) refl
+      where
+        go : (t : Bool) → eqb b a ≡ t → eqb a b ≡ t
+        go true e = eq-eqb a b (sym (eqb-true b a e))
+        go false e = ne-eqb a b (λ q. eqb-false b a e (sym q))
+
+    swap : (e i q d : Bool) → ((e || i) || (q || d)) ≡ ((e || q) || (i || d))
+    swap true i q d = refl
+    swap false true q d = sym (or-true q)
+    swap false false q d = refl
+
 -- ---- line 9: a broken record, or else a doubled place
+pub record-inside : (next n : ℕ) (front r : List ℕ) → recordBroken next n front r ≡ false → placeOf r < n
+record-inside next n front r h =
+    let a = or-false (after front r) (ltb 1410 (lengthOf r) || (leb next (orderOf r) || leb n (placeOf r))) h .1 in
+    let b = or-false (ltb 1410 (lengthOf r)) (leb next (orderOf r) || leb n (placeOf r)) a .1 in
+    leb-false n (placeOf r) (or-false (leb next (orderOf r)) (leb n (placeOf r)) b .1)
+
 pub alone-none : (next n : ℕ) (front : List ℕ) {l : List (List ℕ)} → l ≡ [] → brokenAlone next n front l ≡ false
 unfolding brokenAlone
 alone-none next n front e = ap (brokenAlone next n front) e
@@ -109,10 +149,8 @@ pub alone-outside : (next n : ℕ) (front : List ℕ) (l : List (List ℕ)) → 
 unfolding brokenAlone outside
 alone-outside next n front [] h = refl
 alone-outside next n front (r ∷ rs) h =
-    let a = or-false (recordBroken next n front r) (brokenAlone next n r rs) h .0 in
-    let a2 = or-false (after front r) (ltb 1410 (lengthOf r) || (leb next (orderOf r) || leb n (placeOf r))) a .1 in
-    let a3 = or-false (ltb 1410 (lengthOf r)) (leb next (orderOf r) || leb n (placeOf r)) a2 .1 in
-    or-both (leb n (placeOf r)) (outside n rs) (or-false (leb next (orderOf r)) (leb n (placeOf r)) a3 .1) (alone-outside next n r rs (or-false (recordBroken next n front r) (brokenAlone next n r rs) h .1))
+    let a = or-false (recordBroken next n front r) (brokenAlone next n r rs) h in
+    or-both (leb n (placeOf r)) (outside n rs) (lt-leb n (placeOf r) (record-inside next n front r (a .0))) (alone-outside next n r rs (a .1))
 
 pub alone-broken : (next n : ℕ) (front : List ℕ) (l : List (List ℕ)) → brokenAlone next n front l ≡ true → brokenFrom next n front l ≡ true
 unfolding brokenAlone brokenFrom

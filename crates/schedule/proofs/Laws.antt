@@ -7,18 +7,19 @@ use mathlib.Core.List.{List, [], _∷_, _++_, map}
 use lib.ListN.{length, getD, take, drop, replicate, length-replicate, length-map}
 use lib.Dec.{ltb, leb, eqb}
 use native.Mathlib.Numerals.{add-one}
-use native.Mathlib.Nat.{add-zero}
+use native.Mathlib.Nat.{add-zero, add-assoc}
 use borrow.Author.Tests.{ltb-true, ltb-false, leb-true, leb-false, eq-eqb}
 use Rattle.schedule.specs.Record.{record4, timeOf, orderOf, lengthOf, placeOf, vacant, after, inserted, orderedFrom, placeIn, lowestFree}
-use Rattle.schedule.specs.State.{Mem, waitingRecords, placeCount, brokenFrom, stateBroken, copies, leavesAt, CanPut, CanSchedule}
+use Rattle.schedule.specs.State.{Mem, waitingRecords, placeCount, brokenFrom, stateBroken, late, heldLate, delayLate, copies, leavesAt, CanPut, CanSchedule}
 use Rattle.schedule.specs.Schedule.{newDef, placed, filled, putDef, putAllDef, firstRecord, bytesOf, takenDef, takeDef, onPop, roomOf}
 use Rattle.schedule.specs.Waiting.{Copy, copy, copyAfter, copyOf, waiting, putCopies, nothing, leaves, popCopies}
 use Rattle.schedule.specs.declared.Deliveries.{Deliveries}
 use Rattle.schedule.specs.declared.Deliveries.the-variants.{Lost, One, Two}
 use Rattle.schedule.specs.declared.Ready.the-variants as ready
 use Rattle.schedule.proofs.Ordering.{Order, by-key, first-of, insert-none, insert-here, insert-later, inserted-length}
+use Rattle.refusal.proofs.Laws.{or-false}
 use Rattle.schedule.proofs.Sound.{fine, none-broken, place-cons}
-use Rattle.schedule.proofs.Memory.{length-filled, unbroken, in-order, waiting-count, makes-sound, room-is, short, place-free, place-inside, put-records, put-sound, put-next, first-waits, first-fine, first-inside, taken-records, taken-sound}
+use Rattle.schedule.proofs.Memory.{length-filled, unbroken, in-order, waiting-count, makes-sound, room-is, short, place-free, place-inside, put-records, put-places, put-length, put-sound, put-next, first-waits, first-fine, first-inside, taken-records, taken-places, taken-length, taken-next, taken-sound}
 use Rattle.schedule.proofs.Calls.{can-one, can-first, can-second}
 use Rattle.schedule.proofs.Bytes.{other-copies, filled-bytes, bytes-length}
 -- tests
@@ -31,6 +32,10 @@ new-waits rs ps = refl
 
 pub new-sound : (rs : List (List ℕ)) (ps : List ℕ) → stateBroken (newDef rs ps) ≡ false
 new-sound rs ps = makes-sound (newDef rs ps) (omega arith) (none-broken 0 (placeCount (newDef rs ps)) vacant)
+
+pub new-times : (rs : List (List ℕ)) (ps : List ℕ) → heldLate (waitingRecords (newDef rs ps)) ≡ false
+unfolding heldLate
+new-times rs ps = refl
 
 -- ---- scheduling
 map-inserted : (ps : List ℕ) (r : List ℕ) (rs : List (List ℕ)) → map (copyOf ps) (inserted after r rs) ≡ inserted copyAfter (copyOf ps r) (map (copyOf ps) rs)
@@ -65,12 +70,6 @@ schedule-waits m now packet (Two d e) can =
     ∙ ap (λ (n : ℕ). inserted copyAfter (copy (leavesAt now e) n packet) (waiting (putDef m (leavesAt now d) packet))) (put-next m packet a (leavesAt now d))
     ∙ ap (inserted copyAfter (copy (leavesAt now e) (m .scheduler .«next_order» + 1) packet)) (put-waits m packet a (leavesAt now d))
 
-pub schedule-sound : (m : Mem) (now : ℕ) (packet : List ℕ) (ds : Deliveries) → CanSchedule m now packet ds → stateBroken (putAllDef m now packet ds) ≡ false
-unfolding putAllDef
-schedule-sound m now packet Lost can = can .sound
-schedule-sound m now packet (One d) can = put-sound m packet (can-one m now packet can d refl) (leavesAt now d)
-schedule-sound m now packet (Two d e) can = put-sound (putDef m (leavesAt now d) packet) packet (can-second m now packet can d e (leavesAt now d) refl refl) (leavesAt now e)
-
 -- ---- what waits: as many as the count says, in leaving order, numbered below the next order, each in a place of its own
 module _ (m : Mem) (sound : stateBroken m ≡ false) where
   pub waits-count : length (waiting m) ≡ m .scheduler .count
@@ -84,6 +83,15 @@ module _ (m : Mem) (sound : stateBroken m ≡ false) where
       same-order : (c : Copy) (r : List ℕ) (rs : List (List ℕ)) → c .time ≡ timeOf r → c .order ≡ orderOf r → orderedFrom copyAfter c (map (copyOf (m .places)) rs) ≡ orderedFrom after r rs
       same-order c r [] p q = refl
       same-order c r (x ∷ xs) p q = rw (p, q, same-order (copyOf (m .places) x) x xs refl refl)
+
+  pub waits-numbered : (i : ℕ) → i < length (waiting m) → getD (waiting m) i (copy 0 0 []) .order < m .scheduler .«next_order»
+  unfolding waiting
+  waits-numbered i h = numbered vacant (waitingRecords m) i (unbroken m sound) h
+    where
+      numbered : (front : List ℕ) (rs : List (List ℕ)) (i : ℕ) → brokenFrom (m .scheduler .«next_order») (placeCount m) front rs ≡ false → i < length (map (copyOf (m .places)) rs) → getD (map (copyOf (m .places)) rs) i (copy 0 0 []) .order < m .scheduler .«next_order»
+      numbered front [] i b h = absurd (omega arith)
+      numbered front (r ∷ rs) zero b h = fine (m .scheduler .«next_order») (placeCount m) front r rs b .below
+      numbered front (r ∷ rs) (suc i) b h = numbered r rs i (fine (m .scheduler .«next_order») (placeCount m) front r rs b .rest) (omega arith)
 
   -- room is left over by what waits
   pub room-left : roomOf m ≡ min (placeCount m - length (waiting m)) (length (m .records) - length (waiting m))
@@ -163,6 +171,58 @@ pop-nothing m now out sound h = go (ltb 0 (m .scheduler .count)) refl
         let x = copyOf (m .places) (firstRecord (m .records)) in
         let f = not-first now x (waiting (takenDef m)) (ap (popCopies now) (sym (taken-waits m sound some)) ∙ h) in
         simp (e, f)
+
+-- ---- what a call that isn't refused leaves beside the list: slices of the same lengths, and a state that the next call accepts
+pub record Leaves (m m′ : Mem) (orders : ℕ) : Type 0 where
+  pub records : length (m′ .records) ≡ length (m .records)
+  pub places : length (m′ .places) ≡ length (m .places)
+  pub next : m′ .scheduler .«next_order» ≡ m .scheduler .«next_order» + orders
+  pub sound : stateBroken m′ ≡ false
+  pub times : heldLate (waitingRecords m′) ≡ false
+
+held-first : (r : List ℕ) (rs : List (List ℕ)) → heldLate (r ∷ rs) ≡ (late (timeOf r) || heldLate rs)
+unfolding heldLate
+held-first r rs = refl
+
+held-inserted : (r : List ℕ) (rs : List (List ℕ)) → late (timeOf r) ≡ false → heldLate rs ≡ false → heldLate (inserted after r rs) ≡ false
+held-inserted r [] h k = ap heldLate (insert-none after r) ∙ held-first r [] ∙ or-both (late (timeOf r)) (heldLate []) h k
+held-inserted r (x ∷ xs) h k = go (after x r) refl (or-false (late (timeOf x)) (heldLate xs) (sym (held-first x xs) ∙ k)) (held-inserted r xs h)
+  where
+    go : (t : Bool) → after x r ≡ t → (late (timeOf x) ≡ false) × (heldLate xs ≡ false) → (heldLate xs ≡ false → heldLate (inserted after r xs) ≡ false) → heldLate (inserted after r (x ∷ xs)) ≡ false
+    go true e f ih = ap heldLate (insert-here after r x xs e) ∙ held-first r (x ∷ xs) ∙ or-both (late (timeOf r)) (heldLate (x ∷ xs)) h k
+    go false e f ih = ap heldLate (insert-later after r x xs e) ∙ held-first x (inserted after r xs) ∙ or-both (late (timeOf x)) (heldLate (inserted after r xs)) (f .0) (ih (f .1))
+
+put-leaves : (m : Mem) (packet : List ℕ) → CanPut m packet → (time : ℕ) → late time ≡ false → heldLate (waitingRecords m) ≡ false → Leaves m (putDef m time packet) 1
+put-leaves m packet can time h k =
+    record {
+      records = put-length m packet can time;
+      places = put-places m packet can time;
+      next = put-next m packet can time;
+      sound = put-sound m packet can time;
+      times = ap heldLate (put-records m packet can time) ∙ held-inserted (record4 time (m .scheduler .«next_order») (length packet) (lowestFree (placeCount m) (waitingRecords m))) (waitingRecords m) h k;
+    }
+
+then : {m m′ m″ : Mem} {j k : ℕ} → Leaves m m′ j → Leaves m′ m″ k → Leaves m m″ (j + k)
+then {m} {j = j} {k = k} f g = record { records = g .records ∙ f .records; places = g .places ∙ f .places; next = g .next ∙ ap (λ (n : ℕ). n + k) (f .next) ∙ add-assoc (m .scheduler .«next_order») j k; sound = g .sound; times = g .times }
+
+pub schedule-leaves : (m : Mem) (now : ℕ) (packet : List ℕ) (ds : Deliveries) → CanSchedule m now packet ds → heldLate (waitingRecords m) ≡ false → Leaves m (putAllDef m now packet ds) (copies ds)
+unfolding putAllDef
+schedule-leaves m now packet Lost can h = record { records = refl; places = refl; next = sym (add-zero (m .scheduler .«next_order»)); sound = can .sound; times = h }
+schedule-leaves m now packet (One d) can h = put-leaves m packet (can-one m now packet can d refl) (leavesAt now d) (or-false (ltb 180000 d) (late (leavesAt now d)) (can .times) .1) h
+schedule-leaves m now packet (Two d e) can h =
+    let t = or-false (delayLate now d) (delayLate now e) (can .times) in
+    let f = put-leaves m packet (can-first m now packet can d e refl) (leavesAt now d) (or-false (ltb 180000 d) (late (leavesAt now d)) (t .0) .1) h in
+    then f (put-leaves (putDef m (leavesAt now d) packet) packet (can-second m now packet can d e (leavesAt now d) refl refl) (leavesAt now e) (or-false (ltb 180000 e) (late (leavesAt now e)) (t .1) .1) (f .times))
+
+pub taken-leaves : (m : Mem) → stateBroken m ≡ false → 0 < m .scheduler .count → heldLate (waitingRecords m) ≡ false → Leaves m (takenDef m) 0
+taken-leaves m sound some h =
+    record {
+      records = taken-length m sound some;
+      places = taken-places m sound some;
+      next = taken-next m sound some ∙ sym (add-zero (m .scheduler .«next_order»));
+      sound = taken-sound m sound some;
+      times = ap heldLate (taken-records m sound some) ∙ or-false (late (timeOf (firstRecord (m .records)))) (heldLate (drop 1 (waitingRecords m))) (sym (held-first (firstRecord (m .records)) (drop 1 (waitingRecords m))) ∙ ap heldLate (sym (first-waits m sound some)) ∙ h) .1;
+    }
 
 -- ---- the order of leaving
 -- in a list in order nothing leaves before what stands in front of it

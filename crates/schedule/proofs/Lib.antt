@@ -8,3 +8,4 @@ pub mod Memory
 pub mod Calls
 pub mod Bytes
 pub mod Laws
+pub mod Examples

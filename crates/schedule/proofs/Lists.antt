@@ -3,10 +3,11 @@ use mathlib.Core.Path.{_≡_, refl, sym, _∙_, ap}
 use Prim.Native.Nat.{ℕ, zero, suc, _<_, _≤_, _+_, _-_}
 use native.Mathlib.Omega.{arith}
 use native.Mathlib.Numerals.{add-one}
-use native.Mathlib.Nat.{le-refl, add-comm, add-sub-cancel-left}
+use native.Mathlib.Nat.{le-refl, add-comm, add-sub-cancel-left, sub-zero, suc-sub-suc, suc-add}
 use mathlib.Core.List.{List, [], _∷_, _++_, append-assoc}
 use lib.ListN.{length, set, getD, take, drop, replicate, length-replicate, length-append, length-drop, replicate-append-replicate, drop-of-length-le, take-append-drop, List·getD-append}
 use lib.Seq.{take-suc, drop-cons, set-at, length-take-le, append-snoc, getD-append-add, getD-drop, drop-length, take-at, drop-at, getD-take, take-take}
+use Rattle.refusal.proofs.Tails.{tail-is, tail-back}
 use Rattle.schedule.specs.Scans.{raised}
 use borrow.Rule.Slice.PartMut.{midOf, postOf, putMid, post-is, mid-len}
 
@@ -111,17 +112,24 @@ module _ {A : Type 0} where
       ∙ ap (λ (xs : List A). take (j + 1) l ++ (xs ++ drop (n + 1) l)) (sym (rest-cons d n j l (omega arith) (omega arith)))
       ∙ ap (λ (m : ℕ). raised n m l) (sym e)
 
-  pub raise-length : (n i : ℕ) (l : List A) → i ≤ n → n < length l → length (raised n i l) ≡ length l
-  raise-length n i l h k =
-      length-append (take (i + 1) l) (drop i (take n l) ++ drop (n + 1) l)
-      ∙ ap (λ (m : ℕ). length (take (i + 1) l) + m) (length-append (drop i (take n l)) (drop (n + 1) l))
-      ∙ rw (length-take-le (i + 1) l (omega arith), length-drop i (take n l), length-take-le n l (omega arith), length-drop (n + 1) l) (omega arith)
+  pub raise-put : (d v : A) (n : ℕ) (l : List A) → n < length l → set (raised n 0 l) 0 v ≡ v ∷ (take n l ++ drop (n + 1) l)
+  raise-put d v n l h = raise-set d v n 0 l (omega arith)
 
-  pub raise-put : (d v : A) (n i : ℕ) (l : List A) → i ≤ n → n < length l → set (raised n i l) i v ≡ take i (take n l) ++ v ∷ drop i (take n l) ++ drop (n + 1) l
-  raise-put d v n i l h k =
-      raise-set d v n i l (omega arith)
-      ∙ ap (λ (xs : List A). xs ++ v ∷ (drop i (take n l) ++ drop (n + 1) l)) (sym (take-take i n l h))
-      ∙ sym (append-assoc (take i (take n l)) (v ∷ drop i (take n l)) (drop (n + 1) l))
+  -- one put in front of those from i up to n
+  insert-in : (v : A) (i n : ℕ) (l : List A) → i ≤ n → n < length l → take i l ++ v ∷ (take (n - i) (drop i l) ++ drop (n - i + 1) (drop i l)) ≡ (take i (take n l) ++ v ∷ drop i (take n l)) ++ drop (n + 1) l
+  insert-in v zero n l h k = ap (λ (m : ℕ). v ∷ (take m l ++ drop (m + 1) l)) (sub-zero n)
+  insert-in v (suc i) zero l h k = absurd (omega arith)
+  insert-in v (suc i) (suc n) [] h k = absurd (omega arith)
+  insert-in v (suc i) (suc n) (x ∷ l) h k =
+      ap (λ (m : ℕ). x ∷ take i l ++ v ∷ (take m (drop i l) ++ drop (m + 1) (drop i l))) (suc-sub-suc n i)
+      ∙ ap (λ (xs : List A). x ∷ xs) (insert-in v i n l (omega arith) (omega arith))
+      ∙ ap (λ (m : ℕ). x ∷ (take i (take n l) ++ v ∷ drop i (take n l)) ++ drop m (x ∷ l)) (sym (suc-add n 1))
+
+  pub insert-part : (v : A) (i n : ℕ) (l ys : List A) → i ≤ n → n < length l → ys ≡ v ∷ (take (n - i) (take (length l - i) (drop i l)) ++ drop (n - i + 1) (take (length l - i) (drop i l))) → putMid i (length l - i) l ys ≡ (take i (take n l) ++ v ∷ drop i (take n l)) ++ drop (n + 1) l
+  insert-part v i n l ys h k e =
+      tail-back i l ys (omega arith)
+      ∙ ap (λ (xs : List A). take i l ++ xs) (e ∙ ap (λ (xs : List A). v ∷ (take (n - i) xs ++ drop (n - i + 1) xs)) (tail-is i l))
+      ∙ insert-in v i n l h k
 
 -- ---- a part of a store, written in two pieces
 first-part : (l p : List ℕ) (a : ℕ) → a + length p ≤ length l → putMid a (a + length p - a) l p ≡ take a l ++ p ++ drop (a + length p) l

@@ -1,26 +1,32 @@
--- Marks of the places of a block, as loops over the waiting records from the last to the first make them.
+-- Marks of the places of a block, as loops over the waiting records make them: from the last to the first, or from the first to the last.
 use mathlib.Core.Path.{_≡_, refl, sym, _∙_, ap, subst}
 use mathlib.Core.Logic.{_⊎_}
 use Prim.Native.Nat.{ℕ, zero, suc, _≤_, _<_, _+_, _-_}
 use native.Mathlib.Omega.{arith}
 use native.Mathlib.Numerals.{add-one}
-use native.Mathlib.Nat.{add-zero, sub-zero}
+use native.Mathlib.Nat.{add-zero, zero-add}
 use mathlib.Core.Bool.{Bool, true, false, cond, _||_, true≢false}
-use mathlib.Core.List.{List, [], _∷_}
+use mathlib.Core.List.{List, [], _∷_, _++_}
 use lib.ListN.{length, drop, take, getD, set}
-use lib.Seq.{drop-nil, length-take-le, getD-take}
+use lib.Seq.{drop-nil, length-take-le, getD-take, take-suc}
 use lib.Bits.{bitOr}
 use lib.Dec.{eqb}
 use borrow.Author.Tests.{eq-eqb, ne-eqb}
 use Rattle.schedule.specs.Record.{placeOf, placeIn}
-use Rattle.schedule.specs.Scans.{blockSize, placeMarks, firstFree, firstUnset, outside, doubledIn}
+use Rattle.schedule.specs.Scans.{blockSize, placeMarks, firstFree, firstUnset, outside, doubled, doubledIn}
 use Rattle.schedule.proofs.Lists.{rest-cons}
-use Rattle.schedule.proofs.Checks.{marks-next, marks-outside, marks-set, marks-at, first-next, first-zero}
-use Rattle.schedule.proofs.Doubled.{in-first, in-outside, outside-at}
+use Rattle.schedule.proofs.Checks.{marks-next, marks-zero, marks-outside, marks-set, marks-at, first-next, first-zero}
+use Rattle.schedule.proofs.Doubled.{in-first, in-outside, outside-at, place-last, doubled-last}
 
 -- a bool as 1 or 0
 abbrev pub flag : Bool → ℕ
 flag b = cond b 1 0
+
+flag-or : (d p : Bool) → bitOr (flag d) (flag p) ≡ flag (p || d)
+flag-or true true = refl
+flag-or true false = refl
+flag-or false true = refl
+flag-or false false = refl
 
 -- what a mark says of its place
 module _ (p q : ℕ) (rs : List (List ℕ)) (low : p ≤ q) (high : q < p + blockSize) where
@@ -112,27 +118,14 @@ module _ (s : List (List ℕ)) (count base i : ℕ) {used : List ℕ} (some : 0 
   pub marks-no : (place < base) ⊎ (base + blockSize ≤ place) → used ≡ placeMarks blockSize base (drop (i - 1) (take count s))
   marks-no h = marked ∙ marks-outside blockSize base (getD s (i - 1) []) (drop i (take count s)) h ∙ ap (placeMarks blockSize base) one-more
 
-  -- the same where no place lies outside the block from 0 on
-  pub inside : outside blockSize (take count s) ≡ false → place < blockSize
-  inside o =
-      let z = length-take-le count s high in
-      let e : getD (take count s) (i - 1) [] ≡ getD s (i - 1) [] = getD-take count s (i - 1) [] (omega arith) in
-      subst (λ (r : List ℕ). placeOf r < blockSize) e (outside-at blockSize (i - 1) (take count s) o (omega arith))
-
   -- doubled places
   pub turn-in : base ≤ place → place - base < blockSize → {twice : ℕ} → twice ≡ flag (doubledIn base (drop i (take count s))) → bitOr twice (getD used (place - base) 0) ≡ flag (doubledIn base (drop (i - 1) (take count s)))
   turn-in a b {twice} e =
       let rs = drop i (take count s) in
       ap (λ (x : ℕ). bitOr x (getD used (place - base) 0)) e
       ∙ ap (bitOr (flag (doubledIn base rs))) (ap (λ (xs : List ℕ). getD xs (place - base) 0) marked ∙ mark-is base place rs a (omega arith))
-      ∙ joined (doubledIn base rs) (placeIn place rs)
+      ∙ flag-or (doubledIn base rs) (placeIn place rs)
       ∙ ap flag (sym (in-first base (getD s (i - 1) []) rs a (omega arith)) ∙ ap (doubledIn base) one-more)
-    where
-      joined : (d p : Bool) → bitOr (flag d) (flag p) ≡ flag (p || d)
-      joined true true = refl
-      joined true false = refl
-      joined false true = refl
-      joined false false = refl
 
   pub turn-out : (place < base) ⊎ (base + blockSize ≤ place) → {twice : ℕ} → twice ≡ flag (doubledIn base (drop i (take count s))) → twice ≡ flag (doubledIn base (drop (i - 1) (take count s)))
   turn-out h e = e ∙ ap flag (sym (in-outside base (getD s (i - 1) []) (drop i (take count s)) h) ∙ ap (doubledIn base) one-more)
@@ -144,7 +137,37 @@ flag-is b e = ap (λ (n : ℕ). eqb n 1) e ∙ read b
     read true = refl
     read false = refl
 
-pub marks-low : (s : List (List ℕ)) (count i : ℕ) {used : List ℕ} (some : 0 < i) (low : i ≤ count) (high : count ≤ length s) → used ≡ placeMarks blockSize 0 (drop i (take count s)) → placeOf (getD s (i - 1) []) < blockSize → set used (placeOf (getD s (i - 1) [])) 1 ≡ placeMarks blockSize 0 (drop (i - 1) (take count s))
-marks-low s count i {used} some low high marked h =
-    let p = placeOf (getD s (i - 1) []) in
-    ap (λ (n : ℕ). set used n 1) (sym (sub-zero p)) ∙ marks-it s count 0 i some low high marked (omega arith) (rw (sub-zero p) h)
+-- one turn from the first to the last: the i-th record, where all places lie in the block from 0 on
+marks-same : (n p : ℕ) (rs : List (List ℕ)) (r : List ℕ) → placeMarks n p (r ∷ rs) ≡ placeMarks n p (rs ++ r ∷ [])
+marks-same zero p rs r = marks-zero p (r ∷ rs) ∙ sym (marks-zero p (rs ++ r ∷ []))
+marks-same (suc n) p rs r =
+    marks-next n p (r ∷ rs)
+    ∙ ap (λ (b : Bool). cond b 1 0 ∷ placeMarks n (suc p) (r ∷ rs)) (sym (place-last p rs r))
+    ∙ ap (λ (xs : List ℕ). cond (placeIn p (rs ++ r ∷ [])) 1 0 ∷ xs) (marks-same n (suc p) rs r)
+    ∙ sym (marks-next n p (rs ++ r ∷ []))
+
+module _ (s : List (List ℕ)) (i : ℕ) {used : List ℕ} (low : i < length s) (marked : used ≡ placeMarks blockSize 0 (take i s)) (inside : placeOf (getD s i []) < blockSize) where
+  abbrev it : List ℕ
+  it = getD s i []
+
+  one-last : take i s ++ it ∷ [] ≡ take (i + 1) s
+  one-last = sym (ap (λ (k : ℕ). take k s) (add-one i) ∙ take-suc s i [] low)
+
+  pub marks-last : set used (placeOf it) 1 ≡ placeMarks blockSize 0 (take (i + 1) s)
+  marks-last =
+      ap (λ (xs : List ℕ). set xs (placeOf it) 1) marked
+      ∙ marks-set blockSize 0 (placeOf it) it (take i s) (sym (zero-add (placeOf it))) inside
+      ∙ marks-same blockSize 0 (take i s) it
+      ∙ ap (placeMarks blockSize 0) one-last
+
+  pub turn-last : {twice : ℕ} → twice ≡ flag (doubled (take i s)) → bitOr twice (getD used (placeOf it) 0) ≡ flag (doubled (take (i + 1) s))
+  turn-last e =
+      ap (λ (x : ℕ). bitOr x (getD used (placeOf it) 0)) e
+      ∙ ap (bitOr (flag (doubled (take i s)))) (ap (λ (xs : List ℕ). getD xs (placeOf it) 0) marked ∙ marks-at blockSize 0 (placeOf it) (take i s) inside ∙ ap (λ (x : ℕ). flag (placeIn x (take i s))) (zero-add (placeOf it)))
+      ∙ flag-or (doubled (take i s)) (placeIn (placeOf it) (take i s))
+      ∙ ap flag (sym (doubled-last (take i s) it) ∙ ap doubled one-last)
+
+pub low-inside : (s : List (List ℕ)) (count i : ℕ) → i < count → count ≤ length s → outside blockSize (take count s) ≡ false → placeOf (getD s i []) < blockSize
+low-inside s count i h k o =
+    let z = length-take-le count s k in
+    subst (λ (r : List ℕ). placeOf r < blockSize) (getD-take count s i [] h) (outside-at blockSize i (take count s) o (omega arith))

@@ -1,10 +1,11 @@
 -- Document 01, "Bounds of a setup" and "Turned away", lines 5, 8, 9 and 10, as they speak of a schedule.
-use Prim.Native.Nat.{ℕ, _+_, _-_, _*_, _/_, _<_}
+use Prim.Native.Nat.{ℕ, _+_, _-_, _*_, _/_, _≤_}
 use mathlib.Core.Path.{_≡_}
 use mathlib.Core.Bool.{Bool, false, _||_}
 use mathlib.Core.List.{List, [], _∷_}
 use lib.ListN.{length, take}
 use lib.Dec.{ltb, leb}
+use Rattle.refusal.specs.Counts.{countLimit, countFull}
 use Rattle.duration.specs.Bounds.{maxTime}
 use Rattle.schedule.specs.Record.{timeOf, orderOf, lengthOf, placeOf, vacant, after, placeIn, freePlaces}
 use Rattle.schedule.specs.declared.ChannelScheduler.{ChannelScheduler}
@@ -41,9 +42,9 @@ brokenFrom next n front (r ∷ rs) = recordBroken next n front r || (placeIn (pl
 unfoldable pub stateBroken : Mem → Bool
 stateBroken m = ltb (length (m .records)) (m .scheduler .count) || brokenFrom (m .scheduler .«next_order») (placeCount m) vacant (waitingRecords m)
 
--- line 8: "at 2^60 or more"
+-- line 8
 abbrev pub countsBroken : Mem → Bool
-countsBroken m = leb 1152921504606846976 (m .scheduler .«next_order»)
+countsBroken m = countFull (m .scheduler .«next_order»)
 
 -- "other times 172,800 s", in nanoseconds
 abbrev pub late : ℕ → Bool
@@ -86,7 +87,7 @@ lacksRoom m k = ltb (unusedPlaces m) k || ltb (unusedRecords m) k
 -- what the calls below the entry points take for granted: the checks before them are false
 pub record CanPut (m : Mem) (packet : List ℕ) : Type 0 where
   pub sound : stateBroken m ≡ false
-  pub counts : m .scheduler .«next_order» < 1152921504606846977
+  pub counts : m .scheduler .«next_order» ≤ countLimit
   pub short : ltb 1410 (length packet) ≡ false
   pub room : lacksRoom m 1 ≡ false
 

@@ -10,6 +10,7 @@ ghost use Rattle.schedule.specs.State.{mem, recordBroken, brokenFrom, st
 ghost use Rattle.schedule.specs.Scans.{placeFor, raised, blockSize, boundsBroken, brokenAlone, doubled, outside, doubledIn, placeMarks, firstFree, firstUnset};
 ghost use Rattle.schedule.specs.Schedule.{newDef, placed, filled, putDef, putAllDef, scheduleExit, scheduleDef, bytesOf, outShort, popExit, takeDef, popDef, CanPop, reading, firstTime, deadlineDef, lenDef, emptyDef, roomOf, roomDef};
 use duration::MAX_TIME;
+use refusal::COUNT_LIMIT;
 use refusal::Refusal;
 
 // A record: time in nanoseconds, order, length, place.
@@ -123,17 +124,26 @@ fn place_for(s: &[Scheduled], count: usize, r: Scheduled) -> usize
     low
 }
 
-// Moves the records from `from` up to `count` up by one.
-fn move_up(s: &mut [Scheduled], from: usize, count: usize)
-    requires { ⌜ (from ≤ count) × (count < length (now s)) ⌝ }
-    ensures { λ _. ⌜ now (s .exit) ≡ raised count from (now (s .entry)) ⌝ }
+// Moves the first `n` records up by one.
+fn move_up(s: &mut [Scheduled], n: usize)
+    requires { ⌜ n < length (now s) ⌝ }
+    ensures { λ _. ⌜ now (s .exit) ≡ raised n 0 (now (s .entry)) ⌝ }
 {
-    let mut i = count;
-    while from < i {
+    let mut i = n;
+    while 0 < i {
         let p = s[i - 1];
         s[i] = p;
         i -= 1;
     }
+}
+
+// The first `n` records move up by one, and `r` comes first. In this function of its own the loop becomes a memmove.
+fn insert_first(s: &mut [Scheduled], n: usize, r: Scheduled)
+    requires { ⌜ n < length (now s) ⌝ }
+    ensures { λ _. ⌜ now (s .exit) ≡ r ∷ (take n (now (s .entry)) ++ drop (n + 1) (now (s .entry))) ⌝ }
+{
+    move_up(s, n);
+    s[0] = r;
 }
 
 // Puts `r` among the first `count` records: those that leave after it move up by one.
@@ -142,8 +152,7 @@ fn insert(s: &mut [Scheduled], count: usize, r: Scheduled)
     ensures { λ _. ⌜ now (s .exit) ≡ inserted after r (take count (now (s .entry))) ++ drop (count + 1) (now (s .entry)) ⌝ }
 {
     let at = place_for(s, count, r);
-    move_up(s, at, count);
-    s[at] = r;
+    insert_first(&mut s[at..], count - at, r);
 }
 
 // Moves all but the first of the first `count` records down by one; the record left over becomes zeros.
@@ -188,12 +197,12 @@ fn low_places(s: &[Scheduled], count: usize) -> [u8; 256]
     ensures { λ r. ⌜ r ≡ placeMarks blockSize 0 (take count (now (s .entry))) ⌝ }
 {
     let mut used = [0u8; 256];
-    let mut i = count;
-    while 0 < i {
-        i -= 1;
+    let mut i: usize = 0;
+    while i < count {
         let r = s[i];
         let place = r[3] as usize;
         used[place] = 1;
+        i += 1;
     }
     used
 }
@@ -279,10 +288,7 @@ fn place_doubled(s: &[Scheduled], count: usize, places: usize) -> bool
     requires { ⌜ (count ≤ length (now s)) × (places < 9223372036854775808) × (outside places (take count (now s)) ≡ false) ⌝ }
     ensures { λ b. ⌜ b ≡ doubled (take count (now (s .entry))) ⌝ }
 {
-    if block_doubled(s, count, 0) {
-        return true;
-    }
-    let mut base: usize = 256;
+    let mut base: usize = 0;
     while base < places {
         if block_doubled(s, count, base as u64) {
             return true;
@@ -310,11 +316,37 @@ fn alone_broken(s: &[Scheduled], count: usize, next: u64, places: usize) -> bool
     false
 }
 
+// Whether one of the first `count` records breaks line 9, in one pass, where the store has at most 256 places.
+fn few_broken(s: &[Scheduled], count: usize, next: u64, places: usize) -> bool
+    requires { ⌜ (count ≤ length (now s)) × (places ≤ blockSize) ⌝ }
+    ensures { λ b. ⌜ b ≡ brokenFrom next places vacant (take count (now (s .entry))) ⌝ }
+{
+    let mut used = [0u8; 256];
+    let mut twice: u8 = 0;
+    let mut front = [0u64, 0, 0, 0];
+    let mut i: usize = 0;
+    while i < count {
+        let r = s[i];
+        if record_broken(front, r, next, places as u64) {
+            return true;
+        }
+        let place = r[3] as usize;
+        twice = twice | used[place];
+        used[place] = 1;
+        i += 1;
+        front = r;
+    }
+    twice == 1
+}
+
 // Whether one of the first `count` records breaks line 9.
 fn records_broken(s: &[Scheduled], count: usize, next: u64, places: usize) -> bool
     requires { ⌜ (count ≤ length (now s)) × (places < 9223372036854775808) ⌝ }
     ensures { λ b. ⌜ b ≡ brokenFrom next places vacant (take count (now (s .entry))) ⌝ }
 {
+    if places <= 256 {
+        return few_broken(s, count, next, places);
+    }
     if alone_broken(s, count, next, places) {
         return true;
     }
@@ -340,15 +372,15 @@ fn bounds_broken(r: Scheduled, next: u64, places: u64) -> bool
 fn record_broken(front: Scheduled, r: Scheduled, next: u64, places: u64) -> bool
     ensures { λ b. ⌜ b ≡ recordBroken next places front r ⌝ }
 {
+    if bounds_broken(r, next, places) {
+        return true;
+    }
     let before = front[0];
     let time = r[0];
     if before < time {
-        return bounds_broken(r, next, places);
+        return false;
     }
-    if leaves_after(front, r) {
-        return true;
-    }
-    bounds_broken(r, next, places)
+    leaves_after(front, r)
 }
 
 // Whether one of the first `count` records, which are in leaving order, has a time above its bound: the last one's is the latest.
@@ -535,7 +567,7 @@ impl ChannelScheduler {
                 answer: Queued::Refused(Refusal::State),
             };
         }
-        if 1152921504606846976 <= self.next_order {
+        if COUNT_LIMIT <= self.next_order {
             return Scheduling {
                 scheduler: self,
                 answer: Queued::Refused(Refusal::Counts),
@@ -635,7 +667,7 @@ impl ChannelScheduler {
                 answer: Ready::Refused(Refusal::State),
             };
         }
-        if 1152921504606846976 <= self.next_order {
+        if COUNT_LIMIT <= self.next_order {
             return Popping {
                 scheduler: self,
                 answer: Ready::Refused(Refusal::Counts),
@@ -663,7 +695,7 @@ impl ChannelScheduler {
         if self.state_broken(records, places) {
             return Held::Refused(Refusal::State);
         }
-        if 1152921504606846976 <= self.next_order {
+        if COUNT_LIMIT <= self.next_order {
             return Held::Refused(Refusal::Counts);
         }
         if held_late(records, self.count) {

@@ -3,6 +3,7 @@ ghost use mathlib.Core.Path.{_≡_};
 ghost use Prim.Native.Nat.{_+_, _-_, _*_, _≤_, _<_};
 ghost use mathlib.Core.Bool.{true, false};
 ghost use lib.ListN.{length};
+ghost use Rattle.refusal.specs.Counts.{countLimit};
 ghost use Rattle.window.specs.State as windowState;
 ghost use Rattle.window.specs.Slots.{sender};
 ghost use Rattle.window.specs.Sending.{making, makeWindow, sending, sendChunk};
@@ -375,7 +376,7 @@ impl SelectiveRepeatReceiver {
 
     fn decide_data(mut self, store: &[u8], n: u32) -> SelectiveRepeatDecision
         requires { ⌜ Ready self (now store) ⌝ }
-        requires { ⌜ (self .«buffered_out_of_order» < 1152921504606846976) × (self .«duplicates_count» < 1152921504606846976) ⌝ }
+        requires { ⌜ (self .«buffered_out_of_order» < countLimit) × (self .«duplicates_count» < countLimit) ⌝ }
         ensures { λ r. ⌜ r ≡ dataDecision (receiver self (now (store .entry))) n ⌝ }
     {
         let window = self.window_size;

@@ -2,6 +2,7 @@
 ghost use mathlib.Core.Path.{_≡_};
 ghost use Prim.Native.Nat.{ℕ, _-_, _≤_, _<_};
 ghost use mathlib.Core.Bool.{false};
+ghost use Rattle.refusal.specs.Counts.{countLimit};
 ghost use Rattle.window.specs.State.{numbersBroken};
 ghost use Rattle.window.specs.Outstanding.{unlessBroken};
 ghost use Rattle.window.specs.Sending.{making, sending};
@@ -352,7 +353,7 @@ impl StopAndWaitReceiver {
     }
 
     fn decide_data(mut self, n: u32) -> StopAndWaitDecision
-        requires { ⌜ (self .«expected_seq» ≤ 4294901760) × (self .«duplicates_count» < 1152921504606846976) ⌝ }
+        requires { ⌜ (self .«expected_seq» ≤ 4294901760) × (self .«duplicates_count» < countLimit) ⌝ }
         ensures { λ r. ⌜ r ≡ dataDecision self n ⌝ }
     {
         let expected = self.expected_seq;

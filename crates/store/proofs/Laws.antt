@@ -6,7 +6,7 @@ use mathlib.Core.Logic.{_⊎_, inl, inr, ⊎-elim}
 use native.Mathlib.Omega.{arith}
 use lib.ListN.{length, getD, set, take, drop, replicate, length-append, length-take, length-drop, length-set, length-replicate, List·getD-append}
 use lib.Seq.{getD-take, getD-drop, getD-append-add, getD-set-other, length-take-le, take-at, drop-at, take-append-seam, drop-drop, take-take, ext-getD, take-set-lt, drop-set-add}
-use Rattle.store.specs.Slot.{SlotIn, slotAt, lengthOf, markOf, flagsOf, payloadOf, slotBytes, putSlot}
+use Rattle.store.specs.Slot.{SlotIn, slotAt, lengthOf, markOf, payloadOf, slotBytes, putSlot}
 pub use Rattle.store.proofs.Tests.{slot-in, none-found, receiver-slot-short}
 pub use Rattle.store.proofs.Numbers.{run-within, count-within, written-on, written-none, written-length, payloads-none}
 
@@ -51,10 +51,6 @@ filled-length payload mark flags = omega arith
 pub filled-mark : (payload : List ℕ) (mark flags : ℕ) → markOf (slotBytes payload mark flags) ≡ mark
 unfolding slotBytes
 filled-mark payload mark flags = refl
-
-pub filled-flags : (payload : List ℕ) (mark flags : ℕ) → flagsOf (slotBytes payload mark flags) ≡ flags
-unfolding slotBytes
-filled-flags payload mark flags = refl
 
 pub filled-payload : (payload : List ℕ) (mark flags : ℕ) → payloadOf (slotBytes payload mark flags) ≡ payload
 unfolding payloadOf slotBytes

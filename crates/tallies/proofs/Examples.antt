@@ -2,11 +2,23 @@
 use Prim.Native.Nat.{ℕ}
 use mathlib.Core.Path.{_≡_, refl}
 use mathlib.Core.List.{List, [], _∷_}
+use mathlib.Core.Bool.{false}
 use lib.ListN.{replicate}
+use lib.Dec.{lit<}
+use Rattle.refusal.specs.Clauses.{anyOf}
+use Rattle.refusal.specs.Order.{order, orElse, numbered, firstOf, verdict, decide}
 use Rattle.refusal.specs.declared.Refusal.the-variants.{Full}
+use Rattle.packet.specs.Format.{headerBytes, datagram}
+use Rattle.store.specs.Slot.{slotAt, slotBytes, putSlot, payloadOf}
+use Rattle.store.specs.Sound.{anyBelow, senderSlotBroken, senderSlotsBroken}
+use Rattle.window.specs.State.{windowBroken, storeShort, numbersBroken, stateBroken, countsBroken}
+use Rattle.window.specs.Slots.{fresh, hold, markRetransmitted, datagramFor}
+use Rattle.window.specs.Sending.{sendChecks, sendChunk}
+use Rattle.window.specs.Resending.{datagramsFrom, markFrom, resend}
 use Rattle.window.specs.declared.AckAnswer.the-variants as ackAnswer
 use Rattle.window.specs.declared.SendAnswer.the-variants as sendAnswer
 use Rattle.window.specs.declared.TimeoutAnswer.the-variants as timeoutAnswer
+use Rattle.receiver.specs.State as receiver
 use Rattle.receiver.specs.Receive.{receiving}
 use Rattle.receiver.specs.declared.Handed.{Handed}
 use Rattle.receiver.specs.declared.Handed.the-variants.{Data, Fin, Corrupted}
@@ -15,9 +27,13 @@ use Rattle.stop_and_wait.specs.Receiver as stopAndWait
 use Rattle.go_back_n.specs.Receiver as goBackN
 use Rattle.selective_repeat.specs.Receiver as selectiveRepeat
 use Rattle.delivery.specs.Calls.{datagrams}
+use Rattle.delivery.specs.Ends.{Which, all}
 use Rattle.tallies.specs.Readings.{count, expected, noted}
+use Rattle.tallies.specs.Receivers as receivers
 use Rattle.tallies.specs.Receivers.{readingsWith, stopAndWaitAfter, goBackNAfter, selectiveRepeatAfter}
-use Rattle.tallies.specs.Senders.{Answered, sent, resent, acknowledged, sentBy, resentBy, total, retries}
+use Rattle.tallies.specs.Senders as senders
+use Rattle.tallies.specs.Senders.{send, timeout, Answered, sent, resent, acknowledged, sentBy, resentBy, total, retries, goBackNSender}
+use Rattle.tallies.proofs.Limits.{go-back-n-sender-no-8, go-back-n-receiver-no-8}
 
 -- a chunk sent; two datagrams of ten bytes sent again; an ACK accepted, one that isn't; a send refused
 abbrev chunk : Answered
@@ -72,3 +88,23 @@ go-back-n-readings = refl
 pub selective-repeat-readings : selectiveRepeatAfter 2 (Data 0 ∷ Data 2 ∷ Data 0 ∷ Data 0 ∷ Data 3 ∷ Data 1 ∷ Data 1 ∷ []) 0 ≡ selectiveRepeat.state 2 3 0 7 1 2
 unfolding noted count
 selective-repeat-readings = refl
+
+-- ---- the laws on line 8, applied
+abbrev store : List ℕ
+store = replicate 1404 7
+
+-- Go-Back-N: a chunk, and all outstanding sent again
+abbrev sendings : List (senders.Call Which)
+sendings = timeout all (replicate 11 0) ∷ send (65 ∷ []) (replicate 11 0) ∷ []
+
+two-written : total sentBy (senders.answers goBackNSender (fresh 1 store) sendings) ≡ 2
+unfolding total senders.answers senders.afterCalls datagrams anyOf order orElse numbered firstOf verdict decide headerBytes datagram slotAt slotBytes putSlot payloadOf anyBelow senderSlotBroken senderSlotsBroken windowBroken storeShort numbersBroken stateBroken countsBroken fresh hold markRetransmitted datagramFor sendChecks sendChunk datagramsFrom markFrom resend
+two-written = refl
+
+pub sendings-no-8 : countsBroken (senders.afterCalls goBackNSender (fresh 1 store) sendings .window) ≡ false
+sendings-no-8 = go-back-n-sender-no-8 store 1 sendings (rw two-written (lit< tt))
+
+-- a receiver handed any two datagrams
+pub two-received-no-8 : (c d : receivers.Call) → let r = receivers.afterCalls goBackN.handlePacket goBackN.newReceiver (c ∷ d ∷ []) in
+    receiver.countsBroken (r .«total_received») (r .«discarded_out_of_order») (r .«duplicate_acks_sent») ≡ false
+two-received-no-8 c d = go-back-n-receiver-no-8 (c ∷ d ∷ []) (lit< tt)

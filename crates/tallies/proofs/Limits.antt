@@ -7,8 +7,8 @@ use mathlib.Core.List.{List, [], _∷_}
 use native.Mathlib.Omega.{arith}
 use borrow.Author.Tests.{lt-leb}
 use lib.ListN.{length}
-use lib.Dec.{leb}
 use Rattle.refusal.specs.Clauses.{anyOf}
+use Rattle.refusal.specs.Counts.{countLimit, countFull}
 use Rattle.window.specs.State as window
 use Rattle.window.specs.Slots.{fresh}
 use Rattle.receiver.specs.State as receiver
@@ -31,9 +31,6 @@ use Rattle.tallies.proofs.StopAndWait.{stop-and-wait-counted}
 use Rattle.tallies.proofs.InOrder.{stop-and-wait-receiver, go-back-n-receiver}
 use Rattle.tallies.proofs.SelectiveRepeat.{selective-repeat-receiver}
 
-abbrev pub limit : ℕ
-limit = 1152921504606846976
-
 -- ---- senders
 resent-by-sent : (a : Answered) → resentBy a ≤ sentBy a
 resent-by-sent (sent a out) = omega arith
@@ -45,12 +42,12 @@ unfolding total
 resent-within [] = omega arith
 resent-within (x ∷ xs) = let one = resent-by-sent x in let more = resent-within xs in omega arith
 
-counts-sound : (a b : ℕ) → a < limit → b < limit → anyOf (leb limit a ∷ leb limit b ∷ []) ≡ false
+counts-sound : (a b : ℕ) → a < countLimit → b < countLimit → anyOf (countFull a ∷ countFull b ∷ []) ≡ false
 unfolding anyOf
-counts-sound a b h k = rw (lt-leb limit a h, lt-leb limit b k)
+counts-sound a b h k = rw (lt-leb countLimit a h, lt-leb countLimit b k)
 
-sender-sound : (P : senders.SenderCalls) (xs : List Answered) (s : P .Sender) → SenderCounted P xs s → total sentBy xs < limit
-    → anyOf (leb limit (P .totalSent s) ∷ leb limit (P .retransmissions s) ∷ []) ≡ false
+sender-sound : (P : senders.SenderCalls) (xs : List Answered) (s : P .Sender) → SenderCounted P xs s → total sentBy xs < countLimit
+    → anyOf (countFull (P .totalSent s) ∷ countFull (P .retransmissions s) ∷ []) ≡ false
 sender-sound P xs s c h =
     let few = resent-within xs in
     let a = c .sent-is in
@@ -59,19 +56,19 @@ sender-sound P xs s c h =
 
 module _ (store : List ℕ) where
   pub stop-and-wait-sender-no-8 : (retries : ℕ) (cs : List (senders.Call (Unit {0})))
-      → total sentBy (senders.answers stopAndWaitSender (newStopAndWait retries store) cs) < limit
+      → total sentBy (senders.answers stopAndWaitSender (newStopAndWait retries store) cs) < countLimit
       → window.countsBroken (windowOf (senders.afterCalls stopAndWaitSender (newStopAndWait retries store) cs .sender)) ≡ false
   unfolding window.countsBroken
   stop-and-wait-sender-no-8 retries cs h =
       let v = newStopAndWait retries store in
       sender-sound stopAndWaitSender _ _ (from-zero stopAndWaitSender stop-and-wait-counted v refl refl cs) h
 
-  pub go-back-n-sender-no-8 : (w : ℕ) (cs : List (senders.Call Which)) → total sentBy (senders.answers goBackNSender (fresh w store) cs) < limit
+  pub go-back-n-sender-no-8 : (w : ℕ) (cs : List (senders.Call Which)) → total sentBy (senders.answers goBackNSender (fresh w store) cs) < countLimit
       → window.countsBroken (senders.afterCalls goBackNSender (fresh w store) cs .window) ≡ false
   unfolding window.countsBroken fresh
   go-back-n-sender-no-8 w cs h = sender-sound goBackNSender _ _ (from-zero goBackNSender go-back-n-counted (fresh w store) refl refl cs) h
 
-  pub selective-repeat-sender-no-8 : (w : ℕ) (cs : List (senders.Call ℕ)) → total sentBy (senders.answers selectiveRepeatSender (fresh w store) cs) < limit
+  pub selective-repeat-sender-no-8 : (w : ℕ) (cs : List (senders.Call ℕ)) → total sentBy (senders.answers selectiveRepeatSender (fresh w store) cs) < countLimit
       → window.countsBroken (senders.afterCalls selectiveRepeatSender (fresh w store) cs .window) ≡ false
   unfolding window.countsBroken fresh
   selective-repeat-sender-no-8 w cs h = sender-sound selectiveRepeatSender _ _ (from-zero selectiveRepeatSender selective-repeat-counted (fresh w store) refl refl cs) h
@@ -98,17 +95,17 @@ readings-within handle r (c ∷ cs) =
     let hs = readings handle r cs in
     rw (length-cond (isReceived (x .answer)) (readPacket (c .raw)) hs) (one-more (isReceived (x .answer)) (length hs) (length cs) (readings-within handle r cs))
 
-receiver-sound : (hs : List Handed) (f g : List Handed → Handed → Bool) → length hs < limit → receiver.countsBroken (length hs) (count f hs) (count g hs) ≡ false
+receiver-sound : (hs : List Handed) (f g : List Handed → Handed → Bool) → length hs < countLimit → receiver.countsBroken (length hs) (count f hs) (count g hs) ≡ false
 unfolding receiver.countsBroken anyOf
 receiver-sound hs f g h =
     let a = count-within f hs in
     let b = count-within g hs in
-    rw (lt-leb limit (length hs) h, lt-leb limit (count f hs) (omega arith), lt-leb limit (count g hs) (omega arith))
+    rw (lt-leb countLimit (length hs) h, lt-leb countLimit (count f hs) (omega arith), lt-leb countLimit (count g hs) (omega arith))
 
-abbrev few : {R : Type 0} (handle : Handling R) (r : R) (cs : List Call) → length cs < limit → length (readings handle r cs) < limit
+abbrev few : {R : Type 0} (handle : Handling R) (r : R) (cs : List Call) → length cs < countLimit → length (readings handle r cs) < countLimit
 few handle r cs h = let within = readings-within handle r cs in omega arith
 
-module _ (cs : List Call) (h : length cs < limit) where
+module _ (cs : List Call) (h : length cs < countLimit) where
   pub stop-and-wait-receiver-no-8 : let r = afterCalls stopAndWait.handlePacket stopAndWait.newReceiver cs in
       receiver.countsBroken (r .«total_received») (r .«duplicates_count») (r .«corrupted_count») ≡ false
   stop-and-wait-receiver-no-8 =

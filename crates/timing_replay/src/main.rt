@@ -2,9 +2,10 @@
 //
 // A case is a line: a letter, then words of 16 hexadecimal digits each, with nothing between. A line that starts with '#' is a comment.
 //   e INITIAL MIN MAX GRANULARITY ALPHA BETA K MULTIPLIER CALLS   an estimator of this setup; durations in ns, doubles in units of 2^-20
-//       a call is two words: 0 and a sample, 1 and a retransmitted sample, 2 and 0 for a timeout, 3 and 0 for reset_backoff
+//       a call is two words: 0 and a sample, 1 and a retransmitted sample, 2 and 0 for a timeout, 3 and 0 for reset_backoff, 4 and a retry limit
 //   m ROOM CALLS                                                  a timer set of at most 32 entries
-//       a call is four words: 0, key, now, duration to start; 1, key, 0, 0 to cancel; 2, 0, now, 0 to pop; 3, 0, 0, 0 for the earliest
+//       a call is four words: 0, key, now, duration to start; 1, key, 0, 0 to cancel; 2, 0, now, 0 to pop; 3, 0, 0, 0 for the earliest;
+//       4, key, now, 0 for expired; 5, 0, 0, 0 to clear, which prints how many are left
 //   t CALLS                                                       the retransmission timer
 //       a call is three words: 0, now, duration to start; 1, 0, 0 to cancel; 2, now, 0 for active, expired and remaining; 3, generation, now for
 //       expired of that generation
@@ -17,12 +18,15 @@ ghost use Prim.Native.Nat.{_≤_, _<_};
 ghost use lib.ListN.{length};
 use libc::STDOUT_FILENO;
 use multi_timer::CancelAnswer;
+use multi_timer::ClearAnswer;
 use multi_timer::EarliestAnswer;
+use multi_timer::ExpiredAnswer;
 use multi_timer::Making;
 use multi_timer::MultiTimer;
 use multi_timer::PopAnswer;
 use multi_timer::StartAnswer;
 use refusal::Refusal;
+use rto::LimitAnswer;
 use rto::ResetAnswer;
 use rto::RtoConfig;
 use rto::RtoEstimator;
@@ -150,7 +154,18 @@ fn estimator_call(e: RtoEstimator, op: u64, x: u64) -> RtoEstimator {
     if op == 3 {
         return reset_call(e);
     }
+    if op == 4 {
+        limit_call(e, x);
+        return e;
+    }
     sample_call(e, x, op == 1)
+}
+
+fn limit_call(e: RtoEstimator, x: u64) {
+    match e.has_exceeded_retry_limit(narrow(x)) {
+        LimitAnswer::Exceeded(b) => answer(b as u64),
+        LimitAnswer::Refused(r) => print_refusal(r),
+    }
 }
 
 fn sample_call(e: RtoEstimator, x: u64, again: bool) -> RtoEstimator {
@@ -263,7 +278,32 @@ fn timers_call(
     if op == 2 {
         return pop_call(t, keys, deadlines, now);
     }
+    if op == 4 {
+        expired_call(t, keys, deadlines, key, now);
+        return t;
+    }
+    if op == 5 {
+        return clear_call(t, keys, deadlines);
+    }
     earliest_call(t, keys, deadlines)
+}
+
+fn expired_call(t: MultiTimer, keys: &[u32], deadlines: &[u64], key: u32, now: u64) {
+    match t.is_expired_at(keys, deadlines, key, now) {
+        ExpiredAnswer::Is(b) => answer(b as u64),
+        ExpiredAnswer::Refused(r) => print_refusal(r),
+    }
+}
+
+fn clear_call(t: MultiTimer, keys: &mut [u32], deadlines: &mut [u64]) -> MultiTimer {
+    let c = t.clear(keys, deadlines);
+    let next = c.timers;
+    let a = c.answer;
+    match a {
+        ClearAnswer::Done => answer(next.len() as u64),
+        ClearAnswer::Refused(r) => print_refusal(r),
+    }
+    next
 }
 
 fn start_call(

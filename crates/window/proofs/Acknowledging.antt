@@ -7,6 +7,7 @@ use native.Mathlib.Omega.{arith}
 use borrow.Author.Tests.{lt-ltb, le-ltb, le-leb, lt-leb, ltb-true, leb-true}
 use Rattle.refusal.specs.declared.Refusal.{Refusal}
 use Rattle.refusal.specs.declared.Refusal.the-variants.{State, Counts}
+use Rattle.refusal.specs.Counts.{countLimit}
 use Rattle.refusal.specs.Order.{check, verdict, order, orElse, numbered, firstOf, decide}
 use Rattle.refusal.proofs.Laws.{false-check, accepted-none-true, decide-accepted, on-accepted, on-refused}
 use Rattle.packet.specs.Reading.{readChecks}
@@ -24,7 +25,7 @@ use Rattle.window.proofs.Handed.{ack-verdict-refused, ack-verdict-accep
 -- what is known where an ACK of number n is accepted
 pub record Accepted (selective : Bool) (s : SendWindow) (store : List ℕ) (n : ℕ) : Type 0 where
   pub state : Sound selective s store
-  pub counts : (s .«total_sent» < 1152921504606846976) × (s .retransmissions < 1152921504606846976)
+  pub counts : (s .«total_sent» < countLimit) × (s .retransmissions < countLimit)
   pub from : s .«send_base» ≤ n
   pub below : n < s .«next_seq_num»
 

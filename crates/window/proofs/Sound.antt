@@ -8,6 +8,7 @@ use borrow.Author.Tests.{ltb-true, ltb-false, leb-false, lt-ltb, le-ltb}
 use lib.ListN.{length}
 use lib.Dec.{ltb}
 use Rattle.refusal.specs.Clauses.{anyOf}
+use Rattle.refusal.specs.Counts.{countLimit}
 use Rattle.refusal.proofs.Laws.{none-of, any-of-none, or-false}
 use Rattle.store.specs.Slot.{slotAt, lengthOf}
 use Rattle.store.proofs.Laws.{none-found}
@@ -97,7 +98,7 @@ slot-low selective s store h i l =
     let broken = none-found (s .«window_size») i (senderTest selective store (s .«window_size») (s .«send_base») (outstanding s)) l (h .slots) in
     ltb-false 1400 _ (or-false _ _ (or-false _ _ (or-false _ _ broken .0) .0) .0)
 
-pub counts-low : (s : SendWindow) → countsBroken s ≡ false → (s .«total_sent» < 1152921504606846976) × (s .retransmissions < 1152921504606846976)
+pub counts-low : (s : SendWindow) → countsBroken s ≡ false → (s .«total_sent» < countLimit) × (s .retransmissions < countLimit)
 unfolding countsBroken
 counts-low s e = let none = none-of _ e in (leb-false _ _ (none .0), leb-false _ _ (none .1 .0))
 

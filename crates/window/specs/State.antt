@@ -3,8 +3,9 @@ use Prim.Native.Nat.{ℕ, _-_, _*_}
 use mathlib.Core.List.{List, [], _∷_}
 use mathlib.Core.Bool.{Bool}
 use lib.ListN.{length}
-use lib.Dec.{ltb, leb}
+use lib.Dec.{ltb}
 use Rattle.refusal.specs.Clauses.{anyOf}
+use Rattle.refusal.specs.Counts.{countFull}
 use Rattle.store.specs.Sound.{senderSlotsBroken}
 use Rattle.window.specs.declared.SendWindow.{SendWindow}
 
@@ -37,6 +38,6 @@ stateBroken selective s store =
     ∷ senderSlotsBroken selective store (s .«window_size») (s .«send_base») (outstanding s)
     ∷ [])
 
--- 8: a counter stands at 2^60 or more
+-- 8
 unfoldable pub countsBroken : SendWindow → Bool
-countsBroken s = anyOf (leb 1152921504606846976 (s .«total_sent») ∷ leb 1152921504606846976 (s .retransmissions) ∷ [])
+countsBroken s = anyOf (countFull (s .«total_sent») ∷ countFull (s .retransmissions) ∷ [])

@@ -4,6 +4,7 @@ ghost use Prim.Native.Nat.{_+_, _-_, _*_, _≤_, _<_, min};
 ghost use mathlib.Core.Bool.{true, false};
 ghost use lib.ListN.{length, drop};
 ghost use mathlib.Core.List.{_++_};
+ghost use Rattle.refusal.specs.Counts.{countLimit};
 ghost use Rattle.window.specs.Acknowledgement.{readAck, ackDecision};
 ghost use Rattle.window.specs.Sending.{making, makeWindow, sending, sendChunk};
 ghost use Rattle.window.specs.Slots.{sender, fresh, slotFor, hold, firstDatagram, markRetransmitted, datagramFor, emptyFrom, release};
@@ -14,15 +15,13 @@ ghost use Rattle.window.specs.Outstanding.{inFlightCount, canSend, hasUn
 use packet::Packet;
 use packet::PacketAnswer;
 use packet::PacketType;
+use refusal::COUNT_LIMIT;
 use refusal::Refusal;
 
 pub const MAX_WINDOW_SIZE: usize = 32;
 
 // A chunk never has this number or a higher one.
 pub const SEQ_NUM_LIMIT: u32 = 4_294_901_760;
-
-// A counter at this value is refused.
-pub const COUNT_LIMIT: u64 = 1_152_921_504_606_846_976;
 
 pub struct SendWindow {
     pub window_size: usize,
@@ -243,7 +242,7 @@ impl SendWindow {
         out: &mut [u8],
     ) -> SendWindow
         requires { ⌜ (0 < self .«window_size») × (self .«window_size» * 1404 ≤ length (now store)) ⌝ }
-        requires { ⌜ (self .«next_seq_num» < 4294901760) × (self .«total_sent» < 1152921504606846976) ⌝ }
+        requires { ⌜ (self .«next_seq_num» < 4294901760) × (self .«total_sent» < countLimit) ⌝ }
         requires { ⌜ (length (now payload) ≤ 1400) × (10 + length (now payload) ≤ length (now out)) ⌝ }
         ensures { λ r. ⌜ sender r (now (store .exit)) ≡ hold (sender self (now (store .entry))) (now (payload .entry)) ⌝ }
         ensures { λ r. ⌜ now (out .exit) ≡ firstDatagram (sender self (now (store .entry))) (now (payload .entry)) ++ drop (10 + length (now (payload .entry))) (now (out .entry)) ⌝ }
@@ -317,7 +316,7 @@ impl SendWindow {
         count: u32,
     ) -> SendWindow
         requires { ⌜ Resendable self (now store) first count ⌝ }
-        requires { ⌜ (self .«total_sent» < 1152921504606846976) × (self .retransmissions < 1152921504606846976) ⌝ }
+        requires { ⌜ (self .«total_sent» < countLimit) × (self .retransmissions < countLimit) ⌝ }
         ensures { λ r. ⌜ sender r (now (store .exit)) ≡ markFrom (sender self (now (store .entry))) first count ⌝ }
     {
         let end = first + count;
@@ -354,7 +353,7 @@ impl SendWindow {
         out: &mut [u8],
     ) -> TimeoutResult
         requires { ⌜ Resendable self (now store) first count ⌝ }
-        requires { ⌜ (self .«total_sent» < 1152921504606846976) × (self .retransmissions < 1152921504606846976) ⌝ }
+        requires { ⌜ (self .«total_sent» < countLimit) × (self .retransmissions < countLimit) ⌝ }
         ensures { λ r. ⌜ resending (r .answer) (sender (r .window) (now (store .exit))) (now (out .exit)) ≡ resend false false (sender self (now (store .entry))) first count (now (out .entry)) ⌝ }
     {
         if count == 0 {

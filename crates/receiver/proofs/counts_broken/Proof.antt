@@ -1,6 +1,7 @@
 use mathlib.Core.Path.{_≡_, refl, sym, ap, _∙_}
 use borrow.Author.Tests.{le-leb, lt-leb}
 use Rattle.refusal.specs.Clauses.{anyOf}
+use Rattle.refusal.specs.Counts.{countLimit}
 use Rattle.receiver.specs.State.{countsBroken}
 use Rattle.receiver.proofs.States.{last-count}
 use Rattle.receiver.proofs.counts_broken.Statement.{statement}
@@ -16,7 +17,7 @@ returns-2 c = simp (lt-leb _ _ (c .before .if1 .left), le-leb _ _ (c .if2 .taken
 
 returns-3 : tie.Need-returns-3
 unfolding countsBroken anyOf
-returns-3 c = last-count 1152921504606846976 (c .before .before .args .a) (c .before .before .args .b) (c .before .before .args .c) (lt-leb _ _ (c .before .if1 .left)) (lt-leb _ _ (c .if2 .left))
+returns-3 c = last-count countLimit (c .before .before .args .a) (c .before .before .args .b) (c .before .before .args .c) (lt-leb _ _ (c .before .if1 .left)) (lt-leb _ _ (c .if2 .left))
 
 pub counts-broken-spec : {M : Type 1} → statement M
 counts-broken-spec = tie.close (tie.spec returns returns-2 returns-3)

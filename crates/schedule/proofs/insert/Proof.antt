@@ -1,12 +1,13 @@
 use native.Mathlib.Omega.{arith}
 use borrow.Author.Needs.{needs}
 use mathlib.Core.Path.{_≡_, sym, _∙_, ap}
-use Prim.Native.Nat.{ℕ, _≤_, _<_, _+_}
-use mathlib.Core.List.{List, [], _∷_, _++_}
-use lib.ListN.{length, set, take, drop}
-use Rattle.schedule.specs.Record.{after, inserted}
-use Rattle.schedule.specs.Scans.{placeFor, raised}
-use Rattle.schedule.proofs.Lists.{raise-length, raise-put}
+use Prim.Native.Nat.{ℕ, _≤_, _<_, _+_, _-_}
+use mathlib.Core.List.{List, _∷_, _++_}
+use lib.ListN.{length, take, drop, length-drop}
+use Rattle.refusal.proofs.Tails.{tail-is}
+use Rattle.schedule.specs.Record.{after}
+use Rattle.schedule.specs.Scans.{placeFor}
+use Rattle.schedule.proofs.Lists.{insert-part}
 use Rattle.schedule.proofs.Ordering.{for-within, for-inserts}
 use Rattle.schedule.proofs.insert.Statement.{statement}
 use Rattle.schedule.proofs.insert.Tie as tie
@@ -15,37 +16,43 @@ module _ (s : List (List ℕ)) (count : ℕ) (r : List ℕ) (room : count < leng
   low : at ≤ count
   low = let f = for-within after r count s (omega arith) in omega arith
 
-  module _ {m : List (List ℕ)} (moved : m ≡ raised count at s) where
-    size : length m ≡ length s
-    size = ap length moved ∙ raise-length count at s low room
-
-    put : set m at r ≡ inserted after r (take count s) ++ drop (count + 1) s
-    put =
-        ap (λ (xs : List (List ℕ)). set xs at r) moved ∙ raise-put [] r count at s low room
-        ∙ ap (λ (k : ℕ). take k (take count s) ++ r ∷ drop k (take count s) ++ drop (count + 1) s) found
-        ∙ ap (λ (xs : List (List ℕ)). xs ++ drop (count + 1) s) (sym (for-inserts after r (take count s)))
+  fits : count - at < length (take (length s - at) (drop at s))
+  fits = let l = low in let e : length (take (length s - at) (drop at s)) ≡ length s - at = ap length (tail-is at s) ∙ length-drop at s in omega arith
 
 place-for-requires : tie.Need-place-for-requires
 place-for-requires c κs = search needs
 
-move-up-requires : tie.Need-move-up-requires
-move-up-requires c κs =
+mul-insert-first : tie.Need-mul-insert-first
+mul-insert-first c =
+    let s = c .before .before in
+    let l = low (s .args .s .now) (s .args .count) (s .args .r) (s .pre .0) (c .place-for .ensures) in
+    search needs
+
+sub-insert-first : tie.Need-sub-insert-first
+sub-insert-first c =
+    let s = c .before .before in
+    let l = low (s .args .s .now) (s .args .count) (s .args .r) (s .pre .0) (c .place-for .ensures) in
+    let p = s .pre .0 in
+    omega arith
+
+part-insert-first-start : tie.Need-part-insert-first-start
+part-insert-first-start c =
+    let s = c .before .before in
+    let l = low (s .args .s .now) (s .args .count) (s .args .r) (s .pre .0) (c .place-for .ensures) in
+    search needs
+
+part-insert-first-end : tie.Need-part-insert-first-end
+part-insert-first-end c = search needs
+
+sub-insert-first-2 : tie.Need-sub-insert-first-2
+sub-insert-first-2 c =
     let s = c .before .before .before in
-    (low (s .args .s .now) (s .args .count) (s .args .r) (s .pre .0) (c .before .place-for .ensures), s .pre .0)
+    low (s .args .s .now) (s .args .count) (s .args .r) (s .pre .0) (c .before .place-for .ensures)
 
-mul-r : tie.Need-mul-r
-mul-r c =
-    let s = c .before .before .before .before .before in
-    let l = low (s .args .s .now) (s .args .count) (s .args .r) (s .pre .0) (c .before .before .before .place-for .ensures) in
-    let z = size (s .args .s .now) (s .args .count) (s .args .r) (s .pre .0) (c .before .before .before .place-for .ensures) (c .before .move-up .ensures) in
-    search needs
-
-slice-set-from-r : tie.Need-slice-set-from-r
-slice-set-from-r c =
-    let s = c .before .before .before .before .before in
-    let l = low (s .args .s .now) (s .args .count) (s .args .r) (s .pre .0) (c .before .before .before .place-for .ensures) in
-    let z = size (s .args .s .now) (s .args .count) (s .args .r) (s .pre .0) (c .before .before .before .place-for .ensures) (c .before .move-up .ensures) in
-    search needs
+insert-first-requires : tie.Need-insert-first-requires
+insert-first-requires c κs =
+    let s = c .before .before .before in
+    fits (s .args .s .now) (s .args .count) (s .args .r) (s .pre .0) (c .before .place-for .ensures)
 
 same-length : tie.Need-same-length
 same-length c = search needs
@@ -53,9 +60,23 @@ same-length c = search needs
 returns : tie.Need-returns
 returns c =
     let s = c .before .before .before .before .before in
-    put (s .args .s .now) (s .args .count) (s .args .r) (s .pre .0) (c .before .before .before .place-for .ensures) (c .before .move-up .ensures)
+    let found = c .before .before .before .place-for .ensures in
+    let w = take (s .args .count) (s .args .s .now) in
+    let rest = drop (s .args .count + 1) (s .args .s .now) in
+    insert-part (s .args .r) (c .before .before .before .place-for .result) (s .args .count) (s .args .s .now) (c .before .insert-first .last .0) (low (s .args .s .now) (s .args .count) (s .args .r) (s .pre .0) found) (s .pre .0) (c .before .insert-first .ensures)
+    ∙ ap (λ (k : ℕ). (take k w ++ s .args .r ∷ drop k w) ++ rest) found
+    ∙ ap (λ (xs : List (List ℕ)). xs ++ rest) (sym (for-inserts after (s .args .r) w))
 
 pub insert-spec : {M : Type 1} → statement M
 insert-spec =
     tie.close
-    (tie.spec place-for-requires move-up-requires mul-r slice-set-from-r same-length returns)
+    (tie.spec
+    place-for-requires
+    mul-insert-first
+    sub-insert-first
+    part-insert-first-start
+    part-insert-first-end
+    sub-insert-first-2
+    insert-first-requires
+    same-length
+    returns)

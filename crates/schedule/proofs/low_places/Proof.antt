@@ -1,26 +1,22 @@
 use native.Mathlib.Omega.{arith}
 use borrow.Author.Needs.{needs}
-use mathlib.Core.Path.{_≡_, _∙_, ap}
-use Prim.Native.Nat.{ℕ, _≤_}
-use lib.ListN.{drop, take}
+use mathlib.Core.Path.{_≡_, refl, _∙_, ap}
+use Prim.Native.Nat.{ℕ, _≤_, _-_}
+use lib.ListN.{take}
 use Rattle.schedule.specs.Scans.{blockSize, placeMarks}
-use Rattle.schedule.proofs.Lists.{rest-none}
 use Rattle.schedule.proofs.Checks.{marks-none}
-use Rattle.schedule.proofs.Marks.{inside, marks-low}
+use Rattle.schedule.proofs.Marks.{low-inside, marks-last}
 use Rattle.schedule.proofs.low_places.Statement.{statement}
 use Rattle.schedule.proofs.low_places.Tie as tie
 
 abbrev Inv-loop : tie.InvT-loop
-Inv-loop s count used₀ i₀ used i = (i ≤ count) × (used ≡ placeMarks blockSize 0 (drop i (take count s)))
+Inv-loop s count used₀ i₀ used i = (i ≤ count) × (used ≡ placeMarks blockSize 0 (take i s))
 
 abbrev μ-loop : tie.MeasureT-loop
-μ-loop s count used₀ i₀ used i = i
+μ-loop s count used₀ i₀ used i = count - i
 
 loop-holds : tie.Need-loop-holds Inv-loop μ-loop
-loop-holds c = (omega arith, marks-none blockSize 0 (rest-none (c .args .count) (c .args .count) (c .args .s .now) (omega arith) (omega arith)))
-
-sub-i : tie.Need-sub-i Inv-loop μ-loop
-sub-i c = search needs
+loop-holds c = (omega arith, marks-none blockSize 0 refl)
 
 mul-r : tie.Need-mul-r Inv-loop μ-loop
 mul-r c = search needs
@@ -35,7 +31,10 @@ array-write-used : tie.Need-array-write-used Inv-loop μ-loop
 array-write-used c =
     let l = c .before .before in
     let s = l .before in
-    inside (s .args .s .now) (s .args .count) 0 (l .loop .i) (c .before .loop-test .taken) (l .loop .inv .0) (s .pre .0) (l .loop .inv .1) (s .pre .1)
+    low-inside (s .args .s .now) (s .args .count) (l .loop .i) (c .before .loop-test .taken) (s .pre .0) (s .pre .1)
+
+add-i : tie.Need-add-i Inv-loop μ-loop
+add-i c = search needs
 
 loop-less : tie.Need-loop-less Inv-loop μ-loop
 loop-less c = search needs
@@ -44,13 +43,13 @@ loop-again : tie.Need-loop-again Inv-loop μ-loop
 loop-again c =
     let l = c .before .before in
     let s = l .before in
-    (omega arith, marks-low (s .args .s .now) (s .args .count) (l .loop .i) (c .before .loop-test .taken) (l .loop .inv .0) (s .pre .0) (l .loop .inv .1) (inside (s .args .s .now) (s .args .count) 0 (l .loop .i) (c .before .loop-test .taken) (l .loop .inv .0) (s .pre .0) (l .loop .inv .1) (s .pre .1)))
+    (omega arith, marks-last (s .args .s .now) (l .loop .i) (omega arith) (l .loop .inv .1) (low-inside (s .args .s .now) (s .args .count) (l .loop .i) (c .before .loop-test .taken) (s .pre .0) (s .pre .1)))
 
 returns : tie.Need-returns Inv-loop μ-loop
 returns c =
     let a = c .before .before .args in
-    let e : c .before .loop .i ≡ 0 = omega arith in
-    c .before .loop .inv .1 ∙ ap (λ (k : ℕ). placeMarks blockSize 0 (drop k (take (a .count) (a .s .now)))) e
+    let e : c .before .loop .i ≡ a .count = omega arith in
+    c .before .loop .inv .1 ∙ ap (λ (k : ℕ). placeMarks blockSize 0 (take k (a .s .now))) e
 
 pub low-places-spec : {M : Type 1} → statement M
 low-places-spec =
@@ -59,11 +58,11 @@ low-places-spec =
     Inv-loop
     μ-loop
     loop-holds
-    sub-i
     mul-r
     shared-slice-copy-out-r
     array-read-place
     array-write-used
+    add-i
     loop-less
     loop-again
     returns)

@@ -13,13 +13,13 @@ turn : (n i : ℕ) (l s : List (List ℕ)) → 0 < i → i ≤ n → n < length 
 turn n i l s p h k e = ap (λ (xs : List (List ℕ)). set xs i (getD xs (i - 1) [])) e ∙ raise-more [] n i l p h k
 
 abbrev Inv-loop : tie.InvT-loop
-Inv-loop s₀ from count i₀ s i = (from ≤ i) × ((i ≤ count) × ((length s ≡ length s₀) × (s ≡ raised count i s₀)))
+Inv-loop s₀ n i₀ s i = (i ≤ n) × ((length s ≡ length s₀) × (s ≡ raised n i s₀))
 
 abbrev μ-loop : tie.MeasureT-loop
-μ-loop s₀ from count i₀ s i = i
+μ-loop s₀ n i₀ s i = i
 
 loop-holds : tie.Need-loop-holds Inv-loop μ-loop
-loop-holds c = (omega arith, (omega arith, (refl, raise-none (c .args .count) (c .args .s .now) (omega arith))))
+loop-holds c = (omega arith, (refl, raise-none (c .args .n) (c .args .s .now) (omega arith)))
 
 sub-p : tie.Need-sub-p Inv-loop μ-loop
 sub-p c = search needs
@@ -45,7 +45,7 @@ loop-less c = search needs
 loop-again : tie.Need-loop-again Inv-loop μ-loop
 loop-again c =
     let l = c .before .before in
-    (omega arith, (omega arith, (simp length-set (omega arith), turn (l .before .args .count) (l .loop .i) (l .before .args .s .now) (l .loop .s) (omega arith) (omega arith) (omega arith) (l .loop .inv .1 .1 .1))))
+    (omega arith, (simp length-set (omega arith), turn (l .before .args .n) (l .loop .i) (l .before .args .s .now) (l .loop .s) (omega arith) (omega arith) (omega arith) (l .loop .inv .1 .1)))
 
 same-length : tie.Need-same-length Inv-loop μ-loop
 same-length c = omega arith
@@ -53,8 +53,8 @@ same-length c = omega arith
 returns : tie.Need-returns Inv-loop μ-loop
 returns c =
     let l = c .before in
-    let e : l .loop .i ≡ l .before .args .from = omega arith in
-    l .loop .inv .1 .1 .1 ∙ ap (λ (k : ℕ). raised (l .before .args .count) k (l .before .args .s .now)) e
+    let e : l .loop .i ≡ 0 = omega arith in
+    l .loop .inv .1 .1 ∙ ap (λ (k : ℕ). raised (l .before .args .n) k (l .before .args .s .now)) e
 
 pub move-up-spec : {M : Type 1} → statement M
 move-up-spec =

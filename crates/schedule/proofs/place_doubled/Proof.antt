@@ -16,28 +16,17 @@ Inv-loop s count places base₀ base = (base < 9223372036854775808 + blockSize) 
 abbrev μ-loop : tie.MeasureT-loop
 μ-loop s count places base₀ base = places - base
 
+loop-holds : tie.Need-loop-holds Inv-loop μ-loop
+loop-holds c = (omega arith, below-zero (take (c .args .count) (c .args .s .now)))
+
 block-doubled-requires : tie.Need-block-doubled-requires Inv-loop μ-loop
 block-doubled-requires c κs = search needs
 
 returns : tie.Need-returns Inv-loop μ-loop
 returns c =
-    let s = c .before .before in
-    sym (in-doubled 0 (take (s .args .count) (s .args .s .now)) (told (c .before .block-doubled .ensures) (c .if1 .taken)))
-
-loop-holds : tie.Need-loop-holds Inv-loop μ-loop
-loop-holds c =
-    let s = c .before .before in
-    let w = take (s .args .count) (s .args .s .now) in
-    (omega arith, below-more 0 w (below-zero w) (told (c .before .block-doubled .ensures) (c .if1 .left)))
-
-block-doubled-requires-2 : tie.Need-block-doubled-requires-2 Inv-loop μ-loop
-block-doubled-requires-2 c κs = search needs
-
-returns-2 : tie.Need-returns-2 Inv-loop μ-loop
-returns-2 c =
     let l = c .before .before .before in
-    let s = l .before .before .before in
-    sym (in-doubled (l .loop .base) (take (s .args .count) (s .args .s .now)) (told (c .before .block-doubled2 .ensures) (c .if2 .taken)))
+    let s = l .before in
+    sym (in-doubled (l .loop .base) (take (s .args .count) (s .args .s .now)) (told (c .before .block-doubled .ensures) (c .if1 .taken)))
 
 add-base : tie.Need-add-base Inv-loop μ-loop
 add-base c = search needs
@@ -48,12 +37,12 @@ loop-less c = search needs
 loop-again : tie.Need-loop-again Inv-loop μ-loop
 loop-again c =
     let l = c .before .before .before in
-    let s = l .before .before .before in
-    (omega arith, below-more (l .loop .base) (take (s .args .count) (s .args .s .now)) (l .loop .inv .1) (told (c .before .block-doubled2 .ensures) (c .if2 .left)))
+    let s = l .before in
+    (omega arith, below-more (l .loop .base) (take (s .args .count) (s .args .s .now)) (l .loop .inv .1) (told (c .before .block-doubled .ensures) (c .if1 .left)))
 
-returns-3 : tie.Need-returns-3 Inv-loop μ-loop
-returns-3 c =
-    let s = c .before .before .before .before in
+returns-2 : tie.Need-returns-2 Inv-loop μ-loop
+returns-2 c =
+    let s = c .before .before in
     sym (below-all (s .args .places) (c .before .loop .base) (take (s .args .count) (s .args .s .now)) (s .pre .2) (c .loop-test .left) (c .before .loop .inv .1))
 
 pub place-doubled-spec : {M : Type 1} → statement M
@@ -62,12 +51,10 @@ place-doubled-spec =
     (tie.spec
     Inv-loop
     μ-loop
+    loop-holds
     block-doubled-requires
     returns
-    loop-holds
-    block-doubled-requires-2
-    returns-2
     add-base
     loop-less
     loop-again
-    returns-3)
+    returns-2)

@@ -9,12 +9,12 @@ use Rattle.multi_timer.proofs.Checks.{told-state, told-good, told-eithe
 use Rattle.multi_timer.proofs.MultiTimer.is_expired_at.Statement.{statement}
 use Rattle.multi_timer.proofs.MultiTimer.is_expired_at.Tie as tie
 
-held-line-requires : tie.Need-held-line-requires
-held-line-requires c κs = search needs
+broken-line-requires : tie.Need-broken-line-requires
+broken-line-requires c κs = search needs
 
 returns : tie.Need-returns
 returns c =
-    let e1 : broken (c .before .before .before .before .args .self .count) (c .before .before .before .before .args .keys .now) (c .before .before .before .before .args .deadlines .now) ≡ true = told-state (c .before .before .before .before .args .self .count) (c .before .before .before .before .args .keys .now) (c .before .before .before .before .args .deadlines .now) _ (c .before .held-line .ensures) (c .if1 .taken) in
+    let e1 : broken (c .before .before .before .before .args .self .count) (c .before .before .before .before .args .keys .now) (c .before .before .before .before .args .deadlines .now) ≡ true = told-state (c .before .before .before .before .args .self .count) (c .before .before .before .before .args .keys .now) (c .before .before .before .before .args .deadlines .now) _ (c .before .broken-line .ensures) (c .if1 .taken) in
     expired-state (c .before .before .before .before .args .self) (c .before .before .before .before .args .keys .now) (c .before .before .before .before .args .deadlines .now) (c .before .before .before .before .args .key) (c .before .before .before .before .args .now) e1
 
 read-too-late-requires : tie.Need-read-too-late-requires
@@ -22,20 +22,20 @@ read-too-late-requires c κs = search needs
 
 returns-2 : tie.Need-returns-2
 returns-2 c =
-    let e1 : broken (c .before .before .before .before .before .before .args .self .count) (c .before .before .before .before .before .before .args .keys .now) (c .before .before .before .before .before .before .args .deadlines .now) ≡ false = told-good (c .before .before .before .before .before .before .args .self .count) (c .before .before .before .before .before .before .args .keys .now) (c .before .before .before .before .before .before .args .deadlines .now) _ (c .before .before .before .held-line .ensures) (c .before .before .if1 .left) in
-    let e2 : readTooLate (c .before .before .before .before .before .before .args .self .count) (c .before .before .before .before .before .before .args .deadlines .now) (c .before .before .before .before .before .before .args .now) ≡ true = told-either (c .before .before .before .before .before .before .args .self .count) (c .before .before .before .before .before .before .args .keys .now) (c .before .before .before .before .before .before .args .deadlines .now) _ (c .before .before .before .held-line .ensures) e1 (ltb maxTime (c .before .before .before .before .before .before .args .now)) _ _ (c .before .read-too-late .ensures) (c .if2 .taken) in
+    let e1 : broken (c .before .before .before .before .before .before .args .self .count) (c .before .before .before .before .before .before .args .keys .now) (c .before .before .before .before .before .before .args .deadlines .now) ≡ false = told-good (c .before .before .before .before .before .before .args .self .count) (c .before .before .before .before .before .before .args .keys .now) (c .before .before .before .before .before .before .args .deadlines .now) _ (c .before .before .before .broken-line .ensures) (c .before .before .if1 .left) in
+    let e2 : readTooLate (c .before .before .before .before .before .before .args .self .count) (c .before .before .before .before .before .before .args .deadlines .now) (c .before .before .before .before .before .before .args .now) ≡ true = told-either (c .before .before .before .before .before .before .args .self .count) (c .before .before .before .before .before .before .args .keys .now) (c .before .before .before .before .before .before .args .deadlines .now) _ (c .before .before .before .broken-line .ensures) e1 (ltb maxTime (c .before .before .before .before .before .before .args .now)) _ _ (c .before .read-too-late .ensures) (c .if2 .taken) in
     expired-time (c .before .before .before .before .before .before .args .self) (c .before .before .before .before .before .before .args .keys .now) (c .before .before .before .before .before .before .args .deadlines .now) (c .before .before .before .before .before .before .args .key) (c .before .before .before .before .before .before .args .now) e1 e2
 
 is-due-requires : tie.Need-is-due-requires
 is-due-requires c κs =
-    let e1 : broken (c .before .before .before .before .before .before .args .self .count) (c .before .before .before .before .before .before .args .keys .now) (c .before .before .before .before .before .before .args .deadlines .now) ≡ false = told-good (c .before .before .before .before .before .before .args .self .count) (c .before .before .before .before .before .before .args .keys .now) (c .before .before .before .before .before .before .args .deadlines .now) _ (c .before .before .before .held-line .ensures) (c .before .before .if1 .left) in
+    let e1 : broken (c .before .before .before .before .before .before .args .self .count) (c .before .before .before .before .before .before .args .keys .now) (c .before .before .before .before .before .before .args .deadlines .now) ≡ false = told-good (c .before .before .before .before .before .before .args .self .count) (c .before .before .before .before .before .before .args .keys .now) (c .before .before .before .before .before .before .args .deadlines .now) _ (c .before .before .before .broken-line .ensures) (c .before .before .if1 .left) in
     e1
 
 returns-3 : tie.Need-returns-3
 returns-3 c =
-    let e1 : broken (c .before .before .before .before .before .before .before .args .self .count) (c .before .before .before .before .before .before .before .args .keys .now) (c .before .before .before .before .before .before .before .args .deadlines .now) ≡ false = told-good (c .before .before .before .before .before .before .before .args .self .count) (c .before .before .before .before .before .before .before .args .keys .now) (c .before .before .before .before .before .before .before .args .deadlines .now) _ (c .before .before .before .before .held-line .ensures) (c .before .before .before .if1 .left) in
-    let e2 : readTooLate (c .before .before .before .before .before .before .before .args .self .count) (c .before .before .before .before .before .before .before .args .deadlines .now) (c .before .before .before .before .before .before .before .args .now) ≡ false = told-either (c .before .before .before .before .before .before .before .args .self .count) (c .before .before .before .before .before .before .before .args .keys .now) (c .before .before .before .before .before .before .before .args .deadlines .now) _ (c .before .before .before .before .held-line .ensures) e1 (ltb maxTime (c .before .before .before .before .before .before .before .args .now)) _ _ (c .before .before .read-too-late .ensures) (c .before .if2 .left) in
+    let e1 : broken (c .before .before .before .before .before .before .before .args .self .count) (c .before .before .before .before .before .before .before .args .keys .now) (c .before .before .before .before .before .before .before .args .deadlines .now) ≡ false = told-good (c .before .before .before .before .before .before .before .args .self .count) (c .before .before .before .before .before .before .before .args .keys .now) (c .before .before .before .before .before .before .before .args .deadlines .now) _ (c .before .before .before .before .broken-line .ensures) (c .before .before .before .if1 .left) in
+    let e2 : readTooLate (c .before .before .before .before .before .before .before .args .self .count) (c .before .before .before .before .before .before .before .args .deadlines .now) (c .before .before .before .before .before .before .before .args .now) ≡ false = told-either (c .before .before .before .before .before .before .before .args .self .count) (c .before .before .before .before .before .before .before .args .keys .now) (c .before .before .before .before .before .before .before .args .deadlines .now) _ (c .before .before .before .before .broken-line .ensures) e1 (ltb maxTime (c .before .before .before .before .before .before .before .args .now)) _ _ (c .before .before .read-too-late .ensures) (c .before .if2 .left) in
     expired-done (c .before .before .before .before .before .before .before .args .self) (c .before .before .before .before .before .before .before .args .keys .now) (c .before .before .before .before .before .before .before .args .deadlines .now) (c .before .before .before .before .before .before .before .args .key) (c .before .before .before .before .before .before .before .args .now) _ e1 e2 (c .is-due .ensures)
 
 pub is-expired-at-spec : {M : Type 1} → statement M
-is-expired-at-spec = tie.close (tie.spec held-line-requires returns read-too-late-requires returns-2 is-due-requires returns-3)
+is-expired-at-spec = tie.close (tie.spec broken-line-requires returns read-too-late-requires returns-2 is-due-requires returns-3)

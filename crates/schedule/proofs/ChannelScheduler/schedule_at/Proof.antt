@@ -1,5 +1,6 @@
 use lib.ListN.{length}
 use borrow.Author.Tests.{lt-ltb, le-ltb, le-leb, lt-leb}
+use Rattle.refusal.specs.Counts.{countLimit}
 use Rattle.schedule.specs.State.{mem, copies}
 use Rattle.schedule.proofs.Sound.{told}
 use Rattle.schedule.proofs.Memory.{in-order, within}
@@ -33,7 +34,7 @@ returns-2 : tie.Need-returns-2
 returns-2 c =
     let s = c .before .before .before .before .before .before .before .before in
     let m = mem (s .args .records .now) (s .args .places .now) (s .args .self) in
-    schedule-counts m (s .args .now) (s .args .packet .now) (s .args .deliveries) (told (c .before .before .before .state-broken .ensures) (c .before .before .if1 .left)) (le-leb 1152921504606846976 (s .args .self .«next_order») (c .if2 .taken))
+    schedule-counts m (s .args .now) (s .args .packet .now) (s .args .deliveries) (told (c .before .before .before .state-broken .ensures) (c .before .before .if1 .left)) (le-leb countLimit (s .args .self .«next_order») (c .if2 .taken))
 
 time-late-requires : tie.Need-time-late-requires
 time-late-requires c κs =
@@ -52,7 +53,7 @@ returns-3 : tie.Need-returns-3
 returns-3 c =
     let s = c .before .before .before .before .before .before .before .before .before .before .before in
     let m = mem (s .args .records .now) (s .args .places .now) (s .args .self) in
-    schedule-time m (s .args .now) (s .args .packet .now) (s .args .deliveries) (told (c .before .before .before .before .before .before .state-broken .ensures) (c .before .before .before .before .before .if1 .left)) (lt-leb 1152921504606846976 (s .args .self .«next_order») (c .before .before .before .if2 .left)) (told (c .before .time-late .ensures) (c .if3 .taken))
+    schedule-time m (s .args .now) (s .args .packet .now) (s .args .deliveries) (told (c .before .before .before .before .before .before .state-broken .ensures) (c .before .before .before .before .before .if1 .left)) (lt-leb countLimit (s .args .self .«next_order») (c .before .before .before .if2 .left)) (told (c .before .time-late .ensures) (c .if3 .taken))
 
 same-length-7 : tie.Need-same-length-7
 same-length-7 c = search needs
@@ -64,7 +65,7 @@ returns-4 : tie.Need-returns-4
 returns-4 c =
     let s = c .before .before .before .before .before .before .before .before .before .before .before .before in
     let m = mem (s .args .records .now) (s .args .places .now) (s .args .self) in
-    schedule-long m (s .args .now) (s .args .packet .now) (s .args .deliveries) (told (c .before .before .before .before .before .before .before .state-broken .ensures) (c .before .before .before .before .before .before .if1 .left)) (lt-leb 1152921504606846976 (s .args .self .«next_order») (c .before .before .before .before .if2 .left)) (told (c .before .before .time-late .ensures) (c .before .if3 .left)) (lt-ltb 1410 (length (s .args .packet .now)) (c .if4 .taken))
+    schedule-long m (s .args .now) (s .args .packet .now) (s .args .deliveries) (told (c .before .before .before .before .before .before .before .state-broken .ensures) (c .before .before .before .before .before .before .if1 .left)) (lt-leb countLimit (s .args .self .«next_order») (c .before .before .before .before .if2 .left)) (told (c .before .before .time-late .ensures) (c .before .if3 .left)) (lt-ltb 1410 (length (s .args .packet .now)) (c .if4 .taken))
 
 room-unchecked-requires : tie.Need-room-unchecked-requires
 room-unchecked-requires c κs = told (c .before .before .before .before .before .before .before .before .before .state-broken .ensures) (c .before .before .before .before .before .before .before .before .if1 .left)
@@ -82,13 +83,13 @@ returns-5 : tie.Need-returns-5
 returns-5 c =
     let s = c .before .before .before .before .before .before .before .before .before .before .before .before .before .before .before .before .before in
     let m = mem (s .args .records .now) (s .args .places .now) (s .args .self) in
-    schedule-full m (s .args .now) (s .args .packet .now) (s .args .deliveries) (told (c .before .before .before .before .before .before .before .before .before .before .before .before .state-broken .ensures) (c .before .before .before .before .before .before .before .before .before .before .before .if1 .left)) (lt-leb 1152921504606846976 (s .args .self .«next_order») (c .before .before .before .before .before .before .before .before .before .if2 .left)) (told (c .before .before .before .before .before .before .before .time-late .ensures) (c .before .before .before .before .before .before .if3 .left)) (le-ltb 1410 (length (s .args .packet .now)) (c .before .before .before .before .before .if4 .left)) (lacks m (copies (s .args .deliveries)) (c .before .before .room-unchecked .ensures) (c .before .copies-of .ensures) (c .if5 .taken))
+    schedule-full m (s .args .now) (s .args .packet .now) (s .args .deliveries) (told (c .before .before .before .before .before .before .before .before .before .before .before .before .state-broken .ensures) (c .before .before .before .before .before .before .before .before .before .before .before .if1 .left)) (lt-leb countLimit (s .args .self .«next_order») (c .before .before .before .before .before .before .before .before .before .if2 .left)) (told (c .before .before .before .before .before .before .before .time-late .ensures) (c .before .before .before .before .before .before .if3 .left)) (le-ltb 1410 (length (s .args .packet .now)) (c .before .before .before .before .before .if4 .left)) (lacks m (copies (s .args .deliveries)) (c .before .before .room-unchecked .ensures) (c .before .copies-of .ensures) (c .if5 .taken))
 
 schedule-at-unchecked-requires : tie.Need-schedule-at-unchecked-requires
 schedule-at-unchecked-requires c κs =
     let s = c .before .before .before .before .before .before .before .before .before .before .before .before .before .before .before .before .before .before .before in
     let m = mem (s .args .records .now) (s .args .places .now) (s .args .self) in
-    can-schedule m (s .args .now) (s .args .packet .now) (s .args .deliveries) (told (c .before .before .before .before .before .before .before .before .before .before .before .before .before .before .state-broken .ensures) (c .before .before .before .before .before .before .before .before .before .before .before .before .before .if1 .left)) (lt-leb 1152921504606846976 (s .args .self .«next_order») (c .before .before .before .before .before .before .before .before .before .before .before .if2 .left)) (told (c .before .before .before .before .before .before .before .before .before .time-late .ensures) (c .before .before .before .before .before .before .before .before .if3 .left)) (le-ltb 1410 (length (s .args .packet .now)) (c .before .before .before .before .before .before .before .if4 .left)) (lacks-not m (copies (s .args .deliveries)) (c .before .before .before .before .room-unchecked .ensures) (c .before .before .before .copies-of .ensures) (c .before .before .if5 .left))
+    can-schedule m (s .args .now) (s .args .packet .now) (s .args .deliveries) (told (c .before .before .before .before .before .before .before .before .before .before .before .before .before .before .state-broken .ensures) (c .before .before .before .before .before .before .before .before .before .before .before .before .before .if1 .left)) (lt-leb countLimit (s .args .self .«next_order») (c .before .before .before .before .before .before .before .before .before .before .before .if2 .left)) (told (c .before .before .before .before .before .before .before .before .before .time-late .ensures) (c .before .before .before .before .before .before .before .before .if3 .left)) (le-ltb 1410 (length (s .args .packet .now)) (c .before .before .before .before .before .before .before .if4 .left)) (lacks-not m (copies (s .args .deliveries)) (c .before .before .before .before .room-unchecked .ensures) (c .before .before .before .copies-of .ensures) (c .before .before .if5 .left))
 
 same-length-11 : tie.Need-same-length-11
 same-length-11 c = search needs
@@ -100,7 +101,7 @@ returns-6 : tie.Need-returns-6
 returns-6 c =
     let s = c .before .before .before .before .before .before .before .before .before .before .before .before .before .before .before .before .before .before .before .before .before .before .before in
     let m = mem (s .args .records .now) (s .args .places .now) (s .args .self) in
-    schedule-done m (s .args .now) (s .args .packet .now) (s .args .deliveries) (told (c .before .before .before .before .before .before .before .before .before .before .before .before .before .before .before .before .before .before .state-broken .ensures) (c .before .before .before .before .before .before .before .before .before .before .before .before .before .before .before .before .before .if1 .left)) (lt-leb 1152921504606846976 (s .args .self .«next_order») (c .before .before .before .before .before .before .before .before .before .before .before .before .before .before .before .if2 .left)) (told (c .before .before .before .before .before .before .before .before .before .before .before .before .before .time-late .ensures) (c .before .before .before .before .before .before .before .before .before .before .before .before .if3 .left)) (le-ltb 1410 (length (s .args .packet .now)) (c .before .before .before .before .before .before .before .before .before .before .before .if4 .left)) (lacks-not m (copies (s .args .deliveries)) (c .before .before .before .before .before .before .before .before .room-unchecked .ensures) (c .before .before .before .before .before .before .before .copies-of .ensures) (c .before .before .before .before .before .before .if5 .left)) (c .before .before .before .schedule-at-unchecked .ensures)
+    schedule-done m (s .args .now) (s .args .packet .now) (s .args .deliveries) (told (c .before .before .before .before .before .before .before .before .before .before .before .before .before .before .before .before .before .before .state-broken .ensures) (c .before .before .before .before .before .before .before .before .before .before .before .before .before .before .before .before .before .if1 .left)) (lt-leb countLimit (s .args .self .«next_order») (c .before .before .before .before .before .before .before .before .before .before .before .before .before .before .before .if2 .left)) (told (c .before .before .before .before .before .before .before .before .before .before .before .before .before .time-late .ensures) (c .before .before .before .before .before .before .before .before .before .before .before .before .if3 .left)) (le-ltb 1410 (length (s .args .packet .now)) (c .before .before .before .before .before .before .before .before .before .before .before .if4 .left)) (lacks-not m (copies (s .args .deliveries)) (c .before .before .before .before .before .before .before .before .room-unchecked .ensures) (c .before .before .before .before .before .before .before .copies-of .ensures) (c .before .before .before .before .before .before .if5 .left)) (c .before .before .before .schedule-at-unchecked .ensures)
 
 pub schedule-at-spec : {M : Type 1} → statement M
 schedule-at-spec =

@@ -2,6 +2,7 @@ use Prim.Native.Nat.{_<_, min}
 use mathlib.Core.Path.{refl, sym, ap, subst, _∙_}
 use mathlib.Core.Bool.{false}
 use native.Mathlib.Omega.{arith}
+use Rattle.refusal.specs.Counts.{countLimit}
 use Rattle.window.specs.State.{outstanding, stateBroken, countsBroken}
 use Rattle.window.specs.Slots.{sender}
 use Rattle.window.specs.Resending.{resend, byTimeoutDecision, Resendable}
@@ -29,7 +30,7 @@ resend-unchecked-requires c κs =
     let ordered = s .ordered in
     let first = d .first in
     let count = d .count in
-    subst (λ (w : SendWindow). Resendable w (c .before .before .before .before .before .before .before .before .before .before .args .store .now) (c .before .before .before .before .first .given .0 .0) (c .before .before .before .before .first .given .0 .1 .0) × ((w .«total_sent» < 1152921504606846976) × (w .retransmissions < 1152921504606846976)))
+    subst (λ (w : SendWindow). Resendable w (c .before .before .before .before .before .before .before .before .before .before .args .store .now) (c .before .before .before .before .first .given .0 .0) (c .before .before .before .before .first .given .0 .1 .0) × ((w .«total_sent» < countLimit) × (w .retransmissions < countLimit)))
     (sym (c .before .before .window-unchecked .ensures)) (resendable false (windowOf (c .before .before .before .before .before .before .before .before .before .before .args .self)) (c .before .before .before .before .before .before .before .before .before .before .args .store .now) (c .before .before .before .before .first .given .0 .0) (c .before .before .before .before .first .given .0 .1 .0) s (omega arith) (omega arith), counts-low (windowOf (c .before .before .before .before .before .before .before .before .before .before .args .self)) (d .counts-low))
 
 after-timeout-unchecked-requires : tie.Need-after-timeout-unchecked-requires

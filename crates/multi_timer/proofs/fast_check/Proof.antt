@@ -5,14 +5,14 @@ use borrow.Author.Needs.{needs}
 use lib.Dec.{ltb}
 use lib.ListN.{take}
 use Rattle.multi_timer.specs.Map.{ascending}
-use Rattle.multi_timer.specs.Search.{risingFrom, soon}
+use Rattle.multi_timer.specs.Search.{risingFrom, allBelowPower}
 use Rattle.multi_timer.proofs.Lists.{rest}
-use Rattle.multi_timer.proofs.Loops.{ascending-start, rising-four, soon-four, not-rising, not-soon, rest-decides}
-use Rattle.multi_timer.proofs.is_plain.Statement.{statement}
-use Rattle.multi_timer.proofs.is_plain.Tie as tie
+use Rattle.multi_timer.proofs.Loops.{ascending-start, rising-four, below-four, not-rising, not-below, rest-decides}
+use Rattle.multi_timer.proofs.fast_check.Statement.{statement}
+use Rattle.multi_timer.proofs.fast_check.Tie as tie
 
 abbrev Inv-loop : tie.InvT-loop
-Inv-loop count keys deadlines r0₀ r1₀ r2₀ r3₀ d0₀ d1₀ d2₀ d3₀ i₀ r0 r1 r2 r3 d0 d1 d2 d3 i = (i < count) × (((((r0 && r1) && (r2 && r3)) && risingFrom count i keys) ≡ ascending (take count keys)) × ((((ltb d0 140737488355328 && ltb d1 140737488355328) && (ltb d2 140737488355328 && ltb d3 140737488355328)) && soon (rest count i deadlines)) ≡ soon (take count deadlines)))
+Inv-loop count keys deadlines r0₀ r1₀ r2₀ r3₀ d0₀ d1₀ d2₀ d3₀ i₀ r0 r1 r2 r3 d0 d1 d2 d3 i = (i < count) × (((((r0 && r1) && (r2 && r3)) && risingFrom count i keys) ≡ ascending (take count keys)) × ((((ltb d0 140737488355328 && ltb d1 140737488355328) && (ltb d2 140737488355328 && ltb d3 140737488355328)) && allBelowPower (rest count i deadlines)) ≡ allBelowPower (take count deadlines)))
 
 abbrev μ-loop : tie.MeasureT-loop
 μ-loop count keys deadlines r0₀ r1₀ r2₀ r3₀ d0₀ d1₀ d2₀ d3₀ i₀ r0 r1 r2 r3 d0 d1 d2 d3 i = count - i
@@ -132,22 +132,22 @@ loop-less : tie.Need-loop-less Inv-loop μ-loop
 loop-less c = search needs
 
 loop-again : tie.Need-loop-again Inv-loop μ-loop
-loop-again c = let h : c .before .before .before .before .before .before .before .before .before .before .before .before .before .loop .i + 4 < c .before .before .before .before .before .before .before .before .before .before .before .before .before .before .before .before .args .count = search needs in (h, (rising-four (c .before .before .before .before .before .before .before .before .before .before .before .before .before .before .before .before .args .count) (c .before .before .before .before .before .before .before .before .before .before .before .before .before .loop .i) (c .before .before .before .before .before .before .before .before .before .before .before .before .before .before .before .before .args .keys .now) h (c .before .before .before .before .before .before .before .before .before .before .before .before .before .before .before .before .pre .1) (c .before .before .before .before .before .before .before .before .before .before .before .before .before .loop .r0) (c .before .before .before .before .before .before .before .before .before .before .before .before .before .loop .r1) (c .before .before .before .before .before .before .before .before .before .before .before .before .before .loop .r2) (c .before .before .before .before .before .before .before .before .before .before .before .before .before .loop .r3) ∙ c .before .before .before .before .before .before .before .before .before .before .before .before .before .loop .inv .1 .0, soon-four (c .before .before .before .before .before .before .before .before .before .before .before .before .before .before .before .before .args .count) (c .before .before .before .before .before .before .before .before .before .before .before .before .before .loop .i) (c .before .before .before .before .before .before .before .before .before .before .before .before .before .before .before .before .args .deadlines .now) h (c .before .before .before .before .before .before .before .before .before .before .before .before .before .before .before .before .pre .2) (c .before .before .before .before .before .before .before .before .before .before .before .before .before .loop .d0) (c .before .before .before .before .before .before .before .before .before .before .before .before .before .loop .d1) (c .before .before .before .before .before .before .before .before .before .before .before .before .before .loop .d2) (c .before .before .before .before .before .before .before .before .before .before .before .before .before .loop .d3) ∙ c .before .before .before .before .before .before .before .before .before .before .before .before .before .loop .inv .1 .1))
+loop-again c = let h : c .before .before .before .before .before .before .before .before .before .before .before .before .before .loop .i + 4 < c .before .before .before .before .before .before .before .before .before .before .before .before .before .before .before .before .args .count = search needs in (h, (rising-four (c .before .before .before .before .before .before .before .before .before .before .before .before .before .before .before .before .args .count) (c .before .before .before .before .before .before .before .before .before .before .before .before .before .loop .i) (c .before .before .before .before .before .before .before .before .before .before .before .before .before .before .before .before .args .keys .now) h (c .before .before .before .before .before .before .before .before .before .before .before .before .before .before .before .before .pre .1) (c .before .before .before .before .before .before .before .before .before .before .before .before .before .loop .r0) (c .before .before .before .before .before .before .before .before .before .before .before .before .before .loop .r1) (c .before .before .before .before .before .before .before .before .before .before .before .before .before .loop .r2) (c .before .before .before .before .before .before .before .before .before .before .before .before .before .loop .r3) ∙ c .before .before .before .before .before .before .before .before .before .before .before .before .before .loop .inv .1 .0, below-four (c .before .before .before .before .before .before .before .before .before .before .before .before .before .before .before .before .args .count) (c .before .before .before .before .before .before .before .before .before .before .before .before .before .loop .i) (c .before .before .before .before .before .before .before .before .before .before .before .before .before .before .before .before .args .deadlines .now) h (c .before .before .before .before .before .before .before .before .before .before .before .before .before .before .before .before .pre .2) (c .before .before .before .before .before .before .before .before .before .before .before .before .before .loop .d0) (c .before .before .before .before .before .before .before .before .before .before .before .before .before .loop .d1) (c .before .before .before .before .before .before .before .before .before .before .before .before .before .loop .d2) (c .before .before .before .before .before .before .before .before .before .before .before .before .before .loop .d3) ∙ c .before .before .before .before .before .before .before .before .before .before .before .before .before .loop .inv .1 .1))
 
 returns : tie.Need-returns Inv-loop μ-loop
 returns c = not-rising (c .before .before .before .before .before .args .count) (c .before .before .loop .i) (c .before .before .before .before .before .args .keys .now) (c .before .before .before .before .before .args .deadlines .now) (c .before .before .loop .r0) (c .before .before .loop .r1) (c .before .before .loop .r2) (c .before .before .loop .r3) (c .before .before .loop .d0) (c .before .before .loop .d1) (c .before .before .loop .d2) (c .before .before .loop .d3) (c .if1 .taken) (c .before .before .loop .inv .1 .0)
 
 returns-2 : tie.Need-returns-2 Inv-loop μ-loop
-returns-2 c = not-soon (c .before .before .before .before .before .before .args .count) (c .before .before .before .loop .i) (c .before .before .before .before .before .before .args .keys .now) (c .before .before .before .before .before .before .args .deadlines .now) (c .before .before .before .loop .r0) (c .before .before .before .loop .r1) (c .before .before .before .loop .r2) (c .before .before .before .loop .r3) (c .before .before .before .loop .d0) (c .before .before .before .loop .d1) (c .before .before .before .loop .d2) (c .before .before .before .loop .d3) (c .if2 .taken) (c .before .before .before .loop .inv .1 .1)
+returns-2 c = not-below (c .before .before .before .before .before .before .args .count) (c .before .before .before .loop .i) (c .before .before .before .before .before .before .args .keys .now) (c .before .before .before .before .before .before .args .deadlines .now) (c .before .before .before .loop .r0) (c .before .before .before .loop .r1) (c .before .before .before .loop .r2) (c .before .before .before .loop .r3) (c .before .before .before .loop .d0) (c .before .before .before .loop .d1) (c .before .before .before .loop .d2) (c .before .before .before .loop .d3) (c .if2 .taken) (c .before .before .before .loop .inv .1 .1)
 
-rest-plain-requires : tie.Need-rest-plain-requires Inv-loop μ-loop
-rest-plain-requires c κs = search needs
+fast-check-rest-requires : tie.Need-fast-check-rest-requires Inv-loop μ-loop
+fast-check-rest-requires c κs = search needs
 
 returns-3 : tie.Need-returns-3 Inv-loop μ-loop
-returns-3 c = rest-decides (c .before .before .before .before .before .before .before .args .count) (c .before .before .before .before .loop .i) (c .before .before .before .before .before .before .before .args .keys .now) (c .before .before .before .before .before .before .before .args .deadlines .now) (c .before .before .before .before .loop .r0) (c .before .before .before .before .loop .r1) (c .before .before .before .before .loop .r2) (c .before .before .before .before .loop .r3) (c .before .before .before .before .loop .d0) (c .before .before .before .before .loop .d1) (c .before .before .before .before .loop .d2) (c .before .before .before .before .loop .d3) _ (c .before .before .if1 .left) (c .before .if2 .left) (c .before .before .before .before .loop .inv .1 .0) (c .before .before .before .before .loop .inv .1 .1) (c .rest-plain .ensures)
+returns-3 c = rest-decides (c .before .before .before .before .before .before .before .args .count) (c .before .before .before .before .loop .i) (c .before .before .before .before .before .before .before .args .keys .now) (c .before .before .before .before .before .before .before .args .deadlines .now) (c .before .before .before .before .loop .r0) (c .before .before .before .before .loop .r1) (c .before .before .before .before .loop .r2) (c .before .before .before .before .loop .r3) (c .before .before .before .before .loop .d0) (c .before .before .before .before .loop .d1) (c .before .before .before .before .loop .d2) (c .before .before .before .before .loop .d3) _ (c .before .before .if1 .left) (c .before .if2 .left) (c .before .before .before .before .loop .inv .1 .0) (c .before .before .before .before .loop .inv .1 .1) (c .fast-check-rest .ensures)
 
-pub is-plain-spec : {M : Type 1} → statement M
-is-plain-spec =
+pub fast-check-spec : {M : Type 1} → statement M
+fast-check-spec =
     tie.close
     (tie.spec
     Inv-loop
@@ -193,5 +193,5 @@ is-plain-spec =
     loop-again
     returns
     returns-2
-    rest-plain-requires
+    fast-check-rest-requires
     returns-3)
