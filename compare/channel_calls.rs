@@ -3,11 +3,11 @@ extern "C" {
     fn channel_new(reals: *const f64, nr: usize, numbers: *const u64, nn: usize) -> u64;
     fn channel_process(reals: *const f64, nr: usize, numbers: *const u64, nn: usize, packet: *const u8, np: usize, out: *mut u8, no: usize, answer: *mut u64, na: usize);
     fn schedule_new(records: *mut [u64; 4], nr: usize, places: *mut u8, np: usize, answer: *mut u64, na: usize);
-    fn schedule_at(records: *mut [u64; 4], nr: usize, places: *mut u8, np: usize, count: usize, next: u64, now: u64, packet: *const u8, nk: usize, copies: u64, first: u64, second: u64, answer: *mut u64, na: usize);
-    fn pop_ready_at(records: *mut [u64; 4], nr: usize, places: *mut u8, np: usize, count: usize, next: u64, now: u64, out: *mut u8, no: usize, answer: *mut u64, na: usize);
+    fn schedule_at(records: *mut [u64; 4], nr: usize, places: *mut u8, np: usize, packet: *const u8, nk: usize, count: usize, now: u64, next: u64, copies: u64, first: u64, second: u64, answer: *mut u64, na: usize);
+    fn pop_ready_at(records: *mut [u64; 4], nr: usize, places: *mut u8, np: usize, out: *mut u8, no: usize, count: usize, now: u64, next: u64, answer: *mut u64, na: usize);
     fn schedule_read(records: *const [u64; 4], nr: usize, places: *const u8, np: usize, count: usize, next: u64, answer: *mut u64, na: usize);
-    fn schedule_at_unchecked(records: *mut [u64; 4], nr: usize, places: *mut u8, np: usize, count: usize, next: u64, now: u64, packet: *const u8, nk: usize, delay: u64);
-    fn pop_ready_at_unchecked(records: *mut [u64; 4], nr: usize, places: *mut u8, np: usize, count: usize, next: u64, now: u64, out: *mut u8, no: usize) -> usize;
+    fn schedule_at_unchecked(records: *mut [u64; 4], nr: usize, places: *mut u8, np: usize, packet: *const u8, nk: usize, count: usize, now: u64, next: u64, delay: u64);
+    fn pop_ready_at_unchecked(records: *mut [u64; 4], nr: usize, places: *mut u8, np: usize, out: *mut u8, no: usize, count: usize, now: u64, next: u64) -> usize;
 }
 
 pub fn new_channel(reals: &[f64], numbers: &[u64]) -> u64 {
@@ -41,7 +41,7 @@ impl Ours {
         let first = delays.first().copied().unwrap_or(0);
         let second = delays.get(1).copied().unwrap_or(0);
         unsafe {
-            schedule_at(self.records.as_mut_ptr(), self.records.len(), self.places.as_mut_ptr(), self.places.len(), self.count, self.next, now, packet.as_ptr(), packet.len(), delays.len() as u64, first, second, a.as_mut_ptr(), 4)
+            schedule_at(self.records.as_mut_ptr(), self.records.len(), self.places.as_mut_ptr(), self.places.len(), packet.as_ptr(), packet.len(), self.count, now, self.next, delays.len() as u64, first, second, a.as_mut_ptr(), 4)
         };
         self.count = a[2] as usize;
         self.next = a[3];
@@ -51,7 +51,7 @@ impl Ours {
     // 0 nothing, 1 a packet of that length, or 16 and the number of a refusal
     pub fn pop_ready_at(&mut self, now: u64, out: &mut [u8]) -> (u64, usize) {
         let mut a = [7u64; 4];
-        unsafe { pop_ready_at(self.records.as_mut_ptr(), self.records.len(), self.places.as_mut_ptr(), self.places.len(), self.count, self.next, now, out.as_mut_ptr(), out.len(), a.as_mut_ptr(), 4) };
+        unsafe { pop_ready_at(self.records.as_mut_ptr(), self.records.len(), self.places.as_mut_ptr(), self.places.len(), out.as_mut_ptr(), out.len(), self.count, now, self.next, a.as_mut_ptr(), 4) };
         self.count = a[2] as usize;
         self.next = a[3];
         (a[0], a[1] as usize)
@@ -66,14 +66,14 @@ impl Ours {
 
     #[allow(dead_code)]
     pub fn schedule_one_unchecked(&mut self, now: u64, packet: &[u8], delay: u64) {
-        unsafe { schedule_at_unchecked(self.records.as_mut_ptr(), self.records.len(), self.places.as_mut_ptr(), self.places.len(), self.count, self.next, now, packet.as_ptr(), packet.len(), delay) };
+        unsafe { schedule_at_unchecked(self.records.as_mut_ptr(), self.records.len(), self.places.as_mut_ptr(), self.places.len(), packet.as_ptr(), packet.len(), self.count, now, self.next, delay) };
         self.count += 1;
         self.next += 1;
     }
 
     #[allow(dead_code)]
     pub fn pop_unchecked(&mut self, now: u64, out: &mut [u8]) -> usize {
-        let n = unsafe { pop_ready_at_unchecked(self.records.as_mut_ptr(), self.records.len(), self.places.as_mut_ptr(), self.places.len(), self.count, self.next, now, out.as_mut_ptr(), out.len()) };
+        let n = unsafe { pop_ready_at_unchecked(self.records.as_mut_ptr(), self.records.len(), self.places.as_mut_ptr(), self.places.len(), out.as_mut_ptr(), out.len(), self.count, now, self.next) };
         if n <= 1410 {
             self.count -= 1;
         }

@@ -3,6 +3,8 @@
 // reals: loss, duplicate, reorder, corrupt, then the eight rolls.
 // numbers: reorder_extra_ms, base_delay_ms, jitter_ms, then the six counters.
 // A refusal is 16 and its number.
+// Of a schedule's parameters the slices come first, in registers, and count and next order stand apart: two words that a caller has
+// just written to the stack, read back as one, make the processor wait.
 ghost use mathlib.Core.Path.{_≡_};
 ghost use Prim.Native.Nat.{_<_};
 ghost use Rattle.schedule.specs.State.{mem, CanSchedule};
@@ -213,10 +215,10 @@ pub extern "C" fn schedule_new(records: &mut [[u64; 4]], places: &mut [u8], answ
 pub extern "C" fn schedule_at(
     records: &mut [[u64; 4]],
     places: &mut [u8],
-    count: usize,
-    next: u64,
-    now: u64,
     packet: &[u8],
+    count: usize,
+    now: u64,
+    next: u64,
     copies: u64,
     first: u64,
     second: u64,
@@ -244,10 +246,10 @@ pub extern "C" fn schedule_at(
 pub extern "C" fn pop_ready_at(
     records: &mut [[u64; 4]],
     places: &mut [u8],
-    count: usize,
-    next: u64,
-    now: u64,
     out: &mut [u8],
+    count: usize,
+    now: u64,
+    next: u64,
     answer: &mut [u64],
 ) {
     let s = ChannelScheduler {
@@ -297,10 +299,10 @@ fn put_amount(answer: &mut [u64], i: usize, a: Amount)
 pub extern "C" fn schedule_at_unchecked(
     records: &mut [[u64; 4]],
     places: &mut [u8],
-    count: usize,
-    next: u64,
-    now: u64,
     packet: &[u8],
+    count: usize,
+    now: u64,
+    next: u64,
     delay: u64,
 )
     requires { ⌜ CanSchedule (mem (records .now) (places .now) (scheduler count next)) now (packet .now) (One delay) ⌝ }
@@ -316,10 +318,10 @@ pub extern "C" fn schedule_at_unchecked(
 pub extern "C" fn pop_ready_at_unchecked(
     records: &mut [[u64; 4]],
     places: &mut [u8],
-    count: usize,
-    next: u64,
-    now: u64,
     out: &mut [u8],
+    count: usize,
+    now: u64,
+    next: u64,
 ) -> usize
     requires { ⌜ CanPop (mem (records .now) (places .now) (scheduler count next)) now (out .now) ⌝ }
 {

@@ -1,18 +1,20 @@
 -- One law a function, over plain values: what its callees give is what its definition says.
 use mathlib.Core.Path.{_≡_, refl, sym, _∙_, ap}
-use Prim.Native.Nat.{ℕ, _+_, _-_, _*_, _/_, _<_, _≤_}
+use Prim.Native.Nat.{ℕ, zero, suc, _+_, _-_, _*_, _/_, _<_, _≤_}
 use native.Mathlib.Omega.{arith}
+use native.Mathlib.Numerals.{add-one}
 use mathlib.Core.Bool.{Bool, true, false, _||_}
 use mathlib.Core.List.{List, [], _∷_, _++_}
 use lib.ListN.{length, take, drop, replicate}
 use lib.Seq.{length-take-le}
 use lib.Dec.{ltb}
-use borrow.Author.Tests.{ltb-false, leb-false, lt-ltb, le-ltb, le-leb, lt-leb}
+use borrow.Author.Tests.{ltb-false, leb-false, lt-ltb, le-ltb, le-leb, lt-leb, ne-eqb}
 use Rattle.refusal.proofs.Laws.{or-false}
 use Rattle.duration.specs.Bounds.{maxTime}
 use Rattle.refusal.specs.Counts.{countLimit}
 use Rattle.schedule.specs.Record.{record4, timeOf, lengthOf, placeOf, vacant, after, inserted, lowestFree}
 use Rattle.schedule.specs.State.{Mem, mem, waitingRecords, brokenFrom, stateBroken, countsBroken, late, heldLate, leavesAt, delayLate, deliveriesLate, copies, unusedPlaces, unusedRecords, lacksRoom, CanPut, CanSchedule}
+use Rattle.schedule.specs.Scans.{delayAt}
 use Rattle.schedule.specs.Schedule.{scheduler, newDef, placed, filled, putDef, putAllDef, roomOf, onSchedule, scheduleDef, firstRecord, bytesOf, takenDef, PopExit, popExit, onPop, outShort, takeDef, popDef, CanPop, reading}
 use Rattle.refusal.specs.Order.{Verdict, accepted, refused, check, verdict, firstOf, numbered, orElse, decide, order}
 use Rattle.refusal.specs.declared.Refusal.{Refusal}
@@ -50,32 +52,33 @@ pub put-law : (rs : List (List ℕ)) (ps : List ℕ) (s : ChannelScheduler) (tim
 unfolding putDef
 put-law rs ps s time packet p q r = rw (r, q, p)
 
-pub lost-law : (m : Mem) (now : ℕ) (packet : List ℕ) {ds : Deliveries} → ds ≡ Lost → m ≡ putAllDef m now packet ds
-unfolding putAllDef
-lost-law m now packet e = rw e
+-- the first k copies of an answer put in
+unfoldable pub putFirst : Mem → ℕ → List ℕ → Deliveries → ℕ → Mem
+putFirst m now packet ds zero = m
+putFirst m now packet ds (suc k) = putDef (putFirst m now packet ds k) (now + delayAt ds k * 1000000) packet
 
-pub one-law : (m : Mem) (now d : ℕ) (packet : List ℕ) {ds : Deliveries} {m′ : Mem} → ds ≡ One d → m′ ≡ putDef m (now + d * 1000000) packet → m′ ≡ putAllDef m now packet ds
-unfolding putAllDef
-one-law m now d packet e p = rw e p
+pub put-none : (m : Mem) (now : ℕ) (packet : List ℕ) (ds : Deliveries) → m ≡ putFirst m now packet ds 0
+unfolding putFirst
+put-none m now packet ds = refl
 
-pub two-law : (m : Mem) (now d e : ℕ) (packet : List ℕ) {ds : Deliveries} {m′ m″ : Mem} → ds ≡ Two d e → m′ ≡ putDef m (now + d * 1000000) packet → m″ ≡ putDef m′ (now + e * 1000000) packet → m″ ≡ putAllDef m now packet ds
-unfolding putAllDef
-two-law m now d e packet q p r = rw (q, ← p) r
+pub put-more : (m : Mem) (now : ℕ) (packet : List ℕ) (ds : Deliveries) (k : ℕ) {m′ m″ : Mem} {d : ℕ} → m′ ≡ putFirst m now packet ds k → d ≡ delayAt ds k → m″ ≡ putDef m′ (now + d * 1000000) packet → m″ ≡ putFirst m now packet ds (k + 1)
+unfolding putFirst
+put-more m now packet ds k p q r = rw (add-one, ← p, ← q) r
+
+pub put-all : (m : Mem) (now : ℕ) (packet : List ℕ) (ds : Deliveries) {m′ : Mem} {k : ℕ} → m′ ≡ putFirst m now packet ds k → k ≡ copies ds → m′ ≡ putAllDef m now packet ds
+unfolding putFirst putAllDef delayAt
+put-all m now packet ds p q = p ∙ ap (putFirst m now packet ds) q ∙ whole ds
+  where
+    whole : (ds : Deliveries) → putFirst m now packet ds (copies ds) ≡ putAllDef m now packet ds
+    whole Lost = refl
+    whole (One d) = refl
+    whole (Two d e) = refl
 
 -- a delay within its bound
 pub delay-fits : (now d : ℕ) → delayLate now d ≡ false → (d ≤ 180000) × (now + d * 1000000 ≤ maxTime)
 delay-fits now d h = (ltb-false 180000 d (or-false (ltb 180000 d) (late (leavesAt now d)) h .0), ltb-false maxTime (leavesAt now d) (or-false (ltb 180000 d) (late (leavesAt now d)) h .1))
 
 module _ (m : Mem) (now : ℕ) (packet : List ℕ) {ds : Deliveries} (can : CanSchedule m now packet ds) where
-  pub one-fits : (d : ℕ) → ds ≡ One d → (d ≤ 180000) × (now + d * 1000000 ≤ maxTime)
-  one-fits d e = delay-fits now d (sym (ap (deliveriesLate now) e) ∙ can .times)
-
-  pub first-fits : (d e : ℕ) → ds ≡ Two d e → (d ≤ 180000) × (now + d * 1000000 ≤ maxTime)
-  first-fits d e q = delay-fits now d (or-false (delayLate now d) (delayLate now e) (sym (ap (deliveriesLate now) q) ∙ can .times) .0)
-
-  pub second-fits : (d e : ℕ) → ds ≡ Two d e → (e ≤ 180000) × (now + e * 1000000 ≤ maxTime)
-  second-fits d e q = delay-fits now e (or-false (delayLate now d) (delayLate now e) (sym (ap (deliveriesLate now) q) ∙ can .times) .1)
-
   few : m .scheduler .«next_order» < countLimit
   few = leb-false countLimit (m .scheduler .«next_order») (can .counts)
 
@@ -92,6 +95,28 @@ module _ (m : Mem) (now : ℕ) (packet : List ℕ) {ds : Deliveries} (can : CanS
   can-second d e time q p =
       let c = can-first d e q in
       rw p (record { sound = put-sound m packet c time; counts = rw (put-next m packet c time) (omega (arith, few)); short = can .short; room = put-room m packet c time 1 (room-two d e q) })
+
+pub next-fits : (m : Mem) (now : ℕ) (packet : List ℕ) (ds : Deliveries) (k : ℕ) → CanSchedule m now packet ds → {n d : ℕ} → n ≡ copies ds → k < n → d ≡ delayAt ds k → (d ≤ 180000) × (now + d * 1000000 ≤ maxTime)
+unfolding delayAt
+next-fits m now packet ds k can c h e = delay-fits now _ (ap (delayLate now) e ∙ within ds k (rw (← c) h) (can .times))
+  where
+    within : (ds : Deliveries) (k : ℕ) → k < copies ds → deliveriesLate now ds ≡ false → delayLate now (delayAt ds k) ≡ false
+    within Lost k h t = absurd (omega arith)
+    within (One d) k h t = t
+    within (Two d e) zero h t = or-false (delayLate now d) (delayLate now e) t .0
+    within (Two d e) (suc k) h t = rw (ne-eqb (suc k) 0 (λ q. omega arith)) (or-false (delayLate now d) (delayLate now e) t .1)
+
+pub can-next : (m : Mem) (now : ℕ) (packet : List ℕ) (ds : Deliveries) (k : ℕ) → CanSchedule m now packet ds → {n : ℕ} {m′ : Mem} → n ≡ copies ds → k < n → m′ ≡ putFirst m now packet ds k → CanPut m′ packet
+unfolding putFirst
+can-next m now packet ds k can c h e = rw e (go ds k can (rw (← c) h))
+  where
+    go : (ds : Deliveries) (k : ℕ) → CanSchedule m now packet ds → k < copies ds → CanPut (putFirst m now packet ds k) packet
+    go Lost k can h = absurd (omega arith)
+    go (One d) zero can h = can-one m now packet can d refl
+    go (One d) (suc k) can h = absurd (omega arith)
+    go (Two d e) zero can h = can-first m now packet can d e refl
+    go (Two d e) (suc zero) can h = can-second m now packet can d e (now + delayAt (Two d e) 0 * 1000000) refl refl
+    go (Two d e) (suc (suc k)) can h = absurd (omega arith)
 
 -- ---- room, as the code tests it
 pub lacks : (m : Mem) (k : ℕ) {r n : ℕ} → r ≡ roomOf m → n ≡ k → r < n → lacksRoom m k ≡ true

@@ -96,6 +96,11 @@ unfolding outside
 sound-inside next n front [] h = refl
 sound-inside next n front (r ∷ rs) h = let f = fine next n front r rs h in or-both (leb n (placeOf r)) (outside n rs) (lt-leb n (placeOf r) (f .inside)) (sound-inside next n r rs (f .rest))
 
+pub sound-single : (next n : ℕ) (front : List ℕ) (rs : List (List ℕ)) → brokenFrom next n front rs ≡ false → doubled rs ≡ false
+unfolding doubled
+sound-single next n front [] h = refl
+sound-single next n front (r ∷ rs) h = let f = fine next n front r rs h in or-both (placeIn (placeOf r) rs) (doubled rs) (f .single) (sound-single next n r rs (f .rest))
+
 -- ---- one record more at the end
 pub place-last : (p : ℕ) (rs : List (List ℕ)) (r : List ℕ) → placeIn p (rs ++ r ∷ []) ≡ placeIn p (r ∷ rs)
 unfolding placeIn

@@ -3,6 +3,7 @@ pub mod Ordering
 pub mod Checks
 pub mod Sound
 pub mod Doubled
+pub mod FreePlaces
 pub mod Marks
 pub mod Memory
 pub mod Calls

@@ -12,9 +12,12 @@ use borrow.Author.Tests.{ltb-true, ltb-false, lt-ltb, le-ltb}
 use Rattle.refusal.proofs.Laws.{or-false}
 use Rattle.schedule.specs.Record.{record4, placeOf, vacant, after, inserted, ordered, placeIn, freePlaces, lowestFree}
 use Rattle.schedule.specs.State.{Mem, waitingRecords, placeCount, brokenFrom, stateBroken, unusedRecords, unusedPlaces, lacksRoom, CanPut}
+use Rattle.schedule.specs.Scans.{doubled, outside}
 use Rattle.schedule.specs.Schedule.{placed, filled, putDef, firstRecord, takenDef, roomOf}
 use Rattle.schedule.proofs.Ordering.{inserted-length, least}
-use Rattle.schedule.proofs.Sound.{or-both, Fine, fine, sound-ordered, free-count, free-head, inserted-sound, rest-sound}
+use Rattle.schedule.proofs.Sound.{or-both, Fine, fine, sound-ordered, inserted-sound, rest-sound}
+use Rattle.schedule.proofs.Doubled.{sound-inside, sound-single}
+use Rattle.schedule.proofs.FreePlaces.{free-count, free-head}
 use Rattle.schedule.proofs.Lists.{rest-cons}
 
 -- ---- what line 9 says, false
@@ -33,8 +36,14 @@ module _ (m : Mem) (sound : stateBroken m ≡ false) where
   pub waiting-count : length (waitingRecords m) ≡ m .scheduler .count
   waiting-count = length-take-le (m .scheduler .count) (m .records) within
 
+  pub inside : outside (placeCount m) (waitingRecords m) ≡ false
+  inside = sound-inside (m .scheduler .«next_order») (placeCount m) vacant (waitingRecords m) unbroken
+
+  pub single : doubled (waitingRecords m) ≡ false
+  single = sound-single (m .scheduler .«next_order») (placeCount m) vacant (waitingRecords m) unbroken
+
   pub places-count : unusedPlaces m + m .scheduler .count ≡ placeCount m
-  places-count = ap (λ (n : ℕ). unusedPlaces m + n) (sym waiting-count) ∙ free-count (m .scheduler .«next_order») (placeCount m) vacant (waitingRecords m) unbroken
+  places-count = ap (λ (n : ℕ). unusedPlaces m + n) (sym waiting-count) ∙ free-count (placeCount m) (waitingRecords m) inside single
 
 pub makes-sound : (m : Mem) → m .scheduler .count ≤ length (m .records) → brokenFrom (m .scheduler .«next_order») (placeCount m) vacant (waitingRecords m) ≡ false → stateBroken m ≡ false
 unfolding stateBroken

@@ -1,4 +1,4 @@
--- Waiting records of which line 9 is false: what that says of each, how many places are free, and that a record put in or taken out keeps it so.
+-- Waiting records of which line 9 is false: what that says of each, and that a record put in or taken out keeps it so.
 use mathlib.Core.Path.{_≡_, refl, sym, _∙_, ap, subst}
 use Prim.Native.Nat.{ℕ, zero, suc, _<_, _≤_, _+_}
 use native.Mathlib.Omega.{arith}
@@ -67,78 +67,6 @@ sound-ordered next n front (r ∷ rs) h = let f = fine next n front r rs h in pu
 pub place-cons : (p : ℕ) (r : List ℕ) (rs : List (List ℕ)) → placeIn p (r ∷ rs) ≡ (eqb p (placeOf r) || placeIn p rs)
 unfolding placeIn
 place-cons p r rs = refl
-
-no-place : (p : ℕ) → placeIn p [] ≡ false
-unfolding placeIn
-no-place p = refl
-
-free-zero : (p : ℕ) (rs : List (List ℕ)) → freeFrom zero p rs ≡ []
-unfolding freeFrom
-free-zero p rs = refl
-
-free-suc : (k p : ℕ) (rs : List (List ℕ)) (t : Bool) → placeIn p rs ≡ t → freeFrom (suc k) p rs ≡ cond t (freeFrom k (suc p) rs) (p ∷ freeFrom k (suc p) rs)
-unfolding freeFrom
-free-suc k p rs t e = ap (λ (b : Bool). cond b (freeFrom k (suc p) rs) (p ∷ freeFrom k (suc p) rs)) e
-
--- with no records all places are free
-free-all : (k p : ℕ) → length (freeFrom k p []) ≡ k
-free-all zero p = ap length (free-zero p [])
-free-all (suc k) p = ap length (free-suc k p [] false (no-place p)) ∙ ap suc (free-all k (suc p))
-
--- a record whose place lies below p takes none of the places from p on
-free-outside : (k p : ℕ) (r : List ℕ) (rs : List (List ℕ)) → placeOf r < p → freeFrom k p (r ∷ rs) ≡ freeFrom k p rs
-free-outside zero p r rs h = free-zero p (r ∷ rs) ∙ sym (free-zero p rs)
-free-outside (suc k) p r rs h = go (placeIn p rs) refl (free-outside k (suc p) r rs (omega arith))
-  where
-    other : placeIn p (r ∷ rs) ≡ placeIn p rs
-    other = place-cons p r rs ∙ ap (λ (b : Bool). b || placeIn p rs) (ne-eqb p (placeOf r) (λ e. omega arith))
-
-    go : (t : Bool) → placeIn p rs ≡ t → freeFrom k (suc p) (r ∷ rs) ≡ freeFrom k (suc p) rs → freeFrom (suc k) p (r ∷ rs) ≡ freeFrom (suc k) p rs
-    go true e ih = free-suc k p (r ∷ rs) true (other ∙ e) ∙ ih ∙ sym (free-suc k p rs true e)
-    go false e ih = free-suc k p (r ∷ rs) false (other ∙ e) ∙ ap (λ (l : List ℕ). p ∷ l) ih ∙ sym (free-suc k p rs false e)
-
--- a record whose place is among them, and is no other's, takes one
-free-one : (k p : ℕ) (r : List ℕ) (rs : List (List ℕ)) → p ≤ placeOf r → placeOf r < p + k → placeIn (placeOf r) rs ≡ false → suc (length (freeFrom k p (r ∷ rs))) ≡ length (freeFrom k p rs)
-free-one zero p r rs h j e = absurd (omega arith)
-free-one (suc k) p r rs h j e = go (λ l m. free-one k (suc p) r rs l m e) (eqb p (placeOf r)) refl (placeIn p rs) refl
-  where
-    go : (suc p ≤ placeOf r → placeOf r < suc p + k → suc (length (freeFrom k (suc p) (r ∷ rs))) ≡ length (freeFrom k (suc p) rs)) → (t : Bool) → eqb p (placeOf r) ≡ t → (u : Bool) → placeIn p rs ≡ u → suc (length (freeFrom (suc k) p (r ∷ rs))) ≡ length (freeFrom (suc k) p rs)
-    go ih true q u v =
-        let same : p ≡ placeOf r = eqb-true p (placeOf r) q in
-        ap (λ (l : List ℕ). suc (length l)) (free-suc k p (r ∷ rs) true (place-cons p r rs ∙ ap (λ (b : Bool). b || placeIn p rs) q))
-        ∙ ap (λ (l : List ℕ). suc (length l)) (free-outside k (suc p) r rs (omega arith))
-        ∙ sym (ap length (free-suc k p rs false (ap (λ (x : ℕ). placeIn x rs) same ∙ e)))
-    go ih false q true v =
-        let apart : p ≡ placeOf r → ⊥ = eqb-false p (placeOf r) q in
-        ap (λ (l : List ℕ). suc (length l)) (free-suc k p (r ∷ rs) true (place-cons p r rs ∙ ap (λ (b : Bool). b || placeIn p rs) q ∙ v))
-        ∙ ih (omega arith) (omega arith)
-        ∙ sym (ap length (free-suc k p rs true v))
-    go ih false q false v =
-        let apart : p ≡ placeOf r → ⊥ = eqb-false p (placeOf r) q in
-        ap (λ (l : List ℕ). suc (length l)) (free-suc k p (r ∷ rs) false (place-cons p r rs ∙ ap (λ (b : Bool). b || placeIn p rs) q ∙ v))
-        ∙ ap suc (ih (omega arith) (omega arith))
-        ∙ sym (ap length (free-suc k p rs false v))
-
--- free places and waiting records are all the places
-pub free-count : (next n : ℕ) (front : List ℕ) (rs : List (List ℕ)) → brokenFrom next n front rs ≡ false → length (freeFrom n 0 rs) + length rs ≡ n
-free-count next n front [] h = add-zero _ ∙ free-all n 0
-free-count next n front (r ∷ rs) h =
-    let f = fine next n front r rs h in
-    let a = free-count next n r rs (f .rest) in
-    let b = free-one n 0 r rs (omega arith) (omega (arith, f .inside)) (f .single) in
-    omega arith
-
--- the first free place is one of them, and no record has it
-pub free-head : (k p : ℕ) (rs : List (List ℕ)) → 0 < length (freeFrom k p rs) → (getD (freeFrom k p rs) 0 0 < p + k) × (placeIn (getD (freeFrom k p rs) 0 0) rs ≡ false)
-free-head zero p rs h = absurd (omega (arith, ap length (free-zero p rs)))
-free-head (suc k) p rs h = go (placeIn p rs) refl (free-head k (suc p) rs)
-  where
-    go : (t : Bool) → placeIn p rs ≡ t → (0 < length (freeFrom k (suc p) rs) → (getD (freeFrom k (suc p) rs) 0 0 < suc p + k) × (placeIn (getD (freeFrom k (suc p) rs) 0 0) rs ≡ false)) → (getD (freeFrom (suc k) p rs) 0 0 < p + suc k) × (placeIn (getD (freeFrom (suc k) p rs) 0 0) rs ≡ false)
-    go true e ih =
-        let s : freeFrom (suc k) p rs ≡ freeFrom k (suc p) rs = free-suc k p rs true e in
-        let i = ih (subst (λ (l : List ℕ). 0 < length l) s h) in
-        (rw s (omega (arith, i .0)), rw s (i .1))
-    go false e ih = let s : freeFrom (suc k) p rs ≡ p ∷ freeFrom k (suc p) rs = free-suc k p rs false e in (rw s (omega arith), rw s e)
 
 -- ---- a record put in
 pub place-inserted : (p : ℕ) (r : List ℕ) (rs : List (List ℕ)) → eqb p (placeOf r) ≡ false → placeIn p rs ≡ false → placeIn p (inserted after r rs) ≡ false

@@ -6,6 +6,10 @@ use lib.ListN.{take, drop}
 use lib.Dec.{ltb, leb, eqb}
 use Rattle.schedule.specs.Record.{orderOf, lengthOf, placeOf, placeIn}
 use Rattle.schedule.specs.State.{recordBroken}
+use Rattle.schedule.specs.declared.Deliveries.{Deliveries}
+use Rattle.schedule.specs.declared.Deliveries.the-variants.{Lost, One, Two}
+use Rattle.schedule.specs.declared.PlaceSum.{PlaceSum}
+use Rattle.schedule.specs.declared.PlaceSum.the-variants.{Is, Past}
 
 -- how many stand before the first that leaves after x
 unfoldable pub placeFor : {A : Type 0} → (A → A → Bool) → A → List A → ℕ
@@ -59,3 +63,18 @@ unfoldable pub firstUnset : ℕ → List ℕ → ℕ
 firstUnset zero ms = 0
 firstUnset (suc n) [] = 0
 firstUnset (suc n) (m ∷ ms) = cond (eqb m 0) 0 (suc (firstUnset n ms))
+
+-- the sum of the places
+unfoldable pub placeSum : List (List ℕ) → ℕ
+placeSum [] = 0
+placeSum (r ∷ rs) = placeOf r + placeSum rs
+
+-- n more than that sum, if no place lies past `last`
+unfoldable pub sumFrom : ℕ → ℕ → List (List ℕ) → PlaceSum
+sumFrom last n rs = cond (outside (suc last) rs) Past (Is (n + placeSum rs))
+
+-- the delay of the k-th copy
+unfoldable pub delayAt : Deliveries → ℕ → ℕ
+delayAt Lost k = 0
+delayAt (One d) k = d
+delayAt (Two d e) k = cond (eqb k 0) d e

@@ -1,13 +1,13 @@
 // The delivery schedule: waiting copies of packets, handed out at their time. Document 01, `channel/scheduler.rs`.
 ghost use mathlib.Core.Path.{_≡_};
 ghost use mathlib.Core.Bool.{Bool, true, false, _||_};
-ghost use mathlib.Core.List.{List, _∷_, _++_};
+ghost use mathlib.Core.List.{List, [], _∷_, _++_};
 ghost use Prim.Native.Nat.{_+_, _-_, _*_, _/_, _≤_, _<_};
 ghost use lib.ListN.{length, getD, take, drop, replicate};
 ghost use Rattle.duration.specs.Bounds.{maxTime};
-ghost use Rattle.schedule.specs.Record.{vacant, after, ordered, inserted, freePlaces, lowestFree};
+ghost use Rattle.schedule.specs.Record.{vacant, after, ordered, inserted, placeOf, freePlaces, lowestFree};
 ghost use Rattle.schedule.specs.State.{mem, recordBroken, brokenFrom, stateBroken, heldLate, late, delayLate, deliveriesLate, copies, CanPut, CanSchedule};
-ghost use Rattle.schedule.specs.Scans.{placeFor, raised, blockSize, boundsBroken, brokenAlone, doubled, outside, doubledIn, placeMarks, firstFree, firstUnset};
+ghost use Rattle.schedule.specs.Scans.{placeFor, raised, blockSize, boundsBroken, brokenAlone, doubled, outside, doubledIn, placeMarks, firstFree, firstUnset, sumFrom, delayAt};
 ghost use Rattle.schedule.specs.Schedule.{newDef, placed, filled, putDef, putAllDef, scheduleExit, scheduleDef, bytesOf, outShort, popExit, takeDef, popDef, CanPop, reading, firstTime, deadlineDef, lenDef, emptyDef, roomOf, roomDef};
 use duration::MAX_TIME;
 use refusal::COUNT_LIMIT;
@@ -74,6 +74,12 @@ pub enum Emptiness {
 enum Held {
     Sound,
     Refused(Refusal),
+}
+
+// The sum of some records' places, where none of them lies past a bound.
+enum PlaceSum {
+    Is(u64),
+    Past,
 }
 
 fn clear_records(s: &mut [Scheduled])
@@ -240,8 +246,8 @@ fn first_low(s: &[Scheduled], count: usize, end: usize) -> usize
     first_unset(&used, end)
 }
 
-// The lowest place that no waiting record has.
-fn lowest_free(s: &[Scheduled], count: usize, places: usize) -> usize
+// The lowest place that no waiting record has, found by marks.
+fn lowest_unmarked(s: &[Scheduled], count: usize, places: usize) -> usize
     requires { ⌜ (count ≤ length (now s)) × (0 < length (freePlaces places (take count (now s)))) × (outside places (take count (now s)) ≡ false) ⌝ }
     ensures { λ p. ⌜ p ≡ lowestFree places (take count (now (s .entry))) ⌝ }
 {
@@ -257,6 +263,76 @@ fn lowest_free(s: &[Scheduled], count: usize, places: usize) -> usize
         base += 256;
     }
     first_free(s, count, base, places)
+}
+
+fn place_at(s: &[Scheduled], i: usize) -> u64
+    requires { ⌜ i < length (now s) ⌝ }
+    ensures { λ p. ⌜ p ≡ placeOf (getD (now (s .entry)) i []) ⌝ }
+{
+    let r = s[i];
+    r[3]
+}
+
+// `sum` and the places of the records from `from` on, if none lies past `count`.
+fn sum_from(s: &[Scheduled], count: usize, from: usize, sum: u64) -> PlaceSum
+    requires { ⌜ (from ≤ count) × (count ≤ length (now s)) × (count ≤ 65535) × (sum ≤ from * 65535) ⌝ }
+    ensures { λ r. ⌜ r ≡ sumFrom count sum (drop from (take count (now (s .entry)))) ⌝ }
+{
+    let last = count as u64;
+    let mut total = sum;
+    let mut i = from;
+    while i < count {
+        let p = place_at(s, i);
+        if last < p {
+            return PlaceSum::Past;
+        }
+        total += p;
+        i += 1;
+    }
+    PlaceSum::Is(total)
+}
+
+// The sum of the places, if none lies past `count`. Four sums at a time don't wait for one another.
+fn place_sum(s: &[Scheduled], count: usize) -> PlaceSum
+    requires { ⌜ (count ≤ length (now s)) × (count ≤ 65535) ⌝ }
+    ensures { λ r. ⌜ r ≡ sumFrom count 0 (take count (now (s .entry))) ⌝ }
+{
+    let last = count as u64;
+    let mut a: u64 = 0;
+    let mut b: u64 = 0;
+    let mut c: u64 = 0;
+    let mut d: u64 = 0;
+    let mut i: usize = 0;
+    while 4 <= count - i {
+        let p = place_at(s, i);
+        let q = place_at(s, i + 1);
+        let u = place_at(s, i + 2);
+        let v = place_at(s, i + 3);
+        if ((last < p) | (last < q)) | ((last < u) | (last < v)) {
+            return PlaceSum::Past;
+        }
+        a += p;
+        b += q;
+        c += u;
+        d += v;
+        i += 4;
+    }
+    sum_from(s, count, i, (a + b) + (c + d))
+}
+
+// The lowest place that no waiting record has. If none lies past `count`, it is the only one up to there, and its number what
+// the sum of all these numbers has more than the sum of the places.
+fn lowest_free(s: &[Scheduled], count: usize, places: usize) -> usize
+    requires { ⌜ (count ≤ length (now s)) × (0 < length (freePlaces places (take count (now s)))) × (outside places (take count (now s)) ≡ false) × (doubled (take count (now s)) ≡ false) ⌝ }
+    ensures { λ p. ⌜ p ≡ lowestFree places (take count (now (s .entry))) ⌝ }
+{
+    if count <= 65535 {
+        let sum = place_sum(s, count);
+        if let PlaceSum::Is(n) = sum {
+            return count * (count + 1) / 2 - n as usize;
+        }
+    }
+    lowest_unmarked(s, count, places)
 }
 
 // Whether two waiting records have the same one of the 256 places from `base` on.
@@ -432,6 +508,22 @@ fn copies_of(deliveries: Deliveries) -> usize
     }
 }
 
+// The delay of the k-th copy.
+fn delay_of(deliveries: Deliveries, k: usize) -> u64
+    ensures { λ d. ⌜ d ≡ delayAt deliveries k ⌝ }
+{
+    match deliveries {
+        Deliveries::Lost => 0,
+        Deliveries::One(d) => d,
+        Deliveries::Two(d, e) => {
+            if k == 0 {
+                return d;
+            }
+            e
+        }
+    }
+}
+
 // Fills a place: the packet, and zeros after it.
 fn fill_place(places: &mut [u8], place: usize, packet: &[u8])
     requires { ⌜ (place * 1410 + 1410 ≤ length (now places)) × (length (now packet) ≤ 1410) ⌝ }
@@ -540,14 +632,15 @@ impl ChannelScheduler {
         requires { ⌜ CanSchedule (mem (records .now) (places .now) self) now (packet .now) deliveries ⌝ }
         ensures { λ r. ⌜ mem (records .exit .now) (places .exit .now) r ≡ putAllDef (mem (records .entry .now) (places .entry .now) self) now (packet .entry .now) deliveries ⌝ }
     {
-        match deliveries {
-            Deliveries::Lost => self,
-            Deliveries::One(d) => self.put(records, places, now + d * 1000000, packet),
-            Deliveries::Two(d, e) => {
-                let first = self.put(records, places, now + d * 1000000, packet);
-                first.put(records, places, now + e * 1000000, packet)
-            }
+        let copies = copies_of(deliveries);
+        let mut scheduler = self;
+        let mut k: usize = 0;
+        while k < copies {
+            let delay = delay_of(deliveries, k);
+            scheduler = scheduler.put(records, places, now + delay * 1000000, packet);
+            k += 1;
         }
+        scheduler
     }
 
     // Queues the output of the channel, all copies or none.

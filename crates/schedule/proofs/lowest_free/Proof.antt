@@ -1,95 +1,51 @@
 use native.Mathlib.Omega.{arith}
 use borrow.Author.Needs.{needs}
-use mathlib.Core.Path.{_≡_, sym, _∙_, ap}
-use Prim.Native.Nat.{ℕ, _≤_, _-_}
-use mathlib.Core.List.{List}
-use lib.ListN.{take, getD}
-use native.Mathlib.Nat.{sub-zero}
-use Rattle.schedule.specs.Record.{freeFrom}
-use Rattle.schedule.specs.Scans.{blockSize, firstFree}
-use Rattle.schedule.proofs.Doubled.{outside-more}
-use Rattle.schedule.proofs.Checks.{block-found, block-full, block-last}
+use Prim.Native.Nat.{ℕ, _+_, _*_, _≤_}
+use native.Mathlib.Nat.{mul-le-mul}
+use Rattle.schedule.proofs.FreePlaces.{sum-frees}
 use Rattle.schedule.proofs.lowest_free.Statement.{statement}
 use Rattle.schedule.proofs.lowest_free.Tie as tie
 
-abbrev Inv-loop : tie.InvT-loop
-Inv-loop s count places base₀ base = (base ≤ places) × (freeFrom (places - base) base (take count s) ≡ freeFrom places 0 (take count s))
+place-sum-requires : tie.Need-place-sum-requires
+place-sum-requires c κs = search needs
 
-abbrev μ-loop : tie.MeasureT-loop
-μ-loop s count places base₀ base = places - base
+enum-known-sum : tie.Need-enum-known-sum
+enum-known-sum c = search needs
 
-first-low-requires : tie.Need-first-low-requires Inv-loop μ-loop
-first-low-requires c κs =
-    let s = c .before in
-    (s .pre .0, c .if1 .taken, outside-more (s .args .places) blockSize (take (s .args .count) (s .args .s .now)) (c .if1 .taken) (s .pre .2))
+add-result : tie.Need-add-result
+add-result c = search needs
 
-returns : tie.Need-returns Inv-loop μ-loop
-returns c =
-    let s = c .before .before in
-    let w = take (s .args .count) (s .args .s .now) in
-    block-last (s .args .places) 0 w (omega arith) (c .first-low .ensures ∙ ap (λ (n : ℕ). firstFree n 0 w) (sym (sub-zero (s .args .places)))) (rw (sub-zero (s .args .places)) (s .pre .1))
-    ∙ ap (λ (n : ℕ). getD (freeFrom n 0 w) 0 0) (sub-zero (s .args .places))
+square : (n : ℕ) → n ≤ 65535 → n * (n + 1) ≤ 65535 * 65536
+square n h = let k : n + 1 ≤ 65536 = omega arith in mul-le-mul h k
 
-loop-holds : tie.Need-loop-holds Inv-loop μ-loop
-loop-holds c = let a = c .before .args in (omega arith, ap (λ (n : ℕ). freeFrom n 0 (take (a .count) (a .s .now))) (sub-zero (a .places)))
+mul-result : tie.Need-mul-result
+mul-result c = let s = c .before .before .before .before .before in omega (arith, square (s .args .count) (c .before .before .before .before .if1 .taken))
 
-sub-loop : tie.Need-sub-loop Inv-loop μ-loop
-sub-loop c = search needs
+sub-result : tie.Need-sub-result
+sub-result c = let s = c .before .before .before .before .before in omega (arith, sum-frees (s .args .places) (s .args .count) _ (s .args .s .now) (s .pre .0) (s .pre .1) (s .pre .2) (s .pre .3) (c .before .before .before .place-sum .ensures) (c .before .sum .given .1))
 
-add-first-free : tie.Need-add-first-free Inv-loop μ-loop
-add-first-free c = search needs
+returns : tie.Need-returns
+returns c = let s = c .before .before .before .before .before in omega (arith, sum-frees (s .args .places) (s .args .count) _ (s .args .s .now) (s .pre .0) (s .pre .1) (s .pre .2) (s .pre .3) (c .before .before .before .place-sum .ensures) (c .before .sum .given .1))
 
-first-free-requires : tie.Need-first-free-requires Inv-loop μ-loop
-first-free-requires c κs = search needs
+enum-told : tie.Need-enum-told
+enum-told c = search needs
 
-add-if2 : tie.Need-add-if2 Inv-loop μ-loop
-add-if2 c = search needs
+lowest-unmarked-requires : tie.Need-lowest-unmarked-requires
+lowest-unmarked-requires c κs = search needs
 
-returns-2 : tie.Need-returns-2 Inv-loop μ-loop
-returns-2 c =
-    let l = c .before .before .before in
-    let s = l .before .before in
-    block-found (s .args .places) (l .loop .base) (take (s .args .count) (s .args .s .now)) (c .before .before .loop-test .taken) (c .before .first-free .ensures) (c .if2 .taken)
-    ∙ ap (λ (xs : List ℕ). getD xs 0 0) (l .loop .inv .1)
-
-add-base : tie.Need-add-base Inv-loop μ-loop
-add-base c = search needs
-
-loop-less : tie.Need-loop-less Inv-loop μ-loop
-loop-less c = search needs
-
-loop-again : tie.Need-loop-again Inv-loop μ-loop
-loop-again c =
-    let l = c .before .before .before in
-    let s = l .before .before in
-    (omega arith, block-full (s .args .places) (l .loop .base) (take (s .args .count) (s .args .s .now)) (c .before .before .loop-test .taken) (c .before .first-free .ensures) (c .if2 .left) ∙ l .loop .inv .1)
-
-first-free-requires-2 : tie.Need-first-free-requires-2 Inv-loop μ-loop
-first-free-requires-2 c κs = search needs
-
-returns-3 : tie.Need-returns-3 Inv-loop μ-loop
-returns-3 c =
-    let l = c .before .before in
-    let s = l .before .before in
-    block-last (s .args .places) (l .loop .base) (take (s .args .count) (s .args .s .now)) (l .loop .inv .0) (c .first-free2 .ensures) (rw (l .loop .inv .1) (s .pre .1))
-    ∙ ap (λ (xs : List ℕ). getD xs 0 0) (l .loop .inv .1)
+returns-2 : tie.Need-returns-2
+returns-2 c = search needs
 
 pub lowest-free-spec : {M : Type 1} → statement M
 lowest-free-spec =
     tie.close
     (tie.spec
-    Inv-loop
-    μ-loop
-    first-low-requires
+    place-sum-requires
+    enum-known-sum
+    add-result
+    mul-result
+    sub-result
     returns
-    loop-holds
-    sub-loop
-    add-first-free
-    first-free-requires
-    add-if2
-    returns-2
-    add-base
-    loop-less
-    loop-again
-    first-free-requires-2
-    returns-3)
+    enum-told
+    lowest-unmarked-requires
+    returns-2)

@@ -1,8 +1,6 @@
 use native.Mathlib.Omega.{arith}
-use Rattle.schedule.specs.Record.{vacant}
-use Rattle.schedule.specs.State.{mem, placeCount, waitingRecords}
-use Rattle.schedule.proofs.Doubled.{sound-inside}
-use Rattle.schedule.proofs.Memory.{within, unbroken, in-order, short, slot, some-free, place-inside}
+use Rattle.schedule.specs.State.{mem}
+use Rattle.schedule.proofs.Memory.{within, in-order, inside, single, short, slot, some-free, place-inside}
 use Rattle.schedule.proofs.Calls.{put-law}
 use borrow.Author.Needs.{needs}
 use Rattle.schedule.proofs.ChannelScheduler.put.Statement.{statement}
@@ -12,7 +10,7 @@ lowest-free-requires : tie.Need-lowest-free-requires
 lowest-free-requires c κs =
     let s = c .before .before .before in
     let m = mem (s .args .records .now) (s .args .places .now) (s .args .self) in
-    (within m (s .pre .sound), some-free m (s .args .packet .now) (s .pre), sound-inside (m .scheduler .«next_order») (placeCount m) vacant (waitingRecords m) (unbroken m (s .pre .sound)))
+    (within m (s .pre .sound), some-free m (s .args .packet .now) (s .pre), inside m (s .pre .sound), single m (s .pre .sound))
 
 fill-place-requires : tie.Need-fill-place-requires
 fill-place-requires c κs =
