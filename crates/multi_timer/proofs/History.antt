@@ -1,22 +1,23 @@
 -- After any list of calls from a fresh set, the set is the map that the accepted calls say, and the next call meets no 9 and no deadline above its bound.
 use mathlib.Core.Path.{_≡_, refl, sym, ap, _∙_, subst}
-use mathlib.Core.Bool.{Bool, true, false, cond}
+use mathlib.Core.Bool.{Bool, true, false, not, cond, _||_, _&&_, true≢false}
 use mathlib.Core.List.{List, [], _∷_}
 use mathlib.Core.Option.{Option, none, some}
 use Prim.Native.Nat.{ℕ, suc, _+_, _%_, _^_, _≤_, zero-le}
 use native.Mathlib.Nat.{le-trans, le-of-eq}
 use native.Mathlib.Omega.{arith}
-use lib.Dec.{eqb}
+use lib.Dec.{leb, ltb, eqb}
 use lib.ListN.{length, take, replicate, length-replicate}
 use borrow.Author.Tests.{eq-eqb, le-ltb}
+use Rattle.duration.specs.Bounds.{maxTime, startLate}
 use Rattle.duration.proofs.Laws.{start-in-time}
-use Rattle.refusal.specs.Order.{check}
+use Rattle.refusal.specs.Order.{check, verdict, decide, firstOf, numbered, orElse, order}
+use Rattle.refusal.specs.declared.Refusal.{Refusal}
 use Rattle.refusal.specs.declared.Refusal.the-variants.{State, Time, Full}
-use Rattle.refusal.proofs.Laws.{accepted-none-true, either-answer}
-use Rattle.multi_timer.specs.Map.{Entry, entriesOf, keysOf, deadlinesOf, ascending, ascendingFrom, lookup, keep, put, other, pending, stillSet}
+use Rattle.multi_timer.specs.Map.{Entry, entriesOf, keysOf, deadlinesOf, ascending, ascendingFrom, lookup, isSome, keep, put, other, due, pending, stillSet}
 use Rattle.multi_timer.specs.Search.{searchIn}
-use Rattle.multi_timer.specs.MultiTimer.{used, laid, After, after, timers, nextGeneration, broken, anyLate, heldTooLate, startTooLate, startFull, startUnchecked, cancelUnchecked, popUnchecked, clearUnchecked, newDef, startTimerAtDef, cancelTimerDef, AfterPop, popExpiredAtDef, clearDef, answering}
-use Rattle.multi_timer.specs.History.{Call, start, cancel, pop, clear, fresh, step, afterCalls, startRefused, cancelRefused, popRefused, clearRefused, isRefused, accepted, deadlineOf, starts}
+use Rattle.multi_timer.specs.MultiTimer.{used, laid, After, after, timers, nextGeneration, broken, anyLate, heldTooLate, startFull, startUnchecked, cancelUnchecked, popUnchecked, clearUnchecked, newDef, startTimerAtDef, cancelTimerDef, AfterPop, popExpiredAtDef, clearDef, answering}
+use Rattle.multi_timer.specs.History.{Call, start, cancel, pop, clear, fresh, step, afterCalls, startRefused, cancelRefused, popRefused, clearRefused, isRefused, entriesAfter, deadlineOf, starts, turnedAway, accepted}
 use Rattle.multi_timer.specs.declared.MultiTimer.{MultiTimer}
 use Rattle.multi_timer.specs.declared.Making.the-variants.{Made}
 use Rattle.multi_timer.specs.declared.Started.{Started}
@@ -25,8 +26,8 @@ use Rattle.multi_timer.specs.declared.Popped.{Popped}
 use Rattle.multi_timer.specs.declared.Cleared.{Cleared}
 use Rattle.multi_timer.specs.declared.Place.{Place}
 use Rattle.multi_timer.specs.declared.Place.the-variants.{At, Absent}
-use Rattle.multi_timer.proofs.Checks.{Good, good-of, state-only}
-use Rattle.multi_timer.proofs.Sorted.{keys-entries, deadlines-entries, length-keys, length-deadlines}
+use Rattle.multi_timer.proofs.Checks.{Good, good-of, state-only, state-time}
+use Rattle.multi_timer.proofs.Sorted.{deadlines-entries, length-keys, length-deadlines}
 use Rattle.multi_timer.proofs.Places.{one-length, kept-count, inserted-count}
 use Rattle.multi_timer.proofs.Changes.{unused}
 use Rattle.multi_timer.proofs.Parting.{entries-length}
@@ -47,6 +48,23 @@ module _ (t : MultiTimer) (ks ds : List ℕ) (b : broken (t .count) ks ds ≡ fa
       go (At p) e = le-trans (le-of-eq (kept-count (t .count) ks ds g key d p e)) (g .within)
       go (Absent p) e = next (inserted-count (t .count) ks ds g key d p e) (unused t ks ds b key p e f)
 
+-- ---- the map that a list says
+pub entries-ascending : (xs : List Call) → ascending (keysOf (entriesAfter xs)) ≡ true
+unfolding entriesAfter keysOf ascendingFrom
+entries-ascending [] = refl
+entries-ascending (start key now duration ∷ xs) = put-ascending key (now + duration) 0 (entriesAfter xs) zero-le (entries-ascending xs)
+entries-ascending (cancel key ∷ xs) = keep-ascending (other key) 0 (entriesAfter xs) (entries-ascending xs)
+entries-ascending (pop now out ∷ xs) = keep-ascending (pending now) 0 (entriesAfter xs) (entries-ascending xs)
+entries-ascending (clear ∷ xs) = refl
+
+pub lookup-entries : (key : ℕ) (xs : List Call) → lookup key (entriesAfter xs) ≡ deadlineOf key xs
+unfolding entriesAfter deadlineOf lookup
+lookup-entries key [] = refl
+lookup-entries key (start k now duration ∷ xs) = lookup-put k (now + duration) key (entriesAfter xs) ∙ ap (λ (o : Option ℕ). cond (eqb k key) (some (now + duration)) o) (lookup-entries key xs)
+lookup-entries key (cancel k ∷ xs) = lookup-remove k key (entriesAfter xs) ∙ ap (λ (o : Option ℕ). cond (eqb k key) none o) (lookup-entries key xs)
+lookup-entries key (pop now out ∷ xs) = lookup-pop now key 0 (entriesAfter xs) (entries-ascending xs) ∙ ap (stillSet now) (lookup-entries key xs)
+lookup-entries key (clear ∷ xs) = refl
+
 -- ---- what holds of the set after any list of calls
 pub record Kept (n : ℕ) (xs : List Call) (s : After MultiTimer) : Type 0 where
   pub keys-length : length (s .keys) ≡ n
@@ -54,7 +72,7 @@ pub record Kept (n : ℕ) (xs : List Call) (s : After MultiTimer) : Type 0 where
   pub state : broken (s .answer .count) (s .keys) (s .deadlines) ≡ false
   -- line 10
   pub times : heldTooLate (s .answer .count) (s .deadlines) ≡ false
-  pub deadlines-are : (key : ℕ) → lookup key (used (s .answer) (s .keys) (s .deadlines)) ≡ deadlineOf key xs
+  pub entries-are : used (s .answer) (s .keys) (s .deadlines) ≡ entriesAfter xs
   pub generation-is : s .answer .«global_generation» ≡ starts xs % 2 ^ 64
 
 keep-most : (p : Entry → Bool) (es : List Entry) → length (keep p es) ≤ length es
@@ -66,6 +84,16 @@ keep-most p (e ∷ es) = go (p e) (keep-most p es)
     go true h = omega arith
     go false h = omega arith
 
+-- the tests of a call on a set that line 9 lets pass and that holds no late deadline: refused, or the other answer
+by-tests : {A : Type 0} (P : A → Bool → Type 0) (s h t u : Bool) (f : Refusal → A) (a : A) → s ≡ false → h ≡ false → ((r : Refusal) → P (f r) true) → (t ≡ false → u ≡ false → P a false)
+    → P (decide (verdict (check s State ∷ check (h || t) Time ∷ check u Full ∷ [])) f a) (t || u)
+unfolding decide verdict firstOf numbered orElse order
+by-tests P true h t u f a p q k l = absurd (true≢false p)
+by-tests P false true t u f a p q k l = absurd (true≢false q)
+by-tests P false false true u f a p q k l = k Time
+by-tests P false false false true f a p q k l = k Full
+by-tests P false false false false f a p q k l = l refl refl
+
 module _ (n : ℕ) (xs : List Call) (s : After MultiTimer) (k : Kept n xs s) where
   abbrev es : List Entry
   es = used (s .answer) (s .keys) (s .deadlines)
@@ -73,61 +101,72 @@ module _ (n : ℕ) (xs : List Call) (s : After MultiTimer) (k : Kept n xs s) whe
   g : Good (s .answer .count) (s .keys) (s .deadlines)
   g = good-of (s .answer .count) (s .keys) (s .deadlines) (k .state)
 
-  same : length (take (s .answer .count) (s .keys)) ≡ length (take (s .answer .count) (s .deadlines))
-  same = one-length (s .answer .count) (s .keys) (s .deadlines) g
-
-  pub sorted : ascending (keysOf es) ≡ true
-  sorted = ap ascending (keys-entries (take (s .answer .count) (s .keys)) (take (s .answer .count) (s .deadlines)) same) ∙ g .sorted
-
   in-time : anyLate (deadlinesOf es) ≡ false
-  in-time = ap anyLate (deadlines-entries (take (s .answer .count) (s .keys)) (take (s .answer .count) (s .deadlines)) same) ∙ k .times
+  in-time = ap anyLate (deadlines-entries (take (s .answer .count) (s .keys)) (take (s .answer .count) (s .deadlines)) (one-length (s .answer .count) (s .keys) (s .deadlines) g)) ∙ k .times
 
-  size : length es ≤ length (s .keys)
-  size = le-trans (le-of-eq (entries-length (s .answer .count) (s .keys) (s .deadlines) (g .within) (subst (λ (m : ℕ). s .answer .count ≤ m) (g .same) (g .within)))) (g .within)
+  count-is : length es ≡ s .answer .count
+  count-is = entries-length (s .answer .count) (s .keys) (s .deadlines) (g .within) (subst (λ (m : ℕ). s .answer .count ≤ m) (g .same) (g .within))
+
+  pub deadlines-are : (key : ℕ) → lookup key es ≡ deadlineOf key xs
+  deadlines-are key = ap (lookup key) (k .entries-are) ∙ lookup-entries key xs
 
   -- other entries in the place of those held
-  held : (ys : List Call) (new : List Entry) (next : ℕ) → length new ≤ length (s .keys) → ascending (keysOf new) ≡ true → anyLate (deadlinesOf new) ≡ false → ((key : ℕ) → lookup key new ≡ deadlineOf key ys) → next ≡ starts ys % 2 ^ 64
+  held : (ys : List Call) (new : List Entry) (next : ℕ) → length new ≤ length (s .keys) → anyLate (deadlinesOf new) ≡ false → new ≡ entriesAfter ys → next ≡ starts ys % 2 ^ 64
       → Kept n ys (after (timers (length new) next) (laid (keysOf new) (s .answer .count) (s .keys)) (laid (deadlinesOf new) (s .answer .count) (s .deadlines)))
-  held ys new next l a t d e =
+  held ys new next l t d e =
       record {
         keys-length = laid-length (keysOf new) (s .answer .count) (s .keys) (g .within) (subst (λ (m : ℕ). m ≤ length (s .keys)) (sym (length-keys new)) l) ∙ k .keys-length;
-        state = holding-accepted new (s .answer .count) (s .keys) (s .deadlines) (g .same) (g .within) l a;
+        state = holding-accepted new (s .answer .count) (s .keys) (s .deadlines) (g .same) (g .within) l (ap (λ (z : List Entry). ascending (keysOf z)) d ∙ entries-ascending ys);
         times = ap anyLate (laid-front (deadlinesOf new) (length new) (s .answer .count) (s .deadlines) (length-deadlines new)) ∙ t;
-        deadlines-are = λ key. ap (lookup key) (laid-used new (s .answer .count) (s .keys) (s .deadlines)) ∙ d key;
+        entries-are = laid-used new (s .answer .count) (s .keys) (s .deadlines) ∙ d;
         generation-is = e;
       }
 
-  kept-entries : (p : Entry → Bool) (ys : List Call) → ((key : ℕ) → lookup key (keep p es) ≡ deadlineOf key ys) → starts xs ≡ starts ys
+  kept-entries : (p : Entry → Bool) (ys : List Call) → keep p (entriesAfter xs) ≡ entriesAfter ys → starts xs ≡ starts ys
       → Kept n ys (after (timers (length (keep p es)) (s .answer .«global_generation»)) (laid (keysOf (keep p es)) (s .answer .count) (s .keys)) (laid (deadlinesOf (keep p es)) (s .answer .count) (s .deadlines)))
   kept-entries p ys d e =
-      held ys (keep p es) (s .answer .«global_generation») (le-trans (keep-most p es) size) (keep-ascending p 0 es sorted) (keep-in-time p es in-time) d (k .generation-is ∙ ap (λ (m : ℕ). m % 2 ^ 64) e)
+      held ys (keep p es) (s .answer .«global_generation») (le-trans (keep-most p es) (le-trans (le-of-eq count-is) (g .within))) (keep-in-time p es in-time) (ap (keep p) (k .entries-are) ∙ d) (k .generation-is ∙ ap (λ (m : ℕ). m % 2 ^ 64) e)
+
+  -- line 5 of a start
+  full-is : (key : ℕ) → startFull (s .answer) (s .keys) (s .deadlines) key ≡ (leb n (length (entriesAfter xs)) && not (isSome (deadlineOf key xs)))
+  full-is key = same (k .keys-length) (sym count-is ∙ ap length (k .entries-are)) (deadlines-are key)
+    where
+      same : {l m c e : ℕ} {o q : Option ℕ} → l ≡ m → c ≡ e → o ≡ q → (leb l c && not (isSome o)) ≡ (leb m e && not (isSome q))
+      same p q r = rw (p, q, r)
 
   -- one more call: a refused one leaves the set and the accepted calls as they were
-  step-kept : (x : Call) → Kept n (cond (isRefused s x) xs (x ∷ xs)) (step s x)
-  unfolding step isRefused startTimerAtDef startUnchecked cancelTimerDef cancelUnchecked popExpiredAtDef popUnchecked clearDef clearUnchecked deadlineOf starts ascendingFrom keysOf anyLate deadlinesOf lookup
-  step-kept (start key now duration) =
-      either-answer (λ (z : After Started). Kept n (cond (startRefused (z .answer .answer)) xs (start key now duration ∷ xs)) (answering (λ r. r .timers) z)) _ _ _ (λ r. k)
-      (λ v.
-      let c = accepted-none-true (check (broken (s .answer .count) (s .keys) (s .deadlines)) State ∷ check (startTooLate (s .answer .count) (s .deadlines) now duration) Time ∷ check (startFull (s .answer) (s .keys) (s .deadlines) key) Full ∷ []) v in
-      held (start key now duration ∷ xs) (put key (now + duration) es) (nextGeneration (s .answer .«global_generation»)) (start-fits (s .answer) (s .keys) (s .deadlines) (k .state) key (now + duration) (c .1 .1 .0))
-      (put-ascending key (now + duration) 0 es zero-le sorted) (put-in-time key (now + duration) es (start-in-time (heldTooLate (s .answer .count) (s .deadlines)) now duration (c .1 .0)) in-time)
-      (λ q. lookup-put key (now + duration) q es ∙ ap (λ (o : Option ℕ). cond (eqb key q) (some (now + duration)) o) (k .deadlines-are q)) (next-start (s .answer .«global_generation») (starts xs) (k .generation-is)))
+  abbrev Told : Call → Bool → Type 0
+  Told x b = Kept n (cond b xs (x ∷ xs)) (step s x) × (isRefused s x ≡ b)
+
+  -- the tests of a call that is given no time and writes no lent buffer
+  no-line : {A : Type 0} (P : A → Type 0) (f : Refusal → A) (a : A) → P a → P (decide (verdict (check (broken (s .answer .count) (s .keys) (s .deadlines)) State ∷ check (heldTooLate (s .answer .count) (s .deadlines)) Time ∷ [])) f a)
+  no-line P f a h = rw (state-time, k .state, k .times) h
+
+  step-told : (x : Call) → Told x (turnedAway n xs x)
+  unfolding step isRefused turnedAway startTimerAtDef startUnchecked cancelTimerDef cancelUnchecked popExpiredAtDef popUnchecked clearDef clearUnchecked entriesAfter starts keysOf deadlinesOf anyLate
+  step-told (start key now duration) =
+      subst (λ (b : Bool). Told (start key now duration) (startLate now duration || b)) (full-is key)
+      (by-tests (λ (z : After Started) (b : Bool). Kept n (cond b xs (start key now duration ∷ xs)) (answering (λ r. r .timers) z) × (startRefused (z .answer .answer) ≡ b)) _ _ _ _ _ _ (k .state) (k .times) (λ r. (k, refl))
+      (λ t f. (
+        held (start key now duration ∷ xs) (put key (now + duration) es) (nextGeneration (s .answer .«global_generation»)) (start-fits (s .answer) (s .keys) (s .deadlines) (k .state) key (now + duration) f)
+            (put-in-time key (now + duration) es (start-in-time false now duration t) in-time) (ap (put key (now + duration)) (k .entries-are)) (next-start (s .answer .«global_generation») (starts xs) (k .generation-is)),
+        refl,
+      )))
     where
       next-start : (a m : ℕ) → a ≡ m % 2 ^ 64 → nextGeneration a ≡ suc m % 2 ^ 64
       next-start a m e = omega arith
-  step-kept (cancel key) =
-      either-answer (λ (z : After Cancelled). Kept n (cond (cancelRefused (z .answer .answer)) xs (cancel key ∷ xs)) (answering (λ r. r .timers) z)) _ _ _ (λ r. k)
-      (λ v. kept-entries (other key) (cancel key ∷ xs) (λ q. lookup-remove key q es ∙ ap (λ (o : Option ℕ). cond (eqb key q) none o) (k .deadlines-are q)) refl)
-  step-kept (pop now out) =
-      either-answer (λ (z : AfterPop Popped). Kept n (cond (popRefused (z .rest .answer .answer)) xs (pop now out ∷ xs)) (answering (λ r. r .timers) (z .rest))) _ _ _ (λ r. k)
-      (λ v. kept-entries (pending now) (pop now out ∷ xs) (λ q. lookup-pop now q 0 es sorted ∙ ap (stillSet now) (k .deadlines-are q)) refl)
-  step-kept clear =
-      either-answer (λ (z : After Cleared). Kept n (cond (clearRefused (z .answer .answer)) xs (clear ∷ xs)) (answering (λ r. r .timers) z)) _ _ _ (λ r. k)
-      (λ v. held (clear ∷ xs) [] (s .answer .«global_generation») zero-le refl refl (λ q. refl) (k .generation-is))
+  step-told (cancel key) =
+      no-line (λ (z : After Cancelled). Kept n (cancel key ∷ xs) (answering (λ r. r .timers) z) × (cancelRefused (z .answer .answer) ≡ false)) _ _ (kept-entries (other key) (cancel key ∷ xs) refl refl, refl)
+  step-told (pop now out) =
+      subst (λ (es : List Entry). Told (pop now out) (ltb maxTime now || ltb (length out) (length (keep (due now) es)))) (k .entries-are)
+      (by-tests (λ (z : AfterPop Popped) (b : Bool). Kept n (cond b xs (pop now out ∷ xs)) (answering (λ r. r .timers) (z .rest)) × (popRefused (z .rest .answer .answer) ≡ b)) _ _ _ _ _ _ (k .state) (k .times) (λ r. (k, refl))
+      (λ t f. (kept-entries (pending now) (pop now out ∷ xs) refl refl, refl)))
+  step-told clear =
+      no-line (λ (z : After Cleared). Kept n (clear ∷ xs) (answering (λ r. r .timers) z) × (clearRefused (z .answer .answer) ≡ false)) _ _ (held (clear ∷ xs) [] (s .answer .«global_generation») zero-le refl refl (k .generation-is), refl)
 
 fresh-kept : (n : ℕ) → Kept n [] (fresh n)
-unfolding fresh deadlineOf starts lookup entriesOf ascendingFrom anyLate
-fresh-kept n = record { keys-length = length-replicate n 0; state = empty (replicate n 0); times = refl; deadlines-are = λ key. refl; generation-is = refl }
+unfolding fresh entriesAfter starts entriesOf ascendingFrom anyLate
+fresh-kept n = record { keys-length = length-replicate n 0; state = empty (replicate n 0); times = refl; entries-are = refl; generation-is = refl }
   where
     empty : (ks : List ℕ) → broken 0 ks ks ≡ false
     empty ks = simp (eq-eqb (length ks) (length ks) refl, le-ltb (length ks) 0 zero-le)
@@ -140,4 +179,8 @@ new-fresh ks ds e = simp (state-only, eq-eqb (length ks) (length ds) e) (ap (λ 
 pub history : (n : ℕ) (xs : List Call) → Kept n (accepted n xs) (afterCalls n xs)
 unfolding afterCalls accepted
 history n [] = fresh-kept n
-history n (x ∷ xs) = step-kept n (accepted n xs) (afterCalls n xs) (history n xs) x
+history n (x ∷ xs) = step-told n (accepted n xs) (afterCalls n xs) (history n xs) x .0
+
+-- the calls that are refused are those that the list says
+pub refused-are : (n : ℕ) (xs : List Call) (x : Call) → isRefused (afterCalls n xs) x ≡ turnedAway n (accepted n xs) x
+refused-are n xs x = step-told n (accepted n xs) (afterCalls n xs) (history n xs) x .1

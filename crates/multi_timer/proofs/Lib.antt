@@ -8,4 +8,5 @@ pub mod Changes
 pub mod Calls
 pub mod Map
 pub mod History
+pub mod Examples
 pub mod Laws

@@ -1,16 +1,17 @@
 -- What the accepted calls of any list say of the timer set. The latest call stands first; calls that only read change nothing and are left out.
 use Prim.Native.Nat.{ℕ, suc, _+_}
-use mathlib.Core.Bool.{Bool, true, false, cond}
+use mathlib.Core.Bool.{Bool, true, false, not, cond, _||_, _&&_}
 use mathlib.Core.List.{List, [], _∷_}
 use mathlib.Core.Option.{Option, none, some}
-use lib.Dec.{eqb}
-use lib.ListN.{replicate}
+use lib.Dec.{leb, ltb, eqb}
+use lib.ListN.{length, replicate}
+use Rattle.duration.specs.Bounds.{maxTime, startLate}
 use Rattle.multi_timer.specs.declared.MultiTimer.{MultiTimer}
 use Rattle.multi_timer.specs.declared.StartAnswer as St
 use Rattle.multi_timer.specs.declared.CancelAnswer as Ca
 use Rattle.multi_timer.specs.declared.PopAnswer as Po
 use Rattle.multi_timer.specs.declared.ClearAnswer as Cl
-use Rattle.multi_timer.specs.Map.{stillSet}
+use Rattle.multi_timer.specs.Map.{Entry, isSome, keep, put, remove, due, pending, stillSet}
 use Rattle.multi_timer.specs.MultiTimer.{After, after, timers, answering, startTimerAtDef, cancelTimerDef, popExpiredAtDef, clearDef}
 
 -- `start_timer_at` with key, time and duration, `cancel_timer` with the key, `pop_expired_at` with the time and the lent slice, `clear`
@@ -57,12 +58,15 @@ isRefused s (cancel key) = cancelRefused (cancelTimerDef (s .answer) (s .keys) (
 isRefused s (pop now out) = popRefused (popExpiredAtDef (s .answer) (s .keys) (s .deadlines) now out .rest .answer .answer)
 isRefused s clear = clearRefused (clearDef (s .answer) (s .keys) (s .deadlines) .answer .answer)
 
--- the calls that were not refused
-unfoldable pub accepted : ℕ → List Call → List Call
-accepted n [] = []
-accepted n (x ∷ xs) = cond (isRefused (afterCalls n xs) x) (accepted n xs) (x ∷ accepted n xs)
+-- ---- what a list of accepted calls says; nothing from here on looks at a timer set
+-- the entries of the map
+unfoldable pub entriesAfter : List Call → List Entry
+entriesAfter [] = []
+entriesAfter (start key now duration ∷ xs) = put key (now + duration) (entriesAfter xs)
+entriesAfter (cancel key ∷ xs) = remove key (entriesAfter xs)
+entriesAfter (pop now out ∷ xs) = keep (pending now) (entriesAfter xs)
+entriesAfter (clear ∷ xs) = []
 
--- ---- what a list of accepted calls says
 -- the deadline of a key
 unfoldable pub deadlineOf : ℕ → List Call → Option ℕ
 deadlineOf key [] = none
@@ -77,3 +81,15 @@ starts (start k now duration ∷ xs) = suc (starts xs)
 starts (cancel k ∷ xs) = starts xs
 starts (pop now out ∷ xs) = starts xs
 starts (clear ∷ xs) = starts xs
+
+-- ---- the accepted calls of a list, in slices of n entries
+-- whether a call is refused, from the calls accepted before it alone: line 10, and line 5, "a new key with no timer entry unused" or "a lent buffer shorter than the call writes"
+unfoldable pub turnedAway : ℕ → List Call → Call → Bool
+turnedAway n before (start key now duration) = startLate now duration || (leb n (length (entriesAfter before)) && not (isSome (deadlineOf key before)))
+turnedAway n before (cancel key) = false
+turnedAway n before (pop now out) = ltb maxTime now || ltb (length out) (length (keep (due now) (entriesAfter before)))
+turnedAway n before clear = false
+
+unfoldable pub accepted : ℕ → List Call → List Call
+accepted n [] = []
+accepted n (x ∷ xs) = cond (turnedAway n (accepted n xs) x) (accepted n xs) (x ∷ accepted n xs)
