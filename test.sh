@@ -1,5 +1,5 @@
 #!/usr/bin/env bash
-# All tests: the layout, the comparison with the Rust where it is at hand, and then the proofs and programs from nothing.
+# All tests: the layout, the replays' answers beside the running Rust's where it is at hand, and then the proofs and programs from nothing.
 # usage: bash test.sh [REFERENCE_FOLDER]      default: ../shared/docs/src, passed over where it isn't there
 set -euo pipefail
 command -v rt >/dev/null || { echo "test.sh: the Rattle kit's command rt is not on the PATH" >&2; exit 2; }
@@ -7,8 +7,8 @@ if [ $# -gt 0 ]; then
   set -- "$(realpath "$1")"
 fi
 cd "$(dirname "$0")"
-# rt waits for its crates and edits in batches of RT_JOBS: with as many as processors, some would stand idle.
-export RT_JOBS="${RT_JOBS:-$((2 * $(nproc)))}"
 rt fmt --check
-bash compare/run "$@"
+bash compare/replays "$@"
+# rt waits for its crates and edits in batches of RT_JOBS; with one more than the processors, few stand idle.
+export RT_JOBS="${RT_JOBS:-$(($(nproc) + 1))}"
 exec rt ci

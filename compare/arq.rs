@@ -1,5 +1,6 @@
 // Compares the protocol ends with the reference, and refusals and slots with a model of document 01.
-// usage: arq SECONDS [--sample DIR]
+// usage: arq SECONDS
+//        arq --sample DIR [SEED]      writes DIR/stdin (cases) and DIR/stdout (the reference's answers) for crates/arq_replay
 extern crate reference;
 
 #[path = "arq_calls.rs"]
@@ -959,9 +960,8 @@ fn sample_calls(g: &mut Gen, protocol: Protocol, window: u64, retries: u64, call
     cases
 }
 
-fn sample(dir: &str) {
-    // of 3,000 seeds the one whose calls differ most in kind
-    let mut g = Gen(2239);
+fn sample(dir: &str, seed: u64) {
+    let mut g = Gen(seed);
     let mut cases = vec![];
     for (protocol, window, retries) in [(0, 1, 2), (0, 1, 0), (1, 4, 0), (1, 2, 0), (2, 4, 0), (2, 3, 0)] {
         cases.extend(sample_calls(&mut g, PROTOCOLS[protocol], window, retries, 19));
@@ -976,7 +976,8 @@ fn main() {
     let args: Vec<String> = std::env::args().collect();
     let seconds: f64 = args.get(1).and_then(|s| s.parse().ok()).unwrap_or(5.0);
     if let Some(i) = args.iter().position(|a| a == "--sample") {
-        sample(&args[i + 1]);
+        // of 3,000 seeds the one whose calls differ most in kind
+        sample(&args[i + 1], args.get(i + 2).map_or(2239, |s| s.parse().expect("SEED")));
         return;
     }
     let mut g = Gen(std::env::var("SEED").ok().and_then(|s| s.parse().ok()).unwrap_or(1));
