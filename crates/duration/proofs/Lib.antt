@@ -1,4 +1,4 @@
-pub mod Digits
+pub mod Significand
 pub mod RoundTrip
 pub mod Nearest
 pub mod KnownValues

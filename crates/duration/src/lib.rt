@@ -51,23 +51,23 @@ fn closest_shifted(a: u64, k: u64) -> u64
     q + q % 2
 }
 
-// 1 where any digit of b is set: the sticky digit of a rounding.
+// 1 where any bit of b is set: the sticky bit of a rounding.
 fn sticky_u64(b: u64) -> u64
     ensures { λ r. ⌜ r ≡ sticky b ⌝ }
 {
     if b == 0 { 0 } else { 1 }
 }
 
-// For 2^-31 <= x < 2^21. x is digits * 2^(field - 1075), and 10^9 is 1953125 * 2^9.
+// For 2^-31 <= x < 2^21. x is significand * 2^(field - 1075), and 10^9 is 1953125 * 2^9.
 fn nanos_below_2_pow_21(x: f64) -> u64
     requires { ⌜ T (below21 x) ⌝ }
     ensures { λ r. ⌜ r ≡ fromSecsF64 x ⌝ }
 {
     let bits = f64::to_bits(x);
     let field = bits / 4503599627370496;
-    let digits = bits % 4503599627370496 + 4503599627370496;
-    let low = digits % 4194304 * 1953125;
-    let high = digits / 4194304 * 1953125 + low / 4194304;
+    let significand = bits % 4503599627370496 + 4503599627370496;
+    let low = significand % 4194304 * 1953125;
+    let high = significand / 4194304 * 1953125 + low / 4194304;
     let n = 2 * high + sticky_u64(low % 4194304);
     closest_shifted(n, 1045 - field)
 }
@@ -79,11 +79,11 @@ fn nanos_from_2_pow_21(x: f64) -> u64
 {
     let bits = f64::to_bits(x);
     let field = bits / 4503599627370496;
-    let digits = bits % 4503599627370496 + 4503599627370496;
+    let significand = bits % 4503599627370496 + 4503599627370496;
     let places = 1075 - field;
     let unit = 1 << places;
-    let whole = digits / unit * 1000000000;
-    whole + closest_shifted(digits % unit * 1000000000, places)
+    let whole = significand / unit * 1000000000;
+    whole + closest_shifted(significand % unit * 1000000000, places)
 }
 
 // For 0 <= x < 2^34; below 2^-31 it is 0.

@@ -6,7 +6,7 @@ use native.Mathlib.Omega.{arith}
 use lib.Pow.{pow-pos, pow-mono}
 use lib.Ieee.Nearest.{closest}
 use Rattle.float.proofs.Sticky.{closest-lt, closest-gt, closest-eq}
-use Rattle.duration.proofs.Digits.{shifted}
+use Rattle.duration.proofs.Significand.{shifted}
 use borrow.Author.Needs.{needs}
 use Rattle.duration.proofs.closest_shifted.Statement.{statement}
 use Rattle.duration.proofs.closest_shifted.Tie as tie

@@ -5,7 +5,7 @@ use lib.Dec.{T}
 use lib.Ieee.{fin, le, lt, ofBits}
 use lib.Ieee.Fits.{and-i, and-l, and-r}
 use denote.Floats.{passes}
-use Rattle.duration.proofs.Digits.{small-none, lt-of-not-le-21}
+use Rattle.duration.proofs.Significand.{small-none, lt-of-not-le-21}
 use borrow.Author.Needs.{needs}
 use Rattle.duration.proofs.from_secs_f64_unchecked.Statement.{statement}
 use Rattle.duration.proofs.from_secs_f64_unchecked.Tie as tie

@@ -1,4 +1,4 @@
--- The digits of a double of 2 ^ -31 to 2 ^ 21 seconds, times 10 ^ 9 and rounded, in 64 bits.
+-- The significand of a double of 2 ^ -31 to 2 ^ 21 seconds, times 10 ^ 9 and rounded, in 64 bits.
 use mathlib.Core.Path.{_≡_, refl, sym, ap, ap₂, _∙_, subst}
 use Prim.Native.Nat.{ℕ, suc, _+_, _-_, _*_, _/_, _%_, _^_, _≤_, _<_, compare, Ordering, Ordering·lt, Ordering·eq, Ordering·gt}
 use native.Mathlib.Nat.{le-of-suc-le-suc, le-trans, le-of-eq, lt-of-lt-of-le, lt-of-le-of-lt, not-le-of-lt, lt-of-not-le, mul-comm, mul-assoc, mul-right-comm, mul-le-mul-right, mul-lt-mul-of-pos-right, lt-of-mul-lt-mul-right, mod-lt, mul-pos, eq-of-mul-eq-mul-right, le-add-right, zero-lt-suc, add-comm, pow-succ', one-mul, zero-mul, div-add-mod'}
@@ -29,8 +29,8 @@ whole : (d : ℕ) → d * 1953125 ≡ parts d * 4194304 + rest d
 whole d = omega arith
 
 -- X / D is d / (K * 2 ^ 32)
-pub nanos-digits : (X D d K : ℕ) → 0 < D → 0 < K → X * (K * 4294967296) ≡ d * D → closest (X * 1000000000) D ≡ closest (2 * parts d + sticky (rest d)) (2 * (2 * K))
-nanos-digits X D d K p k e =
+pub nanos-significand : (X D d K : ℕ) → 0 < D → 0 < K → X * (K * 4294967296) ≡ d * D → closest (X * 1000000000) D ≡ closest (2 * parts d + sticky (rest d)) (2 * (2 * K))
+nanos-significand X D d K p k e =
     closest-same (X * 1000000000) D (d * 1953125) (2 * K * 4194304) p (mul-pos (mul-pos (zero-lt-suc 1) k) (pow-pos 22)) (scaled X K d D e)
     ∙ ap (λ (z : ℕ). closest z (2 * K * 4194304)) (whole d)
     ∙ closest-sticky (parts d) (rest d) 4194304 K (mod-lt (d % 4194304 * 1953125) (pow-pos 22)) k
@@ -103,13 +103,13 @@ module _ (X D d x : ℕ) (v : X * 2 ^ 1074 ≡ d * 2 ^ x * D) (P : 0 < D) where
       sum x h = omega arith
 
 -- ---- for the bits that the program reads
-pub record Digits (X D b : ℕ) : Type 0 where
+pub record Significand (X D b : ℕ) : Type 0 where
   pub least : 992 ≤ b / 4503599627370496
   pub most : b / 4503599627370496 ≤ 1043
   pub nanos : closest (X * 1000000000) D ≡ closest (2 * parts (b % 4503599627370496 + 4503599627370496) + sticky (rest (b % 4503599627370496 + 4503599627370496))) (2 ^ (1045 - b / 4503599627370496))
 
-pub digits : (m : ℕ) (e : ℤ) → T (fits binary64 (fin false m e)) → down e ≤ m * up e * 2 ^ 31 → m * up e < 2 ^ 21 * down e → Digits (m * up e) (down e) (toBits binary64 (fin false m e))
-digits m e t lo hi =
+pub significand : (m : ℕ) (e : ℤ) → T (fits binary64 (fin false m e)) → down e ≤ m * up e * 2 ^ 31 → m * up e < 2 ^ 21 * down e → Significand (m * up e) (down e) (toBits binary64 (fin false m e))
+significand m e t lo hi =
     let X = m * up e in
     let D = down e in
     let b = toBits binary64 (fin false m e) in
@@ -123,7 +123,7 @@ digits m e t lo hi =
       least = subst (λ (z : ℕ). 992 ≤ z) (sym (r .field)) (up-one x bot);
       most = subst (λ (z : ℕ). z ≤ 1043) (sym (r .field)) (up-most x top);
       nanos =
-          nanos-digits X D d (2 ^ (1042 - x)) (down-pos e) (pow-pos (1042 - x)) (lower X D d x (r .value) (down-pos e) top)
+          nanos-significand X D d (2 ^ (1042 - x)) (down-pos e) (pow-pos (1042 - x)) (lower X D d x (r .value) (down-pos e) top)
           ∙ ap₂ (λ (y z : ℕ). closest (2 * parts y + sticky (rest y)) z) (add-comm (2 ^ 52) (b % 2 ^ 52)) (unit x top ∙ ap (λ (z : ℕ). 2 ^ (1045 - z)) (sym (r .field)));
     }
   where
@@ -149,8 +149,8 @@ digits m e t lo hi =
         two-more x h = omega arith
 
 -- ---- for a float in the span
-pub span-digits : (x : Float) → T (fits binary64 x) → T (below21 x) → Digits (num x) (den x) (toBits binary64 x)
-span-digits x t h = go x t (above-of-le lo x tt (and-l (le lo x) (lt x hi) h)) (and-l (le lo x) (lt x hi) h) (and-r (le lo x) (lt x hi) h)
+pub span-significand : (x : Float) → T (fits binary64 x) → T (below21 x) → Significand (num x) (den x) (toBits binary64 x)
+span-significand x t h = go x t (above-of-le lo x tt (and-l (le lo x) (lt x hi) h)) (and-l (le lo x) (lt x hi) h) (and-r (le lo x) (lt x hi) h)
   where
     lo : Float
     lo = fin false 1 (negsuc 30)
@@ -164,13 +164,13 @@ span-digits x t h = go x t (above-of-le lo x tt (and-l (le lo x) (lt x hi) h)) (
     flat : (a b : ℕ) → a * 1 < 1 * 2 ^ 21 * b → a < 2 ^ 21 * b
     flat a b h = omega arith
 
-    go : (x : Float) → T (fits binary64 x) → T (above x) → T (le lo x) → T (lt x hi) → Digits (num x) (den x) (toBits binary64 x)
+    go : (x : Float) → T (fits binary64 x) → T (above x) → T (le lo x) → T (lt x hi) → Significand (num x) (den x) (toBits binary64 x)
     go nan t a l u = absurd a
     go (inf true) t a l u = absurd a
     go (inf false) t a l u = unfold lt in absurd u
     go (fin true m e) t a l u = absurd a
     go (fin false m e) t a l u =
-        digits m e t (plain (down e) (m * up e) (2 ^ 31) (le→cross lo (fin false m e) tt a l)) (flat (m * up e) (down e) (ltb→lt (m * up e * 1) (1 * 2 ^ 21 * down e) (unfold lt in u)))
+        significand m e t (plain (down e) (m * up e) (2 ^ 31) (le→cross lo (fin false m e) tt a l)) (flat (m * up e) (down e) (ltb→lt (m * up e * 1) (1 * 2 ^ 21 * down e) (unfold lt in u)))
 
 pub span-number : (x : Float) → T (below21 x) → T (not (isNan x))
 unfolding le lt isNan
@@ -225,8 +225,8 @@ pub record Whole (X D b : ℕ) : Type 0 where
       ≡ (b % 4503599627370496 + 4503599627370496) / 2 ^ (1075 - b / 4503599627370496) * 1000000000
       + closest ((b % 4503599627370496 + 4503599627370496) % 2 ^ (1075 - b / 4503599627370496) * 1000000000) (2 ^ (1075 - b / 4503599627370496))
 
-whole-digits : (m : ℕ) (e : ℤ) → T (fits binary64 (fin false m e)) → 2 ^ 21 * down e ≤ m * up e → m * up e < 2 ^ 34 * down e → Whole (m * up e) (down e) (toBits binary64 (fin false m e))
-whole-digits m e t lo hi =
+whole-significand : (m : ℕ) (e : ℤ) → T (fits binary64 (fin false m e)) → 2 ^ 21 * down e ≤ m * up e → m * up e < 2 ^ 34 * down e → Whole (m * up e) (down e) (toBits binary64 (fin false m e))
+whole-significand m e t lo hi =
     let X = m * up e in
     let D = down e in
     let b = toBits binary64 (fin false m e) in
@@ -261,8 +261,8 @@ whole-digits m e t lo hi =
     unit : (x : ℕ) → 1074 - x ≡ 1075 - suc x
     unit x = omega arith
 
-pub from-21-digits : (x : Float) → T (fits binary64 x) → T (from21 x) → Whole (num x) (den x) (toBits binary64 x)
-from-21-digits x t h = go x t (above-of-le lo x tt (and-l (le lo x) (lt x hi) h)) (and-l (le lo x) (lt x hi) h) (and-r (le lo x) (lt x hi) h)
+pub from-21-significand : (x : Float) → T (fits binary64 x) → T (from21 x) → Whole (num x) (den x) (toBits binary64 x)
+from-21-significand x t h = go x t (above-of-le lo x tt (and-l (le lo x) (lt x hi) h)) (and-l (le lo x) (lt x hi) h) (and-r (le lo x) (lt x hi) h)
   where
     lo : Float
     lo = fin false 1 (pos 21)
@@ -282,7 +282,7 @@ from-21-digits x t h = go x t (above-of-le lo x tt (and-l (le lo x) (lt x hi) h)
     go (inf false) t a l u = unfold lt in absurd u
     go (fin true m e) t a l u = absurd a
     go (fin false m e) t a l u =
-        whole-digits m e t (plain (down e) (m * up e) (le→cross lo (fin false m e) tt a l)) (flat (m * up e) (down e) (ltb→lt (m * up e * 1) (1 * 2 ^ 34 * down e) (unfold lt in u)))
+        whole-significand m e t (plain (down e) (m * up e) (le→cross lo (fin false m e) tt a l)) (flat (m * up e) (down e) (ltb→lt (m * up e * 1) (1 * 2 ^ 34 * down e) (unfold lt in u)))
 
 pub from-21-number : (x : Float) → T (from21 x) → T (not (isNan x))
 unfolding le lt isNan
