@@ -10,9 +10,9 @@ use lib.Dec.{ltb}
 use lib.ListN.{length, take}
 use borrow.Author.Tests.{lt-ltb, le-ltb}
 use Rattle.refusal.specs.declared.Refusal.the-variants.{State, Time, Full}
-use Rattle.multi_timer.specs.Map.{lookup, isSome, keep, remove, due, pending, dueAt, earliest, deadlinesOf}
+use Rattle.multi_timer.specs.Map.{lookup, isSome, keep, remove, due, pending, earliest, deadlinesOf}
 use Rattle.multi_timer.specs.Search.{searchIn, dueIn}
-use Rattle.multi_timer.specs.MultiTimer.{used, After, AfterPop, after, afterPop, answering, started, cancelled, popped, cleared, broken, heldTooLate, readTooLate, startTooLate, startFull, startUnchecked, cancelUnchecked, popUnchecked, clearUnchecked, earliestAnswer, startTimerAtDef, cancelTimerDef, isExpiredAtDef, popExpiredAtDef, earliestDeadlineDef, clearDef}
+use Rattle.multi_timer.specs.MultiTimer.{used, After, AfterPop, after, afterPop, answering, started, cancelled, popped, cleared, broken, heldTooLate, readTooLate, startTooLate, startFull, startUnchecked, cancelUnchecked, popUnchecked, clearUnchecked, earliestAnswer, expiredUnchecked, earliestUnchecked, startTimerAtDef, cancelTimerDef, isExpiredAtDef, popExpiredAtDef, earliestDeadlineDef, clearDef}
 use Rattle.multi_timer.specs.declared.MultiTimer.{MultiTimer}
 use Rattle.multi_timer.specs.declared.Place.{Place}
 use Rattle.multi_timer.specs.declared.Place.the-variants.{At, Absent}
@@ -86,7 +86,7 @@ module _ (t : MultiTimer) (ks ds : List ℕ) where
       unfolding isExpiredAtDef
       expired-time b l = simp (state-time, b, l)
 
-      pub expired-done : (x : Bool) → broken (t .count) ks ds ≡ false → readTooLate (t .count) ds now ≡ false → x ≡ dueAt now (lookup key (used t ks ds)) → Ex.the-variants.Is x ≡ isExpiredAtDef t ks ds key now
+      pub expired-done : (x : Bool) → broken (t .count) ks ds ≡ false → readTooLate (t .count) ds now ≡ false → x ≡ expiredUnchecked t ks ds key now → Ex.the-variants.Is x ≡ isExpiredAtDef t ks ds key now
       unfolding isExpiredAtDef
       expired-done x b l e = simp (state-time, b, l) (ap Ex.the-variants.Is e)
 
@@ -139,13 +139,16 @@ module _ (t : MultiTimer) (ks ds : List ℕ) where
   used-deadlines : broken (t .count) ks ds ≡ false → deadlinesOf (used t ks ds) ≡ take (t .count) ds
   used-deadlines b = deadlines-entries (take (t .count) ks) (take (t .count) ds) (one-length (t .count) ks ds (good-of (t .count) ks ds b))
 
-  pub earliest-none : broken (t .count) ks ds ≡ false → heldTooLate (t .count) ds ≡ false → t .count ≡ 0 → Ea.the-variants.Nothing ≡ earliestDeadlineDef t ks ds
-  unfolding earliestDeadlineDef earliest
-  earliest-none b l z = simp (state-time, b, l) (sym (ap (λ (xs : List ℕ). earliestAnswer (earliest xs)) (used-deadlines b ∙ ap (λ (n : ℕ). take n ds) z)))
+  pub earliest-none : broken (t .count) ks ds ≡ false → t .count ≡ 0 → Ea.the-variants.Nothing ≡ earliestUnchecked t ks ds
+  unfolding earliest
+  earliest-none b z = sym (ap (λ (xs : List ℕ). earliestAnswer (earliest xs)) (used-deadlines b ∙ ap (λ (n : ℕ). take n ds) z))
 
-  pub earliest-done : (d : ℕ) → broken (t .count) ks ds ≡ false → heldTooLate (t .count) ds ≡ false → some d ≡ earliest (take (t .count) ds) → Ea.the-variants.At d ≡ earliestDeadlineDef t ks ds
+  pub earliest-at : (d : ℕ) → broken (t .count) ks ds ≡ false → some d ≡ earliest (take (t .count) ds) → Ea.the-variants.At d ≡ earliestUnchecked t ks ds
+  earliest-at d b e = ap earliestAnswer e ∙ sym (ap (λ (xs : List ℕ). earliestAnswer (earliest xs)) (used-deadlines b))
+
+  pub earliest-done : (a : Ea.EarliestAnswer) → broken (t .count) ks ds ≡ false → heldTooLate (t .count) ds ≡ false → a ≡ earliestUnchecked t ks ds → a ≡ earliestDeadlineDef t ks ds
   unfolding earliestDeadlineDef
-  earliest-done d b l e = simp (state-time, b, l) (ap earliestAnswer e ∙ sym (ap (λ (xs : List ℕ). earliestAnswer (earliest xs)) (used-deadlines b)))
+  earliest-done a b l e = simp (state-time, b, l) e
 
   pub clear-state : broken (t .count) ks ds ≡ true → after (cleared t (Cl.the-variants.Refused State)) ks ds ≡ clearDef t ks ds
   unfolding clearDef

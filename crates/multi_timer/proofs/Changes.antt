@@ -1,7 +1,7 @@
 -- What the functions below the entry points leave, as the definitions have it.
 use mathlib.Core.Path.{_≡_, refl, sym, ap, ap₂, _∙_, subst}
 use mathlib.Core.Bool.{Bool, true, false, not, cond, _&&_, true≢false}
-use mathlib.Core.Option.{none, some}
+use mathlib.Core.Option.{some}
 use mathlib.Core.List.{List, [], _∷_, _++_}
 use Prim.Native.Nat.{ℕ, suc, _+_, _-_, _≤_, _<_, min, max, zero-le}
 use native.Mathlib.Nat.{le-refl, le-trans, add-zero, zero-sub, max-eq-right}
@@ -25,7 +25,7 @@ same-after : {A : Type 0} (a b : A) (ks ls ds es : List ℕ) → a ≡ b → ks 
 same-after {A = A} a b ks ls ds es p q r = ap₂ (λ (x : After A) (l : List ℕ). after (x .answer) (x .keys) l) (ap₂ (λ (x : A) (l : List ℕ). after x l ds) p q) r
 
 -- where none were used before
-front : (new old : List ℕ) → laid new 0 old ≡ new ++ drop (length new) old
+pub front : (new old : List ℕ) → laid new 0 old ≡ new ++ drop (length new) old
 unfolding laid
 front new old = ap₂ (λ (k m : ℕ). new ++ (replicate k 0 ++ drop m old)) (zero-sub (length new)) (largest (length new))
   where

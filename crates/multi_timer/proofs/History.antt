@@ -1,27 +1,29 @@
 -- After any list of calls from a fresh set, the set is the map that the accepted calls say, and the next call meets no 9 and no deadline above its bound.
 use mathlib.Core.Path.{_≡_, refl, sym, ap, _∙_, subst}
 use mathlib.Core.Bool.{Bool, true, false, not, cond, _||_, _&&_, true≢false}
-use mathlib.Core.List.{List, [], _∷_}
+use mathlib.Core.List.{List, [], _∷_, _++_}
 use mathlib.Core.Option.{Option, none, some}
 use Prim.Native.Nat.{ℕ, suc, _+_, _%_, _^_, _≤_, zero-le}
 use native.Mathlib.Nat.{le-trans, le-of-eq}
 use native.Mathlib.Omega.{arith}
 use lib.Dec.{leb, ltb, eqb}
-use lib.ListN.{length, take, replicate, length-replicate}
+use lib.ListN.{length, take, drop, replicate, length-replicate}
 use borrow.Author.Tests.{eq-eqb, le-ltb}
 use Rattle.duration.specs.Bounds.{maxTime, startLate}
 use Rattle.duration.proofs.Laws.{start-in-time}
 use Rattle.refusal.specs.Order.{check, verdict, decide, firstOf, numbered, orElse, order}
 use Rattle.refusal.specs.declared.Refusal.{Refusal}
 use Rattle.refusal.specs.declared.Refusal.the-variants.{State, Time, Full}
-use Rattle.multi_timer.specs.Map.{Entry, entriesOf, keysOf, deadlinesOf, ascending, ascendingFrom, lookup, isSome, keep, put, other, due, pending, stillSet}
+use Rattle.multi_timer.specs.Map.{Entry, entriesOf, keysOf, deadlinesOf, ascending, ascendingFrom, lookup, isSome, keep, put, other, due, pending, dueAt, stillSet, earliest, contains, LeastOf}
 use Rattle.multi_timer.specs.Search.{searchIn}
-use Rattle.multi_timer.specs.MultiTimer.{used, laid, After, after, timers, nextGeneration, broken, anyLate, heldTooLate, startFull, startUnchecked, cancelUnchecked, popUnchecked, clearUnchecked, newDef, startTimerAtDef, cancelTimerDef, AfterPop, popExpiredAtDef, clearDef, answering}
-use Rattle.multi_timer.specs.History.{Call, start, cancel, pop, clear, fresh, step, afterCalls, startRefused, cancelRefused, popRefused, clearRefused, isRefused, entriesAfter, deadlineOf, starts, turnedAway, accepted}
+use Rattle.multi_timer.specs.MultiTimer.{used, laid, After, after, timers, nextGeneration, broken, anyLate, heldTooLate, startFull, startUnchecked, cancelUnchecked, popUnchecked, clearUnchecked, newDef, startTimerAtDef, cancelTimerDef, isExpiredAtDef, AfterPop, popExpiredAtDef, earliestAnswer, earliestDeadlineDef, clearDef, answering}
+use Rattle.multi_timer.specs.History.{Call, start, cancel, pop, clear, fresh, step, afterCalls, startRefused, cancelRefused, popRefused, clearRefused, isRefused, entriesAfter, deadlineOf, earliestOf, dueKeys, starts, turnedAway, accepted}
 use Rattle.multi_timer.specs.declared.MultiTimer.{MultiTimer}
 use Rattle.multi_timer.specs.declared.Making.the-variants.{Made}
 use Rattle.multi_timer.specs.declared.Started.{Started}
 use Rattle.multi_timer.specs.declared.Cancelled.{Cancelled}
+use Rattle.multi_timer.specs.declared.ExpiredAnswer.the-variants.{Is}
+use Rattle.multi_timer.specs.declared.PopAnswer.the-variants.{Keys}
 use Rattle.multi_timer.specs.declared.Popped.{Popped}
 use Rattle.multi_timer.specs.declared.Cleared.{Cleared}
 use Rattle.multi_timer.specs.declared.Place.{Place}
@@ -29,9 +31,10 @@ use Rattle.multi_timer.specs.declared.Place.the-variants.{At, Absent}
 use Rattle.multi_timer.proofs.Checks.{Good, good-of, state-only, state-time}
 use Rattle.multi_timer.proofs.Sorted.{deadlines-entries, length-keys, length-deadlines}
 use Rattle.multi_timer.proofs.Places.{one-length, kept-count, inserted-count}
-use Rattle.multi_timer.proofs.Changes.{unused}
+use Rattle.multi_timer.proofs.Changes.{front, unused}
 use Rattle.multi_timer.proofs.Parting.{entries-length}
-use Rattle.multi_timer.proofs.Map.{lookup-put, lookup-remove, lookup-pop, keep-ascending, put-ascending, keep-in-time, put-in-time, laid-used, laid-front, laid-length, holding-accepted}
+use Rattle.multi_timer.proofs.Calls.{expired-done, earliest-done}
+use Rattle.multi_timer.proofs.Map.{lookup-put, lookup-remove, lookup-pop, keep-ascending, put-ascending, due-taken, earliest-least, keep-in-time, put-in-time, laid-used, laid-front, laid-length, holding-accepted}
 
 -- ---- an accepted start never holds more than the slices do
 module _ (t : MultiTimer) (ks ds : List ℕ) (b : broken (t .count) ks ds ≡ false) where
@@ -65,6 +68,21 @@ lookup-entries key (cancel k ∷ xs) = lookup-remove k key (entriesAfter xs) ∙
 lookup-entries key (pop now out ∷ xs) = lookup-pop now key 0 (entriesAfter xs) (entries-ascending xs) ∙ ap (stillSet now) (lookup-entries key xs)
 lookup-entries key (clear ∷ xs) = refl
 
+-- the earliest is the least deadline of a key, and none exactly when no key has one
+pub earliest-of : (xs : List Call) → LeastOf (λ (key : ℕ). deadlineOf key xs) (earliestOf xs)
+earliest-of xs = as-said (earliestOf xs) (earliest-least 0 (entriesAfter xs) (entries-ascending xs))
+  where
+    as-said : (o : Option ℕ) → LeastOf (λ (key : ℕ). lookup key (entriesAfter xs)) o → LeastOf (λ (key : ℕ). deadlineOf key xs) o
+    as-said none h = λ key. sym (lookup-entries key xs) ∙ h key
+    as-said (some d) h = ((h .0 .0, sym (lookup-entries (h .0 .0) xs) ∙ h .0 .1), λ key x p. h .1 key x (lookup-entries key xs ∙ p))
+
+-- a pop takes exactly the keys with a deadline at or before now, in ascending order
+pub due-keys : (now key : ℕ) (xs : List Call) → contains key (dueKeys now xs) ≡ dueAt now (deadlineOf key xs)
+due-keys now key xs = due-taken now key 0 (entriesAfter xs) (entries-ascending xs) ∙ ap (dueAt now) (lookup-entries key xs)
+
+pub due-ascending : (now : ℕ) (xs : List Call) → ascending (dueKeys now xs) ≡ true
+due-ascending now xs = keep-ascending (due now) 0 (entriesAfter xs) (entries-ascending xs)
+
 -- ---- what holds of the set after any list of calls
 pub record Kept (n : ℕ) (xs : List Call) (s : After MultiTimer) : Type 0 where
   pub keys-length : length (s .keys) ≡ n
@@ -74,6 +92,11 @@ pub record Kept (n : ℕ) (xs : List Call) (s : After MultiTimer) : Type 0 where
   pub times : heldTooLate (s .answer .count) (s .deadlines) ≡ false
   pub entries-are : used (s .answer) (s .keys) (s .deadlines) ≡ entriesAfter xs
   pub generation-is : s .answer .«global_generation» ≡ starts xs % 2 ^ 64
+
+-- a pop answers how many keys it takes; they go to the front of the lent slice, and the rest of it stays
+pub record Took (keys out : List ℕ) (z : AfterPop Popped) : Type 0 where
+  pub answered : z .rest .answer .answer ≡ Keys (length keys)
+  pub written : z .out ≡ keys ++ drop (length keys) out
 
 keep-most : (p : Entry → Bool) (es : List Entry) → length (keep p es) ≤ length es
 unfolding keep
@@ -109,6 +132,25 @@ module _ (n : ℕ) (xs : List Call) (s : After MultiTimer) (k : Kept n xs s) whe
 
   pub deadlines-are : (key : ℕ) → lookup key es ≡ deadlineOf key xs
   deadlines-are key = ap (lookup key) (k .entries-are) ∙ lookup-entries key xs
+
+  -- ---- what the calls that only read answer, and what a pop writes
+  pub expired-is : (key now : ℕ) → ltb maxTime now ≡ false → isExpiredAtDef (s .answer) (s .keys) (s .deadlines) key now ≡ Is (dueAt now (deadlineOf key xs))
+  expired-is key now h = sym (expired-done (s .answer) (s .keys) (s .deadlines) key now _ (k .state) (simp (k .times, h)) refl) ∙ ap (λ (o : Option ℕ). Is (dueAt now o)) (deadlines-are key)
+
+  pub earliest-is : earliestDeadlineDef (s .answer) (s .keys) (s .deadlines) ≡ earliestAnswer (earliestOf xs)
+  earliest-is = sym (earliest-done (s .answer) (s .keys) (s .deadlines) _ (k .state) (k .times) refl) ∙ ap (λ (z : List Entry). earliestAnswer (earliest (deadlinesOf z))) (k .entries-are)
+
+  -- an accepted pop
+  pub pop-is : (now : ℕ) (out : List ℕ) → turnedAway n xs (pop now out) ≡ false → Took (dueKeys now xs) out (popExpiredAtDef (s .answer) (s .keys) (s .deadlines) now out)
+  unfolding turnedAway popExpiredAtDef popUnchecked
+  pop-is now out =
+      subst (λ (z : List Entry). (ltb maxTime now || ltb (length out) (length (keep (due now) z))) ≡ false → Took (dueKeys now xs) out (popExpiredAtDef (s .answer) (s .keys) (s .deadlines) now out)) (k .entries-are)
+      (by-tests (λ (z : AfterPop Popped) (b : Bool). b ≡ false → Took (dueKeys now xs) out z) _ _ _ _ _ _ (k .state) (k .times) (λ r e. absurd (true≢false e))
+      (λ t f e.
+      record {
+        answered = ap (λ (z : List Entry). Keys (length (keep (due now) z))) (k .entries-are) ∙ ap Keys (sym (length-keys (keep (due now) (entriesAfter xs))));
+        written = ap (λ (z : List Entry). laid (keysOf (keep (due now) z)) 0 out) (k .entries-are) ∙ front (dueKeys now xs) out;
+      }))
 
   -- other entries in the place of those held
   held : (ys : List Call) (new : List Entry) (next : ℕ) → length new ≤ length (s .keys) → anyLate (deadlinesOf new) ≡ false → new ≡ entriesAfter ys → next ≡ starts ys % 2 ^ 64

@@ -153,9 +153,9 @@ fast-start n i ks ds h d u = let e : i + 1 - 1 ≡ i = omega arith in rw (e, bel
 pub fast-far-first : (n i : ℕ) (ks ds : List ℕ) → i < n → n ≤ length ds → 140737488355328 ≤ getD ds i 0 → false ≡ (risingFrom n i ks && allBelowPower (rest n i ds))
 fast-far-first n i ks ds h d u = rw (below-one n i ds d (i + 1) refl h, le-ltb _ _ u, and-false (risingFrom n i ks))
 
--- joined digits are below 2 ^ 47 where each number is
-pub joined-small : (a x : ℕ) → ltb (bitOr a x) 140737488355328 ≡ (ltb a 140737488355328 && ltb x 140737488355328)
-joined-small a x = go (ltb a 140737488355328) (ltb x 140737488355328) (ltb-true a _) (ltb-false a _) (ltb-true x _) (ltb-false x _)
+-- a bitwise or is below 2 ^ 47 where each number is
+pub or-small : (a x : ℕ) → ltb (bitOr a x) 140737488355328 ≡ (ltb a 140737488355328 && ltb x 140737488355328)
+or-small a x = go (ltb a 140737488355328) (ltb x 140737488355328) (ltb-true a _) (ltb-false a _) (ltb-true x _) (ltb-false x _)
   where
     s : bitOr a x + bitAnd a x ≡ a + x
     s = or-add-and a x
@@ -171,11 +171,11 @@ joined-small a x = go (ltb a 140737488355328) (ltb x 140737488355328) (ltb-true 
     go true false _ _ _ k = le-ltb _ _ (above-right s (and-le-l a x) (k refl))
     go false q _ h _ _ = le-ltb _ _ (above-left s (and-le-r a x) (h refl))
 
-abbrev joined-of : ℕ → ℕ → ℕ → ℕ → Bool
-joined-of d0 d1 d2 d3 = (ltb d0 140737488355328 && ltb d1 140737488355328) && (ltb d2 140737488355328 && ltb d3 140737488355328)
+abbrev all-small : ℕ → ℕ → ℕ → ℕ → Bool
+all-small d0 d1 d2 d3 = (ltb d0 140737488355328 && ltb d1 140737488355328) && (ltb d2 140737488355328 && ltb d3 140737488355328)
 
-joined : (d0 d1 d2 d3 : ℕ) → ltb (bitOr (bitOr d0 d1) (bitOr d2 d3)) 140737488355328 ≡ joined-of d0 d1 d2 d3
-joined d0 d1 d2 d3 = joined-small (bitOr d0 d1) (bitOr d2 d3) ∙ ap₂ (λ (p q : Bool). p && q) (joined-small d0 d1) (joined-small d2 d3)
+or-all : (d0 d1 d2 d3 : ℕ) → ltb (bitOr (bitOr d0 d1) (bitOr d2 d3)) 140737488355328 ≡ all-small d0 d1 d2 d3
+or-all d0 d1 d2 d3 = or-small (bitOr d0 d1) (bitOr d2 d3) ∙ ap₂ (λ (p q : Bool). p && q) (or-small d0 d1) (or-small d2 d3)
 
 -- the next four keys and deadlines
 module _ (n i : ℕ) (xs : List ℕ) (h : i + 4 < n) (l : n ≤ length xs) where
@@ -201,14 +201,14 @@ module _ (n i : ℕ) (xs : List ℕ) (h : i + 4 < n) (l : n ≤ length xs) where
 
   pub below-four : (d0 d1 d2 d3 : ℕ) → (((small (bitOr d0 (getD xs i 0)) && small (bitOr d1 (at 1))) && (small (bitOr d2 (at 2)) && small (bitOr d3 (at 3)))) && allBelowPower (rest n (i + 4) xs)) ≡ (((small d0 && small d1) && (small d2 && small d3)) && allBelowPower (rest n i xs))
   below-four d0 d1 d2 d3 =
-      ap₂ (λ (p q : Bool). (p && q) && allBelowPower (rest n (i + 4) xs)) (ap₂ (λ (p q : Bool). p && q) (joined-small d0 (getD xs i 0)) (joined-small d1 (at 1))) (ap₂ (λ (p q : Bool). p && q) (joined-small d2 (at 2)) (joined-small d3 (at 3)))
+      ap₂ (λ (p q : Bool). (p && q) && allBelowPower (rest n (i + 4) xs)) (ap₂ (λ (p q : Bool). p && q) (or-small d0 (getD xs i 0)) (or-small d1 (at 1))) (ap₂ (λ (p q : Bool). p && q) (or-small d2 (at 2)) (or-small d3 (at 3)))
       ∙ four (small d0) (small d1) (small d2) (small d3) (small (getD xs i 0)) (small (at 1)) (small (at 2)) (small (at 3)) (allBelowPower (rest n (i + 4) xs))
       ∙ sym (ap (λ (p : Bool). ((small d0 && small d1) && (small d2 && small d3)) && p)
       (below-one n i xs l (i + 1) refl first ∙ ap (λ (p : Bool). small (getD xs i 0) && p)
       (below-one n (i + 1) xs l (i + 2) (omega arith) (within 1 (lit≤ tt)) ∙ ap (λ (p : Bool). small (at 1) && p)
       (below-one n (i + 2) xs l (i + 3) (omega arith) (within 2 (lit≤ tt)) ∙ ap (λ (p : Bool). small (at 2) && p) (below-one n (i + 3) xs l (i + 4) (omega arith) (within 3 (lit≤ tt)))))))
 
--- what the loop's four tests and joined digits leave to the rest
+-- what the loop's four tests and bitwise ors leave to the rest
 module _ (n i : ℕ) (ks ds : List ℕ) (r0 r1 r2 r3 : Bool) (d0 d1 d2 d3 : ℕ) where
   abbrev rising : Bool
   rising = (r0 && r1) && (r2 && r3)
@@ -220,12 +220,12 @@ module _ (n i : ℕ) (ks ds : List ℕ) (r0 r1 r2 r3 : Bool) (d0 d1 d2 d3 : ℕ)
       go false e = refl
       go true e = absurd (false≢true e)
 
-  pub not-below : 140737488355328 ≤ bitOr (bitOr d0 d1) (bitOr d2 d3) → (joined-of d0 d1 d2 d3 && allBelowPower (rest n i ds)) ≡ allBelowPower (take n ds) → false ≡ (ascending (take n ks) && allBelowPower (take n ds))
-  not-below h s = rw (← s, ← joined d0 d1 d2 d3, le-ltb _ _ h, and-false (ascending (take n ks)))
+  pub not-below : 140737488355328 ≤ bitOr (bitOr d0 d1) (bitOr d2 d3) → (all-small d0 d1 d2 d3 && allBelowPower (rest n i ds)) ≡ allBelowPower (take n ds) → false ≡ (ascending (take n ks) && allBelowPower (take n ds))
+  not-below h s = rw (← s, ← or-all d0 d1 d2 d3, le-ltb _ _ h, and-false (ascending (take n ks)))
 
-  pub rest-decides : (x : Bool) → not rising ≡ false → bitOr (bitOr d0 d1) (bitOr d2 d3) < 140737488355328 → (rising && risingFrom n i ks) ≡ ascending (take n ks) → (joined-of d0 d1 d2 d3 && allBelowPower (rest n i ds)) ≡ allBelowPower (take n ds)
+  pub rest-decides : (x : Bool) → not rising ≡ false → bitOr (bitOr d0 d1) (bitOr d2 d3) < 140737488355328 → (rising && risingFrom n i ks) ≡ ascending (take n ks) → (all-small d0 d1 d2 d3 && allBelowPower (rest n i ds)) ≡ allBelowPower (take n ds)
       → x ≡ (risingFrom n i ks && allBelowPower (rest n i ds)) → x ≡ (ascending (take n ks) && allBelowPower (take n ds))
-  rest-decides x e h a s k = rw (← a, ← s, ← joined d0 d1 d2 d3, lt-ltb _ _ h) (go rising e)
+  rest-decides x e h a s k = rw (← a, ← s, ← or-all d0 d1 d2 d3, lt-ltb _ _ h) (go rising e)
     where
       go : (r : Bool) → not r ≡ false → x ≡ ((r && risingFrom n i ks) && allBelowPower (rest n i ds))
       go true e = k

@@ -3,15 +3,15 @@ use mathlib.Core.Path.{_≡_, refl, sym, ap, ap₂, _∙_, subst}
 use mathlib.Core.Bool.{Bool, true, false, not, cond, _&&_, _||_, true≢false}
 use mathlib.Core.Option.{Option, none, some}
 use mathlib.Core.List.{List, [], _∷_, _++_}
-use Prim.Native.Nat.{ℕ, zero, suc, _+_, _-_, _≤_, _<_, zero-le, suc-le-suc, min, max}
-use native.Mathlib.Nat.{le-refl, le-trans, le-of-suc-le-suc}
+use Prim.Native.Nat.{ℕ, suc, _+_, _-_, _≤_, _<_, min, max}
+use native.Mathlib.Nat.{le-trans, le-antisymm}
 use native.Mathlib.Omega.{arith}
 use lib.Dec.{leb, ltb, eqb}
-use lib.ListN.{length, getD, take, drop, replicate, length-append, length-replicate, length-drop}
+use lib.ListN.{length, take, drop, replicate, length-append, length-replicate, length-drop}
 use lib.Seq.{take-append-seam}
 use borrow.Author.Tests.{ltb-true, ltb-false, eqb-true, eqb-false, leb-true, leb-false, le-ltb, le-leb, lt-leb, eq-eqb, ne-eqb}
 use Rattle.duration.specs.Bounds.{maxTime}
-use Rattle.multi_timer.specs.Map.{Entry, entry, entriesOf, keysOf, deadlinesOf, ascendingFrom, ascending, lookup, keep, put, other, remove, pending, isSome, dueAt, stillSet, least}
+use Rattle.multi_timer.specs.Map.{Entry, entry, entriesOf, keysOf, deadlinesOf, ascendingFrom, ascending, lookup, keep, put, other, remove, due, pending, isSome, dueAt, stillSet, least, earliest, contains, LeastOf}
 use Rattle.multi_timer.specs.MultiTimer.{laid, broken, anyLate}
 use Rattle.multi_timer.proofs.Sorted.{first-key, other-keys, length-keys, length-deadlines}
 
@@ -105,20 +105,16 @@ put-ascending k d low (e ∷ es) h a = go (ltb (e .key) k) (eqb (e .key) k) (ltb
         near g n = omega arith
 
 -- ---- lookup after a pop: what is not due stays
-none-below : (p : Entry → Bool) (q low : ℕ) (es : List Entry) → ascendingFrom low (keysOf es) ≡ true → q < low → lookup q (keep p es) ≡ none
-unfolding keysOf keep lookup
-none-below p q low [] a h = refl
-none-below p q low (e ∷ es) a h = go (p e) (none-below p q (suc (e .key)) es (other-keys low (e .key) (keysOf es) a) (further (first-key low (e .key) (keysOf es) a)))
+lookup-below : (q low : ℕ) (es : List Entry) → ascendingFrom low (keysOf es) ≡ true → q < low → lookup q es ≡ none
+unfolding keysOf lookup
+lookup-below q low [] a h = refl
+lookup-below q low (e ∷ es) a h = let f = first-key low (e .key) (keysOf es) a in rw (ne-eqb (e .key) q (apart f)) (lookup-below q (suc (e .key)) es (other-keys low (e .key) (keysOf es) a) (further f))
   where
     further : low ≤ e .key → q < suc (e .key)
     further f = omega arith
 
     apart : low ≤ e .key → e .key ≡ q → ⊥
     apart f g = omega arith
-
-    go : (b : Bool) → lookup q (keep p es) ≡ none → lookup q (cond b (e ∷ keep p es) (keep p es)) ≡ none
-    go true i = simp (ne-eqb (e .key) q (apart (first-key low (e .key) (keysOf es) a))) i
-    go false i = i
 
 pub lookup-pop : (now q low : ℕ) (es : List Entry) → ascendingFrom low (keysOf es) ≡ true → lookup q (keep (pending now) es) ≡ stillSet now (lookup q es)
 unfolding keysOf keep lookup
@@ -129,7 +125,7 @@ lookup-pop now q low (e ∷ es) a = go (ltb now (e .deadline)) (eqb (e .key) q) 
         → lookup q (cond b (e ∷ keep (pending now) es) (keep (pending now) es)) ≡ stillSet now (cond (eqb (e .key) q) (some (e .deadline)) (lookup q es))
     go true true r s h = simp (s, r)
     go true false r s h = simp s h
-    go false true r s h = simp (s, r) (none-below (pending now) q (suc (e .key)) es (other-keys low (e .key) (keysOf es) a) (near (eqb-true _ _ s)))
+    go false true r s h = simp (s, r) (lookup-below q (suc (e .key)) (keep (pending now) es) (keep-ascending (pending now) (suc (e .key)) es (other-keys low (e .key) (keysOf es) a)) (near (eqb-true _ _ s)))
       where
         near : e .key ≡ q → q < suc (e .key)
         near g = omega arith
@@ -144,41 +140,72 @@ expired-popped now (some d) = go (ltb now d) refl
     go true e = simp (e, lt-leb d now (ltb-true now d e))
     go false e = simp (e, le-leb d now (ltb-false now d e))
 
--- ---- the earliest is the least
-pub least-first : (d : ℕ) (xs : List ℕ) → least d xs ≤ d
-unfolding least
-least-first d [] = le-refl d
-least-first d (x ∷ xs) = smaller d (least x xs)
+-- the keys that a pop takes
+pub due-taken : (now q low : ℕ) (es : List Entry) → ascendingFrom low (keysOf es) ≡ true → contains q (keysOf (keep (due now) es)) ≡ dueAt now (lookup q es)
+unfolding keysOf keep lookup contains
+due-taken now q low [] a = refl
+due-taken now q low (e ∷ es) a = go (leb (e .deadline) now) (eqb (e .key) q) refl refl (due-taken now q (suc (e .key)) es r)
   where
-    smaller : (a b : ℕ) → min a b ≤ a
-    smaller a b = omega arith
+    r : ascendingFrom (suc (e .key)) (keysOf es) ≡ true
+    r = other-keys low (e .key) (keysOf es) a
 
-pub least-each : (d : ℕ) (xs : List ℕ) (i : ℕ) → i < length xs → least d xs ≤ getD xs i 0
-unfolding least
-least-each d [] i h = absurd (omega arith)
-least-each d (x ∷ xs) zero h = le-trans (smaller d (least x xs)) (least-first x xs)
-  where
-    smaller : (a b : ℕ) → min a b ≤ b
-    smaller a b = omega arith
-least-each d (x ∷ xs) (suc i) h = le-trans (smaller d (least x xs)) (least-each x xs i (le-of-suc-le-suc h))
-  where
-    smaller : (a b : ℕ) → min a b ≤ b
-    smaller a b = omega arith
+    near : e .key ≡ q → q < suc (e .key)
+    near g = omega arith
 
-pub least-found : (d : ℕ) (xs : List ℕ) → (i : ℕ) × ((i < suc (length xs)) × (least d xs ≡ getD (d ∷ xs) i 0))
-unfolding least
-least-found d [] = (0, (le-refl 1, refl))
-least-found d (x ∷ xs) = go (leb d (least x xs)) (leb-true _ _) (leb-false _ _) (least-found x xs)
+    go : (b x : Bool) → leb (e .deadline) now ≡ b → eqb (e .key) q ≡ x → contains q (keysOf (keep (due now) es)) ≡ dueAt now (lookup q es)
+        → contains q (keysOf (cond b (e ∷ keep (due now) es) (keep (due now) es))) ≡ dueAt now (cond (eqb (e .key) q) (some (e .deadline)) (lookup q es))
+    go true true d s h = simp (s, d)
+    go true false d s h = simp s h
+    go false true d s h = simp (s, d) (h ∙ ap (dueAt now) (lookup-below q (suc (e .key)) es r (near (eqb-true _ _ s))))
+    go false false d s h = simp s h
+
+-- ---- the earliest is the least deadline of a key
+none-some : (o : Option ℕ) (d : ℕ) → o ≡ none → o ≡ some d → ⊥
+none-some o d p q = let z : _≡_ {A = ℕ} 0 1 = cc in omega arith
+
+some-one : (d x : ℕ) → some d ≡ some x → d ≡ x
+some-one d x p = cc
+
+earliest-more : (low : ℕ) (e : Entry) (es : List Entry) → ascendingFrom low (keysOf (e ∷ es)) ≡ true → LeastOf (λ (key : ℕ). lookup key es) (earliest (deadlinesOf es)) → LeastOf (λ (key : ℕ). lookup key (e ∷ es)) (earliest (deadlinesOf (e ∷ es)))
+unfolding keysOf deadlinesOf lookup earliest least
+earliest-more low e [] a h = ((e .key, rw (eq-eqb (e .key) (e .key) refl)), λ key x. each (eqb (e .key) key) x)
   where
-    left : (a b : ℕ) → a ≤ b → min a b ≡ a
+    each : (b : Bool) (x : ℕ) → cond b (some (e .deadline)) none ≡ some x → e .deadline ≤ x
+    each true x p = let q = some-one (e .deadline) x p in omega arith
+    each false x p = absurd (none-some none x refl p)
+earliest-more low e (f ∷ es) a h = (found (leb (e .deadline) m) (leb-true _ _) (leb-false _ _), λ key x. each (eqb (e .key) key) key x)
+  where
+    m : ℕ
+    m = least (f .deadline) (deadlinesOf es)
+
+    left : (a b : ℕ) → a ≤ b → a ≡ min a b
     left a b h = omega arith
 
-    right : (a b : ℕ) → b < a → min a b ≡ b
+    right : (a b : ℕ) → b < a → b ≡ min a b
     right a b h = omega arith
 
-    go : (t : Bool) → (t ≡ true → d ≤ least x xs) → (t ≡ false → least x xs < d) → (i : ℕ) × ((i < suc (length xs)) × (least x xs ≡ getD (x ∷ xs) i 0)) → (i : ℕ) × ((i < suc (suc (length xs))) × (min d (least x xs) ≡ getD (d ∷ x ∷ xs) i 0))
-    go true p q w = (0, (suc-le-suc zero-le, left d (least x xs) (p refl)))
-    go false p q w = (suc (w .0), (suc-le-suc (w .1 .0), right d (least x xs) (q refl) ∙ w .1 .1))
+    later : (key : ℕ) → lookup key (f ∷ es) ≡ some m → e .key ≡ key → ⊥
+    later key p q = none-some (lookup key (f ∷ es)) m (lookup-below key (suc (e .key)) (f ∷ es) (other-keys low (e .key) (keysOf (f ∷ es)) a) (omega arith)) p
+
+    found : (b : Bool) → (b ≡ true → e .deadline ≤ m) → (b ≡ false → m < e .deadline) → (key : ℕ) × (lookup key (e ∷ f ∷ es) ≡ some (min (e .deadline) m))
+    found true p q = (e .key, rw (eq-eqb (e .key) (e .key) refl) (ap some (left (e .deadline) m (p refl))))
+    found false p q = let w = h .0 in (w .0, rw (ne-eqb (e .key) (w .0) (later (w .0) (w .1))) (w .1 ∙ ap some (right (e .deadline) m (q refl))))
+
+    each : (b : Bool) (key x : ℕ) → cond b (some (e .deadline)) (lookup key (f ∷ es)) ≡ some x → min (e .deadline) m ≤ x
+    each true key x p = let q = some-one (e .deadline) x p in omega arith
+    each false key x p = let q = h .1 key x p in omega arith
+
+pub earliest-least : (low : ℕ) (es : List Entry) → ascendingFrom low (keysOf es) ≡ true → LeastOf (λ (key : ℕ). lookup key es) (earliest (deadlinesOf es))
+unfolding keysOf deadlinesOf lookup earliest
+earliest-least low [] a = λ key. refl
+earliest-least low (e ∷ es) a = earliest-more low e es a (earliest-least (suc (e .key)) es (other-keys low (e .key) (keysOf es) a))
+
+-- a map has one least deadline at most: so the earliest is none exactly when no key is set
+pub least-one : (map : ℕ → Option ℕ) (o q : Option ℕ) → LeastOf map o → LeastOf map q → o ≡ q
+least-one map none none h k = refl
+least-one map none (some e) h k = absurd (none-some (map (k .0 .0)) e (h (k .0 .0)) (k .0 .1))
+least-one map (some d) none h k = absurd (none-some (map (h .0 .0)) d (k (h .0 .0)) (h .0 .1))
+least-one map (some d) (some e) h k = ap some (le-antisymm (h .1 (k .0 .0) e (k .0 .1)) (k .1 (h .0 .0) d (h .0 .1)))
 
 -- ---- what the slices hold after a change are the entries of the definition
 pub entries-of-both : (es : List Entry) → entriesOf (keysOf es) (deadlinesOf es) ≡ es

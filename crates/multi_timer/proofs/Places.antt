@@ -12,7 +12,7 @@ use borrow.Rule.Slice.PartMut.{putMid, post-is}
 use Rattle.refusal.proofs.Tails.{tail-is, tail-back}
 use Rattle.multi_timer.specs.Map.{Entry, entriesOf, keysOf, deadlinesOf, lookup, put, remove}
 use Rattle.multi_timer.specs.Search.{searchIn, insertedAt, removedAt, clearedIn}
-use Rattle.multi_timer.specs.MultiTimer.{laid, after}
+use Rattle.multi_timer.specs.MultiTimer.{laid}
 use Rattle.multi_timer.specs.declared.Place.{Place}
 use Rattle.multi_timer.specs.declared.Place.the-variants.{At, Absent}
 use Rattle.multi_timer.proofs.Checks.{Good}

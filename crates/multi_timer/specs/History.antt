@@ -11,7 +11,7 @@ use Rattle.multi_timer.specs.declared.StartAnswer as St
 use Rattle.multi_timer.specs.declared.CancelAnswer as Ca
 use Rattle.multi_timer.specs.declared.PopAnswer as Po
 use Rattle.multi_timer.specs.declared.ClearAnswer as Cl
-use Rattle.multi_timer.specs.Map.{Entry, isSome, keep, put, remove, due, pending, stillSet}
+use Rattle.multi_timer.specs.Map.{Entry, keysOf, deadlinesOf, isSome, keep, put, remove, due, pending, stillSet, earliest}
 use Rattle.multi_timer.specs.MultiTimer.{After, after, timers, answering, startTimerAtDef, cancelTimerDef, popExpiredAtDef, clearDef}
 
 -- `start_timer_at` with key, time and duration, `cancel_timer` with the key, `pop_expired_at` with the time and the lent slice, `clear`
@@ -74,6 +74,13 @@ deadlineOf key (start k now duration ∷ xs) = cond (eqb k key) (some (now + dur
 deadlineOf key (cancel k ∷ xs) = cond (eqb k key) none (deadlineOf key xs)
 deadlineOf key (pop now out ∷ xs) = stillSet now (deadlineOf key xs)
 deadlineOf key (clear ∷ xs) = none
+
+abbrev pub earliestOf : List Call → Option ℕ
+earliestOf xs = earliest (deadlinesOf (entriesAfter xs))
+
+-- the keys that a pop takes
+abbrev pub dueKeys : ℕ → List Call → List ℕ
+dueKeys now xs = keysOf (keep (due now) (entriesAfter xs))
 
 unfoldable pub starts : List Call → ℕ
 starts [] = 0

@@ -1,7 +1,8 @@
 -- Document 01: "`MultiTimer` becomes two lent slices of one length, keys ascending and their deadlines, and a count of the used entries";
 -- the reference's `HashMap` of keys and deadlines, as the list of its entries by ascending key.
-use Prim.Native.Nat.{ℕ, suc, min}
-use mathlib.Core.Bool.{Bool, true, false, not, cond, _&&_}
+use Prim.Native.Nat.{ℕ, suc, _≤_, min}
+use mathlib.Core.Path.{_≡_}
+use mathlib.Core.Bool.{Bool, true, false, not, cond, _&&_, _||_}
 use mathlib.Core.List.{List, [], _∷_}
 use mathlib.Core.Option.{Option, none, some}
 use lib.Dec.{leb, ltb, eqb}
@@ -83,3 +84,13 @@ least d (x ∷ xs) = min d (least x xs)
 unfoldable pub earliest : List ℕ → Option ℕ
 earliest [] = none
 earliest (d ∷ ds) = some (least d ds)
+
+-- ---- for the laws
+unfoldable pub contains : ℕ → List ℕ → Bool
+contains k [] = false
+contains k (x ∷ xs) = eqb x k || contains k xs
+
+-- the least deadline that a map gives to a key, or none if it gives none
+abbrev pub LeastOf : (ℕ → Option ℕ) → Option ℕ → Type 0
+LeastOf map none = (key : ℕ) → map key ≡ none
+LeastOf map (some d) = ((key : ℕ) × (map key ≡ some d)) × ((key x : ℕ) → map key ≡ some x → d ≤ x)

@@ -111,10 +111,13 @@ cancelTimerDef t ks ds key =
     (λ r. after (cancelled t (Ca.the-variants.Refused r)) ks ds)
     (answering (λ u. cancelled u (Ca.the-variants.Existed (isSome (lookup key (used t ks ds))))) (cancelUnchecked t ks ds key))
 
+abbrev pub expiredUnchecked : MultiTimer → List ℕ → List ℕ → ℕ → ℕ → Bool
+expiredUnchecked t ks ds key now = dueAt now (lookup key (used t ks ds))
+
 unfoldable pub isExpiredAtDef : MultiTimer → List ℕ → List ℕ → ℕ → ℕ → ExpiredAnswer
 isExpiredAtDef t ks ds key now =
     decide (verdict (check (broken (t .count) ks ds) State ∷ check (readTooLate (t .count) ds now) Time ∷ []))
-    (λ r. Ex.the-variants.Refused r) (Ex.the-variants.Is (dueAt now (lookup key (used t ks ds))))
+    (λ r. Ex.the-variants.Refused r) (Ex.the-variants.Is (expiredUnchecked t ks ds key now))
 
 -- the expired keys, ascending, go to the front of the lent slice `out`
 pub record AfterPop (A : Type 0) : Type 0 where
@@ -144,10 +147,13 @@ abbrev pub earliestAnswer : Option ℕ → EarliestAnswer
 earliestAnswer none = Ea.the-variants.Nothing
 earliestAnswer (some d) = Ea.the-variants.At d
 
+abbrev pub earliestUnchecked : MultiTimer → List ℕ → List ℕ → EarliestAnswer
+earliestUnchecked t ks ds = earliestAnswer (earliest (deadlinesOf (used t ks ds)))
+
 unfoldable pub earliestDeadlineDef : MultiTimer → List ℕ → List ℕ → EarliestAnswer
 earliestDeadlineDef t ks ds =
     decide (verdict (check (broken (t .count) ks ds) State ∷ check (heldTooLate (t .count) ds) Time ∷ []))
-    (λ r. Ea.the-variants.Refused r) (earliestAnswer (earliest (deadlinesOf (used t ks ds))))
+    (λ r. Ea.the-variants.Refused r) (earliestUnchecked t ks ds)
 
 abbrev pub cleared : MultiTimer → Cl.ClearAnswer → Cleared
 cleared t a = record { timers = t; answer = a }

@@ -2,18 +2,18 @@
 use duration::MAX_TIME;
 use refusal::Refusal;
 ghost use mathlib.Core.Path.{_≡_};
-ghost use mathlib.Core.Bool.{true, false, not, cond, _&&_, _||_};
+ghost use mathlib.Core.Bool.{true, false, cond, _&&_, _||_};
 ghost use lib.Dec.{leb, ltb, eqb};
 ghost use mathlib.Core.List.{_∷_, _++_};
 ghost use mathlib.Core.Option.{some};
 ghost use Prim.Native.Nat.{suc, min, _≤_, _<_};
 ghost use lib.ListN.{length, take, drop, set, replicate};
 ghost use Rattle.duration.specs.Bounds.{maxTime, startLate};
-ghost use Rattle.multi_timer.specs.Map.{entriesOf, ascending, keep, due, pending, lookup, isSome, dueAt, earliest};
+ghost use Rattle.multi_timer.specs.Map.{entriesOf, ascending, lookup, isSome, earliest};
 ghost use Rattle.multi_timer.specs.Search.{searchIn, later, risingFrom, allBelowPower, dueIn, Partitioned, insertedAt, removedAt, clearedIn};
-ghost use Rattle.multi_timer.specs.MultiTimer.{used, after, afterPop, broken, heldTooLate, brokenLine, startFull, startUnchecked, cancelUnchecked, popUnchecked, clearUnchecked, earliestAnswer, newDef, startTimerAtDef, cancelTimerDef, isExpiredAtDef, popExpiredAtDef, earliestDeadlineDef, clearDef};
+ghost use Rattle.multi_timer.specs.MultiTimer.{after, afterPop, broken, heldTooLate, brokenLine, startFull, startUnchecked, cancelUnchecked, popUnchecked, clearUnchecked, expiredUnchecked, earliestUnchecked, newDef, startTimerAtDef, cancelTimerDef, isExpiredAtDef, popExpiredAtDef, earliestDeadlineDef, clearDef};
 
-// 2^47, the greatest power of two within MAX_TIME: numbers below it stay below it when their digits are joined.
+// 2^47, the greatest power of two within MAX_TIME: numbers below it stay below it when they are or-ed.
 const TIME_POWER: u64 = 140737488355328;
 
 // The first count entries of the lent keys and deadlines are used, by ascending key.
@@ -120,7 +120,7 @@ fn fast_check_rest(count: usize, keys: &[u32], deadlines: &[u64], from: usize) -
     true
 }
 
-// Whether lines 9 and 10 can be passed at once: one pass, four entries a turn. The digits of the deadlines are joined.
+// Whether lines 9 and 10 can be passed at once: one pass, four entries a turn. The deadlines are or-ed.
 fn fast_check(count: usize, keys: &[u32], deadlines: &[u64]) -> bool
     requires { ⌜ (0 < count) × (count ≤ length (now keys)) × (count ≤ length (now deadlines)) ⌝ }
     ensures { λ r. ⌜ r ≡ (ascending (take count (now (keys .entry))) && allBelowPower (take count (now (deadlines .entry)))) ⌝ }
@@ -301,17 +301,6 @@ fn has_key(count: usize, keys: &[u32], deadlines: &[u64], key: u32) -> bool
     let place = search(count, keys, key);
     match place {
         Place::At(_) => true,
-        Place::Absent(_) => false,
-    }
-}
-
-fn is_due(count: usize, keys: &[u32], deadlines: &[u64], key: u32, time: u64) -> bool
-    requires { ⌜ broken count (now keys) (now deadlines) ≡ false ⌝ }
-    ensures { λ r. ⌜ r ≡ dueAt time (lookup key (entriesOf (take count (now (keys .entry))) (take count (now (deadlines .entry))))) ⌝ }
-{
-    let place = search(count, keys, key);
-    match place {
-        Place::At(i) => time >= deadlines[i],
         Place::Absent(_) => false,
     }
 }
@@ -542,6 +531,35 @@ impl MultiTimer {
         }
     }
 
+    pub fn is_expired_at_unchecked(
+        self,
+        keys: &[u32],
+        deadlines: &[u64],
+        key: u32,
+        time: u64,
+    ) -> bool
+        requires { ⌜ broken (self .count) (now keys) (now deadlines) ≡ false ⌝ }
+        ensures { λ r. ⌜ r ≡ expiredUnchecked self (now (keys .entry)) (now (deadlines .entry)) key time ⌝ }
+    {
+        let place = search(self.count, keys, key);
+        match place {
+            Place::At(i) => time >= deadlines[i],
+            Place::Absent(_) => false,
+        }
+    }
+
+    // The keys are lent for the contract alone.
+    pub fn earliest_deadline_unchecked(self, keys: &[u32], deadlines: &[u64]) -> EarliestAnswer
+        requires { ⌜ broken (self .count) (now keys) (now deadlines) ≡ false ⌝ }
+        ensures { λ r. ⌜ r ≡ earliestUnchecked self (now (keys .entry)) (now (deadlines .entry)) ⌝ }
+    {
+        let count = self.count;
+        if count == 0 {
+            return EarliestAnswer::Nothing;
+        }
+        EarliestAnswer::At(least_deadline(count, deadlines))
+    }
+
     pub fn clear_unchecked(self, keys: &mut [u32], deadlines: &mut [u64]) -> MultiTimer
         requires { ⌜ broken (self .count) (now keys) (now deadlines) ≡ false ⌝ }
         ensures { λ r. ⌜ after r (now (keys .exit)) (now (deadlines .exit)) ≡ clearUnchecked self (now (keys .entry)) (now (deadlines .entry)) ⌝ }
@@ -640,7 +658,7 @@ impl MultiTimer {
         if read_too_late(line, now) {
             return ExpiredAnswer::Refused(Refusal::Time);
         }
-        ExpiredAnswer::Is(is_due(count, keys, deadlines, key, now))
+        ExpiredAnswer::Is(self.is_expired_at_unchecked(keys, deadlines, key, now))
     }
 
     // The expired keys, ascending, go to the front of out.
@@ -691,10 +709,7 @@ impl MultiTimer {
         if line == 10 {
             return EarliestAnswer::Refused(Refusal::Time);
         }
-        if count == 0 {
-            return EarliestAnswer::Nothing;
-        }
-        EarliestAnswer::At(least_deadline(count, deadlines))
+        self.earliest_deadline_unchecked(keys, deadlines)
     }
 
     pub fn clear(self, keys: &mut [u32], deadlines: &mut [u64]) -> Cleared
