@@ -100,7 +100,7 @@ combine g a c P h L n r t =
 scale : (g a c P h L n : ℕ) → 0 < c → 0 < P → a * P + n * c ≤ P * (n * c) → P * h < n * L → g * c * P ≤ a * L * (P + 1) + c * h → g < n * L
 scale g a c P h L n C Pp r s t = strict g (P * P) (P * h) (n * L) L (mul-pos Pp Pp) (le-of-mul-le-mul-right (combine g a c P h L n r t) C) s
 
--- the half rollInBounds is nothing beside n
+-- half a unit is nothing beside n
 tiny : (n : ℕ) → 0 < n → 2 ^ 53 * 2 ^ 52 < n * 2 ^ 1074
 tiny n lo = lt-of-lt-of-le (lit< tt) (le-trans (le-of-eq (sym (one-mul (2 ^ 1074)))) (mul-le-mul-right (2 ^ 1074) lo))
 

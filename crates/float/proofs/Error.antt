@@ -88,7 +88,7 @@ up-from q t c n h a b = let x : q * (c * t) * 2 * h ≤ (n * 2 + c * t) * h = mu
 down-from : (q t c n h : ℕ) → n * 2 ≤ q * (c * t) * 2 + c * t → c * t * h ≤ n + c * h → n * (2 * h) ≤ q * t * c * (2 * h) + n + c * h
 down-from q t c n h a b = let x : n * 2 * h ≤ (q * (c * t) * 2 + c * t) * h = mul-le-mul-right h a in omega arith
 
--- the rounded value is at most (1 + 2 ^ -prec) times the fraction and half a rollInBounds
+-- the rounded value is at most (1 + 2 ^ -prec) times the fraction and half a unit
 pub grid-up : (f : Format) (a c : ℕ) → 0 < c → grid f a c * c * (2 ^ prec f) ≤ a * 2 ^ low f * (2 ^ prec f + 1) + c * 2 ^ (prec f - 1)
 grid-up f a c C =
     let p = prec f in
@@ -98,7 +98,7 @@ grid-up f a c C =
     subst (λ (x : ℕ). grid f a c * c * x ≤ n * (x + 1) + c * 2 ^ (p - 1)) (sym (twice p P))
     (up-from (kept p n c) (2 ^ k) c n (2 ^ (p - 1)) (closest-up n (c * 2 ^ k)) (step p n c P C))
 
--- and at least (1 - 2 ^ -prec) times the fraction less half a rollInBounds
+-- and at least (1 - 2 ^ -prec) times the fraction less half a unit
 pub grid-down : (f : Format) (a c : ℕ) → 0 < c → a * 2 ^ low f * 2 ^ prec f ≤ grid f a c * c * 2 ^ prec f + a * 2 ^ low f + c * 2 ^ (prec f - 1)
 grid-down f a c C =
     let p = prec f in

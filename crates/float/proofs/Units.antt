@@ -1,5 +1,5 @@
 -- Binary64 in units of its smallest value, 2 ^ -1074: a float that is not negative is a natural number of units, and an operation's result is the exact number of units,
--- a fraction n / d, to one part in 2 ^ 53 and half a rollInBounds (`Rounded`).
+-- a fraction n / d, to one part in 2 ^ 53 and half a unit (`Rounded`).
 use mathlib.Core.Path.{_≡_, refl, sym, ap, ap₂, _∙_, subst}
 use mathlib.Core.Logic.{_⊎_, inl, inr}
 use Prim.Native.Nat.{ℕ, zero, suc, _+_, _-_, _*_, _/_, _%_, _^_, _≤_, _<_, zero-le}

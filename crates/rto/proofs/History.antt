@@ -1,19 +1,24 @@
 -- After any list of calls from a fresh estimator the tallies are what its accepted calls say, and the next call meets no 9 and no held time above its bound.
 use mathlib.Core.Path.{_≡_, refl, sym, ap, ap₂, _∙_, subst}
 use mathlib.Core.Bool.{Bool, true, false, not, cond, _||_, true≢false}
-use mathlib.Core.List.{List, [], _∷_}
-use Prim.Native.Nat.{ℕ, suc, _≤_, max}
+use mathlib.Core.List.{List, [], _∷_, foldr}
+use Prim.Native.Nat.{ℕ, suc, _+_, _≤_, min, max, zero-le}
+use native.Mathlib.Nat.{zero-lt-suc}
 use native.Mathlib.Numerals.{add-one}
+use native.Mathlib.Omega.{arith}
 use lib.Dec.{leb, ltb, eqb}
+use lib.ListN.{length}
 use lib.IntN.{pos}
 use lib.Ieee.{Float, fin, binary64, div, ofInt}
-use borrow.Author.Tests.{le-ltb}
+use borrow.Author.Tests.{le-ltb, lt-ltb}
 use Rattle.duration.specs.Bounds.{maxDuration}
 use Rattle.refusal.specs.Counts.{countFull}
-use Rattle.rto.specs.Rto.{configInBounds, countsFull, heldTooLong, sampleTooLong, noStats, fresh, sampled, acceptSample, rejectSample, takeSample, nextConsecutive, backOff, resetBackoff, updated, timedOut, backoffReset, updateRttDef, onTimeoutDef, resetBackoffDef, retryLimitDef, meanMs, meanRttMsDef}
-use Rattle.rto.specs.History.{Call, sample, timeout, reset, step, afterCalls, updateRefused, timeoutRefused, resetRefused, isRefused, accepted, samples, rejections, timeouts, consecutive, mostConsecutive, leastSample, greatestSample, latestSample, sumOfSamples, full, tooLong}
+use Rattle.rto.specs.Rto.{configInBounds, countsFull, heldTooLong, sampleTooLong, noStats, fresh, leastRtt, greatestRtt, sampled, acceptSample, rejectSample, takeSample, nextConsecutive, backOff, resetBackoff, updated, timedOut, backoffReset, updateRttDef, onTimeoutDef, resetBackoffDef, retryLimitDef, meanMs, meanRttMsDef}
+use Rattle.rto.specs.History.{Call, sample, timeout, reset, step, afterCalls, updateRefused, timeoutRefused, resetRefused, isRefused, accepted, samples, rejections, timeouts, timeoutsSince, consecutive, mostConsecutive, least, greatest, latest, sumMs, full, tooLong}
 use Rattle.rto.specs.declared.RtoConfig.{RtoConfig}
 use Rattle.rto.specs.declared.RtoEstimator.{RtoEstimator}
+use Rattle.rto.specs.declared.Rtt.{Rtt}
+use Rattle.rto.specs.declared.Rtt.the-variants.{Is}
 use Rattle.rto.specs.declared.Updated.{Updated}
 use Rattle.rto.specs.declared.TimedOut.{TimedOut}
 use Rattle.rto.specs.declared.BackoffReset.{BackoffReset}
@@ -44,51 +49,86 @@ pub reset-accepted : (e : RtoEstimator) → Good e → countsFull (e .stats) ≡
 unfolding resetBackoffDef
 reset-accepted e g n = sym (accepted-call _ _ _ _ _ (backoffReset (resetBackoff e) Done) (g .state) n (g .times) refl)
 
+-- ---- one call more
+-- a count that saturates at M
+saturated : (n M : ℕ) → min (min n M + 1) M ≡ min (suc n) M
+saturated n M = omega arith
+
+no-more : (a b : ℕ) → b ≤ a → max a b ≡ a
+no-more a b h = omega arith
+
+reached : (xs : List Call) → consecutive xs ≤ mostConsecutive xs
+unfolding timeoutsSince mostConsecutive
+reached [] = zero-le
+reached (x ∷ xs) = second (mostConsecutive xs) (consecutive (x ∷ xs))
+  where
+    second : (a b : ℕ) → b ≤ max a b
+    second a b = omega arith
+
+-- a fold's start and a number joined to the fold may change places
+module _ (f : ℕ → ℕ → ℕ) (assoc : (x y z : ℕ) → f (f x y) z ≡ f x (f y z)) (swap : (x y z : ℕ) → f x (f y z) ≡ f y (f x z)) where
+  start-last : (a d : ℕ) (ds : List ℕ) → f (foldr f a ds) d ≡ f a (foldr f d ds)
+  start-last a d [] = refl
+  start-last a d (b ∷ ds) = assoc b (foldr f a ds) d ∙ ap (f b) (start-last a d ds) ∙ swap b a (foldr f d ds)
+
+least-more : (d : ℕ) (ds : List ℕ) → leastRtt (least ds) d ≡ least (d ∷ ds)
+unfolding least
+least-more d [] = refl
+least-more d (a ∷ ds) = ap Is (start-last min (λ x y z. omega arith) (λ x y z. omega arith) a d ds)
+
+greatest-more : (d : ℕ) (ds : List ℕ) → greatestRtt (greatest ds) d ≡ greatest (d ∷ ds)
+unfolding greatest
+greatest-more d [] = refl
+greatest-more d (a ∷ ds) = ap Is (start-last max (λ x y z. omega arith) (λ x y z. omega arith) a d ds)
+
 -- ---- the theorem
 pub record Tallied (c : RtoConfig) (xs : List Call) (e : RtoEstimator) : Type 0 where
   pub good : Good e
   pub config : e .config ≡ c
-  pub samples-are : e .stats .«sample_count» ≡ samples xs
+  pub backoff-is : e .«in_backoff» ≡ ltb 0 (timeoutsSince xs)
+  pub samples-are : e .stats .«sample_count» ≡ length (samples xs)
   pub rejections-are : e .stats .«karn_rejected_count» ≡ rejections xs
   pub timeouts-are : e .stats .«timeout_count» ≡ timeouts xs
   pub backoffs-are : e .stats .«backoff_count» ≡ timeouts xs
   pub consecutive-are : e .«consecutive_timeouts» ≡ consecutive xs
   pub most-are : e .stats .«max_consecutive_timeouts» ≡ mostConsecutive xs
-  pub least-is : e .stats .«min_rtt» ≡ leastSample xs
-  pub greatest-is : e .stats .«max_rtt» ≡ greatestSample xs
-  pub latest-is : e .stats .«latest_rtt» ≡ latestSample xs
-  pub sum-is : e .stats .«sum_rtt_millis» ≡ sumOfSamples xs
+  pub least-is : e .stats .«min_rtt» ≡ least (samples xs)
+  pub greatest-is : e .stats .«max_rtt» ≡ greatest (samples xs)
+  pub latest-is : e .stats .«latest_rtt» ≡ latest (samples xs)
+  pub sum-is : e .stats .«sum_rtt_millis» ≡ sumMs (samples xs)
 
 accept-tallied : (c : RtoConfig) (d : ℕ) (xs : List Call) (e : RtoEstimator) → Doubles c → d ≤ maxDuration → Tallied c xs e → Tallied c (sample d false ∷ xs) (acceptSample e d)
-unfolding acceptSample sampled samples rejections timeouts consecutive mostConsecutive leastSample greatestSample latestSample sumOfSamples
+unfolding acceptSample sampled samples rejections timeouts timeoutsSince mostConsecutive latest sumMs
 accept-tallied c d xs e f h t =
     record {
       good = accept-good e d (subst (λ (z : RtoConfig). Doubles z) (sym (t .config)) f) (t .good) h;
       config = t .config;
+      backoff-is = refl;
       samples-are = add-one _ ∙ ap suc (t .samples-are);
       rejections-are = t .rejections-are;
       timeouts-are = t .timeouts-are;
       backoffs-are = t .backoffs-are;
       consecutive-are = refl;
-      most-are = t .most-are;
-      least-is = rw (t .least-is);
-      greatest-is = rw (t .greatest-is);
+      most-are = t .most-are ∙ sym (no-more (mostConsecutive xs) 0 zero-le);
+      least-is = ap (λ (z : Rtt). leastRtt z d) (t .least-is) ∙ least-more d (samples xs);
+      greatest-is = ap (λ (z : Rtt). greatestRtt z d) (t .greatest-is) ∙ greatest-more d (samples xs);
       latest-is = refl;
       sum-is = rw (t .sum-is);
     }
 
 reject-tallied : (c : RtoConfig) (d : ℕ) (xs : List Call) (e : RtoEstimator) → Tallied c xs e → Tallied c (sample d true ∷ xs) (rejectSample e)
-unfolding rejectSample samples rejections timeouts consecutive mostConsecutive leastSample greatestSample latestSample sumOfSamples
+unfolding rejectSample samples rejections timeouts timeoutsSince mostConsecutive
 reject-tallied c d xs e t =
     record {
       good = reject-good e (t .good);
       config = t .config;
+      backoff-is = t .backoff-is;
       samples-are = t .samples-are;
       rejections-are = add-one _ ∙ ap suc (t .rejections-are);
       timeouts-are = t .timeouts-are;
       backoffs-are = t .backoffs-are;
       consecutive-are = t .consecutive-are;
-      most-are = t .most-are;
+      most-are = t .most-are ∙ sym (no-more (mostConsecutive xs) (consecutive xs) (reached xs));
       least-is = t .least-is;
       greatest-is = t .greatest-is;
       latest-is = t .latest-is;
@@ -96,17 +136,19 @@ reject-tallied c d xs e t =
     }
 
 timeout-tallied : (c : RtoConfig) (xs : List Call) (e : RtoEstimator) → Tallied c xs e → Tallied c (timeout ∷ xs) (backOff e)
-unfolding backOff samples rejections timeouts consecutive mostConsecutive leastSample greatestSample latestSample sumOfSamples
+unfolding backOff samples rejections timeouts timeoutsSince mostConsecutive
 timeout-tallied c xs e t =
+    let n : nextConsecutive (e .«consecutive_timeouts») ≡ consecutive (timeout ∷ xs) = ap nextConsecutive (t .consecutive-are) ∙ saturated (timeoutsSince xs) 4294967295 in
     record {
       good = backoff-good e (t .good);
       config = t .config;
+      backoff-is = sym (lt-ltb 0 (suc (timeoutsSince xs)) (zero-lt-suc (timeoutsSince xs)));
       samples-are = t .samples-are;
       rejections-are = t .rejections-are;
       timeouts-are = add-one _ ∙ ap suc (t .timeouts-are);
       backoffs-are = add-one _ ∙ ap suc (t .backoffs-are);
-      consecutive-are = ap nextConsecutive (t .consecutive-are);
-      most-are = ap₂ (λ (a b : ℕ). max a (nextConsecutive b)) (t .most-are) (t .consecutive-are);
+      consecutive-are = n;
+      most-are = ap₂ max (t .most-are) n;
       least-is = t .least-is;
       greatest-is = t .greatest-is;
       latest-is = t .latest-is;
@@ -114,17 +156,18 @@ timeout-tallied c xs e t =
     }
 
 reset-tallied : (c : RtoConfig) (xs : List Call) (e : RtoEstimator) → Tallied c xs e → Tallied c (reset ∷ xs) (resetBackoff e)
-unfolding resetBackoff samples rejections timeouts consecutive mostConsecutive leastSample greatestSample latestSample sumOfSamples
+unfolding resetBackoff samples rejections timeouts timeoutsSince mostConsecutive
 reset-tallied c xs e t =
     record {
       good = reset-good e (t .good);
       config = t .config;
+      backoff-is = refl;
       samples-are = t .samples-are;
       rejections-are = t .rejections-are;
       timeouts-are = t .timeouts-are;
       backoffs-are = t .backoffs-are;
       consecutive-are = refl;
-      most-are = t .most-are;
+      most-are = t .most-are ∙ sym (no-more (mostConsecutive xs) 0 zero-le);
       least-is = t .least-is;
       greatest-is = t .greatest-is;
       latest-is = t .latest-is;
@@ -174,11 +217,12 @@ step-told c reset xs e f t =
     (by-tests (λ (z : BackoffReset) (b : Bool). Tallied c (cond b xs (reset ∷ xs)) (z .estimator) × (resetRefused (z .answer) ≡ b)) _ _ _ _ _ (t .good .state) (λ r. (t, refl)) (λ l. (reset-tallied c xs e t, refl)))
 
 pub tallies : (c : RtoConfig) (xs : List Call) → configInBounds c ≡ true → Doubles c → Tallied c (accepted xs) (afterCalls c xs)
-unfolding afterCalls accepted fresh noStats samples rejections timeouts consecutive mostConsecutive leastSample greatestSample latestSample sumOfSamples
+unfolding afterCalls accepted fresh noStats samples rejections timeouts timeoutsSince mostConsecutive least greatest latest sumMs
 tallies c [] h f =
     record {
       good = fresh-good c h;
       config = refl;
+      backoff-is = refl;
       samples-are = refl;
       rejections-are = refl;
       timeouts-are = refl;
@@ -212,7 +256,7 @@ module _ (c : RtoConfig) (xs : List Call) (h : configInBounds c ≡ true) (f : D
   unfolding retryLimitDef
   limit-reached most = sym (accepted-call _ _ _ _ _ (Exceeded (leb most (consecutive (accepted xs)))) (t .good .state) below (t .good .times) (ap (λ (k : ℕ). Exceeded (leb most k)) (sym (t .consecutive-are))))
 
-  pub mean-is : meanRttMsDef (afterCalls c xs) ≡ Millis (mean (samples (accepted xs)) (sumOfSamples (accepted xs)))
+  pub mean-is : meanRttMsDef (afterCalls c xs) ≡ Millis (mean (length (samples (accepted xs))) (sumMs (samples (accepted xs))))
   unfolding meanRttMsDef meanMs
   mean-is =
-      sym (accepted-call _ _ _ _ _ (Millis (mean (samples (accepted xs)) (sumOfSamples (accepted xs)))) (t .good .state) below (t .good .times) (ap₂ (λ (k : ℕ) (s : Float). Millis (mean k s)) (sym (t .samples-are)) (sym (t .sum-is))))
+      sym (accepted-call _ _ _ _ _ (Millis (mean (length (samples (accepted xs))) (sumMs (samples (accepted xs))))) (t .good .state) below (t .good .times) (ap₂ (λ (k : ℕ) (s : Float). Millis (mean k s)) (sym (t .samples-are)) (sym (t .sum-is))))

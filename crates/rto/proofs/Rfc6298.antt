@@ -1,26 +1,28 @@
 -- RFC 6298, rule by rule, of the definitions; where the reference departs from it is in docs/DIFFERENCES.
 use mathlib.Core.Path.{_≡_, refl}
 use mathlib.Core.Bool.{true, false}
-use Prim.Native.Nat.{ℕ, _*_, _≤_}
+use Prim.Native.Nat.{ℕ, _+_, _*_, _≤_}
 use native.Mathlib.Nat.{le-trans}
 use lib.Dec.{lit≤}
 use lib.Ieee.{Float, binary64, add, mul, div}
 use Rattle.duration.specs.Bounds.{maxDuration}
-use Rattle.rtt.proofs.FirstSample.{same-sample}
+use Rattle.rtt.proofs.FirstSample.{same-sample, half-sample}
 use Rattle.rtt.specs.Rtt.{toMs, fromMs, two64, larger, weighted, distance, firstEstimate, nextEstimate}
-use Rattle.rto.specs.Rto.{stateBroken, limited, fresh, estimateFor, acceptSample, rejectSample, backOff, resetBackoff, takeSample}
+use Rattle.rto.specs.Rto.{stateBroken, countsFull, limited, fresh, estimateFor, acceptSample, rejectSample, backOff, resetBackoff, updated, updateRttDef}
 use Rattle.rto.specs.declared.RtoConfig.{RtoConfig}
 use Rattle.rto.specs.declared.RtoEstimator.{RtoEstimator}
 use Rattle.rto.specs.declared.Rtt.the-variants.{Unset, Is}
+use Rattle.rto.specs.declared.UpdateAnswer.the-variants.{Accepted}
 use Rattle.rto.proofs.Checks.{config-of, broken-config}
-use Rattle.rto.proofs.Keeps.{limited-most, limited-least}
+use Rattle.rto.proofs.Keeps.{Good, limited-most, limited-least}
+use Rattle.rto.proofs.History.{update-accepted}
 
--- (2.1): until a sample the RTO is the initial one, whatever the limits
+-- (2.1): the RTO of a fresh estimator is the initial one, whatever the limits
 pub initial-rto : (c : RtoConfig) → fresh c .«current_rto» ≡ c .«initial_rto»
 unfolding fresh
 initial-rto c = refl
 
--- (2.2): SRTT is R; RTTVAR is R / 2, in doubles to the nearest nanosecond; RTO is SRTT + max (G, K * RTTVAR) before the multiplier and the limits
+-- (2.2): SRTT is R; RTTVAR is R / 2, of an odd R either nanosecond beside it; RTO is SRTT + max (G, K * RTTVAR) before the multiplier and the limits
 module _ (c : RtoConfig) (r : ℕ) where
   pub first-srtt : r ≤ maxDuration → estimateFor c Unset Unset r .srtt ≡ r
   unfolding estimateFor firstEstimate
@@ -29,6 +31,10 @@ module _ (c : RtoConfig) (r : ℕ) where
   pub first-rttvar : estimateFor c Unset Unset r .rttvar ≡ fromMs (div binary64 (toMs r) two64)
   unfolding estimateFor firstEstimate
   first-rttvar = refl
+
+  pub first-half : r ≤ maxDuration → (r ≤ 2 * estimateFor c Unset Unset r .rttvar + 1) × (2 * estimateFor c Unset Unset r .rttvar ≤ r + 1)
+  unfolding estimateFor firstEstimate
+  first-half h = half-sample r (le-trans h (lit≤ tt))
 
   pub first-rto : estimateFor c Unset Unset r .rto
       ≡ fromMs (mul binary64 (add binary64 (toMs r) (larger (mul binary64 (c .k) (div binary64 (toMs r) two64)) (toMs (c .granularity)))) (c .«rto_multiplier»))
@@ -76,18 +82,39 @@ module _ (e : RtoEstimator) (b : stateBroken e ≡ false) where
   unfolding backOff
   timeout-least = limited-least (e .config) (e .«current_rto» * 2) ordered
 
--- (3), Karn: a retransmitted sample leaves all but one counter, so the RTO too
-pub karn-rto : (e : RtoEstimator) (d : ℕ) → takeSample e d true .«current_rto» ≡ e .«current_rto»
-unfolding rejectSample
-karn-rto e d = refl
+-- e with another `karn_rejected_count`
+abbrev pub withRejections : RtoEstimator → ℕ → RtoEstimator
+withRejections e n =
+    record {
+      config = e .config;
+      srtt = e .srtt;
+      rttvar = e .rttvar;
+      «current_rto» = e .«current_rto»;
+      «base_rto» = e .«base_rto»;
+      «in_backoff» = e .«in_backoff»;
+      «consecutive_timeouts» = e .«consecutive_timeouts»;
+      stats =
+          record {
+            «sample_count» = e .stats .«sample_count»;
+            «karn_rejected_count» = n;
+            «timeout_count» = e .stats .«timeout_count»;
+            «backoff_count» = e .stats .«backoff_count»;
+            «min_rtt» = e .stats .«min_rtt»;
+            «max_rtt» = e .stats .«max_rtt»;
+            «sum_rtt_millis» = e .stats .«sum_rtt_millis»;
+            «latest_rtt» = e .stats .«latest_rtt»;
+            «max_consecutive_timeouts» = e .stats .«max_consecutive_timeouts»;
+          };
+    }
 
-pub karn-srtt : (e : RtoEstimator) (d : ℕ) → takeSample e d true .srtt ≡ e .srtt
-unfolding rejectSample
-karn-srtt e d = refl
+-- and nothing else: with the count that it has it is e
+pub rejections-alone : (e : RtoEstimator) → withRejections e (e .stats .«karn_rejected_count») ≡ e
+rejections-alone e = refl
 
-pub karn-rttvar : (e : RtoEstimator) (d : ℕ) → takeSample e d true .rttvar ≡ e .rttvar
+-- (3), Karn: a call with a retransmitted sample that no check refuses leaves all but that counter, which is one higher
+pub karn : (e : RtoEstimator) (d : ℕ) → Good e → countsFull (e .stats) ≡ false → d ≤ maxDuration → updateRttDef e d true ≡ updated (withRejections e (e .stats .«karn_rejected_count» + 1)) (Accepted false)
 unfolding rejectSample
-karn-rttvar e d = refl
+karn e d g n h = update-accepted e d true g n h
 
 -- (5.5): twice the RTO, then the limits
 pub doubled : (e : RtoEstimator) → backOff e .«current_rto» ≡ limited (e .config) (e .«current_rto» * 2)

@@ -1,8 +1,9 @@
 -- Document 01, "Invented tallies: .. from the history of calls": what any list of calls says of the estimator's tallies. The latest call stands first.
-use Prim.Native.Nat.{ℕ, suc, max}
+use Prim.Native.Nat.{ℕ, suc, min, max}
 use mathlib.Core.Bool.{Bool, true, false, cond, _||_}
-use mathlib.Core.List.{List, [], _∷_}
+use mathlib.Core.List.{List, [], _∷_, foldr}
 use lib.Dec.{ltb}
+use lib.ListN.{length}
 use lib.IntN.{pos}
 use lib.Ieee.{Float, fin, binary64, add}
 use Rattle.refusal.specs.Counts.{countFull}
@@ -15,7 +16,7 @@ use Rattle.rto.specs.declared.Rtt.the-variants.{Unset, Is}
 use Rattle.rto.specs.declared.UpdateAnswer as Up
 use Rattle.rto.specs.declared.TimeoutAnswer as Ti
 use Rattle.rto.specs.declared.ResetAnswer as Re
-use Rattle.rto.specs.Rto.{fresh, updateRttDef, onTimeoutDef, resetBackoffDef, leastRtt, greatestRtt, nextConsecutive}
+use Rattle.rto.specs.Rto.{fresh, updateRttDef, onTimeoutDef, resetBackoffDef}
 
 -- `update_rtt` with the sample and whether it was retransmitted, `on_timeout`, `reset_backoff`
 pub data Call : Type 0 where
@@ -51,10 +52,11 @@ isRefused e timeout = timeoutRefused (onTimeoutDef e .answer)
 isRefused e reset = resetRefused (resetBackoffDef e .answer)
 
 -- ---- the tallies of a list of accepted calls; nothing from here on looks at an estimator
-unfoldable pub samples : List Call → ℕ
-samples [] = 0
+-- the samples but the retransmitted ones, the latest first
+unfoldable pub samples : List Call → List ℕ
+samples [] = []
 samples (sample d true ∷ xs) = samples xs
-samples (sample d false ∷ xs) = suc (samples xs)
+samples (sample d false ∷ xs) = d ∷ samples xs
 samples (timeout ∷ xs) = samples xs
 samples (reset ∷ xs) = samples xs
 
@@ -71,52 +73,44 @@ timeouts (sample d again ∷ xs) = timeouts xs
 timeouts (timeout ∷ xs) = suc (timeouts xs)
 timeouts (reset ∷ xs) = timeouts xs
 
--- timeouts since the last accepted sample or reset, up to 2 ^ 32 - 1
-unfoldable pub consecutive : List Call → ℕ
-consecutive [] = 0
-consecutive (sample d true ∷ xs) = consecutive xs
-consecutive (sample d false ∷ xs) = 0
-consecutive (timeout ∷ xs) = nextConsecutive (consecutive xs)
-consecutive (reset ∷ xs) = 0
+-- timeouts since the last reset or sample that was not retransmitted
+unfoldable pub timeoutsSince : List Call → ℕ
+timeoutsSince [] = 0
+timeoutsSince (sample d true ∷ xs) = timeoutsSince xs
+timeoutsSince (sample d false ∷ xs) = 0
+timeoutsSince (timeout ∷ xs) = suc (timeoutsSince xs)
+timeoutsSince (reset ∷ xs) = 0
 
+-- and as `consecutive_timeouts`, a u32 that saturates
+abbrev pub consecutive : List Call → ℕ
+consecutive xs = min (timeoutsSince xs) 4294967295
+
+-- the most that it was after any call
 unfoldable pub mostConsecutive : List Call → ℕ
 mostConsecutive [] = 0
-mostConsecutive (sample d again ∷ xs) = mostConsecutive xs
-mostConsecutive (timeout ∷ xs) = max (mostConsecutive xs) (consecutive (timeout ∷ xs))
-mostConsecutive (reset ∷ xs) = mostConsecutive xs
+mostConsecutive (x ∷ xs) = max (mostConsecutive xs) (consecutive (x ∷ xs))
 
-unfoldable pub leastSample : List Call → Rtt
-leastSample [] = Unset
-leastSample (sample d true ∷ xs) = leastSample xs
-leastSample (sample d false ∷ xs) = leastRtt (leastSample xs) d
-leastSample (timeout ∷ xs) = leastSample xs
-leastSample (reset ∷ xs) = leastSample xs
+-- ---- of the samples
+unfoldable pub least : List ℕ → Rtt
+least [] = Unset
+least (d ∷ ds) = Is (foldr min d ds)
 
-unfoldable pub greatestSample : List Call → Rtt
-greatestSample [] = Unset
-greatestSample (sample d true ∷ xs) = greatestSample xs
-greatestSample (sample d false ∷ xs) = greatestRtt (greatestSample xs) d
-greatestSample (timeout ∷ xs) = greatestSample xs
-greatestSample (reset ∷ xs) = greatestSample xs
+unfoldable pub greatest : List ℕ → Rtt
+greatest [] = Unset
+greatest (d ∷ ds) = Is (foldr max d ds)
 
-unfoldable pub latestSample : List Call → Rtt
-latestSample [] = Unset
-latestSample (sample d true ∷ xs) = latestSample xs
-latestSample (sample d false ∷ xs) = Is d
-latestSample (timeout ∷ xs) = latestSample xs
-latestSample (reset ∷ xs) = latestSample xs
+unfoldable pub latest : List ℕ → Rtt
+latest [] = Unset
+latest (d ∷ ds) = Is d
 
--- the running sum of the samples in ms, from 0.0, first sample first
-unfoldable pub sumOfSamples : List Call → Float
-sumOfSamples [] = fin false 0 (pos 0)
-sumOfSamples (sample d true ∷ xs) = sumOfSamples xs
-sumOfSamples (sample d false ∷ xs) = add binary64 (sumOfSamples xs) (toMs d)
-sumOfSamples (timeout ∷ xs) = sumOfSamples xs
-sumOfSamples (reset ∷ xs) = sumOfSamples xs
+-- the running sum in ms, from 0.0, first sample first
+unfoldable pub sumMs : List ℕ → Float
+sumMs [] = fin false 0 (pos 0)
+sumMs (d ∷ ds) = add binary64 (sumMs ds) (toMs d)
 
 -- ---- the accepted calls of a list: not one after a counter has reached its bound (line 8), nor one with a sample above its bound (line 10)
 unfoldable pub full : List Call → Bool
-full xs = countFull (samples xs) || (countFull (rejections xs) || countFull (timeouts xs))
+full xs = countFull (length (samples xs)) || (countFull (rejections xs) || countFull (timeouts xs))
 
 abbrev pub tooLong : Call → Bool
 tooLong (sample d again) = ltb maxDuration d

@@ -5,13 +5,12 @@ use refusal::COUNT_LIMIT;
 use refusal::Refusal;
 use rtt::Estimate;
 ghost use mathlib.Core.Path.{_≡_};
-ghost use mathlib.Core.Bool.{true, false, not};
-ghost use Prim.Native.Nat.{_+_, _*_, _≤_, _<_, min, max};
-ghost use mathlib.Core.Bool.{_||_};
-ghost use lib.Dec.{leb, ltb};
+ghost use mathlib.Core.Bool.{true, false, _||_};
+ghost use Prim.Native.Nat.{_≤_, min, max};
+ghost use lib.Dec.{ltb};
 ghost use Rattle.duration.specs.Bounds.{maxEstimate, maxDuration};
 ghost use Rattle.rtt.specs.Rtt.{firstEstimate, nextEstimate};
-ghost use Rattle.rto.specs.Rto.{durationsInBounds, factorsInBounds, configInBounds, estimateBroken, stateBroken, countsFull, rttTooLong, heldTooLong, sampleTooLong, defaultConfig, noStats, fresh, limited, estimateFor, leastRtt, greatestRtt, sampled, acceptSample, rejectSample, takeSample, nextConsecutive, backOff, resetBackoff, meanMs, withConfigDef, updateRttDef, onTimeoutDef, resetBackoffDef, retryLimitDef, meanRttMsDef};
+ghost use Rattle.rto.specs.Rto.{durationsInBounds, factorsInBounds, configInBounds, estimateBroken, stateBroken, countsFull, rttTooLong, heldTooLong, sampleTooLong, defaultConfig, noStats, fresh, estimateFor, leastRtt, greatestRtt, sampled, acceptSample, rejectSample, takeSample, nextConsecutive, backOff, resetBackoff, meanMs, withConfigDef, updateRttDef, onTimeoutDef, resetBackoffDef, retryLimitDef, meanRttMsDef};
 
 // 1 s in nanoseconds.
 const MAX_GRANULARITY: u64 = 1000000000;
@@ -354,22 +353,6 @@ fn no_stats() -> RtoStats
     }
 }
 
-// The initial RTO is not clamped.
-fn fresh_estimator(config: RtoConfig) -> RtoEstimator
-    ensures { λ r. ⌜ r ≡ fresh config ⌝ }
-{
-    RtoEstimator {
-        config,
-        srtt: Rtt::Unset,
-        rttvar: Rtt::Unset,
-        current_rto: config.initial_rto,
-        base_rto: config.initial_rto,
-        in_backoff: false,
-        consecutive_timeouts: 0,
-        stats: no_stats(),
-    }
-}
-
 fn accept_sample(e: RtoEstimator, sample: u64) -> RtoEstimator
     requires { ⌜ (stateBroken e ≡ false) × (countsFull (e .stats) ≡ false) × (sample ≤ maxDuration) ⌝ }
     ensures { λ r. ⌜ r ≡ acceptSample e sample ⌝ }
@@ -435,7 +418,7 @@ impl RtoEstimator {
     pub fn new() -> RtoEstimator
         ensures { λ r. ⌜ r ≡ fresh defaultConfig ⌝ }
     {
-        fresh_estimator(RtoConfig::default())
+        RtoEstimator::with_config_unchecked(RtoConfig::default())
     }
 
     pub fn with_config(config: RtoConfig) -> Making
@@ -444,7 +427,23 @@ impl RtoEstimator {
         if !config_in_bounds(config) {
             return Making::Refused(Refusal::Setup);
         }
-        Making::Made(fresh_estimator(config))
+        Making::Made(RtoEstimator::with_config_unchecked(config))
+    }
+
+    // The initial RTO is not clamped.
+    pub fn with_config_unchecked(config: RtoConfig) -> RtoEstimator
+        ensures { λ r. ⌜ r ≡ fresh config ⌝ }
+    {
+        RtoEstimator {
+            config,
+            srtt: Rtt::Unset,
+            rttvar: Rtt::Unset,
+            current_rto: config.initial_rto,
+            base_rto: config.initial_rto,
+            in_backoff: false,
+            consecutive_timeouts: 0,
+            stats: no_stats(),
+        }
     }
 
     pub fn update_rtt_unchecked(self, sample: u64, is_retransmission: bool) -> RtoEstimator
@@ -482,7 +481,8 @@ impl RtoEstimator {
         }
     }
 
-    fn with_base_rto(self) -> RtoEstimator
+    // Back to the RTO before any timeout, as it was made: an initial RTO is not clamped here.
+    pub fn reset_backoff_unchecked(self) -> RtoEstimator
         ensures { λ r. ⌜ r ≡ resetBackoff self ⌝ }
     {
         let config = self.config;
@@ -499,6 +499,16 @@ impl RtoEstimator {
             consecutive_timeouts: 0,
             stats,
         }
+    }
+
+    pub fn mean_rtt_ms_unchecked(self) -> f64
+        ensures { λ r. ⌜ r ≡ meanMs (self .stats) ⌝ }
+    {
+        let stats = self.stats;
+        if stats.sample_count == 0 {
+            return 0.0;
+        }
+        stats.sum_rtt_millis / std::num::nearest_u64_to_f64(stats.sample_count)
     }
 
     // Whether the sample was used: a retransmitted one is not.
@@ -561,7 +571,6 @@ impl RtoEstimator {
         }
     }
 
-    // Back to the RTO before any timeout, as it was made: an initial RTO is not clamped here.
     pub fn reset_backoff(self) -> BackoffReset
         ensures { λ r. ⌜ r ≡ resetBackoffDef self ⌝ }
     {
@@ -585,7 +594,7 @@ impl RtoEstimator {
             };
         }
         BackoffReset {
-            estimator: self.with_base_rto(),
+            estimator: self.reset_backoff_unchecked(),
             answer: ResetAnswer::Done,
         }
     }
@@ -619,15 +628,6 @@ impl RtoEstimator {
         if held_too_long(self) {
             return MeanAnswer::Refused(Refusal::Time);
         }
-        MeanAnswer::Millis(mean_of(stats))
+        MeanAnswer::Millis(self.mean_rtt_ms_unchecked())
     }
-}
-
-fn mean_of(s: RtoStats) -> f64
-    ensures { λ r. ⌜ r ≡ meanMs s ⌝ }
-{
-    if s.sample_count == 0 {
-        return 0.0;
-    }
-    s.sum_rtt_millis / std::num::nearest_u64_to_f64(s.sample_count)
 }

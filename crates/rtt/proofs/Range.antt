@@ -80,7 +80,7 @@ times g x N M L p q = le-trans (mul-le-mul p q) (le-of-eq (regroup N M L))
 far : (g x N M : ℕ) → N * M ≤ 2 ^ 100 → g ≤ N * 2 ^ 1074 → x ≤ M * 2 ^ 1074 → g * x ≤ 2 ^ 1074 * 2 ^ 2000
 far g x N M h p q = le-trans (times g x N M (2 ^ 1074) p q) (le-trans (mul-le-mul-right (2 ^ 1074) (mul-le-mul-right (2 ^ 1074) h)) (lit≤ tt))
 
--- ---- a product, a weighted
+-- ---- a product
 pub mul-up : (x y : Float) (N M : ℕ) → N * M ≤ 2 ^ 53 → UpTo x N → UpTo y M → UpTo (mul binary64 x y) (N * M)
 mul-up x y N M h a b =
     let r = mul-units x y (a .units) (b .units) (a .is) (b .is) (far (a .units) (b .units) N M (le-trans h (lit≤ tt)) (a .most) (b .most)) in
@@ -89,7 +89,7 @@ mul-up x y N M h a b =
 is-thousand : UpTo thousand64 1000
 is-thousand = record { units = 1000 * 2 ^ 1074; is = refl; most = le-refl (1000 * 2 ^ 1074) }
 
--- ---- a duration of at most a day and a second, in seconds and in toMs
+-- ---- a duration of at most a day and a second, in seconds and in milliseconds
 -- the part of a second is at most N seconds, and the whole seconds leave room for N
 record Part (w p : ℕ) : Type 0 where
   N : ℕ
@@ -158,7 +158,7 @@ millis ns h =
     let m = mul-up (asSecsF64 ns) thousand64 86401 1000 (lit≤ tt) (s .upto) is-thousand in
     record { upto = m; sign = mul-unsigned (asSecsF64 ns) thousand64 (m .units) (s .sign) tt (m .is) }
 
--- ---- the weighted
+-- ---- the weighted sum
 weight-finite : (w : Float) → T (chanceInBounds w) → T (finite w)
 unfolding le
 weight-finite nan t = absurd t
@@ -166,7 +166,7 @@ weight-finite (inf true) t = absurd t
 weight-finite (inf false) t = absurd t
 weight-finite (fin s m e) t = tt
 
--- 2 ^ 53 times 2 ^ 53 times 2 ^ 53 times the units of a weighted is at most this
+-- 2 ^ 53 times 2 ^ 53 times 2 ^ 53 times the units of a weighted sum is at most this
 abbrev bound : ℕ
 bound = ((2 ^ 1074 * (2 ^ 53 + 1) + 2 ^ 52) * 86401000 * (2 ^ 53 + 1) + 2 * 2 ^ 52 * 2 ^ 53) * (2 ^ 53 + 1) + 2 ^ 52 * (2 ^ 53 * 2 ^ 53)
 
@@ -206,7 +206,7 @@ blended w x y t h X Y =
           (weights g a (L - a) L P (2 ^ 52) (sub-add-cancel small) (S .upper)));
     }
 
--- ---- fromMs to nanoseconds
+-- ---- milliseconds to nanoseconds
 back-most : (x : Float) → Blended x → fromMs x ≤ maxEstimate
 back-most x b =
     let L = 2 ^ 1074 in

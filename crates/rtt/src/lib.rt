@@ -8,7 +8,7 @@ ghost use Rattle.float.specs.Sign.{unsigned};
 ghost use Rattle.float.specs.Roll.{chanceInBounds};
 ghost use Rattle.duration.specs.Duration.{secsInBounds};
 ghost use Rattle.rtt.specs.Rtt as Rtt;
-ghost use Rattle.rtt.specs.Rtt.{thousand64, factorInBounds, toMs, fromMs, rtoMs, unlimitedRto, estimateOf, firstEstimate, nextEstimate};
+ghost use Rattle.rtt.specs.Rtt.{thousand64, factorInBounds, toMs, fromMs, rtoMs, estimateOf, firstEstimate, nextEstimate};
 
 // 0 <= x <= 16; -0.0 is in bounds, a NaN is not.
 pub fn factor_in_bounds(x: f64) -> bool

@@ -1,4 +1,4 @@
--- `rtt::gap` meets its contract.
+-- `rtt::distance` meets its contract.
 use mathlib.Core.Path.{sym, subst}
 use mathlib.Core.Bool.{Bool, not}
 use lib.Dec.{T}

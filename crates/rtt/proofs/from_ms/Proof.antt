@@ -1,4 +1,4 @@
--- `rtt::to_ns` meets its contract: 1000.0 is `thousand64`.
+-- `rtt::from_ms` meets its contract: 1000.0 is `thousand64`.
 use lib.Ieee.{ofBits}
 use Rattle.rtt.proofs.from_ms.Statement.{statement}
 use Rattle.rtt.proofs.from_ms.Tie as tie

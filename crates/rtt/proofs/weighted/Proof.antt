@@ -1,4 +1,4 @@
--- `rtt::blended` meets its contract: 1.0 is `one64`.
+-- `rtt::weighted` meets its contract: 1.0 is `one64`.
 use mathlib.Core.Path.{refl}
 use lib.Ieee.{ofBits}
 use Rattle.rtt.proofs.weighted.Statement.{statement}

@@ -27,12 +27,12 @@ returns-3 : tie.Need-returns-3
 unfolding meanRttMsDef
 returns-3 c = refused-time _ _ _ _ _ (sym (c .before .before .before .before .before .state-broken .ensures) ∙ c .before .before .before .before .if1 .left) (sym (c .before .before .before .counts-full .ensures) ∙ c .before .before .if2 .left) (sym (c .before .held-too-long .ensures) ∙ c .if3 .taken)
 
-mean-of-requires : tie.Need-mean-of-requires
-mean-of-requires c κs = search needs
+mean-rtt-ms-unchecked-requires : tie.Need-mean-rtt-ms-unchecked-requires
+mean-rtt-ms-unchecked-requires c κs = search needs
 
 returns-4 : tie.Need-returns-4
 unfolding meanRttMsDef
-returns-4 c = accepted-call _ _ _ _ _ _ (sym (c .before .before .before .before .before .before .state-broken .ensures) ∙ c .before .before .before .before .before .if1 .left) (sym (c .before .before .before .before .counts-full .ensures) ∙ c .before .before .before .if2 .left) (sym (c .before .before .held-too-long .ensures) ∙ c .before .if3 .left) (ap Millis (c .mean-of .ensures))
+returns-4 c = accepted-call _ _ _ _ _ _ (sym (c .before .before .before .before .before .before .state-broken .ensures) ∙ c .before .before .before .before .before .if1 .left) (sym (c .before .before .before .before .counts-full .ensures) ∙ c .before .before .before .if2 .left) (sym (c .before .before .held-too-long .ensures) ∙ c .before .if3 .left) (ap Millis (c .mean-rtt-ms-unchecked .ensures))
 
 pub mean-rtt-ms-spec : {M : Type 1} → statement M
 mean-rtt-ms-spec =
@@ -44,5 +44,5 @@ mean-rtt-ms-spec =
     returns-2
     held-too-long-requires
     returns-3
-    mean-of-requires
+    mean-rtt-ms-unchecked-requires
     returns-4)

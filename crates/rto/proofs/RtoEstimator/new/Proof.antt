@@ -7,11 +7,11 @@ use Rattle.rto.specs.Rto.{fresh}
 default-requires : tie.Need-default-requires
 default-requires c κs = search needs
 
-fresh-estimator-requires : tie.Need-fresh-estimator-requires
-fresh-estimator-requires c κs = search needs
+with-config-unchecked-requires : tie.Need-with-config-unchecked-requires
+with-config-unchecked-requires c κs = search needs
 
 returns : tie.Need-returns
-returns c = c .fresh-estimator .ensures ∙ ap fresh (c .before .default .ensures)
+returns c = c .with-config-unchecked .ensures ∙ ap fresh (c .before .default .ensures)
 
 pub new-spec : {M : Type 1} → statement M
-new-spec = tie.close (tie.spec default-requires fresh-estimator-requires returns)
+new-spec = tie.close (tie.spec default-requires with-config-unchecked-requires returns)

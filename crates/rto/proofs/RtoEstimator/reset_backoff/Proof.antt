@@ -29,12 +29,12 @@ returns-3 : tie.Need-returns-3
 unfolding resetBackoffDef
 returns-3 c = refused-time _ _ _ _ _ (sym (c .before .before .before .before .before .state-broken .ensures) ∙ c .before .before .before .before .if1 .left) (sym (c .before .before .before .counts-full .ensures) ∙ c .before .before .if2 .left) (sym (c .before .held-too-long .ensures) ∙ c .if3 .taken)
 
-with-base-rto-requires : tie.Need-with-base-rto-requires
-with-base-rto-requires c κs = search needs
+reset-backoff-unchecked-requires : tie.Need-reset-backoff-unchecked-requires
+reset-backoff-unchecked-requires c κs = search needs
 
 returns-4 : tie.Need-returns-4
 unfolding resetBackoffDef
-returns-4 c = accepted-call _ _ _ _ _ _ (sym (c .before .before .before .before .before .before .state-broken .ensures) ∙ c .before .before .before .before .before .if1 .left) (sym (c .before .before .before .before .counts-full .ensures) ∙ c .before .before .before .if2 .left) (sym (c .before .before .held-too-long .ensures) ∙ c .before .if3 .left) (ap (λ (x : RtoEstimator). backoffReset x Done) (c .with-base-rto .ensures))
+returns-4 c = accepted-call _ _ _ _ _ _ (sym (c .before .before .before .before .before .before .state-broken .ensures) ∙ c .before .before .before .before .before .if1 .left) (sym (c .before .before .before .before .counts-full .ensures) ∙ c .before .before .before .if2 .left) (sym (c .before .before .held-too-long .ensures) ∙ c .before .if3 .left) (ap (λ (x : RtoEstimator). backoffReset x Done) (c .reset-backoff-unchecked .ensures))
 
 pub reset-backoff-spec : {M : Type 1} → statement M
 reset-backoff-spec =
@@ -46,5 +46,5 @@ reset-backoff-spec =
     returns-2
     held-too-long-requires
     returns-3
-    with-base-rto-requires
+    reset-backoff-unchecked-requires
     returns-4)

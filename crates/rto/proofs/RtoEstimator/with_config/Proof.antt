@@ -12,13 +12,13 @@ returns : tie.Need-returns
 unfolding withConfigDef
 returns c = simp (setup-only, sym (c .before .config-in-bounds .ensures), c .if1 .taken)
 
-fresh-estimator-requires : tie.Need-fresh-estimator-requires
-fresh-estimator-requires c κs = search needs
+with-config-unchecked-requires : tie.Need-with-config-unchecked-requires
+with-config-unchecked-requires c κs = search needs
 
 returns-2 : tie.Need-returns-2
 unfolding withConfigDef
-returns-2 c = simp (setup-only, sym (c .before .before .config-in-bounds .ensures), c .before .if1 .left, c .fresh-estimator .ensures)
+returns-2 c = simp (setup-only, sym (c .before .before .config-in-bounds .ensures), c .before .if1 .left, c .with-config-unchecked .ensures)
 
 pub with-config-spec : {M : Type 1} → statement M
 with-config-spec =
-    tie.close (tie.spec config-in-bounds-requires returns fresh-estimator-requires returns-2)
+    tie.close (tie.spec config-in-bounds-requires returns with-config-unchecked-requires returns-2)

@@ -1,6 +1,6 @@
 use borrow.Author.Needs.{needs}
-use Rattle.rto.proofs.mean_of.Statement.{statement}
-use Rattle.rto.proofs.mean_of.Tie as tie
+use Rattle.rto.proofs.RtoEstimator.mean_rtt_ms_unchecked.Statement.{statement}
+use Rattle.rto.proofs.RtoEstimator.mean_rtt_ms_unchecked.Tie as tie
 use lib.Ieee.{ofBits}
 use borrow.Author.Tests.{eq-eqb, ne-eqb}
 use Rattle.rto.specs.Rto.{meanMs}
@@ -16,5 +16,5 @@ returns-2 : tie.Need-returns-2
 unfolding meanMs
 returns-2 c = simp (ne-eqb _ _ (c .before .before .if1 .left), c .before .nearest-u64-to-f64 .ensures)
 
-pub mean-of-spec : {M : Type 1} → statement M
-mean-of-spec = tie.close (tie.spec returns nearest-u64-to-f64-requires returns-2)
+pub mean-rtt-ms-unchecked-spec : {M : Type 1} → statement M
+mean-rtt-ms-unchecked-spec = tie.close (tie.spec returns nearest-u64-to-f64-requires returns-2)

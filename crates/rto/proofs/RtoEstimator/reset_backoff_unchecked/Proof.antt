@@ -1,0 +1,11 @@
+use Rattle.rto.proofs.RtoEstimator.reset_backoff_unchecked.Statement.{statement}
+use Rattle.rto.proofs.RtoEstimator.reset_backoff_unchecked.Tie as tie
+use mathlib.Core.Path.{refl}
+use Rattle.rto.specs.Rto.{resetBackoff}
+
+returns : tie.Need-returns
+unfolding resetBackoff
+returns c = refl
+
+pub reset-backoff-unchecked-spec : {M : Type 1} → statement M
+reset-backoff-unchecked-spec = tie.close (tie.spec returns)
