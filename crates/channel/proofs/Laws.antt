@@ -26,7 +26,7 @@ use Rattle.channel.specs.Faults.{isLost, isDuplicated, isReordered, isCo
 use Rattle.channel.specs.declared.ChannelConfig.{ChannelConfig}
 use Rattle.channel.specs.declared.Rolls.{Rolls}
 use Rattle.channel.proofs.Limits.{delays-within, rolls-within}
-use Rattle.channel.proofs.Carrying.{corrupt-law, spared-law, corrupted-some}
+use Rattle.channel.proofs.Carrying.{unless-lost, deliveries-lost, corrupt-law, spared-law, corrupted-some}
 pub use Rattle.channel.proofs.Carrying.{granted-lost, granted-one, granted-two, granted-le}
 pub use Rattle.channel.proofs.Tallies.{processed, history, refused-are}
 
@@ -96,6 +96,11 @@ deliveries-within c r now d good fine h = go (isLost c r) (isDuplicated c r)
     go true b = refl
     go false true = or-both _ _ first second
     go false false = first
+
+-- a lost packet is neither duplicated nor held back nor corrupted, and has no copy
+pub lost-only : (c : ChannelConfig) (r : Rolls) (n : ℕ) → isLost c r ≡ true → (isDuplicated c r ≡ false) × (isReordered c r ≡ false) × (isCorrupted c r n ≡ false) × (deliveriesOf c r ≡ Lost)
+unfolding isDuplicated isReordered isCorrupted
+lost-only c r n h = (sym (unless-lost (isLost c r) _ h), sym (unless-lost (isLost c r) _ h), sym (unless-lost (isLost c r) _ h), sym (deliveries-lost c r h))
 
 -- ---- the bytes of the copies
 module _ (c : ChannelConfig) (r : Rolls) (p : List ℕ) where

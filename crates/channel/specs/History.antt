@@ -4,10 +4,9 @@ use mathlib.Core.Bool.{Bool, true, false, cond, not, _||_, _&&_}
 use mathlib.Core.List.{List, [], _∷_}
 use lib.ListN.{length}
 use lib.Dec.{ltb}
-use Rattle.schedule.specs.State.{copies}
+use lib.Ieee.{lt}
 use Rattle.channel.specs.Bounds.{configBroken, statsFull, rollsBroken}
-use Rattle.channel.specs.Faults.{isLost, isDuplicated, isReordered, isCorrupted, deliveriesOf}
-use Rattle.channel.specs.Process.{stats6, channelOf, one, processDef}
+use Rattle.channel.specs.Process.{stats6, channelOf, processDef}
 use Rattle.channel.specs.declared.ChannelConfig.{ChannelConfig}
 use Rattle.channel.specs.declared.ChannelStats.{ChannelStats}
 use Rattle.channel.specs.declared.Channel.{Channel}
@@ -21,21 +20,47 @@ pub record Call : Type 0 where
   pub rolls : Rolls
   pub out : List ℕ
 
--- the sum over calls
-unfoldable pub total : (Call → ℕ) → List Call → ℕ
-total f [] = 0
-total f (x ∷ xs) = total f xs + f x
+-- the calls that pass a test, and how many they are
+unfoldable pub filter : (Call → Bool) → List Call → List Call
+filter p [] = []
+filter p (x ∷ xs) = cond (p x) (x ∷ filter p xs) (filter p xs)
 
--- the counters that a list of calls gives under a setup
+abbrev pub count : (Call → Bool) → List Call → ℕ
+count p xs = length (filter p xs)
+
+-- ---- what happens to a packet, by its rolls and its length alone
+abbrev pub loses : ChannelConfig → Call → Bool
+loses c x = lt (x .rolls .«loss_roll») (c .loss)
+
+abbrev pub corrupts : ChannelConfig → Call → Bool
+corrupts c x = lt (x .rolls .«corrupt_roll») (c .corrupt) && ltb 0 (length (x .packet))
+
+abbrev pub duplicates : ChannelConfig → Call → Bool
+duplicates c x = lt (x .rolls .«dup_roll») (c .duplicate)
+
+abbrev pub reorders : ChannelConfig → Call → Bool
+reorders c x = lt (x .rolls .«reorder_roll») (c .reorder)
+
+-- "a lost packet never reaches the network"
+abbrev pub kept : ChannelConfig → List Call → List Call
+kept c xs = filter (λ x. not (loses c x)) xs
+
+-- the counters that a list of calls gives under a setup; a packet that isn't lost has one copy, a duplicated one two
 abbrev pub tallies : ChannelConfig → List Call → ChannelStats
 tallies c xs =
-    stats6 (total (λ x. 1) xs) (total (λ x. one (isLost c (x .rolls))) xs) (total (λ x. one (isCorrupted c (x .rolls) (length (x .packet)))) xs)
-    (total (λ x. one (isDuplicated c (x .rolls))) xs) (total (λ x. one (isReordered c (x .rolls))) xs) (total (λ x. copies (deliveriesOf c (x .rolls))) xs)
+    record {
+      «packets_seen» = length xs;
+      lost = count (loses c) xs;
+      corrupted = count (corrupts c) (kept c xs);
+      duplicated = count (duplicates c) (kept c xs);
+      reordered = count (reorders c) (kept c xs);
+      «copies_delivered» = length (kept c xs) + count (duplicates c) (kept c xs);
+    }
 
 -- whether a call is refused, from the calls accepted before it alone: lines 9, 8, 11, 6 and 5
 unfoldable pub turnedAway : ChannelConfig → List Call → Call → Bool
 turnedAway c before x =
-    configBroken c || (statsFull (tallies c before) || (rollsBroken (x .rolls) || (ltb 1410 (length (x .packet)) || (not (isLost c (x .rolls)) && ltb (length (x .out)) (length (x .packet))))))
+    configBroken c || (statsFull (tallies c before) || (rollsBroken (x .rolls) || (ltb 1410 (length (x .packet)) || (not (loses c x) && ltb (length (x .out)) (length (x .packet))))))
 
 -- the accepted calls of a list
 unfoldable pub accepted : ChannelConfig → List Call → List Call

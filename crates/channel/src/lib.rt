@@ -1,15 +1,14 @@
 // The channel: loss, duplication, reordering, corruption, delay and jitter, decided by eight rolls a packet. Document 01, `channel/mod.rs`.
 ghost use mathlib.Core.Path.{_≡_};
-ghost use mathlib.Core.Bool.{Bool, true, false, cond, not, _||_};
-ghost use mathlib.Core.List.{List, _++_};
+ghost use mathlib.Core.Bool.{true, false, not, _||_};
 ghost use Prim.Native.Nat.{_+_, _≤_, _<_};
 ghost use lib.Dec.{T};
-ghost use lib.ListN.{length, drop};
+ghost use lib.ListN.{length};
 ghost use Rattle.checksum.specs.Flip.{flip};
-ghost use Rattle.float.specs.Roll.{rollInBounds, scaled};
+ghost use Rattle.float.specs.Roll.{rollInBounds};
 ghost use Rattle.schedule.specs.State.{copies};
 ghost use Rattle.channel.specs.Bounds.{chancesBroken, delaysBroken, configBroken, threeFull, statsFull, fourBroken, rollsBroken};
-ghost use Rattle.channel.specs.Faults.{isLost, isDuplicated, isReordered, isCorrupted, byteAt, bitAt, carried, holdOf, delayOf, deliveriesOf};
+ghost use Rattle.channel.specs.Faults.{isLost, isDuplicated, isReordered, isCorrupted, carried, holdOf, delayOf, deliveriesOf};
 ghost use Rattle.channel.specs.Process.{newDef, one, countedDef, transitExit, transitDef, outShort, processExit, processDef, CanProcess};
 use refusal::COUNT_LIMIT;
 use refusal::Refusal;

@@ -220,9 +220,9 @@ module _ (m : Mem) (now : ℕ) (out : List ℕ) where
   unfolding takeDef
   none-waits h = simp (le-ltb 0 (m .scheduler .count) (omega arith))
 
-  pub none-due : (m .scheduler .count ≡ 0 → ⊥) → now < timeOf first → onPop m out ready.Nothing ≡ takeDef m now out
+  pub first-not-due : (m .scheduler .count ≡ 0 → ⊥) → now < timeOf first → onPop m out ready.Nothing ≡ takeDef m now out
   unfolding takeDef
-  none-due h k = simp (lt-ltb 0 (m .scheduler .count) (omega arith), lt-leb (timeOf first) now k)
+  first-not-due h k = simp (lt-ltb 0 (m .scheduler .count) (omega arith), lt-leb (timeOf first) now k)
 
   pub taken-law : {rs : List (List ℕ)} {ps o : List ℕ} → (m .scheduler .count ≡ 0 → ⊥) → timeOf first ≤ now
       → rs ≡ drop 1 (waitingRecords m) ++ vacant ∷ drop (m .scheduler .count) (m .records)

@@ -1,14 +1,17 @@
 -- A schedule just made that meets what the laws ask: one record, one place, and a packet of one byte to leave after 5 ms.
 use mathlib.Core.Path.{_≡_, refl, _∙_, ap}
-use mathlib.Core.List.{List, [], _∷_}
+use mathlib.Core.List.{[], _∷_}
 use Prim.Native.Nat.{ℕ}
-use lib.ListN.{replicate}
+use native.Mathlib.Omega.{arith}
+use lib.ListN.{replicate, length-replicate}
+use Rattle.refusal.specs.Counts.{countFull}
 use Rattle.schedule.specs.Record.{vacant, inserted, placeIn, freeFrom}
 use Rattle.schedule.specs.State.{Mem, CanSchedule}
-use Rattle.schedule.specs.Schedule.{newDef, putAllDef}
-use Rattle.schedule.specs.Waiting.{Copy, copy, waiting, putCopies}
+use Rattle.schedule.specs.Schedule.{newDef, putAllDef, CanPop, deadlineDef}
+use Rattle.schedule.specs.Waiting.{copy, waiting, putCopies, nextDeadline}
 use Rattle.schedule.specs.declared.Deliveries.the-variants.{One}
-use Rattle.schedule.proofs.Laws.{new-waits, new-sound, new-times, schedule-waits, Leaves, schedule-leaves}
+use Rattle.schedule.specs.declared.Deadline.the-variants.{At}
+use Rattle.schedule.proofs.Laws.{new-waits, new-sound, new-times, schedule-waits, can-pop, deadline-is, Leaves, schedule-leaves}
 
 abbrev made : Mem
 made = newDef (vacant ∷ []) (replicate 1410 7)
@@ -23,3 +26,10 @@ one-waits = schedule-waits made 0 (65 ∷ []) (One 5) can ∙ ap (putCopies 0 0 
 
 pub one-leaves : Leaves made (putAllDef made 0 (65 ∷ []) (One 5)) 1
 one-leaves = schedule-leaves made 0 (65 ∷ []) (One 5) can (new-times (vacant ∷ []) (replicate 1410 7))
+
+pub one-deadline : deadlineDef (putAllDef made 0 (65 ∷ []) (One 5)) ≡ At 5000000
+unfolding nextDeadline
+one-deadline = deadline-is (putAllDef made 0 (65 ∷ []) (One 5)) (one-leaves .sound) (ap countFull (one-leaves .next)) (one-leaves .times) ∙ ap nextDeadline one-waits
+
+pub one-pops : CanPop (putAllDef made 0 (65 ∷ []) (One 5)) 5000000 (replicate 1410 7)
+one-pops = can-pop (putAllDef made 0 (65 ∷ []) (One 5)) 5000000 (replicate 1410 7) (one-leaves .sound) (omega (arith, length-replicate {A = ℕ} 1410 7))

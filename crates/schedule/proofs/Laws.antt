@@ -1,26 +1,28 @@
--- What crates above may cite: the schedule is the list of copies that wait. Making gives none, scheduling inserts by time and order, taking removes the first alone.
+-- What crates above may cite: the schedule is the list of copies that wait. Making gives none, scheduling inserts by time and order, taking removes the first alone, and the first's time is the next deadline.
 use mathlib.Core.Path.{_≡_, refl, sym, _∙_, ap}
 use Prim.Native.Nat.{ℕ, zero, suc, _<_, _≤_, _+_, _-_, min}
 use native.Mathlib.Omega.{arith}
-use mathlib.Core.Bool.{Bool, true, false, cond, _||_, or-true, true≢false}
+use mathlib.Core.Bool.{Bool, true, false, cond, _||_, or-true, and-false, true≢false}
+use mathlib.Core.Logic.{_⊎_}
 use mathlib.Core.List.{List, [], _∷_, _++_, map}
 use lib.ListN.{length, getD, take, drop, replicate, length-replicate, length-map}
 use lib.Dec.{ltb, leb, eqb}
 use native.Mathlib.Numerals.{add-one}
 use native.Mathlib.Nat.{add-zero, add-assoc}
-use borrow.Author.Tests.{ltb-true, ltb-false, leb-true, leb-false, eq-eqb}
+use borrow.Author.Tests.{ltb-true, ltb-false, leb-true, leb-false, le-ltb, eq-eqb}
 use Rattle.schedule.specs.Record.{record4, timeOf, orderOf, lengthOf, placeOf, vacant, after, inserted, orderedFrom, placeIn, lowestFree}
-use Rattle.schedule.specs.State.{Mem, waitingRecords, placeCount, brokenFrom, stateBroken, late, heldLate, delayLate, copies, leavesAt, CanPut, CanSchedule}
-use Rattle.schedule.specs.Schedule.{newDef, placed, filled, putDef, putAllDef, firstRecord, bytesOf, takenDef, takeDef, onPop, roomOf}
-use Rattle.schedule.specs.Waiting.{Copy, copy, copyAfter, copyOf, waiting, putCopies, nothing, leaves, popCopies}
+use Rattle.schedule.specs.State.{Mem, waitingRecords, placeCount, brokenFrom, stateBroken, countsBroken, late, heldLate, delayLate, copies, leavesAt, lacksRoom, CanPut, CanSchedule}
+use Rattle.schedule.specs.Schedule.{newDef, placed, filled, putDef, putAllDef, firstRecord, bytesOf, takenDef, due, outShort, takeDef, onPop, CanPop, firstTime, deadlineDef, roomOf}
+use Rattle.schedule.specs.Waiting.{Copy, copy, copyAfter, copyOf, waiting, putCopies, nothing, leaves, popCopies, nextDeadline}
 use Rattle.schedule.specs.declared.Deliveries.{Deliveries}
 use Rattle.schedule.specs.declared.Deliveries.the-variants.{Lost, One, Two}
 use Rattle.schedule.specs.declared.Ready.the-variants as ready
-use Rattle.schedule.proofs.Ordering.{Order, by-key, first-of, insert-none, insert-here, insert-later, inserted-length}
+use Rattle.schedule.specs.declared.Deadline.the-variants as deadline
+use Rattle.schedule.proofs.Ordering.{up-to, Order, by-key, first-of, insert-none, insert-here, insert-later, inserted-length}
 use Rattle.refusal.proofs.Laws.{or-false}
 use Rattle.schedule.proofs.Sound.{fine, none-broken, place-cons}
-use Rattle.schedule.proofs.Memory.{length-filled, unbroken, in-order, waiting-count, makes-sound, room-is, short, place-free, place-inside, put-records, put-places, put-length, put-sound, put-next, first-waits, first-fine, first-inside, taken-records, taken-places, taken-length, taken-next, taken-sound}
-use Rattle.schedule.proofs.Calls.{can-one, can-first, can-second}
+use Rattle.schedule.proofs.Memory.{length-filled, within, unbroken, in-order, waiting-count, makes-sound, room-is, short, place-free, place-inside, put-records, put-places, put-length, put-sound, put-next, first-waits, first-fine, first-inside, taken-records, taken-places, taken-length, taken-next, taken-sound}
+use Rattle.schedule.proofs.Calls.{can-one, can-first, can-second, lacks-not, reading-done}
 use Rattle.schedule.proofs.Bytes.{other-copies, filled-bytes, bytes-length}
 -- tests
 pub use Rattle.schedule.proofs.Sound.{or-both, told}
@@ -93,9 +95,17 @@ module _ (m : Mem) (sound : stateBroken m ≡ false) where
       numbered front (r ∷ rs) zero b h = fine (m .scheduler .«next_order») (placeCount m) front r rs b .below
       numbered front (r ∷ rs) (suc i) b h = numbered r rs i (fine (m .scheduler .«next_order») (placeCount m) front r rs b .rest) (omega arith)
 
+  -- what `next_deadline_unchecked` asks
+  pub count-within : m .scheduler .count ≤ length (m .records)
+  count-within = within m sound
+
   -- room is left over by what waits
   pub room-left : roomOf m ≡ min (placeCount m - length (waiting m)) (length (m .records) - length (waiting m))
   room-left = room-is m sound ∙ ap (λ (n : ℕ). min (placeCount m - n) (length (m .records) - n)) (sym waits-count)
+
+-- line 5 is false of as many copies as there is room for
+pub room-enough : (m : Mem) (k : ℕ) → k ≤ roomOf m → lacksRoom m k ≡ false
+room-enough m k h = lacks-not m k refl refl h
 
 -- ---- taking out
 module _ (m : Mem) (sound : stateBroken m ≡ false) (some : 0 < m .scheduler .count) where
@@ -116,6 +126,29 @@ module _ (m : Mem) (sound : stateBroken m ≡ false) (some : 0 < m .scheduler .c
 none-waiting : (m : Mem) → m .scheduler .count ≡ 0 → waiting m ≡ []
 unfolding waiting
 none-waiting m e = ap (λ (n : ℕ). map (copyOf (m .places)) (take n (m .records))) e
+
+-- a buffer of 1,410 bytes takes any packet
+pub can-pop : (m : Mem) (now : ℕ) (out : List ℕ) → stateBroken m ≡ false → 1410 ≤ length out → CanPop m now out
+can-pop m now out sound h = record { sound = sound; room = go (ltb 0 (m .scheduler .count)) refl }
+  where
+    go : (t : Bool) → ltb 0 (m .scheduler .count) ≡ t → outShort (m .scheduler .count) (m .records) now (length out) ≡ false
+    go false e = simp e
+    go true e =
+        let f = first-fine m sound (ltb-true 0 (m .scheduler .count) e) in
+        rw (le-ltb (length out) (lengthOf (firstRecord (m .records))) (omega (arith, f .short))) (and-false (due (m .scheduler .count) (m .records) now))
+
+-- ---- when the next leaves: below the entry point, and as it answers
+pub first-time-is : (m : Mem) → stateBroken m ≡ false → firstTime (m .scheduler .count) (m .records) ≡ nextDeadline (waiting m)
+unfolding nextDeadline
+first-time-is m sound = go (ltb 0 (m .scheduler .count)) refl
+  where
+    go : (t : Bool) → ltb 0 (m .scheduler .count) ≡ t → cond t (deadline.At (timeOf (firstRecord (m .records)))) deadline.Nothing ≡ nextDeadline (waiting m)
+    go true e = sym (ap nextDeadline (taken-waits m sound (ltb-true 0 (m .scheduler .count) e)))
+    go false e = let l = ltb-false 0 (m .scheduler .count) e in sym (ap nextDeadline (none-waiting m (omega arith)))
+
+pub deadline-is : (m : Mem) → stateBroken m ≡ false → countsBroken m ≡ false → heldLate (waitingRecords m) ≡ false → deadlineDef m ≡ nextDeadline (waiting m)
+unfolding deadlineDef
+deadline-is m sound counts times = sym (reading-done m deadline.Refused (firstTime (m .scheduler .count) (m .records)) sound counts times) ∙ first-time-is m sound
 
 -- what `pop_ready_at` answers and leaves, by the list of what waits
 pub record Pops (m : Mem) (now : ℕ) (out : List ℕ) (c : Copy) (cs : List Copy) : Type 0 where
@@ -234,10 +267,11 @@ never-before aft o d p (x ∷ xs) (suc i) h l = let f = first-of aft p x xs h in
 pub copies-order : Order copyAfter
 copies-order = by-key (λ (c : Copy). c .time) (λ (c : Copy). c .order)
 
--- the first that waits leaves before no other: it has the least time, and of equal times the least order
-pub first-least : (m : Mem) (c : Copy) (cs : List Copy) (i : ℕ) → stateBroken m ≡ false → waiting m ≡ c ∷ cs → i < length cs → copyAfter c (getD cs i c) ≡ false
+-- the first that waits has a time below that of each other, or the same time and an order at most as great
+pub first-least : (m : Mem) (c : Copy) (cs : List Copy) (i : ℕ) → stateBroken m ≡ false → waiting m ≡ c ∷ cs → i < length cs → (c .time < getD cs i c .time) ⊎ ((c .time ≡ getD cs i c .time) × (c .order ≤ getD cs i c .order))
 first-least m c cs i sound e l =
-    never-before copyAfter copies-order c c cs i (first-of copyAfter (copy 0 0 []) c cs (ap (orderedFrom copyAfter (copy 0 0 [])) (sym e) ∙ waits-ordered m sound) .1) l
+    up-to (c .time) (c .order) (getD cs i c .time) (getD cs i c .order)
+    (never-before copyAfter copies-order c c cs i (first-of copyAfter (copy 0 0 []) c cs (ap (orderedFrom copyAfter (copy 0 0 [])) (sym e) ∙ waits-ordered m sound) .1) l)
 
 -- the places of waiting records are distinct
 apart-in : (next n : ℕ) (front : List ℕ) (rs : List (List ℕ)) (i j : ℕ) → brokenFrom next n front rs ≡ false → i < j → j < length rs → placeOf (getD rs i []) ≡ placeOf (getD rs j []) → ⊥

@@ -13,10 +13,10 @@ use Rattle.schedule.specs.Record.{later, after, inserted, orderedFrom, t
 use Rattle.schedule.specs.Scans.{placeFor}
 
 -- ---- the order, as arithmetic
-abbrev UpTo : ℕ → ℕ → ℕ → ℕ → Type 0
+abbrev pub UpTo : ℕ → ℕ → ℕ → ℕ → Type 0
 UpTo t o u p = (t < u) ⊎ ((t ≡ u) × (o ≤ p))
 
-up-to : (t o u p : ℕ) → later t o u p ≡ false → UpTo t o u p
+pub up-to : (t o u p : ℕ) → later t o u p ≡ false → UpTo t o u p
 up-to t o u p h = go (ltb t u) (ltb u t) refl refl h
   where
     go : (x y : Bool) → ltb t u ≡ x → ltb u t ≡ y → cond x false (cond y true (ltb p o)) ≡ false → UpTo t o u p

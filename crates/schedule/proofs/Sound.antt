@@ -1,15 +1,13 @@
 -- Waiting records of which line 9 is false: what that says of each, and that a record put in or taken out keeps it so.
-use mathlib.Core.Path.{_≡_, refl, sym, _∙_, ap, subst}
-use Prim.Native.Nat.{ℕ, zero, suc, _<_, _≤_, _+_}
+use mathlib.Core.Path.{_≡_, refl, sym, _∙_, ap}
+use Prim.Native.Nat.{ℕ, _<_, _≤_, _+_}
 use native.Mathlib.Omega.{arith}
-use native.Mathlib.Nat.{add-zero}
-use mathlib.Core.Bool.{Bool, true, false, cond, _||_}
+use mathlib.Core.Bool.{Bool, true, false, _||_}
 use mathlib.Core.List.{List, [], _∷_}
-use lib.ListN.{length, getD}
 use lib.Dec.{ltb, leb, eqb}
-use borrow.Author.Tests.{ltb-false, leb-false, le-ltb, lt-leb, eqb-true, eqb-false, ne-eqb}
+use borrow.Author.Tests.{ltb-false, leb-false, le-ltb, lt-leb, eqb-false, ne-eqb}
 use Rattle.refusal.proofs.Laws.{or-false}
-use Rattle.schedule.specs.Record.{timeOf, orderOf, lengthOf, placeOf, vacant, after, inserted, orderedFrom, placeIn, freeFrom}
+use Rattle.schedule.specs.Record.{timeOf, orderOf, lengthOf, placeOf, vacant, after, inserted, orderedFrom, placeIn}
 use Rattle.schedule.specs.State.{recordBroken, brokenFrom}
 use Rattle.schedule.proofs.Ordering.{records, least, none, put-first, insert-none, insert-here, insert-later}
 

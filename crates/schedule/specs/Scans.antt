@@ -1,6 +1,6 @@
 -- Document 01, "Turned away", line 9, and "What the Rust forms turn into" (BinaryHeap), in the parts that the private scans over records compute.
 use Prim.Native.Nat.{ℕ, zero, suc, _+_}
-use mathlib.Core.Bool.{Bool, true, false, cond, _&&_, _||_}
+use mathlib.Core.Bool.{Bool, false, cond, _&&_, _||_}
 use mathlib.Core.List.{List, [], _∷_, _++_}
 use lib.ListN.{take, drop}
 use lib.Dec.{ltb, leb, eqb}

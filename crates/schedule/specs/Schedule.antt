@@ -1,7 +1,7 @@
 -- Document 01, "What the Rust forms turn into" (BinaryHeap), `channel/scheduler.rs` and "Turned away": what each call on a schedule answers and leaves behind.
 use Prim.Native.Nat.{ℕ, _+_, _-_, _*_, min, _/_}
 use mathlib.Core.Path.{_≡_}
-use mathlib.Core.Bool.{Bool, true, false, cond, _&&_, _||_}
+use mathlib.Core.Bool.{Bool, false, cond, _&&_, _||_}
 use mathlib.Core.List.{List, [], _∷_, _++_}
 use lib.ListN.{length, take, drop, getD, replicate}
 use lib.Dec.{ltb, leb, eqb}

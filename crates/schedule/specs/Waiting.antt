@@ -7,6 +7,8 @@ use Rattle.schedule.specs.Record.{timeOf, orderOf, later, inserted}
 use Rattle.schedule.specs.State.{Mem, waitingRecords, leavesAt}
 use Rattle.schedule.specs.declared.Deliveries.{Deliveries}
 use Rattle.schedule.specs.declared.Deliveries.the-variants.{Lost, One, Two}
+use Rattle.schedule.specs.declared.Deadline.{Deadline}
+use Rattle.schedule.specs.declared.Deadline.the-variants as deadline
 use Rattle.schedule.specs.Schedule.{bytesOf}
 
 -- a copy that waits: when it leaves, how many were scheduled before it, and its bytes
@@ -41,3 +43,8 @@ pub data Popped : Type 0 where
 unfoldable pub popCopies : ℕ → List Copy → Popped
 popCopies now [] = nothing
 popCopies now (c ∷ cs) = cond (leb (c .time) now) (leaves c cs) nothing
+
+-- when the next copy leaves
+unfoldable pub nextDeadline : List Copy → Deadline
+nextDeadline [] = deadline.Nothing
+nextDeadline (c ∷ cs) = deadline.At (c .time)

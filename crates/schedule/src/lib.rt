@@ -1,14 +1,14 @@
 // The delivery schedule: waiting copies of packets, handed out at their time. Document 01, `channel/scheduler.rs`.
 ghost use mathlib.Core.Path.{_≡_};
-ghost use mathlib.Core.Bool.{Bool, true, false, _||_};
-ghost use mathlib.Core.List.{List, [], _∷_, _++_};
+ghost use mathlib.Core.Bool.{true, false, _||_};
+ghost use mathlib.Core.List.{[], _∷_, _++_};
 ghost use Prim.Native.Nat.{_+_, _-_, _*_, _/_, _≤_, _<_};
 ghost use lib.ListN.{length, getD, take, drop, replicate};
 ghost use Rattle.duration.specs.Bounds.{maxTime};
 ghost use Rattle.schedule.specs.Record.{vacant, after, ordered, inserted, placeOf, freePlaces, lowestFree};
 ghost use Rattle.schedule.specs.State.{mem, recordBroken, brokenFrom, stateBroken, heldLate, late, delayLate, deliveriesLate, copies, CanPut, CanSchedule};
 ghost use Rattle.schedule.specs.Scans.{placeFor, raised, blockSize, boundsBroken, brokenAlone, doubled, outside, doubledIn, placeMarks, firstFree, firstUnset, sumFrom, delayAt};
-ghost use Rattle.schedule.specs.Schedule.{newDef, placed, filled, putDef, putAllDef, scheduleExit, scheduleDef, bytesOf, outShort, popExit, takeDef, popDef, CanPop, reading, firstTime, deadlineDef, lenDef, emptyDef, roomOf, roomDef};
+ghost use Rattle.schedule.specs.Schedule.{newDef, placed, filled, putDef, putAllDef, scheduleExit, scheduleDef, outShort, popExit, takeDef, popDef, CanPop, reading, firstTime, deadlineDef, lenDef, emptyDef, roomOf, roomDef};
 use duration::MAX_TIME;
 use refusal::COUNT_LIMIT;
 use refusal::Refusal;
@@ -16,7 +16,7 @@ use refusal::Refusal;
 // A record: time in nanoseconds, order, length, place.
 pub type Scheduled = [u64; 4];
 
-// The bytes of a place.
+// The bytes of a place, and so the longest packet.
 const PLACE_SIZE: usize = 1410;
 
 // The first `count` records wait; `next_order` is the order of the next copy.
@@ -130,7 +130,7 @@ fn place_for(s: &[Scheduled], count: usize, r: Scheduled) -> usize
     low
 }
 
-// Moves the first `n` records up by one.
+// Moves the first `n` records up by one. In a function of its own this loop becomes a memmove.
 fn move_up(s: &mut [Scheduled], n: usize)
     requires { ⌜ n < length (now s) ⌝ }
     ensures { λ _. ⌜ now (s .exit) ≡ raised n 0 (now (s .entry)) ⌝ }
@@ -143,7 +143,7 @@ fn move_up(s: &mut [Scheduled], n: usize)
     }
 }
 
-// The first `n` records move up by one, and `r` comes first. In this function of its own the loop becomes a memmove.
+// The first `n` records move up by one, and `r` comes first.
 fn insert_first(s: &mut [Scheduled], n: usize, r: Scheduled)
     requires { ⌜ n < length (now s) ⌝ }
     ensures { λ _. ⌜ now (s .exit) ≡ r ∷ (take n (now (s .entry)) ++ drop (n + 1) (now (s .entry))) ⌝ }
@@ -433,8 +433,8 @@ fn records_broken(s: &[Scheduled], count: usize, next: u64, places: usize) -> bo
 fn bounds_broken(r: Scheduled, next: u64, places: u64) -> bool
     ensures { λ b. ⌜ b ≡ boundsBroken next places r ⌝ }
 {
-    let len = r[2];
-    if 1410 < len {
+    let len = r[2] as usize;
+    if PLACE_SIZE < len {
         return true;
     }
     let order = r[1];
@@ -672,7 +672,7 @@ impl ChannelScheduler {
                 answer: Queued::Refused(Refusal::Time),
             };
         }
-        if 1410 < packet.len() {
+        if PLACE_SIZE < packet.len() {
             return Scheduling {
                 scheduler: self,
                 answer: Queued::Refused(Refusal::Long),

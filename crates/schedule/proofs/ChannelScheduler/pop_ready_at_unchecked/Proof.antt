@@ -1,7 +1,7 @@
 use native.Mathlib.Omega.{arith}
 use Rattle.schedule.specs.State.{mem}
 use Rattle.schedule.proofs.Memory.{within}
-use Rattle.schedule.proofs.Calls.{positive, none-waits, none-due, can-take, taken-law}
+use Rattle.schedule.proofs.Calls.{positive, none-waits, first-not-due, can-take, taken-law}
 use borrow.Author.Needs.{needs}
 use Rattle.schedule.proofs.ChannelScheduler.pop_ready_at_unchecked.Statement.{statement}
 use Rattle.schedule.proofs.ChannelScheduler.pop_ready_at_unchecked.Tie as tie
@@ -25,7 +25,7 @@ returns-2 : tie.Need-returns-2
 returns-2 c =
     let s = c .before .before .before .before .before in
     let m = mem (s .args .records .now) (s .args .places .now) (s .args .self) in
-    none-due m (s .args .now) (s .args .out .now) (c .before .before .if1 .left) (c .if2 .taken)
+    first-not-due m (s .args .now) (s .args .out .now) (c .before .before .if1 .left) (c .if2 .taken)
 
 array-read-len : tie.Need-array-read-len
 array-read-len c = search needs
