@@ -94,9 +94,9 @@ module _ (c : ChannelConfig) (r : Rolls) (p : List ℕ) where
       picked : (x : Bool) {i b j d : ℕ} {o : List ℕ} → x ≡ true → i ≡ j → b ≡ d → o ≡ flip p i b → o ≡ cond x (flip p j d) p
       picked x h q e f = rw (h, ← q, ← e) f
 
-  pub spared-law : isCorrupted c r (length p) ≡ false → p ≡ carried c r p
+  pub uncorrupted-law : isCorrupted c r (length p) ≡ false → p ≡ carried c r p
   unfolding carried
-  spared-law h = picked (isCorrupted c r (length p)) (flip p (byteAt r (length p)) (bitAt r)) h
+  uncorrupted-law h = picked (isCorrupted c r (length p)) (flip p (byteAt r (length p)) (bitAt r)) h
     where
       picked : (x : Bool) (q : List ℕ) → x ≡ false → p ≡ cond x q p
       picked x q h = rw h

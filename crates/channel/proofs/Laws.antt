@@ -26,7 +26,7 @@ use Rattle.channel.specs.Faults.{isLost, isDuplicated, isReordered, isCo
 use Rattle.channel.specs.declared.ChannelConfig.{ChannelConfig}
 use Rattle.channel.specs.declared.Rolls.{Rolls}
 use Rattle.channel.proofs.Limits.{delays-within, rolls-within}
-use Rattle.channel.proofs.Carrying.{unless-lost, deliveries-lost, corrupt-law, spared-law, corrupted-some}
+use Rattle.channel.proofs.Carrying.{unless-lost, deliveries-lost, corrupt-law, uncorrupted-law, corrupted-some}
 pub use Rattle.channel.proofs.Carrying.{granted-lost, granted-one, granted-two, granted-le}
 pub use Rattle.channel.proofs.Tallies.{processed, history, refused-are}
 
@@ -104,8 +104,8 @@ lost-only c r n h = (sym (unless-lost (isLost c r) _ h), sym (unless-lost (isLos
 
 -- ---- the bytes of the copies
 module _ (c : ChannelConfig) (r : Rolls) (p : List ℕ) where
-  pub spared-is : isCorrupted c r (length p) ≡ false → carried c r p ≡ p
-  spared-is h = sym (spared-law c r p h)
+  pub uncorrupted-is : isCorrupted c r (length p) ≡ false → carried c r p ≡ p
+  uncorrupted-is h = sym (uncorrupted-law c r p h)
 
   pub corrupted-is : isCorrupted c r (length p) ≡ true → carried c r p ≡ flip p (byteAt r (length p)) (bitAt r)
   corrupted-is h = sym (corrupt-law c r p h refl refl refl)

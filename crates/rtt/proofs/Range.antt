@@ -170,14 +170,14 @@ weight-finite (fin s m e) t = tt
 abbrev bound : ℕ
 bound = ((2 ^ 1074 * (2 ^ 53 + 1) + 2 ^ 52) * 86401000 * (2 ^ 53 + 1) + 2 * 2 ^ 52 * 2 ^ 53) * (2 ^ 53 + 1) + 2 ^ 52 * (2 ^ 53 * 2 ^ 53)
 
-record Blended (x : Float) : Type 0 where
+record WeightedMean (x : Float) : Type 0 where
   units : ℕ
   is : Is x units
   most : units ≤ 172802000 * 2 ^ 1074
   near : units * (2 ^ 53 * 2 ^ 53 * 2 ^ 53) ≤ bound
 
-blended : (w x y : Float) → T (fits binary64 w) → T (chanceInBounds w) → UpTo x 86401000 → UpTo y 86401000 → Blended (weighted w x y)
-blended w x y t h X Y =
+weighted-mean : (w x y : Float) → T (fits binary64 w) → T (chanceInBounds w) → UpTo x 86401000 → UpTo y 86401000 → WeightedMean (weighted w x y)
+weighted-mean w x y t h X Y =
     let L = 2 ^ 1074 in
     let P = 2 ^ 53 in
     let M : ℕ = 86401000 in
@@ -207,7 +207,7 @@ blended w x y t h X Y =
     }
 
 -- ---- milliseconds to nanoseconds
-back-most : (x : Float) → Blended x → fromMs x ≤ maxEstimate
+back-most : (x : Float) → WeightedMean x → fromMs x ≤ maxEstimate
 back-most x b =
     let L = 2 ^ 1074 in
     let P = 2 ^ 53 in
@@ -250,12 +250,12 @@ units-range (fin true m e) g v h =
     some x y h = omega arith
 
 -- ---- bounds in ms
-up-of : (x : Float) → Blended x → UpTo x 172802000
+up-of : (x : Float) → WeightedMean x → UpTo x 172802000
 up-of x b = record { units = b .units; is = b .is; most = b .most }
 
 -- at most a day and a second, in ms, is as a weighted sum is
-blended-of : (x : Float) → UpTo x 86401000 → Blended x
-blended-of x u =
+weighted-mean-of : (x : Float) → UpTo x 86401000 → WeightedMean x
+weighted-mean-of x u =
     record {
       units = u .units;
       is = u .is;
@@ -328,7 +328,7 @@ module _ (k multiplier : Float) (g : ℕ) (tk : T (fits binary64 k)) (tm : T (fi
     pub rttvar : T (secsInBounds (div binary64 v thousand64))
     pub rto : T (secsInBounds (div binary64 (mul binary64 (rtoMs k g s v) multiplier) thousand64))
 
-  fits-of : (s v : Float) → Blended s → Blended v → Fits s v
+  fits-of : (s v : Float) → WeightedMean s → WeightedMean v → Fits s v
   fits-of s v a b =
       record {
         srtt = seconds-in s 172802000 172802 (lit≤ tt) (lit< tt) (up-of s a);
@@ -336,11 +336,11 @@ module _ (k multiplier : Float) (g : ℕ) (tk : T (fits binary64 k)) (tm : T (fi
         rto = seconds-in (mul binary64 (rtoMs k g s v) multiplier) 47002144000 47002144 (lit≤ tt) (lit< tt) (rto-up s v (up-of s a) (up-of v b));
       }
 
-  first-srtt : (sample : ℕ) → sample ≤ maxEstimate → Blended (toMs sample)
-  first-srtt sample h = blended-of (toMs sample) (millis sample h .upto)
+  first-srtt : (sample : ℕ) → sample ≤ maxEstimate → WeightedMean (toMs sample)
+  first-srtt sample h = weighted-mean-of (toMs sample) (millis sample h .upto)
 
-  first-rttvar : (sample : ℕ) → sample ≤ maxEstimate → Blended (firstRttvarMs sample)
-  first-rttvar sample h = blended-of (firstRttvarMs sample) (half-up (toMs sample) (millis sample h .upto))
+  first-rttvar : (sample : ℕ) → sample ≤ maxEstimate → WeightedMean (firstRttvarMs sample)
+  first-rttvar sample h = weighted-mean-of (firstRttvarMs sample) (half-up (toMs sample) (millis sample h .upto))
 
   pub first-fits : (sample : ℕ) → sample ≤ maxEstimate → Fits (toMs sample) (firstRttvarMs sample)
   first-fits sample h = fits-of (toMs sample) (firstRttvarMs sample) (first-srtt sample h) (first-rttvar sample h)
@@ -354,11 +354,11 @@ module _ (k multiplier : Float) (g : ℕ) (tk : T (fits binary64 k)) (tm : T (fi
   first-rttvar-range sample h = back-most (firstRttvarMs sample) (first-rttvar sample h)
 
   module _ (alpha beta : Float) (ta : T (fits binary64 alpha)) (tb : T (fits binary64 beta)) (ha : T (chanceInBounds alpha)) (hb : T (chanceInBounds beta)) (srtt rttvar sample : ℕ) (hs : srtt ≤ maxEstimate) (hv : rttvar ≤ maxEstimate) (hp : sample ≤ maxEstimate) where
-    next-srtt : Blended (nextSrttMs alpha srtt sample)
-    next-srtt = blended alpha (toMs srtt) (toMs sample) ta ha (millis srtt hs .upto) (millis sample hp .upto)
+    next-srtt : WeightedMean (nextSrttMs alpha srtt sample)
+    next-srtt = weighted-mean alpha (toMs srtt) (toMs sample) ta ha (millis srtt hs .upto) (millis sample hp .upto)
 
-    next-rttvar : Blended (nextRttvarMs beta rttvar srtt sample)
-    next-rttvar = blended beta (toMs rttvar) (absolute (sub binary64 (toMs srtt) (toMs sample))) tb hb (millis rttvar hv .upto) (gap-up (toMs srtt) (toMs sample) (millis srtt hs) (millis sample hp))
+    next-rttvar : WeightedMean (nextRttvarMs beta rttvar srtt sample)
+    next-rttvar = weighted-mean beta (toMs rttvar) (absolute (sub binary64 (toMs srtt) (toMs sample))) tb hb (millis rttvar hv .upto) (gap-up (toMs srtt) (toMs sample) (millis srtt hs) (millis sample hp))
 
     pub next-fits : Fits (nextSrttMs alpha srtt sample) (nextRttvarMs beta rttvar srtt sample)
     next-fits = fits-of (nextSrttMs alpha srtt sample) (nextRttvarMs beta rttvar srtt sample) next-srtt next-rttvar

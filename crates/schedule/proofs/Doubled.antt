@@ -1,11 +1,10 @@
 -- Doubled places, looked for in blocks; and line 9 as that and the rest.
 use mathlib.Core.Path.{_≡_, refl, sym, _∙_, ap}
-use Prim.Native.Nat.{ℕ, zero, suc, _<_, _≤_, _+_}
+use Prim.Native.Nat.{ℕ, _<_, _≤_, _+_}
 use native.Mathlib.Omega.{arith}
 use mathlib.Core.Logic.{_⊎_, inl, inr}
 use mathlib.Core.Bool.{Bool, true, false, _&&_, _||_, or-true, and-false}
 use mathlib.Core.List.{List, [], _∷_, _++_}
-use lib.ListN.{length, getD}
 use lib.Dec.{ltb, leb, eqb}
 use borrow.Author.Tests.{lt-ltb, le-ltb, le-leb, lt-leb, ltb-false, leb-false, eq-eqb, ne-eqb, eqb-true, eqb-false}
 use Rattle.refusal.proofs.Laws.{or-false}
@@ -78,19 +77,6 @@ below-all n m (r ∷ rs) o h k =
     (below-all n m rs (or-false (leb n (placeOf r)) (outside n rs) o .1) h (or-false (ltb (placeOf r) m && placeIn (placeOf r) rs) (doubledBelow m rs) k .1))
 
 -- ---- places below n
-pub outside-at : (n i : ℕ) (l : List (List ℕ)) → outside n l ≡ false → i < length l → placeOf (getD l i []) < n
-unfolding outside
-outside-at n i [] o h = absurd (omega arith)
-outside-at n zero (r ∷ rs) o h = leb-false n (placeOf r) (or-false (leb n (placeOf r)) (outside n rs) o .0)
-outside-at n (suc i) (r ∷ rs) o h = outside-at n i rs (or-false (leb n (placeOf r)) (outside n rs) o .1) (omega arith)
-
-pub outside-more : (n m : ℕ) (l : List (List ℕ)) → n ≤ m → outside n l ≡ false → outside m l ≡ false
-unfolding outside
-outside-more n m [] h o = refl
-outside-more n m (r ∷ rs) h o =
-    let low = leb-false n (placeOf r) (or-false (leb n (placeOf r)) (outside n rs) o .0) in
-    or-both (leb m (placeOf r)) (outside m rs) (lt-leb m (placeOf r) (omega arith)) (outside-more n m rs h (or-false (leb n (placeOf r)) (outside n rs) o .1))
-
 pub sound-inside : (next n : ℕ) (front : List ℕ) (rs : List (List ℕ)) → brokenFrom next n front rs ≡ false → outside n rs ≡ false
 unfolding outside
 sound-inside next n front [] h = refl

@@ -1,5 +1,5 @@
 -- Marks of the places of a block, as loops over the waiting records make them: from the last to the first, or from the first to the last.
-use mathlib.Core.Path.{_≡_, refl, sym, _∙_, ap, subst}
+use mathlib.Core.Path.{_≡_, refl, sym, _∙_, ap}
 use mathlib.Core.Logic.{_⊎_}
 use Prim.Native.Nat.{ℕ, zero, suc, _≤_, _<_, _+_, _-_}
 use native.Mathlib.Omega.{arith}
@@ -8,15 +8,15 @@ use native.Mathlib.Nat.{add-zero, zero-add}
 use mathlib.Core.Bool.{Bool, true, false, cond, _||_, true≢false}
 use mathlib.Core.List.{List, [], _∷_, _++_}
 use lib.ListN.{length, drop, take, getD, set}
-use lib.Seq.{drop-nil, length-take-le, getD-take, take-suc}
+use lib.Seq.{drop-nil, take-suc}
 use lib.Bits.{bitOr}
 use lib.Dec.{eqb}
 use borrow.Author.Tests.{eq-eqb, ne-eqb}
 use Rattle.schedule.specs.Record.{placeOf, placeIn}
-use Rattle.schedule.specs.Scans.{blockSize, placeMarks, firstFree, firstUnset, outside, doubled, doubledIn}
+use Rattle.schedule.specs.Scans.{blockSize, placeMarks, firstFree, firstUnset, doubled, doubledIn}
 use Rattle.schedule.proofs.Lists.{rest-cons}
 use Rattle.schedule.proofs.Checks.{marks-next, marks-zero, marks-outside, marks-set, marks-at, first-next, first-zero}
-use Rattle.schedule.proofs.Doubled.{in-first, in-outside, outside-at, place-last, doubled-last}
+use Rattle.schedule.proofs.Doubled.{in-first, in-outside, place-last, doubled-last}
 
 -- a bool as 1 or 0
 abbrev pub flag : Bool → ℕ
@@ -166,8 +166,3 @@ module _ (s : List (List ℕ)) (i : ℕ) {used : List ℕ} (low : i < length s) 
       ∙ ap (bitOr (flag (doubled (take i s)))) (ap (λ (xs : List ℕ). getD xs (placeOf it) 0) marked ∙ marks-at blockSize 0 (placeOf it) (take i s) inside ∙ ap (λ (x : ℕ). flag (placeIn x (take i s))) (zero-add (placeOf it)))
       ∙ flag-or (doubled (take i s)) (placeIn (placeOf it) (take i s))
       ∙ ap flag (sym (doubled-last (take i s) it) ∙ ap doubled one-last)
-
-pub low-inside : (s : List (List ℕ)) (count i : ℕ) → i < count → count ≤ length s → outside blockSize (take count s) ≡ false → placeOf (getD s i []) < blockSize
-low-inside s count i h k o =
-    let z = length-take-le count s k in
-    subst (λ (r : List ℕ). placeOf r < blockSize) (getD-take count s i [] h) (outside-at blockSize i (take count s) o (omega arith))

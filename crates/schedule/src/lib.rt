@@ -197,22 +197,6 @@ fn used_places(s: &[Scheduled], count: usize, base: u64) -> [u8; 256]
     used
 }
 
-// Which places a waiting record has, where all lie below 256.
-fn low_places(s: &[Scheduled], count: usize) -> [u8; 256]
-    requires { ⌜ (count ≤ length (now s)) × (outside blockSize (take count (now s)) ≡ false) ⌝ }
-    ensures { λ r. ⌜ r ≡ placeMarks blockSize 0 (take count (now (s .entry))) ⌝ }
-{
-    let mut used = [0u8; 256];
-    let mut i: usize = 0;
-    while i < count {
-        let r = s[i];
-        let place = r[3] as usize;
-        used[place] = 1;
-        i += 1;
-    }
-    used
-}
-
 // How many of the first `n` marks stand before one that is 0.
 fn first_unset(used: &[u8; 256], n: usize) -> usize
     requires { ⌜ n ≤ blockSize ⌝ }
@@ -237,23 +221,11 @@ fn first_free(s: &[Scheduled], count: usize, base: usize, end: usize) -> usize
     base + first_unset(&used, end - base)
 }
 
-// The same from 0 up to `end`, where all waiting records have places below 256.
-fn first_low(s: &[Scheduled], count: usize, end: usize) -> usize
-    requires { ⌜ (count ≤ length (now s)) × (end ≤ blockSize) × (outside blockSize (take count (now s)) ≡ false) ⌝ }
-    ensures { λ p. ⌜ p ≡ firstFree end 0 (take count (now (s .entry))) ⌝ }
-{
-    let used = low_places(s, count);
-    first_unset(&used, end)
-}
-
 // The lowest place that no waiting record has, found by marks.
 fn lowest_unmarked(s: &[Scheduled], count: usize, places: usize) -> usize
-    requires { ⌜ (count ≤ length (now s)) × (0 < length (freePlaces places (take count (now s)))) × (outside places (take count (now s)) ≡ false) ⌝ }
+    requires { ⌜ (count ≤ length (now s)) × (0 < length (freePlaces places (take count (now s)))) ⌝ }
     ensures { λ p. ⌜ p ≡ lowestFree places (take count (now (s .entry))) ⌝ }
 {
-    if places <= 256 {
-        return first_low(s, count, places);
-    }
     let mut base: usize = 0;
     while 256 <= places - base {
         let p = first_free(s, count, base, base + 256);

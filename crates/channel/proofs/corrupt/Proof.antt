@@ -2,7 +2,7 @@ use native.Mathlib.Omega.{arith}
 use lib.ListN.{length}
 use Rattle.schedule.proofs.Laws.{told}
 use Rattle.channel.proofs.Limits.{rolls-within}
-use Rattle.channel.proofs.Carrying.{corrupted-some, corrupt-law, spared-law}
+use Rattle.channel.proofs.Carrying.{corrupted-some, corrupt-law, uncorrupted-law}
 use borrow.Author.Needs.{needs}
 use Rattle.channel.proofs.corrupt.Statement.{statement}
 use Rattle.channel.proofs.corrupt.Tie as tie
@@ -33,7 +33,7 @@ returns c =
     corrupt-law (a .config) (a .rolls) (a .d .now) (told (c .before .before .before .before .before .before .before .is-corrupted .ensures) (c .before .before .before .before .before .before .if1 .taken)) (c .before .before .before .before .before .index-unchecked .ensures .0) (c .before .before .before .before .scaled-unchecked .ensures .0) (c .before .before .flip-bit .ensures)
 
 returns-2 : tie.Need-returns-2
-returns-2 c = let a = c .before .before .before .args in spared-law (a .config) (a .rolls) (a .d .now) (told (c .before .is-corrupted .ensures) (c .if1 .left))
+returns-2 c = let a = c .before .before .before .args in uncorrupted-law (a .config) (a .rolls) (a .d .now) (told (c .before .is-corrupted .ensures) (c .if1 .left))
 
 pub corrupt-spec : {M : Type 1} → statement M
 corrupt-spec =

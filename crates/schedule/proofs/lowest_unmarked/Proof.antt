@@ -1,13 +1,11 @@
 use native.Mathlib.Omega.{arith}
 use borrow.Author.Needs.{needs}
-use mathlib.Core.Path.{_≡_, sym, _∙_, ap}
+use mathlib.Core.Path.{_≡_, _∙_, ap}
 use Prim.Native.Nat.{ℕ, _≤_, _-_}
 use mathlib.Core.List.{List}
 use lib.ListN.{take, getD}
 use native.Mathlib.Nat.{sub-zero}
 use Rattle.schedule.specs.Record.{freeFrom}
-use Rattle.schedule.specs.Scans.{blockSize, firstFree}
-use Rattle.schedule.proofs.Doubled.{outside-more}
 use Rattle.schedule.proofs.Checks.{block-found, block-full, block-last}
 use Rattle.schedule.proofs.lowest_unmarked.Statement.{statement}
 use Rattle.schedule.proofs.lowest_unmarked.Tie as tie
@@ -18,20 +16,8 @@ Inv-loop s count places base₀ base = (base ≤ places) × (freeFrom (places - 
 abbrev μ-loop : tie.MeasureT-loop
 μ-loop s count places base₀ base = places - base
 
-first-low-requires : tie.Need-first-low-requires Inv-loop μ-loop
-first-low-requires c κs =
-    let s = c .before in
-    (s .pre .0, c .if1 .taken, outside-more (s .args .places) blockSize (take (s .args .count) (s .args .s .now)) (c .if1 .taken) (s .pre .2))
-
-returns : tie.Need-returns Inv-loop μ-loop
-returns c =
-    let s = c .before .before in
-    let w = take (s .args .count) (s .args .s .now) in
-    block-last (s .args .places) 0 w (omega arith) (c .first-low .ensures ∙ ap (λ (n : ℕ). firstFree n 0 w) (sym (sub-zero (s .args .places)))) (rw (sub-zero (s .args .places)) (s .pre .1))
-    ∙ ap (λ (n : ℕ). getD (freeFrom n 0 w) 0 0) (sub-zero (s .args .places))
-
 loop-holds : tie.Need-loop-holds Inv-loop μ-loop
-loop-holds c = let a = c .before .args in (omega arith, ap (λ (n : ℕ). freeFrom n 0 (take (a .count) (a .s .now))) (sub-zero (a .places)))
+loop-holds c = let a = c .args in (omega arith, ap (λ (n : ℕ). freeFrom n 0 (take (a .count) (a .s .now))) (sub-zero (a .places)))
 
 sub-loop : tie.Need-sub-loop Inv-loop μ-loop
 sub-loop c = search needs
@@ -42,14 +28,14 @@ add-first-free c = search needs
 first-free-requires : tie.Need-first-free-requires Inv-loop μ-loop
 first-free-requires c κs = search needs
 
-add-if2 : tie.Need-add-if2 Inv-loop μ-loop
-add-if2 c = search needs
+add-if1 : tie.Need-add-if1 Inv-loop μ-loop
+add-if1 c = search needs
 
-returns-2 : tie.Need-returns-2 Inv-loop μ-loop
-returns-2 c =
+returns : tie.Need-returns Inv-loop μ-loop
+returns c =
     let l = c .before .before .before in
-    let s = l .before .before in
-    block-found (s .args .places) (l .loop .base) (take (s .args .count) (s .args .s .now)) (c .before .before .loop-test .taken) (c .before .first-free .ensures) (c .if2 .taken)
+    let s = l .before in
+    block-found (s .args .places) (l .loop .base) (take (s .args .count) (s .args .s .now)) (c .before .before .loop-test .taken) (c .before .first-free .ensures) (c .if1 .taken)
     ∙ ap (λ (xs : List ℕ). getD xs 0 0) (l .loop .inv .1)
 
 add-base : tie.Need-add-base Inv-loop μ-loop
@@ -61,16 +47,16 @@ loop-less c = search needs
 loop-again : tie.Need-loop-again Inv-loop μ-loop
 loop-again c =
     let l = c .before .before .before in
-    let s = l .before .before in
-    (omega arith, block-full (s .args .places) (l .loop .base) (take (s .args .count) (s .args .s .now)) (c .before .before .loop-test .taken) (c .before .first-free .ensures) (c .if2 .left) ∙ l .loop .inv .1)
+    let s = l .before in
+    (omega arith, block-full (s .args .places) (l .loop .base) (take (s .args .count) (s .args .s .now)) (c .before .before .loop-test .taken) (c .before .first-free .ensures) (c .if1 .left) ∙ l .loop .inv .1)
 
 first-free-requires-2 : tie.Need-first-free-requires-2 Inv-loop μ-loop
 first-free-requires-2 c κs = search needs
 
-returns-3 : tie.Need-returns-3 Inv-loop μ-loop
-returns-3 c =
+returns-2 : tie.Need-returns-2 Inv-loop μ-loop
+returns-2 c =
     let l = c .before .before in
-    let s = l .before .before in
+    let s = l .before in
     block-last (s .args .places) (l .loop .base) (take (s .args .count) (s .args .s .now)) (l .loop .inv .0) (c .first-free2 .ensures) (rw (l .loop .inv .1) (s .pre .1))
     ∙ ap (λ (xs : List ℕ). getD xs 0 0) (l .loop .inv .1)
 
@@ -80,16 +66,14 @@ lowest-unmarked-spec =
     (tie.spec
     Inv-loop
     μ-loop
-    first-low-requires
-    returns
     loop-holds
     sub-loop
     add-first-free
     first-free-requires
-    add-if2
-    returns-2
+    add-if1
+    returns
     add-base
     loop-less
     loop-again
     first-free-requires-2
-    returns-3)
+    returns-2)
