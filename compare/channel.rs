@@ -543,42 +543,59 @@ fn schedule_calls(g: &mut Gen, mut m: Model, n: &mut Counts) {
     n.add(m.placed);
 }
 
-// Cases for crates/channel_replay: see the head of its stdin.
+// Cases for crates/channel_replay: see the head of its source. Refusals are document 01's.
 fn sample(dir: &str) {
     use std::fmt::Write;
     let mut g = Gen(42);
     let mut stdin = String::new();
     let mut stdout = String::new();
     let two53 = 9007199254740992u64;
-    for _ in 0..12 {
+    for i in 0..14 {
         let chance = |g: &mut Gen| [0, two53, two53 / 2, two53 / 4, g.next() >> 11][g.below(5) as usize];
         let k = [chance(&mut g) / 4, chance(&mut g), chance(&mut g), chance(&mut g)];
-        let s = Setup { reals: k.map(|x| x as f64 / two53 as f64), delays: [g.delay(), g.delay(), g.delay()] };
+        let mut s = Setup { reals: k.map(|x| x as f64 / two53 as f64), delays: [g.delay(), g.delay(), g.delay()] };
+        if i % 5 == 4 {
+            s.delays[g.below(3) as usize] = 60001;
+        }
         writeln!(stdin, "1 {} {} {} {} {} {} {}", k[0], k[1], k[2], k[3], s.delays[0], s.delays[1], s.delays[2]).unwrap();
-        writeln!(stdout, "made").unwrap();
+        if s.delays.contains(&60001) {
+            writeln!(stdout, "refused 4").unwrap();
+            s = Setup { reals: [0.0; 4], delays: [0; 3] };
+        } else {
+            writeln!(stdout, "made").unwrap();
+        }
         let mut reference = Channel::new(config(&s));
         let mut stats = [0u64; 6];
         let mut theirs = ChannelScheduler::new();
+        let mut model = Model { records: vec![[0; 4]; 8], places: vec![0; 8 * PLACE], count: 0, next: 0, placed: [0; 3] };
         let base = Instant::now();
-        let mut now = 0u64;
+        let mut time = 0u64;
         for _ in 0..30 {
-            if g.below(2) == 0 && theirs.len() <= 6 {
+            let now = if g.below(16) == 0 { MAX_TIME + g.below(2) } else { time };
+            if g.below(2) == 0 {
                 let (n, seed) = (g.below(64), g.below(256));
                 let packet: Vec<u8> = (0..n).map(|i| ((seed + 7 * i) % 256) as u8).collect();
                 let mut r = [0u64; 8];
                 for x in r.iter_mut() {
                     *x = [0, two53 - 1, 6004799503160661, g.next() >> 11][g.below(4) as usize];
                 }
+                if g.below(12) == 0 {
+                    r[g.below(8) as usize] = two53;
+                }
                 let rolls: [f64; 8] = r.map(|x| x as f64 / two53 as f64);
-                let (delays, bytes, deliveries) = one_packet(&s, &mut stats, &mut reference, &packet, &rolls, &vec![0; n as usize]);
-                theirs.schedule_at(base + Duration::from_nanos(now), deliveries);
+                let rolled = !r.contains(&two53);
+                let (delays, bytes, deliveries) = if rolled { one_packet(&s, &mut stats, &mut reference, &packet, &rolls, &vec![0; n as usize]) } else { (vec![], vec![], vec![]) };
+                let queued = model.schedule_at(now, &bytes, &delays);
+                if queued == 0 {
+                    theirs.schedule_at(base + Duration::from_nanos(now), deliveries);
+                }
                 write!(stdin, "2 {now} {n} {seed}").unwrap();
                 for x in r {
                     write!(stdin, " {x}").unwrap();
                 }
                 writeln!(stdin).unwrap();
                 let fold: u64 = bytes.iter().map(|&b| b as u64).sum();
-                write!(stdout, "{}", delays.len()).unwrap();
+                write!(stdout, "{}", if rolled { delays.len().to_string() } else { "refused 11".to_string() }).unwrap();
                 for d in &delays {
                     write!(stdout, "\t{d}").unwrap();
                 }
@@ -586,15 +603,23 @@ fn sample(dir: &str) {
                 for c in stats {
                     write!(stdout, "\t{c}").unwrap();
                 }
+                if queued != 0 {
+                    write!(stdout, "\trefused {}", queued - 16).unwrap();
+                }
                 writeln!(stdout, "\t{}", theirs.len()).unwrap();
             } else {
                 writeln!(stdin, "3 {now}").unwrap();
+                let (popped, _) = model.pop_ready_at(now, &mut [0; 64]);
+                if popped > 1 {
+                    writeln!(stdout, "refused {}\t{}", popped - 16, theirs.len()).unwrap();
+                    continue;
+                }
                 match theirs.pop_ready_at(base + Duration::from_nanos(now)) {
                     Some(p) => writeln!(stdout, "{}\t{}\t{}", p.len(), p.iter().map(|&b| b as u64).sum::<u64>(), theirs.len()).unwrap(),
                     None => writeln!(stdout, "none\t{}", theirs.len()).unwrap(),
                 }
             }
-            now += [0, 1_000_000, 5_000_000_000, g.below(60_000_000_000)][g.below(4) as usize];
+            time += [0, 1_000_000, 5_000_000_000, g.below(60_000_000_000)][g.below(4) as usize];
         }
     }
     std::fs::create_dir_all(dir).unwrap();

@@ -374,13 +374,14 @@ fn estimators(r: &mut Gen, n: &mut u64) {
     for _ in 0..80 {
         same!((w, bits(&d)), words(&e), "state under {c:?}");
         let (w0, d0) = (w, bits(&d));
+        a = [9];
         match r.below(10) {
             0..=5 => {
                 let x = if r.below(2) == 0 { (around + r.below(around / 4 + 2)).min(DAY) } else { r.maybe_out() };
                 let again = r.below(6) == 0;
                 let before = words(&e);
                 let got = unsafe { timing_rto_update(w.as_mut_ptr(), 23, d.as_mut_ptr(), 5, x, again, a.as_mut_ptr(), 1) };
-                if x > DAY { same!((got, w, bits(&d)), (10, w0, d0), "update {x}"); } else {
+                if x > DAY { same!((got, w, bits(&d), a), (10, w0, d0, [9]), "update {x}"); } else {
                     let want = e.update_rtt(Duration::from_nanos(x), again);
                     same!((got, a[0]), (0, want as u64), "update {x} {again}");
                     same!((w, bits(&d)), words(&e), "after update {x} {again} of {before:?}");
@@ -440,7 +441,7 @@ fn sample(dir: &str, seed: u64) {
     let zero = Instant::now();
     let at = |x: u64| zero + Duration::from_nanos(x);
     writeln!(cases, "# Made by compare/timing.rs --sample: random calls, often at the edges; the answers are the reference's.").unwrap();
-    for i in 0..200 {
+    for i in 0..120 {
         let unit = 1u64 << 20;
         let mut c = [r.span(), r.span(), r.span(), r.span() % 1_000_000_001, r.below(unit + 1), r.below(unit + 1), r.below(16 * unit + 1), r.below(16 * unit + 1)];
         if c[1] > c[2] { c.swap(1, 2); }
@@ -465,9 +466,11 @@ fn sample(dir: &str, seed: u64) {
             if let Some(e) = &mut e {
                 if op == 4 { write!(answers, "{} ; ", e.has_exceeded_retry_limit(x as u32) as u64).unwrap(); continue; }
                 if x > DAY { answers.push_str("refused 10 ; "); continue; }
-                match op { 2 => { e.on_timeout(); } 3 => e.reset_backoff(), _ => { e.update_rtt(d(x), op == 1); } }
+                match op { 2 => write!(answers, "{} ", ns(e.on_timeout())).unwrap(), 3 => e.reset_backoff(), _ => write!(answers, "{} ", e.update_rtt(d(x), op == 1) as u64).unwrap() }
                 let o = |x: Option<Duration>| x.map_or("-".to_string(), |d| ns(d).to_string());
-                write!(answers, "{} {} {} ; ", ns(e.current_rto()), o(e.srtt()), o(e.rttvar())).unwrap();
+                write!(answers, "{} {} {} {} {} {} ", ns(e.current_rto()), o(e.srtt()), o(e.rttvar()), ns(e.base_rto()), e.is_in_backoff() as u64, e.consecutive_timeouts()).unwrap();
+                let s = &e.stats;
+                write!(answers, "{} {} {} {} {} {} ; ", s.sample_count, s.karn_rejected_count, s.timeout_count, s.backoff_count, s.max_consecutive_timeouts, e.mean_rtt_ms().to_bits()).unwrap();
             }
         }
         cases.push('\n');
