@@ -641,7 +641,7 @@ fn main() {
     for np in [257, 300, 520] {
         large_schedule(&mut g, np, &mut n);
     }
-    while start.elapsed().as_secs_f64() < seconds {
+    loop {
         for _ in 0..200 {
             channel_runs(&mut g, &mut packets);
             channel_refusals(&mut g, &mut channel_refused);
@@ -650,6 +650,9 @@ fn main() {
         }
         let np = [256, 257, 300, 512, 513, 520][g.below(6) as usize];
         large_schedule(&mut g, np, &mut n);
+        if start.elapsed().as_secs_f64() >= seconds {
+            break;
+        }
     }
     let [sum, marks, blocks] = n.placed;
     if n.placed.contains(&0) {
