@@ -454,7 +454,7 @@ fn schedule_refusals(g: &mut Gen, n: &mut Counts) {
             }
         }
     }
-    schedule_calls(g, m, n);
+    schedule_calls(g, m, true, n);
 }
 
 // A sound state of so many places: those below `full` in use, that one free, the others anywhere or, if `low`, up to the count.
@@ -486,9 +486,10 @@ fn shuffle(g: &mut Gen, xs: &mut [u64]) {
 fn large_schedule(g: &mut Gen, np: u64, n: &mut Counts) {
     for block in 0..np.div_ceil(256) {
         for kind in 0..16 {
-            let count = [np - 1 - g.below(3), 2 + g.below(np - 2)][g.below(2) as usize];
+            let nearly_full = kind <= 12 && g.below(2) == 0;
+            let count = if nearly_full { np - 1 - g.below(3) } else { 2 + g.below(np - 2) };
             let full = [0, g.below(count), count, block * 256][g.below(4) as usize].min(count);
-            let low = g.below(2) == 0;
+            let low = kind % 4 == 0;
             let mut m = waiting(g, np, count, full, low);
             let i = [0, g.below(count), count - 1][g.below(3) as usize] as usize;
             let j = (i + 1 + g.below(count - 1) as usize) % count as usize;
@@ -509,21 +510,22 @@ fn large_schedule(g: &mut Gen, np: u64, n: &mut Counts) {
                 11 => m.next = (1 << 60) - g.below(2),
                 _ => {}
             }
-            schedule_calls(g, m, n);
+            schedule_calls(g, m, kind < 12, n);
         }
     }
 }
 
-// The calls on any state, against the model.
-fn schedule_calls(g: &mut Gen, mut m: Model, n: &mut Counts) {
+// The calls on any state, against the model; with arguments out of bounds too, if `all`.
+fn schedule_calls(g: &mut Gen, mut m: Model, all: bool, n: &mut Counts) {
+    let most = |some: u64, every: u64| if all { every } else { some };
     let mut o = Ours { records: m.records.clone(), places: m.places.clone(), count: m.count, next: m.next };
     let np = m.places.len() / PLACE;
-    let now = [0, 1_000_000, MAX_TIME - 1_000_000, MAX_TIME, MAX_TIME + 1, u64::MAX][g.below(6) as usize];
+    let now = [0, 1_000_000, MAX_TIME - 1_000_000, MAX_TIME, MAX_TIME + 1, u64::MAX][g.below(most(2, 6)) as usize];
     let shown = format!("{:?} count {} next {} places {np} now {now}", m.records, m.count, m.next);
     read_check(&o, &m, &shown);
-    let length = [0, 1, 1410, 1411, 1412][g.below(5) as usize];
+    let length = [0, 1, 1410, 1411, 1412][g.below(most(3, 5)) as usize];
     let packet = g.bytes(length);
-    let delays: Vec<u64> = (0..g.below(3)).map(|_| [0, 1, 2, 180000, 180001, u64::MAX][g.below(6) as usize]).collect();
+    let delays: Vec<u64> = (0..g.below(3)).map(|_| [0, 1, 2, 180000, 180001, u64::MAX][g.below(most(4, 6)) as usize]).collect();
     let (a, b) = (o.schedule_at(now, &packet, &delays), m.schedule_at(now, &packet, &delays));
     if a != b {
         fail("schedule_at", format!("{shown} delays {delays:?} length {length}: ours {a} model {b}"));
