@@ -11,7 +11,7 @@ mod generator;
 use calls::{new_channel, process, Ours};
 use generator::{fail, verdict, Gen};
 use reference::channel::scheduler::ChannelScheduler;
-use reference::channel::{Channel, ChannelConfig, Delivery};
+use reference::channel::{Channel, ChannelConfig, ChannelStats, Delivery};
 use std::time::{Duration, Instant};
 
 impl Gen {
@@ -110,12 +110,16 @@ fn one_packet(s: &Setup, stats: &mut [u64; 6], reference: &mut Channel, packet: 
     }
     let mut out: Vec<u8> = spare.to_vec();
     let a = process(&joined(&s.reals, r), &numbers(s, stats), packet, &mut out);
-    if a[0] != theirs.len() as u64 {
-        fail("copies", format!("{} ours {:?}", shown(), a));
+    let t = &reference.stats;
+    let tallies = [t.packets_seen, t.lost, t.corrupted, t.duplicated, t.reordered, t.copies_delivered];
+    let mut want = [0; 9];
+    want[0] = theirs.len() as u64;
+    for (i, d) in theirs.iter().enumerate() {
+        want[1 + i] = d.delay_ms;
     }
-    let ours: Vec<u64> = a[1..1 + a[0] as usize].to_vec();
-    if ours != theirs.iter().map(|d| d.delay_ms).collect::<Vec<_>>() {
-        fail("delays", format!("{} ours {:?}", shown(), ours));
+    want[3..].copy_from_slice(&tallies);
+    if a != want {
+        fail("answer", format!("{} ours {:?} theirs {:?}", shown(), a, want));
     }
     for d in &theirs {
         if d.data != out[..packet.len()] {
@@ -126,13 +130,8 @@ fn one_packet(s: &Setup, stats: &mut [u64; 6], reference: &mut Channel, packet: 
     if out[kept..] != spare[kept..] {
         fail("buffer past the packet", shown());
     }
-    let t = &reference.stats;
-    let tallies = [t.packets_seen, t.lost, t.corrupted, t.duplicated, t.reordered, t.copies_delivered];
-    if a[3..9] != tallies {
-        fail("tallies", format!("{} ours {:?} theirs {:?}", shown(), &a[3..9], tallies));
-    }
     *stats = tallies;
-    (ours, out[..kept].to_vec(), theirs)
+    (a[1..1 + theirs.len()].to_vec(), out[..kept].to_vec(), theirs)
 }
 
 fn channel_runs(g: &mut Gen, packets: &mut u64) {
@@ -176,7 +175,7 @@ fn every_pick(packets: &mut u64) {
     }
 }
 
-// Refusals of the channel: several lines made true at once, against the model; nothing changes.
+// Several lines made true at once: refusals against the model, nothing changes; accepted calls beside the reference.
 fn channel_refusals(g: &mut Gen, refusals: &mut u64) {
     let mut s = setup(g);
     let mut stats = [g.below(100), 0, 5, 0, (1 << 60) - 1, 3];
@@ -203,8 +202,6 @@ fn channel_refusals(g: &mut Gen, refusals: &mut u64) {
     let packet = g.bytes(n);
     let short = g.below(2) == 0 && n > 0;
     let spare = g.bytes(if short { n - 1 } else { n });
-    let mut out = spare.clone();
-    let a = process(&joined(&s.reals, &r), &numbers(&s, &stats), &packet, &mut out);
     let lost = r[0] < s.reals[0];
     let want = verdict(&[
         (9, setup_broken),
@@ -213,14 +210,16 @@ fn channel_refusals(g: &mut Gen, refusals: &mut u64) {
         (6, n > 1410),
         (5, !lost && spare.len() < n),
     ]);
-    let shown = format!("{:?} {:?} stats {:?} rolls {:?} n {} out {} ours {:?} want {}", s.reals, s.delays, stats, r, n, spare.len(), a, want);
     if want == 0 {
-        if a[0] > 2 {
-            fail("refused without a line", shown);
-        }
+        let mut reference = Channel::new(config(&s));
+        let [packets_seen, lost, corrupted, duplicated, reordered, copies_delivered] = stats;
+        reference.stats = ChannelStats { packets_seen, lost, corrupted, duplicated, reordered, copies_delivered };
+        one_packet(&s, &mut stats, &mut reference, &packet, &r, &spare);
     } else {
-        if a[0] != want || out != spare || a[3..9] != stats {
-            fail("refusal", shown);
+        let mut out = spare.clone();
+        let a = process(&joined(&s.reals, &r), &numbers(&s, &stats), &packet, &mut out);
+        if a[..3] != [want, 0, 0] || out != spare || a[3..9] != stats {
+            fail("refusal", format!("{:?} {:?} stats {:?} rolls {:?} n {} out {} ours {:?} want {}", s.reals, s.delays, stats, r, n, spare.len(), a, want));
         }
         *refusals += 1;
     }
@@ -240,6 +239,8 @@ struct Model {
     places: Vec<u8>,
     count: usize,
     next: u64,
+    // Copies placed where no place lay past the count; else in a store of up to 256 places; else in a larger one.
+    placed: [u64; 3],
 }
 
 impl Model {
@@ -282,6 +283,8 @@ impl Model {
             return v;
         }
         for d in delays {
+            let past = self.waiting().iter().any(|r| r[3] > self.count as u64);
+            self.placed[if !past { 0 } else if self.places.len() / PLACE <= 256 { 1 } else { 2 }] += 1;
             let place = self.free()[0] as usize;
             let r = [now + d * 1000000, self.next, packet.len() as u64, place as u64];
             self.places[place * PLACE..(place + 1) * PLACE].fill(0);
@@ -316,6 +319,21 @@ impl Model {
     }
 }
 
+#[derive(Default)]
+struct Counts {
+    calls: u64,
+    refused: u64,
+    placed: [u64; 3],
+}
+
+impl Counts {
+    fn add(&mut self, placed: [u64; 3]) {
+        for (sum, n) in self.placed.iter_mut().zip(placed) {
+            *sum += n;
+        }
+    }
+}
+
 fn same(what: &str, o: &Ours, m: &Model, shown: &str) {
     if o.records != m.records || o.places != m.places || o.count != m.count || o.next != m.next {
         fail(what, format!("{shown}: ours {:?} {} {} model {:?} {} {}", o.records, o.count, o.next, m.records, m.count, m.next));
@@ -339,9 +357,9 @@ fn read_check(o: &Ours, m: &Model, shown: &str) {
 }
 
 // Random calls on a small schedule, beside the reference and the model; records and places are compared whole after each call.
-fn schedule_runs(g: &mut Gen, calls: &mut u64, refused: &mut u64) {
+fn schedule_runs(g: &mut Gen, n: &mut Counts) {
     let large = g.below(200) == 0;
-    let mut size = || if !large { g.below(7) as usize } else if g.below(4) == 0 { 250 + g.below(20) as usize } else { 60 + g.below(90) as usize };
+    let mut size = || if !large { g.below(7) as usize } else if g.below(3) == 0 { 250 + g.below(280) as usize } else { 60 + g.below(90) as usize };
     let (nr, np) = (size(), size());
     let spare = g.below(PLACE as u64) as usize;
     let dirty_records = (0..nr).map(|_| [g.next(), g.next(), g.next(), g.next()]).collect();
@@ -350,7 +368,7 @@ fn schedule_runs(g: &mut Gen, calls: &mut u64, refused: &mut u64) {
     let mut cleared = dirty_places.clone();
     cleared[..np * PLACE].fill(0);
     let mut ours = Ours::new(dirty_records, dirty_places);
-    let mut model = Model { records: vec![[0; 4]; nr], places: cleared, count: 0, next: 0 };
+    let mut model = Model { records: vec![[0; 4]; nr], places: cleared, count: 0, next: 0, placed: [0; 3] };
     same("making", &ours, &model, "new");
     let mut theirs = ChannelScheduler::new();
     let base = Instant::now();
@@ -358,18 +376,18 @@ fn schedule_runs(g: &mut Gen, calls: &mut u64, refused: &mut u64) {
     for step in 0..if large { 250 } else { 40 } {
         let shown = format!("records {nr} places {np} step {step} now {now}");
         if g.below(if large && step < 150 { 5 } else { 2 }) != 1 {
-            let n = g.length();
-            let packet = g.bytes(n);
+            let length = g.length();
+            let packet = g.bytes(length);
             let delays: Vec<u64> = (0..g.below(3)).map(|_| if g.below(2) == 0 { g.below(3) } else { g.below(180001) }).collect();
             let a = ours.schedule_at(now, &packet, &delays);
             let b = model.schedule_at(now, &packet, &delays);
             if a != b {
-                fail("schedule_at", format!("{shown} delays {delays:?} length {n}: ours {a} model {b}"));
+                fail("schedule_at", format!("{shown} delays {delays:?} length {length}: ours {a} model {b}"));
             }
             if a == 0 {
                 theirs.schedule_at(base + Duration::from_nanos(now), delays.iter().map(|&d| Delivery { delay_ms: d, data: packet.clone() }).collect());
             } else {
-                *refused += 1;
+                n.refused += 1;
             }
         } else {
             let mut out = g.bytes(1412);
@@ -401,15 +419,16 @@ fn schedule_runs(g: &mut Gen, calls: &mut u64, refused: &mut u64) {
             fail("reading and the reference", shown);
         }
         now += [0, 0, 1, 1_000_000, g.below(200_000_000_000)][g.below(5) as usize];
-        *calls += 1;
+        n.calls += 1;
     }
+    n.add(model.placed);
 }
 
 // Damaged states, times and sizes: refusals against the model, nothing changed.
-fn schedule_refusals(g: &mut Gen, calls: &mut u64, refused: &mut u64) {
+fn schedule_refusals(g: &mut Gen, n: &mut Counts) {
     let np = g.below(5) as usize;
     let nr = g.below(5) as usize;
-    let mut m = Model { records: vec![[0; 4]; nr], places: vec![0; np * PLACE], count: 0, next: 0 };
+    let mut m = Model { records: vec![[0; 4]; nr], places: vec![0; np * PLACE], count: 0, next: 0, placed: [0; 3] };
     for _ in 0..g.below(5) {
         let n = g.length();
         let packet = g.bytes(n);
@@ -435,18 +454,83 @@ fn schedule_refusals(g: &mut Gen, calls: &mut u64, refused: &mut u64) {
             }
         }
     }
+    schedule_calls(g, m, true, n);
+}
+
+// A sound state of so many places: those below `full` in use, that one free, the others anywhere or, if `low`, up to the count.
+fn waiting(g: &mut Gen, np: u64, count: u64, full: u64, low: bool) -> Model {
+    let mut others: Vec<u64> = (full + 1..if low { count + 1 } else { np }).collect();
+    shuffle(g, &mut others);
+    let mut places: Vec<u64> = (0..full).chain(others).take(count as usize).collect();
+    shuffle(g, &mut places);
+    let (mut time, mut order, mut next) = (g.below(2) * 1_000_000, 0, 0);
+    let mut records = vec![];
+    for p in places {
+        let step = g.below(3);
+        time += step;
+        order = if step == 0 { order + 1 + g.below(2) } else { g.below(1000) };
+        next = next.max(order + 1);
+        records.push([time, order, g.length() as u64, p]);
+    }
+    records.resize(count as usize + g.below(3) as usize, [0; 4]);
+    Model { records, places: (0..np as usize * PLACE).map(|i| i as u8).collect(), count: count as usize, next, placed: [0; 3] }
+}
+
+fn shuffle(g: &mut Gen, xs: &mut [u64]) {
+    for i in 1..xs.len() {
+        xs.swap(i, g.below(i as u64 + 1) as usize);
+    }
+}
+
+// A store of so many places, sound and with one damage of each kind, in each block of 256.
+fn large_schedule(g: &mut Gen, np: u64, n: &mut Counts) {
+    for block in 0..np.div_ceil(256) {
+        for kind in 0..16 {
+            let nearly_full = kind <= 12 && g.below(2) == 0;
+            let count = if nearly_full { np - 1 - g.below(3) } else { 2 + g.below(np - 2) };
+            let full = [0, g.below(count), count, block * 256][g.below(4) as usize].min(count);
+            let low = kind % 4 == 0;
+            let mut m = waiting(g, np, count, full, low);
+            let i = [0, g.below(count), count - 1][g.below(3) as usize] as usize;
+            let j = (i + 1 + g.below(count - 1) as usize) % count as usize;
+            match kind {
+                0 | 1 => {
+                    let p = block * 256 + g.below((np - block * 256).min(256));
+                    (m.records[i][3], m.records[j][3]) = (p, p);
+                }
+                2 => m.records[i][3] = m.records[j][3],
+                3 => m.records[i][3] = [np, np + 1, np.next_multiple_of(256), 1 << 32, u64::MAX][g.below(5) as usize],
+                4 => m.records.swap(i, j),
+                5 => m.records[i][0] = m.records[j][0],
+                6 => m.records[i][2] = [1410, 1411, u64::MAX][g.below(3) as usize],
+                7 => m.records[i][1] = [m.next, u64::MAX][g.below(2) as usize],
+                8 => m.next = m.records[i][1] + g.below(2),
+                9 => m.records[count as usize - 1][0] = MAX_TIME + g.below(2),
+                10 => m.count = m.records.len() + 1,
+                11 => m.next = (1 << 60) - g.below(2),
+                _ => {}
+            }
+            schedule_calls(g, m, kind < 12, n);
+        }
+    }
+}
+
+// The calls on any state, against the model; with arguments out of bounds too, if `all`.
+fn schedule_calls(g: &mut Gen, mut m: Model, all: bool, n: &mut Counts) {
+    let most = |some: u64, every: u64| if all { every } else { some };
     let mut o = Ours { records: m.records.clone(), places: m.places.clone(), count: m.count, next: m.next };
-    let now = [0, 1_000_000, MAX_TIME - 1_000_000, MAX_TIME, MAX_TIME + 1, u64::MAX][g.below(6) as usize];
+    let np = m.places.len() / PLACE;
+    let now = [0, 1_000_000, MAX_TIME - 1_000_000, MAX_TIME, MAX_TIME + 1, u64::MAX][g.below(most(2, 6)) as usize];
     let shown = format!("{:?} count {} next {} places {np} now {now}", m.records, m.count, m.next);
     read_check(&o, &m, &shown);
-    let n = [0, 1, 1410, 1411, 1412][g.below(5) as usize];
-    let packet = g.bytes(n);
-    let delays: Vec<u64> = (0..g.below(3)).map(|_| [0, 1, 2, 180000, 180001, u64::MAX][g.below(6) as usize]).collect();
+    let length = [0, 1, 1410, 1411, 1412][g.below(most(3, 5)) as usize];
+    let packet = g.bytes(length);
+    let delays: Vec<u64> = (0..g.below(3)).map(|_| [0, 1, 2, 180000, 180001, u64::MAX][g.below(most(4, 6)) as usize]).collect();
     let (a, b) = (o.schedule_at(now, &packet, &delays), m.schedule_at(now, &packet, &delays));
     if a != b {
-        fail("schedule_at", format!("{shown} delays {delays:?} length {n}: ours {a} model {b}"));
+        fail("schedule_at", format!("{shown} delays {delays:?} length {length}: ours {a} model {b}"));
     }
-    *refused += (a != 0) as u64;
+    n.refused += (a != 0) as u64;
     same("memory after schedule_at", &o, &m, &shown);
     let size = g.length();
     let mut out = g.bytes(size);
@@ -455,47 +539,65 @@ fn schedule_refusals(g: &mut Gen, calls: &mut u64, refused: &mut u64) {
     if a != b || out != out2 {
         fail("pop_ready_at", format!("{shown} buffer {size}: ours {a:?} model {b:?}"));
     }
-    *refused += (a.0 > 1) as u64;
+    n.refused += (a.0 > 1) as u64;
     same("memory after pop_ready_at", &o, &m, &shown);
-    *calls += 2;
+    n.calls += 2;
+    n.add(m.placed);
 }
 
-// Cases for crates/channel_replay: see the head of its stdin.
+// Cases for crates/channel_replay: see the head of its source. Refusals are document 01's.
 fn sample(dir: &str) {
     use std::fmt::Write;
     let mut g = Gen(42);
     let mut stdin = String::new();
     let mut stdout = String::new();
     let two53 = 9007199254740992u64;
-    for _ in 0..12 {
+    for i in 0..14 {
         let chance = |g: &mut Gen| [0, two53, two53 / 2, two53 / 4, g.next() >> 11][g.below(5) as usize];
         let k = [chance(&mut g) / 4, chance(&mut g), chance(&mut g), chance(&mut g)];
-        let s = Setup { reals: k.map(|x| x as f64 / two53 as f64), delays: [g.delay(), g.delay(), g.delay()] };
+        let mut s = Setup { reals: k.map(|x| x as f64 / two53 as f64), delays: [g.delay(), g.delay(), g.delay()] };
+        if i % 5 == 4 {
+            s.delays[g.below(3) as usize] = 60001;
+        }
         writeln!(stdin, "1 {} {} {} {} {} {} {}", k[0], k[1], k[2], k[3], s.delays[0], s.delays[1], s.delays[2]).unwrap();
-        writeln!(stdout, "made").unwrap();
+        if s.delays.contains(&60001) {
+            writeln!(stdout, "refused 4").unwrap();
+            s = Setup { reals: [0.0; 4], delays: [0; 3] };
+        } else {
+            writeln!(stdout, "made").unwrap();
+        }
         let mut reference = Channel::new(config(&s));
         let mut stats = [0u64; 6];
         let mut theirs = ChannelScheduler::new();
+        let mut model = Model { records: vec![[0; 4]; 8], places: vec![0; 8 * PLACE], count: 0, next: 0, placed: [0; 3] };
         let base = Instant::now();
-        let mut now = 0u64;
+        let mut time = 0u64;
         for _ in 0..30 {
-            if g.below(2) == 0 && theirs.len() <= 6 {
+            let now = if g.below(16) == 0 { MAX_TIME + g.below(2) } else { time };
+            if g.below(2) == 0 {
                 let (n, seed) = (g.below(64), g.below(256));
                 let packet: Vec<u8> = (0..n).map(|i| ((seed + 7 * i) % 256) as u8).collect();
                 let mut r = [0u64; 8];
                 for x in r.iter_mut() {
                     *x = [0, two53 - 1, 6004799503160661, g.next() >> 11][g.below(4) as usize];
                 }
+                if g.below(12) == 0 {
+                    r[g.below(8) as usize] = two53;
+                }
                 let rolls: [f64; 8] = r.map(|x| x as f64 / two53 as f64);
-                let (delays, bytes, deliveries) = one_packet(&s, &mut stats, &mut reference, &packet, &rolls, &vec![0; n as usize]);
-                theirs.schedule_at(base + Duration::from_nanos(now), deliveries);
+                let rolled = !r.contains(&two53);
+                let (delays, bytes, deliveries) = if rolled { one_packet(&s, &mut stats, &mut reference, &packet, &rolls, &vec![0; n as usize]) } else { (vec![], vec![], vec![]) };
+                let queued = model.schedule_at(now, &bytes, &delays);
+                if queued == 0 {
+                    theirs.schedule_at(base + Duration::from_nanos(now), deliveries);
+                }
                 write!(stdin, "2 {now} {n} {seed}").unwrap();
                 for x in r {
                     write!(stdin, " {x}").unwrap();
                 }
                 writeln!(stdin).unwrap();
                 let fold: u64 = bytes.iter().map(|&b| b as u64).sum();
-                write!(stdout, "{}", delays.len()).unwrap();
+                write!(stdout, "{}", if rolled { delays.len().to_string() } else { "refused 11".to_string() }).unwrap();
                 for d in &delays {
                     write!(stdout, "\t{d}").unwrap();
                 }
@@ -503,15 +605,23 @@ fn sample(dir: &str) {
                 for c in stats {
                     write!(stdout, "\t{c}").unwrap();
                 }
+                if queued != 0 {
+                    write!(stdout, "\trefused {}", queued - 16).unwrap();
+                }
                 writeln!(stdout, "\t{}", theirs.len()).unwrap();
             } else {
                 writeln!(stdin, "3 {now}").unwrap();
+                let (popped, _) = model.pop_ready_at(now, &mut [0; 64]);
+                if popped > 1 {
+                    writeln!(stdout, "refused {}\t{}", popped - 16, theirs.len()).unwrap();
+                    continue;
+                }
                 match theirs.pop_ready_at(base + Duration::from_nanos(now)) {
                     Some(p) => writeln!(stdout, "{}\t{}\t{}", p.len(), p.iter().map(|&b| b as u64).sum::<u64>(), theirs.len()).unwrap(),
                     None => writeln!(stdout, "none\t{}", theirs.len()).unwrap(),
                 }
             }
-            now += [0, 1_000_000, 5_000_000_000, g.below(60_000_000_000)][g.below(4) as usize];
+            time += [0, 1_000_000, 5_000_000_000, g.below(60_000_000_000)][g.below(4) as usize];
         }
     }
     std::fs::create_dir_all(dir).unwrap();
@@ -528,15 +638,27 @@ fn main() {
     }
     let mut g = Gen(std::env::var("SEED").ok().and_then(|s| s.parse().ok()).unwrap_or(1));
     let start = Instant::now();
-    let (mut picks, mut packets, mut channel_refused, mut calls, mut schedule_refused) = (0u64, 0u64, 0u64, 0u64, 0u64);
+    let (mut picks, mut packets, mut channel_refused, mut n) = (0u64, 0u64, 0u64, Counts::default());
     every_pick(&mut picks);
-    while start.elapsed().as_secs_f64() < seconds {
-        for _ in 0..20 {
+    for np in [257, 300, 520] {
+        large_schedule(&mut g, np, &mut n);
+    }
+    loop {
+        for _ in 0..200 {
             channel_runs(&mut g, &mut packets);
             channel_refusals(&mut g, &mut channel_refused);
-            schedule_runs(&mut g, &mut calls, &mut schedule_refused);
-            schedule_refusals(&mut g, &mut calls, &mut schedule_refused);
+            schedule_runs(&mut g, &mut n);
+            schedule_refusals(&mut g, &mut n);
+        }
+        let np = [256, 257, 300, 512, 513, 520][g.below(6) as usize];
+        large_schedule(&mut g, np, &mut n);
+        if start.elapsed().as_secs_f64() >= seconds {
+            break;
         }
     }
-    println!("channel: no difference; {picks} picks at edges, {packets} packets, {channel_refused} refused packets, {calls} schedule calls, {schedule_refused} refused");
+    let [sum, marks, blocks] = n.placed;
+    if n.placed.contains(&0) {
+        fail("a way to the lowest free place wasn't taken", format!("{:?}", n.placed));
+    }
+    println!("channel: no difference; {picks} picks at edges, {packets} packets, {channel_refused} refused packets, {} schedule calls, {} refused, copies placed by the sum {sum}, by marks {marks}, by blocks of marks {blocks}", n.calls, n.refused);
 }

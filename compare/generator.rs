@@ -1,4 +1,5 @@
 // What the comparisons share: a generator of pseudorandom numbers (SplitMix64), the order of document 01's checks, the report of a difference.
+// packet.rs has its own generator and report.
 pub struct Gen(pub u64);
 
 impl Gen {

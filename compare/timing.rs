@@ -3,8 +3,15 @@
 //        timing --sample DIR [SEED]   writes DIR/stdin (cases) and DIR/stdout (the reference's answers)
 // Where document 01 refuses and the reference does not, the expected answer is document 01's and the state must stay as it was.
 extern crate reference;
+
+#[allow(dead_code)]
+#[path = "generator.rs"]
+mod generator;
+
+use generator::{fail, verdict, Gen};
 use reference::rto::{RtoConfig, RtoEstimator};
 use reference::timer::{MultiTimer, RetransmissionTimer};
+use std::collections::BTreeMap;
 use std::time::{Duration, Instant};
 
 extern "C" {
@@ -36,15 +43,7 @@ const DAY: u64 = 86_400_000_000_000;
 const TWO_DAYS: u64 = 2 * DAY;
 const NONE: u64 = u64::MAX;
 
-struct Rng(u64);
-impl Rng {
-    fn next(&mut self) -> u64 {
-        self.0 ^= self.0 << 13;
-        self.0 ^= self.0 >> 7;
-        self.0 ^= self.0 << 17;
-        self.0
-    }
-    fn below(&mut self, n: u64) -> u64 { self.next() % n }
+impl Gen {
     fn of<T: Copy>(&mut self, xs: &[T]) -> T { xs[self.below(xs.len() as u64) as usize] }
     // a duration, often at an edge
     fn span(&mut self) -> u64 {
@@ -63,9 +62,9 @@ impl Rng {
 }
 
 fn ns(d: Duration) -> u64 { d.as_nanos() as u64 }
-macro_rules! same { ($got:expr, $want:expr, $($t:tt)*) => {{ let (g, w) = (&$got, &$want); if g != w { println!("DIFFERENCE {}: ours {:?}, expected {:?}", format!($($t)*), g, w); std::process::exit(1); } }}; }
+macro_rules! same { ($got:expr, $want:expr, $($t:tt)*) => {{ let (g, w) = (&$got, &$want); if g != w { fail(&format!($($t)*), format!("ours {g:?}, expected {w:?}")); } }}; }
 
-fn durations(r: &mut Rng, n: &mut u64) {
+fn durations(r: &mut Gen, n: &mut u64) {
     for _ in 0..2_000 {
         let x = if r.below(4) == 0 { r.next() } else { r.span() };
         same!(unsafe { timing_as_secs_f64(x) }.to_bits(), Duration::from_nanos(x).as_secs_f64().to_bits(), "as_secs_f64({x})");
@@ -88,7 +87,7 @@ fn durations(r: &mut Rng, n: &mut u64) {
     }
 }
 
-fn timers(r: &mut Rng, n: &mut u64) {
+fn timers(r: &mut Gen, n: &mut u64) {
     let zero = Instant::now();
     let at = |x: u64| zero + Duration::from_nanos(x);
     let mut t = RetransmissionTimer::new();
@@ -131,100 +130,177 @@ fn timers(r: &mut Rng, n: &mut u64) {
         *n += 1;
     }
     // a held deadline past its bound
-    let mut bad = [1, TWO_DAYS + 1, 5];
-    let mut a = [9u64];
-    same!(unsafe { (timing_timer_cancel(bad.as_mut_ptr(), 3), timing_timer_start(bad.as_mut_ptr(), 3, 0, 0), timing_timer_active(bad.as_ptr(), 3, a.as_mut_ptr(), 1)) }, (10, 10, 10), "held {bad:?}");
-    same!((bad, a), ([1, TWO_DAYS + 1, 5], [9]), "held");
+    for late in [TWO_DAYS + 1, u64::MAX] {
+        let held = [1, late, 5];
+        let (mut s, mut a) = (held, [9u64; 4]);
+        let (p, q) = (s.as_mut_ptr(), a.as_mut_ptr());
+        let got = unsafe { [
+            timing_timer_cancel(p, 3),
+            timing_timer_start(p, 3, 0, 0),
+            timing_timer_active(p, 3, q, 1),
+            timing_timer_expired(p, 3, 0, q.add(1), 1),
+            timing_timer_expired_for(p, 3, 5, 0, q.add(2), 1),
+            timing_timer_remaining(p, 3, 0, q.add(3), 1),
+        ] };
+        same!((got, s, a), ([10; 6], held, [9; 4]), "held {held:?}");
+        *n += 6;
+    }
 }
 
-fn timer_sets(r: &mut Rng, n: &mut u64) {
+#[derive(Clone, Copy, Debug, PartialEq)]
+enum Call { Start, Cancel, Expired, Pop, Earliest, Clear }
+use Call::*;
+const CALLS: [Call; 6] = [Start, Cancel, Expired, Pop, Earliest, Clear];
+
+// A timer set and all that a call on it can write.
+#[derive(Clone, Debug, PartialEq)]
+struct Set { s: [u64; 2], keys: Vec<u32>, deadlines: Vec<u64>, out: Vec<u32>, answer: u64 }
+
+impl Set {
+    // Ours: the number of the refusal or 0.
+    fn call(&mut self, call: Call, key: u32, now: u64, d: u64) -> u8 {
+        let (s, k, kn, e, en) = (self.s.as_mut_ptr(), self.keys.as_mut_ptr(), self.keys.len(), self.deadlines.as_mut_ptr(), self.deadlines.len());
+        let (o, on, a) = (self.out.as_mut_ptr(), self.out.len(), &mut self.answer as *mut u64);
+        unsafe {
+            match call {
+                Start => timing_multi_start(s, 2, k, kn, e, en, key, now, d),
+                Cancel => timing_multi_cancel(s, 2, k, kn, e, en, key, a, 1),
+                Expired => timing_multi_expired(s, 2, k, kn, e, en, key, now, a, 1),
+                Pop => timing_multi_pop(s, 2, k, kn, e, en, now, o, on, a, 1),
+                Earliest => timing_multi_earliest(s, 2, k, kn, e, en, a, 1),
+                Clear => timing_multi_clear(s, 2, k, kn, e, en),
+            }
+        }
+    }
+    // The same as document 01 has it, on any state.
+    fn model(&mut self, call: Call, key: u32, now: u64, d: u64) -> u8 {
+        let (n, room) = (self.s[0] as usize, self.keys.len());
+        let nine = room != self.deadlines.len() || n > room || self.keys[..n].windows(2).any(|p| p[0] >= p[1]);
+        let mut map = BTreeMap::new();
+        if !nine { map = self.keys[..n].iter().copied().zip(self.deadlines[..n].iter().copied()).collect(); }
+        let timed = matches!(call, Start | Expired | Pop) && now > TWO_DAYS;
+        let started = call == Start && (d > DAY || now as u128 + d as u128 > TWO_DAYS as u128);
+        let due: Vec<u32> = map.iter().filter(|e| *e.1 <= now).map(|e| *e.0).collect();
+        let full = call == Start && n == room && !map.contains_key(&key) || call == Pop && due.len() > self.out.len();
+        let v = verdict(&[(9, nine), (10, timed || started || map.values().any(|x| *x > TWO_DAYS)), (5, full)]);
+        if v != 0 { return v as u8 - 16; }
+        match call {
+            Start => { map.insert(key, now + d); self.s[1] = self.s[1].wrapping_add(1); }
+            Cancel => self.answer = map.remove(&key).is_some() as u64,
+            Expired => self.answer = due.contains(&key) as u64,
+            Pop => {
+                self.out[..due.len()].copy_from_slice(&due);
+                self.answer = due.len() as u64;
+                map.retain(|_, x| *x > now);
+            }
+            Earliest => self.answer = map.values().min().copied().unwrap_or(NONE),
+            Clear => map.clear(),
+        }
+        self.keys[..n].fill(0);
+        self.deadlines[..n].fill(0);
+        for (i, (k, x)) in map.iter().enumerate() { (self.keys[i], self.deadlines[i]) = (*k, *x); }
+        self.s[0] = map.len() as u64;
+        0
+    }
+    // One call by both; all that it can write is compared.
+    fn compared(&mut self, call: Call, key: u32, now: u64, d: u64) -> u8 {
+        let (before, mut m) = (self.clone(), self.clone());
+        let (got, want) = (self.call(call, key, now, d), m.model(call, key, now, d));
+        same!((got, &*self), (want, &m), "{call:?} {key} {now} {d} on {before:?}");
+        got
+    }
+}
+
+fn new_set(set: &mut Set) -> u8 {
+    unsafe { timing_multi_new(set.s.as_mut_ptr(), 2, set.keys.as_mut_ptr(), set.keys.len(), set.deadlines.as_mut_ptr(), set.deadlines.len()) }
+}
+
+fn timer_sets(r: &mut Gen, n: &mut u64) {
     let zero = Instant::now();
     let at = |x: u64| zero + Duration::from_nanos(x);
     let room = r.of(&[0usize, 1, 2, 3, 8, 32, 33]);
-    let mut keys = vec![7u32; room];
-    let mut deadlines = vec![9u64; room];
-    let mut s = [77u64, 78];
-    let short = vec![1u64; room + 1];
-    let mut sd = short.clone();
-    same!((unsafe { timing_multi_new(s.as_mut_ptr(), 2, keys.as_mut_ptr(), room, sd.as_mut_ptr(), room + 1) }, s, &keys, &sd), (9, [77, 78], &vec![7u32; room], &short), "new of unequal slices");
-    same!((unsafe { timing_multi_new(s.as_mut_ptr(), 2, keys.as_mut_ptr(), room, deadlines.as_mut_ptr(), room) }, s, &keys, &deadlines), (0, [0, 0], &vec![0u32; room], &vec![0u64; room]), "new");
+    let mut set = Set { s: [77, 78], keys: vec![7; room], deadlines: vec![9; room], out: vec![], answer: 99 };
+    for (kn, dn) in [(room, room + 1), (room + 1, room)] {
+        let mut unequal = Set { keys: vec![7; kn], deadlines: vec![9; dn], ..set.clone() };
+        let before = unequal.clone();
+        same!((new_set(&mut unequal), &unequal), (9, &before), "new of unequal slices");
+    }
+    let empty = Set { s: [0, 0], keys: vec![0; room], deadlines: vec![0; room], ..set.clone() };
+    same!((new_set(&mut set), &set), (0, &empty), "new");
+    // the reference's generation can't be set; ours starts near the wrap half of the time, and the difference is kept
+    let shift = if r.below(2) == 0 { 0 } else { u64::MAX - r.below(2) };
+    set.s[1] = shift;
     let mut t: MultiTimer<u32> = MultiTimer::new();
-    let mut map = std::collections::BTreeMap::<u32, u64>::new();
     let pool = 1 + r.below(48) as u32;
-    let mut generation = 0u64;
     for _ in 0..120 {
         let key = match r.below(10) { 0 => u32::MAX, 1 => r.next() as u32, _ => r.below(pool as u64) as u32 };
         let now = if r.below(40) == 0 { r.of(&[TWO_DAYS, TWO_DAYS + 1]) } else { r.span() };
         let d = r.maybe_out();
-        let (k0, d0, s0) = (keys.clone(), deadlines.clone(), s);
-        let mut a = [99u64];
-        let late = now > TWO_DAYS;
-        match r.below(9) {
-            0..=3 => {
-                let got = unsafe { timing_multi_start(s.as_mut_ptr(), 2, keys.as_mut_ptr(), room, deadlines.as_mut_ptr(), room, key, now, d) };
-                let want = if late || d > DAY || now + d > TWO_DAYS { 10 } else if !map.contains_key(&key) && map.len() == room { 5 } else { 0 };
-                same!(got, want, "start {key} {now} {d}");
-                if want == 0 {
-                    generation = t.start_timer_at(key, at(now), Duration::from_nanos(d));
-                    map.insert(key, now + d);
-                } else { same!((&keys, &deadlines, s), (&k0, &d0, s0), "refused start"); }
-            }
-            4 => {
-                let got = unsafe { timing_multi_cancel(s.as_mut_ptr(), 2, keys.as_mut_ptr(), room, deadlines.as_mut_ptr(), room, key, a.as_mut_ptr(), 1) };
-                map.remove(&key);
-                same!((got, a[0]), (0, t.cancel_timer(&key) as u64), "cancel {key}");
-            }
-            5 => {
-                let got = unsafe { timing_multi_expired(s.as_ptr(), 2, keys.as_ptr(), room, deadlines.as_ptr(), room, key, now, a.as_mut_ptr(), 1) };
-                if late { same!((got, a[0]), (10, 99), "expired {now}"); } else { same!((got, a[0]), (0, t.is_expired_at(&key, at(now)) as u64), "expired {key} {now}"); }
-            }
-            6 => {
-                let places = r.below(room as u64 + 2) as usize;
-                let mut out = vec![5u32; places];
-                let due: Vec<u32> = map.iter().filter(|e| *e.1 <= now).map(|e| *e.0).collect();
-                let got = unsafe { timing_multi_pop(s.as_mut_ptr(), 2, keys.as_mut_ptr(), room, deadlines.as_mut_ptr(), room, now, out.as_mut_ptr(), places, a.as_mut_ptr(), 1) };
-                if late || due.len() > places {
-                    same!((got, &keys, &deadlines, s, &out, a[0]), (if late { 10 } else { 5 }, &k0, &d0, s0, &vec![5u32; places], 99), "refused pop {now}");
-                } else {
+        let call = match r.below(108) { 0..=51 => Start, 52..=63 => Cancel, 64..=78 => Expired, 79..=90 => Pop, 91..=106 => Earliest, _ => Clear };
+        set.out = vec![5; r.below(room as u64 + 2) as usize];
+        set.answer = 99;
+        if set.compared(call, key, now, d) == 0 {
+            match call {
+                Start => same!(set.s[1], t.start_timer_at(key, at(now), Duration::from_nanos(d)).wrapping_add(shift), "start {key} {now} {d}, generation"),
+                Cancel => same!(set.answer, t.cancel_timer(&key) as u64, "cancel {key}"),
+                Expired => same!(set.answer, t.is_expired_at(&key, at(now)) as u64, "expired {key} {now}"),
+                Pop => {
                     let mut theirs = t.pop_expired_at(at(now));
                     theirs.sort();
-                    let mut want = theirs.clone();
-                    want.resize(places, 5);
-                    same!((got, a[0], &out), (0, theirs.len() as u64, &want), "pop {now}");
-                    map.retain(|_, d| *d > now);
+                    same!(set.out[..set.answer as usize], theirs[..], "pop {now}");
                 }
+                Earliest => same!(set.answer, t.earliest_deadline().map_or(NONE, |i| ns(i - zero)), "earliest"),
+                Clear => t.clear(),
             }
-            7 => {
-                let got = unsafe { timing_multi_earliest(s.as_ptr(), 2, keys.as_ptr(), room, deadlines.as_ptr(), room, a.as_mut_ptr(), 1) };
-                same!((got, a[0]), (0, t.earliest_deadline().map_or(NONE, |i| ns(i - zero))), "earliest");
-            }
-            _ => if r.below(12) == 0 {
-                same!(unsafe { timing_multi_clear(s.as_mut_ptr(), 2, keys.as_mut_ptr(), room, deadlines.as_mut_ptr(), room) }, 0, "clear");
-                t.clear();
-                map.clear();
-            },
         }
-        let mut wk: Vec<u32> = map.keys().copied().collect();
-        let mut wd: Vec<u64> = map.values().copied().collect();
-        wk.resize(room, 0);
-        wd.resize(room, 0);
-        same!((&keys, &deadlines, s), (&wk, &wd, [map.len() as u64, generation]), "the slices");
-        same!(t.len(), map.len(), "the model");
+        same!(set.s[0], t.len() as u64, "how many");
         *n += 1;
     }
-    // states that line 9 or 10 turns away
-    if room >= 2 {
-        let mut a = [99u64];
-        let mut out = vec![3u32; room];
-        for (k, d, c, want) in [(vec![4u32, 4], vec![0u64, 0], 2u64, 9u8), (vec![5, 4], vec![0, 0], 2, 9), (vec![1, 2], vec![0, 0], 3, 9), (vec![1, 2], vec![0, TWO_DAYS + 1], 2, 10), (vec![1, 2], vec![0, TWO_DAYS + 1], 1, 0), (vec![5, 4], vec![0, 0], 1, 0)] {
-            let (mut k1, mut d1) = (k.clone(), d.clone());
-            let mut s1 = [c, 6];
-            let got = unsafe { timing_multi_earliest(s1.as_ptr(), 2, k1.as_ptr(), 2, d1.as_ptr(), 2, a.as_mut_ptr(), 1) };
-            same!(got, want, "earliest of {k:?} {d:?} {c}");
-            if want != 0 {
-                let got = unsafe { (timing_multi_start(s1.as_mut_ptr(), 2, k1.as_mut_ptr(), 2, d1.as_mut_ptr(), 2, 9, 0, 0), timing_multi_cancel(s1.as_mut_ptr(), 2, k1.as_mut_ptr(), 2, d1.as_mut_ptr(), 2, 1, a.as_mut_ptr(), 1), timing_multi_pop(s1.as_mut_ptr(), 2, k1.as_mut_ptr(), 2, d1.as_mut_ptr(), 2, 0, out.as_mut_ptr(), room, a.as_mut_ptr(), 1), timing_multi_clear(s1.as_mut_ptr(), 2, k1.as_mut_ptr(), 2, d1.as_mut_ptr(), 2)) };
-                same!((got, &k1, &d1, s1, &out), ((want, want, want, want), &k, &d, [c, 6], &vec![3u32; room]), "refused state {k:?}");
-            }
+}
+
+// Sets of so many entries with one place changed, at every position: each call against the model.
+fn changed_sets(r: &mut Gen, count: usize, n: &mut u64) {
+    let spare = r.below(3) as usize;
+    let mut good = Set { s: [count as u64, r.of(&[6, u64::MAX])], keys: vec![], deadlines: vec![], out: vec![3; r.of(&[0, count / 2, count, 40])], answer: 99 };
+    let mut key = r.below(9) as u32 + 1;
+    for _ in 0..count {
+        good.keys.push(key);
+        good.deadlines.push(r.span());
+        key += 2 + r.below(5) as u32;
+    }
+    // past the count anything may stand
+    for _ in 0..spare {
+        good.keys.push(r.below(3) as u32);
+        good.deadlines.push(r.of(&[0, 1, u64::MAX]));
+    }
+    let mut sets = vec![good.clone()];
+    let all = count + spare;
+    for (kn, dn) in [(all, all + 1), (all + 1, all), (all, 0), (0, all), (all.saturating_sub(1), all), (all, all.saturating_sub(1))] {
+        let mut x = good.clone();
+        x.keys.resize(kn, 7);
+        x.deadlines.resize(dn, 7);
+        sets.push(x.clone());
+        x.s[0] = kn.min(dn).min(count) as u64;
+        sets.push(x);
+    }
+    for c in [all as u64 + 1, 1 << 32, u64::MAX] { sets.push(Set { s: [c, 6], ..good.clone() }); }
+    for i in 0..count {
+        let mut with = |k: u32, d: u64| {
+            let mut x = good.clone();
+            (x.keys[i], x.deadlines[i]) = (k, d);
+            sets.push(x);
+        };
+        let (k, d) = (good.keys[i], good.deadlines[i]);
+        for d in [1 << 46, (1 << 47) - 1, 1 << 47, TWO_DAYS, TWO_DAYS + 1, 1 << 48, u64::MAX] { with(k, d); }
+        for k in [0, u32::MAX] { with(k, d); }
+        if i > 0 { for k in [good.keys[i - 1], good.keys[i - 1] - 1] { with(k, d); with(k, TWO_DAYS + 1); } }
+    }
+    for x in sets {
+        for call in CALLS {
+            let key = if count > 0 && r.below(2) == 0 { good.keys[r.below(count as u64) as usize] } else { r.below(99) as u32 };
+            let now = match r.below(20) { 0 => TWO_DAYS + 1, 1..=4 => TWO_DAYS, 5..=7 => 0, _ => r.span() };
+            x.clone().compared(call, key, now, r.of(&[0, 1, DAY]));
+            *n += 1;
         }
     }
 }
@@ -240,7 +316,22 @@ fn words(e: &RtoEstimator) -> ([u64; 23], [u64; 5]) {
 }
 fn bits(d: &[f64; 5]) -> [u64; 5] { [d[0].to_bits(), d[1].to_bits(), d[2].to_bits(), d[3].to_bits(), d[4].to_bits()] }
 
-fn estimators(r: &mut Rng, n: &mut u64) {
+// Each call on an estimator that all of them refuse; nothing changes.
+fn estimator_refuses(w: [u64; 23], d: [f64; 5], want: u8, what: &str) {
+    let (mut x, mut y, mut a, mut m) = (w, d, [9u64; 3], [7f64]);
+    let (p, q, b) = (x.as_mut_ptr(), y.as_mut_ptr(), a.as_mut_ptr());
+    let got = unsafe { [
+        timing_rto_update(p, 23, q, 5, 1, false, b, 1),
+        timing_rto_update(p, 23, q, 5, 1, true, b, 1),
+        timing_rto_timeout(p, 23, q, 5, b.add(1), 1),
+        timing_rto_reset(p, 23, q, 5),
+        timing_rto_limit(p, 23, q, 5, 0, b.add(2), 1),
+        timing_rto_mean(p, 23, q, 5, m.as_mut_ptr(), 1),
+    ] };
+    same!((got, x, bits(&y), a, m), ([want; 6], w, bits(&d), [9; 3], [7.0]), "{what}");
+}
+
+fn estimators(r: &mut Gen, n: &mut u64) {
     let (mut w, mut d) = ([3u64; 23], [3f64; 5]);
     unsafe { timing_rto_new(w.as_mut_ptr(), 23, d.as_mut_ptr(), 5) };
     same!((w, bits(&d)), words(&RtoEstimator::new()), "new");
@@ -272,12 +363,9 @@ fn estimators(r: &mut Rng, n: &mut u64) {
     let got = unsafe { timing_rto_with_config(w.as_mut_ptr(), 23, d.as_mut_ptr(), 5) };
     let mut a = [9u64];
     if broken {
-        same!((got, w), (4, w0), "with_config {c:?}");
-        // the same setup held is a 9
-        let got = unsafe { (timing_rto_update(w.as_mut_ptr(), 23, d.as_mut_ptr(), 5, 5, false, a.as_mut_ptr(), 1), timing_rto_timeout(w.as_mut_ptr(), 23, d.as_mut_ptr(), 5, a.as_mut_ptr(), 1), timing_rto_reset(w.as_mut_ptr(), 23, d.as_mut_ptr(), 5)) };
-        same!((got, w, a), ((9, 9, 9), w0, [9]), "held {c:?}");
-        let _ = d0;
-        *n += 4;
+        same!((got, w, bits(&d)), (4, w0, d0), "with_config {c:?}");
+        estimator_refuses(w, d, 9, &format!("held {c:?}"));
+        *n += 7;
         return;
     }
     same!(got, 0, "with_config {c:?}");
@@ -286,13 +374,14 @@ fn estimators(r: &mut Rng, n: &mut u64) {
     for _ in 0..80 {
         same!((w, bits(&d)), words(&e), "state under {c:?}");
         let (w0, d0) = (w, bits(&d));
+        a = [9];
         match r.below(10) {
             0..=5 => {
                 let x = if r.below(2) == 0 { (around + r.below(around / 4 + 2)).min(DAY) } else { r.maybe_out() };
                 let again = r.below(6) == 0;
                 let before = words(&e);
                 let got = unsafe { timing_rto_update(w.as_mut_ptr(), 23, d.as_mut_ptr(), 5, x, again, a.as_mut_ptr(), 1) };
-                if x > DAY { same!((got, w, bits(&d)), (10, w0, d0), "update {x}"); } else {
+                if x > DAY { same!((got, w, bits(&d), a), (10, w0, d0, [9]), "update {x}"); } else {
                     let want = e.update_rtt(Duration::from_nanos(x), again);
                     same!((got, a[0]), (0, want as u64), "update {x} {again}");
                     same!((w, bits(&d)), words(&e), "after update {x} {again} of {before:?}");
@@ -325,16 +414,14 @@ fn estimators(r: &mut Rng, n: &mut u64) {
         x[i] = v;
         if want == 9 { x[12] = 1 << 60; x[8] = DAY + 1; }
         if want == 8 { x[8] = DAY + 1; }
-        let (x0, mut y) = (x, d);
-        let got = unsafe { (timing_rto_update(x.as_mut_ptr(), 23, y.as_mut_ptr(), 5, 1, true, a.as_mut_ptr(), 1), timing_rto_timeout(x.as_mut_ptr(), 23, y.as_mut_ptr(), 5, a.as_mut_ptr(), 1), timing_rto_reset(x.as_mut_ptr(), 23, y.as_mut_ptr(), 5), timing_rto_limit(x.as_ptr(), 23, y.as_ptr(), 5, 0, a.as_mut_ptr(), 1)) };
-        same!((got, x, bits(&y)), ((want, want, want, want), x0, bits(&d)), "held {i} {v}");
+        estimator_refuses(x, d, want, &format!("held {i} {v}"));
         for (j, what) in [(6usize, "only SRTT set"), (4, "only RTTVAR set")] {
-            let mut one = x0;
-            one[j] = 0;
+            let mut one = x;
             one[i] = one[i].min(DAY);
-            same!(unsafe { timing_rto_reset(one.as_mut_ptr(), 23, y.as_mut_ptr(), 5) }, 9, "{what}");
+            (one[j], one[j + 1]) = (0, 0);
+            estimator_refuses(one, d, 9, what);
         }
-        *n += 6;
+        *n += 18;
     }
     // held values at their bounds
     let mut x = w;
@@ -349,12 +436,12 @@ fn estimators(r: &mut Rng, n: &mut u64) {
 // Cases for crates/timing_replay and the reference's answers (what document 01 refuses, as it refuses).
 fn sample(dir: &str, seed: u64) {
     use std::fmt::Write as _;
-    let mut r = Rng(seed | 1);
+    let mut r = Gen(seed);
     let (mut cases, mut answers) = (String::new(), String::new());
     let zero = Instant::now();
     let at = |x: u64| zero + Duration::from_nanos(x);
     writeln!(cases, "# Made by compare/timing.rs --sample: random calls, often at the edges; the answers are the reference's.").unwrap();
-    for i in 0..200 {
+    for i in 0..120 {
         let unit = 1u64 << 20;
         let mut c = [r.span(), r.span(), r.span(), r.span() % 1_000_000_001, r.below(unit + 1), r.below(unit + 1), r.below(16 * unit + 1), r.below(16 * unit + 1)];
         if c[1] > c[2] { c.swap(1, 2); }
@@ -379,9 +466,11 @@ fn sample(dir: &str, seed: u64) {
             if let Some(e) = &mut e {
                 if op == 4 { write!(answers, "{} ; ", e.has_exceeded_retry_limit(x as u32) as u64).unwrap(); continue; }
                 if x > DAY { answers.push_str("refused 10 ; "); continue; }
-                match op { 2 => { e.on_timeout(); } 3 => e.reset_backoff(), _ => { e.update_rtt(d(x), op == 1); } }
+                match op { 2 => write!(answers, "{} ", ns(e.on_timeout())).unwrap(), 3 => e.reset_backoff(), _ => write!(answers, "{} ", e.update_rtt(d(x), op == 1) as u64).unwrap() }
                 let o = |x: Option<Duration>| x.map_or("-".to_string(), |d| ns(d).to_string());
-                write!(answers, "{} {} {} ; ", ns(e.current_rto()), o(e.srtt()), o(e.rttvar())).unwrap();
+                write!(answers, "{} {} {} {} {} {} ", ns(e.current_rto()), o(e.srtt()), o(e.rttvar()), ns(e.base_rto()), e.is_in_backoff() as u64, e.consecutive_timeouts()).unwrap();
+                let s = &e.stats;
+                write!(answers, "{} {} {} {} {} {} ; ", s.sample_count, s.karn_rejected_count, s.timeout_count, s.backoff_count, s.max_consecutive_timeouts, e.mean_rtt_ms().to_bits()).unwrap();
             }
         }
         cases.push('\n');
@@ -391,7 +480,7 @@ fn sample(dir: &str, seed: u64) {
         let room = r.of(&[0u64, 1, 2, 4, 8, 32]);
         write!(cases, "m{room:016x}").unwrap();
         let mut t: MultiTimer<u32> = MultiTimer::new();
-        let mut keys = std::collections::BTreeMap::new();
+        let mut keys = BTreeMap::new();
         for _ in 0..14 {
             let (op, key, mut now, dur) = (r.of(&[0u64, 0, 0, 0, 1, 2, 3, 4, 4, 5]), r.below(12) as u32, if r.below(30) == 0 { TWO_DAYS + 1 } else { r.span() }, r.maybe_out());
             // often at a deadline
@@ -461,11 +550,14 @@ fn main() {
     }
     let seconds: u64 = args.get(1).and_then(|s| s.parse().ok()).unwrap_or(10);
     let seed: u64 = args.get(2).and_then(|s| s.parse().ok()).unwrap_or(0x9E37_79B9_7F4A_7C15);
-    let mut r = Rng(seed | 1);
+    let mut r = Gen(seed);
     let end = Instant::now() + Duration::from_secs(seconds);
     let mut n = [0u64; 4];
+    for count in 0..=32 { changed_sets(&mut r, count, &mut n[2]); }
     while Instant::now() < end {
         durations(&mut r, &mut n[0]);
+        let count = r.below(34) as usize;
+        changed_sets(&mut r, count, &mut n[2]);
         for _ in 0..50 { timers(&mut r, &mut n[1]); timer_sets(&mut r, &mut n[2]); estimators(&mut r, &mut n[3]); }
     }
     println!("timing: no difference in {} conversions, {} timer calls, {} timer set calls, {} estimator calls", n[0], n[1], n[2], n[3]);

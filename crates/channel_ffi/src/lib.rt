@@ -263,7 +263,8 @@ pub extern "C" fn pop_ready_at(
     put_scheduler(answer, after);
 }
 
-// answer: 0 nothing, 1 a deadline, or a refusal, and the deadline; then the same for `len`, `is_empty` and `room`.
+// answer: 0 nothing, 1 a deadline, or a refusal, and the deadline; 1 or a refusal and the number, for `len` and for `room`; `is_empty` or a
+// refusal.
 #[no_mangle]
 pub extern "C" fn schedule_read(
     records: &[[u64; 4]],

@@ -1,10 +1,12 @@
 // Replays packets through a channel and a schedule of eight records, and prints what they answer. Its `stdout` is what the Rust answered
 // (compare/channel.rs --sample). A line of `stdin` is decimal numbers, a blank between them:
-//   1 loss duplicate reorder corrupt reorder_extra_ms base_delay_ms jitter_ms    a new channel and an empty schedule; prints `made`
+//   1 loss duplicate reorder corrupt reorder_extra_ms base_delay_ms jitter_ms    a new channel, one without faults or delays if that is
+//     refused, and an empty schedule; prints `made`
 //   2 now length seed, eight rolls    a packet whose byte i is (seed + 7 i) mod 256, its copies scheduled at `now`; prints the number of
 //     copies, their delays, the sum of a copy's bytes, the six counters and how many wait
 //   3 now    takes one packet out; prints its length, the sum of its bytes and how many wait, or `none` and how many wait
-// Chances and rolls are in units of 2^-53.
+// Chances and rolls are in units of 2^-53. `refused` and the number stand for the copies, or before how many wait where the schedule
+// refuses.
 use channel::Channel;
 use channel::ChannelConfig;
 use channel::ChannelStats;
@@ -126,6 +128,7 @@ fn channel_or_idle(m: Making) -> Channel {
         }
         Making::Refused(r) => {
             lines::print_refusal(r);
+            lines::print(b"\n");
             idle()
         }
     }
@@ -230,7 +233,10 @@ fn print_deliveries(d: Deliveries) {
 fn print_queued(q: Queued) {
     match q {
         Queued::Accepted => {}
-        Queued::Refused(r) => lines::print_refusal(r),
+        Queued::Refused(r) => {
+            lines::print(b"\t");
+            lines::print_refusal(r);
+        }
     }
 }
 

@@ -1,7 +1,9 @@
 // The timing layer for a caller in Rust or C, by numbers and slices.
-// An export answers 0, or the number of the refusal; 255 where a slice of the caller's is too short for a state.
+// An export answers 0, or the number of the refusal; `timing_from_secs_f64` answers 255 out of range.
 // A timer is three words: 1 where it is set, its deadline, its generation. A timer set is two: count and generation.
 // An estimator is 23 words and 5 doubles, in the order of `load_estimator`.
+// A slice that is too short stands for a new timer, an empty set or the default setup. Nothing is stored in it, but for the durations of a
+// setup in an estimator's first four words.
 ghost use mathlib.Core.Path.{_≡_};
 ghost use mathlib.Core.Bool.{false};
 ghost use Prim.Native.Nat.{_≤_};

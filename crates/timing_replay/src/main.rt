@@ -11,8 +11,10 @@
 //       expired of that generation
 //   d NANOSECONDS ..                                              durations: S is such a number in seconds as a double
 //       printed in ns, or `-` out of range: S, S / 2, S * 1024, and the number's lower 32 digits in units of 2^-20 s
-// Each call prints its answer and `;`: the RTO, SRTT and RTTVAR after it in ns; a generation; 0 or 1; keys; a deadline; `-` where there is
-// none; or `refused` and the number.
+// Each call prints its answer and `;`: a generation; 0 or 1; keys; a deadline; `-` where there is none; or `refused` and the number.
+// A sample prints 0 or 1 and a timeout the RTO that it answers, and after these and a reset stand RTO, SRTT, RTTVAR and base RTO in ns,
+// whether it backs off, the consecutive timeouts, the counts of samples, rejected ones, timeouts and backoffs, the most consecutive
+// timeouts and the bits of the mean RTT in ms.
 ghost use mathlib.Core.Path.{_≡_};
 ghost use Prim.Native.Nat.{_≤_, _<_};
 ghost use lib.ListN.{length};
@@ -27,9 +29,11 @@ use multi_timer::PopAnswer;
 use multi_timer::StartAnswer;
 use refusal::Refusal;
 use rto::LimitAnswer;
+use rto::MeanAnswer;
 use rto::ResetAnswer;
 use rto::RtoConfig;
 use rto::RtoEstimator;
+use rto::RtoStats;
 use rto::Rtt;
 use rto::TimeoutAnswer;
 use rto::UpdateAnswer;
@@ -173,7 +177,10 @@ fn sample_call(e: RtoEstimator, x: u64, again: bool) -> RtoEstimator {
     let next = c.estimator;
     let a = c.answer;
     match a {
-        UpdateAnswer::Accepted(_) => print_estimator(next),
+        UpdateAnswer::Accepted(b) => {
+            number(b as u64);
+            print_estimator(next);
+        }
         UpdateAnswer::Refused(r) => print_refusal(r),
     }
     next
@@ -184,7 +191,10 @@ fn timeout_call(e: RtoEstimator) -> RtoEstimator {
     let next = c.estimator;
     let a = c.answer;
     match a {
-        TimeoutAnswer::Rto(_) => print_estimator(next),
+        TimeoutAnswer::Rto(rto) => {
+            number(rto);
+            print_estimator(next);
+        }
         TimeoutAnswer::Refused(r) => print_refusal(r),
     }
     next
@@ -204,10 +214,40 @@ fn reset_call(e: RtoEstimator) -> RtoEstimator {
 fn print_estimator(e: RtoEstimator) {
     let srtt = e.srtt;
     let rttvar = e.rttvar;
+    let stats = e.stats;
     number(e.current_rto);
     print_rtt(srtt);
     print_rtt(rttvar);
+    number(e.base_rto);
+    number(e.in_backoff as u64);
+    number(wide(e.consecutive_timeouts));
+    print_stats(stats);
+    print_mean(e.mean_rtt_ms());
     semicolon();
+}
+
+fn print_stats(s: RtoStats) {
+    number(s.sample_count);
+    number(s.karn_rejected_count);
+    number(s.timeout_count);
+    number(s.backoff_count);
+    number(wide(s.max_consecutive_timeouts));
+}
+
+fn print_mean(a: MeanAnswer) {
+    match a {
+        MeanAnswer::Millis(x) => print_bits(x),
+        MeanAnswer::Refused(r) => print_refusal(r),
+    }
+}
+
+// The bits of a number from 0 on.
+fn print_bits(x: f64) {
+    if x >= 0.0 {
+        number(f64::to_bits(x));
+    } else {
+        none();
+    }
 }
 
 fn print_rtt(r: Rtt) {

@@ -1,0 +1,37 @@
+use mathlib.Core.Path.{_≡_}
+use mathlib.Core.Bool.{true, false, not}
+use lib.IntN.{pos}
+use lib.Dec.{T}
+use lib.Ieee.{Float, nan, inf, fin, le, lt, eq, isNan, ofBits}
+use denote.Floats.{passes}
+use borrow.Author.Needs.{needs}
+use Rattle.timing_replay.proofs.print_bits.Statement.{statement}
+use Rattle.timing_replay.proofs.print_bits.Tie as tie
+
+no-nan : (x : Float) → T (le (fin false 0 (pos 0)) x) → T (not (isNan x))
+unfolding le lt eq isNan
+no-nan nan h = absurd h
+no-nan (inf s) h = tt
+no-nan (fin s m e) h = tt
+
+float-to-bits-number : tie.Need-float-to-bits-number
+unfolding ofBits
+float-to-bits-number c =
+    let x = c .before .args .x in
+    let d : le (fin false 0 (pos 0)) x ≡ true = c .if1 .taken in
+    no-nan x (passes _ d)
+
+number-requires : tie.Need-number-requires
+number-requires c κs = search needs
+
+none-requires : tie.Need-none-requires
+none-requires c κs = search needs
+
+returns : tie.Need-returns
+returns c = search needs
+
+returns-2 : tie.Need-returns-2
+returns-2 c = search needs
+
+pub print-bits-spec : {M : Type 1} → statement M
+print-bits-spec = tie.close (tie.spec float-to-bits-number number-requires none-requires returns returns-2)
