@@ -1,5 +1,6 @@
 // Compares the channel and the schedule with the reference, and refusals and lent memory with a model of document 01.
-// usage: channel SECONDS [--sample DIR]
+// usage: channel SECONDS
+//        channel --sample DIR [SEED]      writes DIR/stdin (cases) and DIR/stdout (the reference's answers) for crates/channel_replay
 extern crate rand;
 extern crate reference;
 
@@ -100,18 +101,23 @@ fn numbers(s: &Setup, stats: &[u64; 6]) -> Vec<u64> {
     s.delays.iter().chain(stats).copied().collect()
 }
 
-// One packet through both channels; answers our delays.
-fn one_packet(s: &Setup, stats: &mut [u64; 6], reference: &mut Channel, packet: &[u8], r: &[f64; 8], spare: &[u8]) -> (Vec<u64>, Vec<u8>, Vec<Delivery>) {
-    let shown = || format!("setup {:?} {:?} rolls {:?} packet {:?} stats {:?}", s.reals, s.delays, r, packet, stats);
+// One packet through the reference's channel, and its tallies then.
+fn their_packet(reference: &mut Channel, packet: &[u8], r: &[f64; 8]) -> (Vec<Delivery>, [u64; 6]) {
     rand::feed(r);
     let theirs = reference.process(packet);
     if rand::left() != 0 {
-        fail("rolls left", shown());
+        fail("rolls left", format!("rolls {r:?} packet {packet:?}"));
     }
+    let t = &reference.stats;
+    (theirs, [t.packets_seen, t.lost, t.corrupted, t.duplicated, t.reordered, t.copies_delivered])
+}
+
+// One packet through both channels.
+fn one_packet(s: &Setup, stats: &mut [u64; 6], reference: &mut Channel, packet: &[u8], r: &[f64; 8], spare: &[u8]) {
+    let shown = || format!("setup {:?} {:?} rolls {:?} packet {:?} stats {:?}", s.reals, s.delays, r, packet, stats);
+    let (theirs, tallies) = their_packet(reference, packet, r);
     let mut out: Vec<u8> = spare.to_vec();
     let a = process(&joined(&s.reals, r), &numbers(s, stats), packet, &mut out);
-    let t = &reference.stats;
-    let tallies = [t.packets_seen, t.lost, t.corrupted, t.duplicated, t.reordered, t.copies_delivered];
     let mut want = [0; 9];
     want[0] = theirs.len() as u64;
     for (i, d) in theirs.iter().enumerate() {
@@ -131,7 +137,6 @@ fn one_packet(s: &Setup, stats: &mut [u64; 6], reference: &mut Channel, packet: 
         fail("buffer past the packet", shown());
     }
     *stats = tallies;
-    (a[1..1 + theirs.len()].to_vec(), out[..kept].to_vec(), theirs)
 }
 
 fn channel_runs(g: &mut Gen, packets: &mut u64) {
@@ -546,9 +551,9 @@ fn schedule_calls(g: &mut Gen, mut m: Model, all: bool, n: &mut Counts) {
 }
 
 // Cases for crates/channel_replay: see the head of its source. Refusals are document 01's.
-fn sample(dir: &str) {
+fn sample(dir: &str, seed: u64) {
     use std::fmt::Write;
-    let mut g = Gen(42);
+    let mut g = Gen(seed);
     let mut stdin = String::new();
     let mut stdout = String::new();
     let two53 = 9007199254740992u64;
@@ -586,7 +591,12 @@ fn sample(dir: &str) {
                 }
                 let rolls: [f64; 8] = r.map(|x| x as f64 / two53 as f64);
                 let rolled = !r.contains(&two53);
-                let (delays, bytes, deliveries) = if rolled { one_packet(&s, &mut stats, &mut reference, &packet, &rolls, &vec![0; n as usize]) } else { (vec![], vec![], vec![]) };
+                let mut deliveries = vec![];
+                if rolled {
+                    (deliveries, stats) = their_packet(&mut reference, &packet, &rolls);
+                }
+                let delays: Vec<u64> = deliveries.iter().map(|d| d.delay_ms).collect();
+                let bytes = deliveries.first().map_or(vec![], |d| d.data.clone());
                 let queued = model.schedule_at(now, &bytes, &delays);
                 if queued == 0 {
                     theirs.schedule_at(base + Duration::from_nanos(now), deliveries);
@@ -633,7 +643,7 @@ fn main() {
     let args: Vec<String> = std::env::args().collect();
     let seconds: f64 = args.get(1).and_then(|s| s.parse().ok()).unwrap_or(5.0);
     if let Some(i) = args.iter().position(|a| a == "--sample") {
-        sample(&args[i + 1]);
+        sample(&args[i + 1], args.get(i + 2).map_or(42, |s| s.parse().expect("SEED")));
         return;
     }
     let mut g = Gen(std::env::var("SEED").ok().and_then(|s| s.parse().ok()).unwrap_or(1));
