@@ -9,6 +9,7 @@ fi
 cd "$(dirname "$0")"
 rt fmt --check
 bash compare/replays "$@"
-# rt waits for its crates and edits in batches of RT_JOBS; with one more than the processors, few stand idle.
-export RT_JOBS="${RT_JOBS:-$(($(nproc) + 1))}"
+# rt waits for its crates and edits in batches of RT_JOBS: with one more than the processors that it would use, few stand idle.
+processors=$(nproc)
+export RT_JOBS="${RT_JOBS:-$(((processors < 4 ? processors : 4) + 1))}"
 exec rt ci

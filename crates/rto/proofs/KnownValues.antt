@@ -2,10 +2,11 @@
 use mathlib.Core.Path.{_≡_, refl}
 use mathlib.Core.Bool.{true, false}
 use Prim.Native.Nat.{ℕ}
+use lib.Dec.{lit≤}
 use lib.IntN.{pos, negsuc}
 use lib.Ieee.{fin, fits, add, sub, mul, div, ofInt, le, lt}
 use Rattle.rtt.specs.Rtt.{fromMs, firstRttvarMs, firstEstimate, nextEstimate}
-use Rattle.rto.specs.Rto.{configOf, statsOf, estimatorOf, noStats, fresh, estimateFor, acceptSample, sampled, backOff, configInBounds, defaultConfig, updateRttDef, onTimeoutDef, resetBackoffDef, stateBroken, countsFull, heldTooLong}
+use Rattle.rto.specs.Rto.{configOf, statsOf, estimatorOf, noStats, fresh, estimateFor, acceptSample, sampled, backOff, configInBounds, defaultConfig, updateRttDef, onTimeoutDef, resetBackoffDef, stateBroken, countsFull, heldTooLong, updated}
 use Rattle.refusal.specs.Order.{verdict, decide, firstOf, numbered, orElse, order}
 use Rattle.refusal.specs.declared.Refusal.the-variants.{State, Counts, Time}
 use Rattle.rto.specs.declared.UpdateAnswer as Up
@@ -16,7 +17,8 @@ use Rattle.rto.specs.declared.TimeoutAnswer.the-variants.{Rto}
 use Rattle.rto.specs.declared.RtoConfig.{RtoConfig}
 use Rattle.rto.specs.declared.Rtt.{Rtt}
 use Rattle.rto.specs.declared.Rtt.the-variants.{Unset, Is}
-use Rattle.rto.proofs.Keeps.{Doubles}
+use Rattle.rto.proofs.Keeps.{Doubles, fresh-good}
+use Rattle.rto.proofs.Rfc6298.{withRejections, karn}
 
 -- k 4, granularity 1 ms, multiplier 1, alpha 1/8, beta 1/4, initial 1 s, and these limits
 abbrev pub limits : ℕ → ℕ → RtoConfig
@@ -46,6 +48,11 @@ default-in-bounds = refl
 pub default-doubles : Doubles defaultConfig
 unfolding defaultConfig fits
 default-doubles = record { alpha = tt; beta = tt; k = tt; multiplier = tt }
+
+-- (3): a retransmitted sample, given to a fresh estimator
+pub default-karn : updateRttDef (fresh defaultConfig) 100000000 true ≡ updated (withRejections (fresh defaultConfig) 1) (Accepted false)
+unfolding fresh noStats countsFull
+default-karn = karn (fresh defaultConfig) 100000000 (fresh-good defaultConfig default-in-bounds) refl (lit≤ tt)
 
 -- RFC 6298 (2.3): alpha 1/8, beta 1/4, SRTT 100 ms, RTTVAR 50 ms, sample 200 ms
 pub second-sample : nextEstimate (fin false 1 (negsuc 2)) (fin false 1 (negsuc 1)) (fin false 1 (pos 2)) (fin false 1 (pos 0)) 1000000 100000000 50000000 200000000 .rttvar ≡ 62500000
