@@ -3,24 +3,24 @@
 // base, fill mark, and its three counters. answer: 0 nothing, 1 done, 16 + n the refusal n; then a length, a number, or the refusal's values.
 ghost use mathlib.Core.Path.{_≡_};
 ghost use Prim.Native.Nat.{_<_, _%_};
-use go_back_n::GoBackNMade;
 use go_back_n::GoBackNReceiver;
 use go_back_n::GoBackNSender;
+use go_back_n::GoBackNSenderAnswer;
 use receiver::ReceiveAnswer;
+use refusal::CountAnswer;
 use refusal::Refusal;
-use selective_repeat::SelectiveRepeatMade;
+use refusal::TestAnswer;
 use selective_repeat::SelectiveRepeatReceiver;
-use selective_repeat::SelectiveRepeatReceiverMade;
+use selective_repeat::SelectiveRepeatReceiverAnswer;
 use selective_repeat::SelectiveRepeatSender;
-use stop_and_wait::StopAndWaitMade;
+use selective_repeat::SelectiveRepeatSenderAnswer;
 use stop_and_wait::StopAndWaitReceiver;
 use stop_and_wait::StopAndWaitSender;
+use stop_and_wait::StopAndWaitSenderAnswer;
 use window::AckAnswer;
 use window::SendAnswer;
 use window::SendWindow;
 use window::TimeoutAnswer;
-use window::WindowCount;
-use window::WindowTest;
 
 fn at(s: &[u64], i: usize) -> u64 {
     if i < s.len() { s[i] } else { 0 }
@@ -87,10 +87,10 @@ fn put_received(answer: &mut [u64], a: ReceiveAnswer) {
     }
 }
 
-fn test_code(t: WindowTest) -> u64 {
+fn test_code(t: TestAnswer) -> u64 {
     match t {
-        WindowTest::Is(b) => flag(b),
-        WindowTest::Refused(r) => 16 + widened(r.number()),
+        TestAnswer::Is(b) => flag(b),
+        TestAnswer::Refused(r) => 16 + widened(r.number()),
     }
 }
 
@@ -98,10 +98,10 @@ fn flag(b: bool) -> u64 {
     if b { 1 } else { 0 }
 }
 
-fn count_code(c: WindowCount) -> u64 {
+fn count_code(c: CountAnswer) -> u64 {
     match c {
-        WindowCount::Count(n) => n as u64,
-        WindowCount::Refused(r) => 16 + widened(r.number()),
+        CountAnswer::Count(n) => n as u64,
+        CountAnswer::Refused(r) => 16 + widened(r.number()),
     }
 }
 
@@ -165,18 +165,18 @@ pub extern "C" fn arq_sender_new(
 ) {
     if protocol == 0 {
         match StopAndWaitSender::new(low(setting), store) {
-            StopAndWaitMade::Sender(s) => put_stop_and_wait(state, s),
-            StopAndWaitMade::Refused(r) => put_refusal(answer, r),
+            StopAndWaitSenderAnswer::Sender(s) => put_stop_and_wait(state, s),
+            StopAndWaitSenderAnswer::Refused(r) => put_refusal(answer, r),
         }
     } else if protocol == 1 {
         match GoBackNSender::new(setting as usize, store) {
-            GoBackNMade::Sender(s) => put_window(state, s.window),
-            GoBackNMade::Refused(r) => put_refusal(answer, r),
+            GoBackNSenderAnswer::Sender(s) => put_window(state, s.window),
+            GoBackNSenderAnswer::Refused(r) => put_refusal(answer, r),
         }
     } else {
         match SelectiveRepeatSender::new(setting as usize, store) {
-            SelectiveRepeatMade::Sender(s) => put_window(state, s.window),
-            SelectiveRepeatMade::Refused(r) => put_refusal(answer, r),
+            SelectiveRepeatSenderAnswer::Sender(s) => put_window(state, s.window),
+            SelectiveRepeatSenderAnswer::Refused(r) => put_refusal(answer, r),
         }
     }
 }
@@ -344,8 +344,8 @@ pub extern "C" fn arq_receiver_new(
         put_go_back_n_receiver(state, GoBackNReceiver::new());
     } else {
         match SelectiveRepeatReceiver::new(window as usize, store) {
-            SelectiveRepeatReceiverMade::Receiver(r) => put_selective_repeat_receiver(state, r),
-            SelectiveRepeatReceiverMade::Refused(r) => put_refusal(answer, r),
+            SelectiveRepeatReceiverAnswer::Receiver(r) => put_selective_repeat_receiver(state, r),
+            SelectiveRepeatReceiverAnswer::Refused(r) => put_refusal(answer, r),
         }
     }
 }
@@ -431,7 +431,7 @@ pub extern "C" fn arq_handle_packet(
 #[no_mangle]
 pub extern "C" fn arq_buffered_count(state: &[u64], store: &[u8], answer: &mut [u64]) {
     match selective_repeat_receiver_of(state).buffered_count(store) {
-        WindowCount::Count(n) => put_done(answer, n as u64),
-        WindowCount::Refused(r) => put_refusal(answer, r),
+        CountAnswer::Count(n) => put_done(answer, n as u64),
+        CountAnswer::Refused(r) => put_refusal(answer, r),
     }
 }

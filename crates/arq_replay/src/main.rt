@@ -7,24 +7,24 @@
 //     the ACK's number or `none`, the base, the fill mark, the sum of the output's bytes and the three counters
 //   5 number byte bit    hands an ACK to the sender in the same way; prints `accepted` or `not accepted`
 // After the answer of 2, 3 and 5 come the sender's base, next number and two counters.
-use go_back_n::GoBackNMade;
 use go_back_n::GoBackNReceiver;
 use go_back_n::GoBackNSender;
+use go_back_n::GoBackNSenderAnswer;
 use libc::STDIN_FILENO;
 use libc::STDOUT_FILENO;
-use lines::Fields;
 use packet::Packet;
 use packet::PacketAnswer;
 use packet::PacketType;
 use receiver::ReceiveAnswer;
 use refusal::Refusal;
-use selective_repeat::SelectiveRepeatMade;
+use replay_io::Fields;
 use selective_repeat::SelectiveRepeatReceiver;
-use selective_repeat::SelectiveRepeatReceiverMade;
+use selective_repeat::SelectiveRepeatReceiverAnswer;
 use selective_repeat::SelectiveRepeatSender;
-use stop_and_wait::StopAndWaitMade;
+use selective_repeat::SelectiveRepeatSenderAnswer;
 use stop_and_wait::StopAndWaitReceiver;
 use stop_and_wait::StopAndWaitSender;
+use stop_and_wait::StopAndWaitSenderAnswer;
 use window::AckAnswer;
 use window::SendAnswer;
 use window::SendWindow;
@@ -75,20 +75,25 @@ fn run(text: &[u8], n: usize) {
 
 // sent: the sender's store; held: the receiver's.
 fn line(text: &[u8], ends: Ends, sent: &mut [u8], held: &mut [u8], output: &mut [u8]) -> Ends {
-    let kind = lines::read_number(text, ends.next);
+    let kind = replay_io::read_number(text, ends.next);
     if kind.value == 1 {
-        return made(lines::read_fields(text, kind.next, 3), sent, held);
+        return made(replay_io::read_fields(text, kind.next, 3), sent, held);
     }
     if kind.value == 2 {
-        return chunk_sent(lines::read_fields(text, kind.next, 2), ends, sent);
+        return chunk_sent(replay_io::read_fields(text, kind.next, 2), ends, sent);
     }
     if kind.value == 3 {
-        return timed_out(lines::read_fields(text, kind.next, 1), ends, sent);
+        return timed_out(replay_io::read_fields(text, kind.next, 1), ends, sent);
     }
     if kind.value == 4 {
-        return packet_handed(lines::read_fields(text, kind.next, 7), ends, held, output);
+        return packet_handed(
+            replay_io::read_fields(text, kind.next, 7),
+            ends,
+            held,
+            output,
+        );
     }
-    ack_handed(lines::read_fields(text, kind.next, 3), ends, sent)
+    ack_handed(replay_io::read_fields(text, kind.next, 3), ends, sent)
 }
 
 // The lower 32 bits.
@@ -115,7 +120,7 @@ fn made(f: Fields, sent: &mut [u8], held: &mut [u8]) -> Ends {
     let v = f.values;
     let sender = new_sender(v[0], v[1] as usize, low(v[2]), sent);
     let receiver = new_receiver(v[0], v[1] as usize, held);
-    lines::print(b"\n");
+    replay_io::print(b"\n");
     Ends {
         sender: sender,
         receiver: receiver,
@@ -126,29 +131,29 @@ fn made(f: Fields, sent: &mut [u8], held: &mut [u8]) -> Ends {
 fn new_sender(protocol: u64, window: usize, retries: u32, store: &mut [u8]) -> Sender {
     if protocol == 0 {
         return match StopAndWaitSender::new(retries, store) {
-            StopAndWaitMade::Sender(s) => made_sender(Sender::StopAndWait(s)),
-            StopAndWaitMade::Refused(r) => refused_sender(r),
+            StopAndWaitSenderAnswer::Sender(s) => made_sender(Sender::StopAndWait(s)),
+            StopAndWaitSenderAnswer::Refused(r) => refused_sender(r),
         };
     }
     if protocol == 1 {
         return match GoBackNSender::new(window, store) {
-            GoBackNMade::Sender(s) => made_sender(Sender::GoBackN(s)),
-            GoBackNMade::Refused(r) => refused_sender(r),
+            GoBackNSenderAnswer::Sender(s) => made_sender(Sender::GoBackN(s)),
+            GoBackNSenderAnswer::Refused(r) => refused_sender(r),
         };
     }
     match SelectiveRepeatSender::new(window, store) {
-        SelectiveRepeatMade::Sender(s) => made_sender(Sender::SelectiveRepeat(s)),
-        SelectiveRepeatMade::Refused(r) => refused_sender(r),
+        SelectiveRepeatSenderAnswer::Sender(s) => made_sender(Sender::SelectiveRepeat(s)),
+        SelectiveRepeatSenderAnswer::Refused(r) => refused_sender(r),
     }
 }
 
 fn made_sender(sender: Sender) -> Sender {
-    lines::print(b"made");
+    replay_io::print(b"made");
     sender
 }
 
 fn refused_sender(r: Refusal) -> Sender {
-    lines::print_refusal(r);
+    replay_io::print_refusal(r);
     idle_sender()
 }
 
@@ -161,17 +166,17 @@ fn new_receiver(protocol: u64, window: usize, store: &mut [u8]) -> Receiver {
         return Receiver::GoBackN(GoBackNReceiver::new());
     }
     match SelectiveRepeatReceiver::new(window, store) {
-        SelectiveRepeatReceiverMade::Receiver(r) => Receiver::SelectiveRepeat(r),
-        SelectiveRepeatReceiverMade::Refused(_) => idle_receiver(),
+        SelectiveRepeatReceiverAnswer::Receiver(r) => Receiver::SelectiveRepeat(r),
+        SelectiveRepeatReceiverAnswer::Refused(_) => idle_receiver(),
     }
 }
 
 fn chunk_sent(f: Fields, ends: Ends, sent: &mut [u8]) -> Ends {
     let v = f.values;
     let n = (v[0] % 65) as usize;
-    let bytes = lines::packet_bytes(v[1]);
+    let bytes = replay_io::packet_bytes(v[1]);
     let before = ends.sender;
-    let sender = send_chunk(before, sent, lines::prefix(&bytes, n));
+    let sender = send_chunk(before, sent, replay_io::prefix(&bytes, n));
     print_sender(sender);
     let receiver = ends.receiver;
     Ends {
@@ -251,7 +256,7 @@ fn handle_timeout(sender: Sender, store: &mut [u8], n: u32) -> Sender {
 fn packet_handed(f: Fields, ends: Ends, held: &mut [u8], output: &mut [u8]) -> Ends {
     let v = f.values;
     let n = (v[1] % 65) as usize;
-    let bytes = lines::packet_bytes(v[2]);
+    let bytes = replay_io::packet_bytes(v[2]);
     let p = Packet {
         seq_num: low(v[0]),
         pkt_type: type_of(v[3]),
@@ -259,10 +264,10 @@ fn packet_handed(f: Fields, ends: Ends, held: &mut [u8], output: &mut [u8]) -> E
         checksum: 0,
     };
     let mut raw = [0u8; 74];
-    put_packet(p, lines::prefix(&bytes, n), &mut raw);
+    put_packet(p, replay_io::prefix(&bytes, n), &mut raw);
     flip(&mut raw, v[5] as usize, v[6]);
     let before = ends.receiver;
-    let receiver = handle_packet(before, held, lines::prefix(&raw, 10 + n), output);
+    let receiver = handle_packet(before, held, replay_io::prefix(&raw, 10 + n), output);
     print_receiver(receiver, output);
     let sender = ends.sender;
     Ends {
@@ -288,7 +293,7 @@ fn put_packet(p: Packet, payload: &[u8], raw: &mut [u8]) {
         PacketAnswer::Packet(q) => {
             q.to_bytes(payload, raw);
         }
-        PacketAnswer::Refused(r) => lines::print_refusal(r),
+        PacketAnswer::Refused(r) => replay_io::print_refusal(r),
     }
 }
 
@@ -374,16 +379,16 @@ fn handle_ack(sender: Sender, store: &mut [u8], raw: &[u8]) -> Sender {
 fn print_sent(a: SendAnswer, out: &[u8]) {
     match a {
         SendAnswer::Sent(n) => print_bytes(out, n),
-        SendAnswer::WindowFull => lines::print(b"full"),
-        SendAnswer::Refused(r) => lines::print_refusal(r),
+        SendAnswer::WindowFull => replay_io::print(b"full"),
+        SendAnswer::Refused(r) => replay_io::print_refusal(r),
     }
 }
 
 fn print_resent(a: TimeoutAnswer, out: &[u8]) {
     match a {
         TimeoutAnswer::Resent(n) => print_bytes(out, n),
-        TimeoutAnswer::Nothing => lines::print(b"none"),
-        TimeoutAnswer::Refused(r) => lines::print_refusal(r),
+        TimeoutAnswer::Nothing => replay_io::print(b"none"),
+        TimeoutAnswer::Refused(r) => replay_io::print_refusal(r),
     }
 }
 
@@ -392,16 +397,16 @@ fn print_received(a: ReceiveAnswer) {
         ReceiveAnswer::Ack(n) => {
             io::print_decimal(STDOUT_FILENO, n as u64);
         }
-        ReceiveAnswer::Silent => lines::print(b"none"),
-        ReceiveAnswer::Refused(r) => lines::print_refusal(r),
+        ReceiveAnswer::Silent => replay_io::print(b"none"),
+        ReceiveAnswer::Refused(r) => replay_io::print_refusal(r),
     }
 }
 
 fn print_acknowledged(a: AckAnswer) {
     match a {
-        AckAnswer::Accepted => lines::print(b"accepted"),
-        AckAnswer::NotAccepted => lines::print(b"not accepted"),
-        AckAnswer::Refused(r) => lines::print_refusal(r),
+        AckAnswer::Accepted => replay_io::print(b"accepted"),
+        AckAnswer::NotAccepted => replay_io::print(b"not accepted"),
+        AckAnswer::Refused(r) => replay_io::print_refusal(r),
     }
 }
 
@@ -429,11 +434,11 @@ fn window_of(s: StopAndWaitSender) -> SendWindow {
 }
 
 fn print_window(w: SendWindow) {
-    lines::print_number(w.send_base as u64);
-    lines::print_number(w.next_seq_num as u64);
-    lines::print_number(w.total_sent);
-    lines::print_number(w.retransmissions);
-    lines::print(b"\n");
+    replay_io::print_number(w.send_base as u64);
+    replay_io::print_number(w.next_seq_num as u64);
+    replay_io::print_number(w.total_sent);
+    replay_io::print_number(w.retransmissions);
+    replay_io::print(b"\n");
 }
 
 fn print_receiver(receiver: Receiver, output: &[u8]) {
@@ -462,20 +467,20 @@ fn print_receiver(receiver: Receiver, output: &[u8]) {
 }
 
 fn print_marks(base: u32, filled: usize, output: &[u8]) {
-    lines::print_number(base as u64);
-    lines::print_number(filled as u64);
-    lines::print_number(lines::sum(output, filled));
+    replay_io::print_number(base as u64);
+    replay_io::print_number(filled as u64);
+    replay_io::print_number(replay_io::sum(output, filled));
 }
 
 fn print_counts(first: u64, second: u64, third: u64) {
-    lines::print_number(first);
-    lines::print_number(second);
-    lines::print_number(third);
-    lines::print(b"\n");
+    replay_io::print_number(first);
+    replay_io::print_number(second);
+    replay_io::print_number(third);
+    replay_io::print(b"\n");
 }
 
 // A length, and the sum of that many bytes.
 fn print_bytes(bytes: &[u8], n: usize) {
     io::print_decimal(STDOUT_FILENO, n as u64);
-    lines::print_number(lines::sum(bytes, n));
+    replay_io::print_number(replay_io::sum(bytes, n));
 }

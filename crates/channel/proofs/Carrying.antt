@@ -13,12 +13,12 @@ use Rattle.checksum.specs.Flip.{flip}
 use Rattle.schedule.specs.State.{copies}
 use Rattle.schedule.specs.declared.Deliveries.{Deliveries}
 use Rattle.schedule.specs.declared.Deliveries.the-variants.{Lost, One, Two}
-use Rattle.channel.specs.Faults.{isLost, isDuplicated, isReordered, isCorrupted, byteAt, bitAt, carried, delayOf, deliveriesOf}
+use Rattle.channel.specs.Faults.{isLost, isDuplicated, isReordered, isCorrupted, byteAt, bitAt, carriedBytes, delayOf, deliveriesOf}
 use Rattle.refusal.specs.Order.{verdict, firstOf, numbered, orElse, decide, order}
 use Rattle.refusal.specs.declared.Refusal.the-variants.{State, Counts, Roll, Long, Full}
 use Rattle.channel.specs.Bounds.{configBroken, statsFull, rollsBroken}
-use Rattle.channel.specs.Process.{one, stats6, channelOf, countedDef, transitExit, transitDef, processExit, refusedExit, transited, outShort, processDef, CanProcess}
-use Rattle.channel.specs.declared.Outcome.the-variants as outcome
+use Rattle.channel.specs.Process.{one, stats6, channelOf, countedStats, transitExit, processUnchecked, processExit, refusedExit, transited, outShort, process, CanProcess}
+use Rattle.channel.specs.declared.ProcessAnswer.the-variants as outcome
 use Rattle.channel.specs.declared.ChannelConfig.{ChannelConfig}
 use Rattle.channel.specs.declared.ChannelStats.{ChannelStats}
 use Rattle.channel.specs.declared.Rolls.{Rolls}
@@ -75,8 +75,8 @@ module _ (c : ChannelConfig) (r : Rolls) where
 -- ---- counters
 pub counted-law : (c : ChannelConfig) (r : Rolls) (n : ℕ) (s : ChannelStats) {a b d e : Bool} {p q u v g : ℕ}
     → a ≡ isLost c r → p ≡ one a → b ≡ isCorrupted c r n → q ≡ one b → d ≡ isDuplicated c r → u ≡ one d → e ≡ isReordered c r → v ≡ one e → g ≡ copies (deliveriesOf c r)
-    → stats6 (s .«packets_seen» + 1) (s .lost + p) (s .corrupted + q) (s .duplicated + u) (s .reordered + v) (s .«copies_delivered» + g) ≡ countedDef c r n s
-unfolding countedDef
+    → stats6 (s .«packets_seen» + 1) (s .lost + p) (s .corrupted + q) (s .duplicated + u) (s .reordered + v) (s .«copies_delivered» + g) ≡ countedStats c r n s
+unfolding countedStats
 counted-law c r n s ea ep eb eq ed eu ee ev eg = rw (ep, ea, eq, eb, eu, ed, ev, ee, eg)
 
 -- ---- corruption
@@ -87,15 +87,15 @@ module _ (c : ChannelConfig) (r : Rolls) (n : ℕ) where
   corrupted-some h = ltb-true 0 n (and-eq-true-iff (lt (r .«corrupt_roll») (c .corrupt)) (ltb 0 n) .0 (and-eq-true-iff (not (isLost c r)) (lt (r .«corrupt_roll») (c .corrupt) && ltb 0 n) .0 h .1) .1)
 
 module _ (c : ChannelConfig) (r : Rolls) (p : List ℕ) where
-  pub corrupt-law : {i b : ℕ} {o : List ℕ} → isCorrupted c r (length p) ≡ true → i ≡ byteAt r (length p) → b ≡ bitAt r → o ≡ flip p i b → o ≡ carried c r p
-  unfolding carried
+  pub corrupt-law : {i b : ℕ} {o : List ℕ} → isCorrupted c r (length p) ≡ true → i ≡ byteAt r (length p) → b ≡ bitAt r → o ≡ flip p i b → o ≡ carriedBytes c r p
+  unfolding carriedBytes
   corrupt-law h q e f = picked (isCorrupted c r (length p)) h q e f
     where
       picked : (x : Bool) {i b j d : ℕ} {o : List ℕ} → x ≡ true → i ≡ j → b ≡ d → o ≡ flip p i b → o ≡ cond x (flip p j d) p
       picked x h q e f = rw (h, ← q, ← e) f
 
-  pub uncorrupted-law : isCorrupted c r (length p) ≡ false → p ≡ carried c r p
-  unfolding carried
+  pub uncorrupted-law : isCorrupted c r (length p) ≡ false → p ≡ carriedBytes c r p
+  unfolding carriedBytes
   uncorrupted-law h = picked (isCorrupted c r (length p)) (flip p (byteAt r (length p)) (bitAt r)) h
     where
       picked : (x : Bool) (q : List ℕ) → x ≡ false → p ≡ cond x q p
@@ -114,20 +114,20 @@ module _ (p out : List ℕ) {q : List ℕ} (e : q ≡ p) where
   laid-short h = rw laid-size (ltb-false 1410 (length p) h)
 
 module _ (ch : Channel) (p : List ℕ) (r : Rolls) (out : List ℕ) where
-  pub lost-law : {s : ChannelStats} → isLost (ch .config) r ≡ true → s ≡ countedDef (ch .config) r (length p) (ch .stats) → transitExit out (record { channel = channelOf (ch .config) s; deliveries = Lost }) ≡ transitDef ch p r out
-  unfolding transitDef
-  lost-law {s} a e = picked (isLost (ch .config) r) (carried (ch .config) r p ++ drop (length p) out) a e (deliveries-lost (ch .config) r a)
+  pub lost-law : {s : ChannelStats} → isLost (ch .config) r ≡ true → s ≡ countedStats (ch .config) r (length p) (ch .stats) → transitExit out (record { channel = channelOf (ch .config) s; deliveries = Lost }) ≡ processUnchecked ch p r out
+  unfolding processUnchecked
+  lost-law {s} a e = picked (isLost (ch .config) r) (carriedBytes (ch .config) r p ++ drop (length p) out) a e (deliveries-lost (ch .config) r a)
     where
       picked : (x : Bool) (u : List ℕ) {s t : ChannelStats} {d e : Deliveries} → x ≡ true → s ≡ t → d ≡ e → transitExit out (record { channel = channelOf (ch .config) s; deliveries = d }) ≡ transitExit (cond x out u) (record { channel = channelOf (ch .config) t; deliveries = e })
       picked x u a b d = rw (a, b, d)
 
-  pub transit-law : {q d : List ℕ} {s : ChannelStats} {ds : Deliveries} → isLost (ch .config) r ≡ false → s ≡ countedDef (ch .config) r (length p) (ch .stats) → q ≡ p → d ≡ carried (ch .config) r (take (length p) (q ++ drop (length p) out)) → ds ≡ deliveriesOf (ch .config) r
-      → transitExit (d ++ drop (length p) (q ++ drop (length p) out)) (record { channel = channelOf (ch .config) s; deliveries = ds }) ≡ transitDef ch p r out
-  unfolding transitDef
-  transit-law {q} {d} {s} {ds} a e f g h = picked (isLost (ch .config) r) a e (laid ∙ ap (λ (xs : List ℕ). carried (ch .config) r p ++ xs) (ap (λ (xs : List ℕ). drop (length p) (xs ++ drop (length p) out)) f ∙ drop-at p (drop (length p) out) (length p) refl)) h
+  pub transit-law : {q d : List ℕ} {s : ChannelStats} {ds : Deliveries} → isLost (ch .config) r ≡ false → s ≡ countedStats (ch .config) r (length p) (ch .stats) → q ≡ p → d ≡ carriedBytes (ch .config) r (take (length p) (q ++ drop (length p) out)) → ds ≡ deliveriesOf (ch .config) r
+      → transitExit (d ++ drop (length p) (q ++ drop (length p) out)) (record { channel = channelOf (ch .config) s; deliveries = ds }) ≡ processUnchecked ch p r out
+  unfolding processUnchecked
+  transit-law {q} {d} {s} {ds} a e f g h = picked (isLost (ch .config) r) a e (laid ∙ ap (λ (xs : List ℕ). carriedBytes (ch .config) r p ++ xs) (ap (λ (xs : List ℕ). drop (length p) (xs ++ drop (length p) out)) f ∙ drop-at p (drop (length p) out) (length p) refl)) h
     where
-      laid : d ++ drop (length p) (q ++ drop (length p) out) ≡ carried (ch .config) r p ++ drop (length p) (q ++ drop (length p) out)
-      laid = ap (λ (xs : List ℕ). xs ++ drop (length p) (q ++ drop (length p) out)) (g ∙ ap (carried (ch .config) r) (ap (λ (xs : List ℕ). take (length p) (xs ++ drop (length p) out)) f ∙ take-at p (drop (length p) out) (length p) refl))
+      laid : d ++ drop (length p) (q ++ drop (length p) out) ≡ carriedBytes (ch .config) r p ++ drop (length p) (q ++ drop (length p) out)
+      laid = ap (λ (xs : List ℕ). xs ++ drop (length p) (q ++ drop (length p) out)) (g ∙ ap (carriedBytes (ch .config) r) (ap (λ (xs : List ℕ). take (length p) (xs ++ drop (length p) out)) f ∙ take-at p (drop (length p) out) (length p) refl))
 
       picked : (x : Bool) {u v : List ℕ} {s t : ChannelStats} {d e : Deliveries} → x ≡ false → s ≡ t → u ≡ v → d ≡ e → transitExit u (record { channel = channelOf (ch .config) s; deliveries = d }) ≡ transitExit (cond x out v) (record { channel = channelOf (ch .config) t; deliveries = e })
       picked x a b f d = rw (a, b, f, d)
@@ -136,26 +136,26 @@ module _ (ch : Channel) (p : List ℕ) (r : Rolls) (out : List ℕ) where
   pub fits-out : isLost (ch .config) r ≡ false → CanProcess ch p r out → length p ≤ length out
   fits-out a can = ltb-false (length out) (length p) (sym (ap (λ (b : Bool). not b && ltb (length out) (length p)) a) ∙ can .room)
 
-  pub process-state : configBroken (ch .config) ≡ true → refusedExit ch out (outcome.Refused State) ≡ processDef ch p r out
-  unfolding processDef verdict firstOf numbered orElse decide order
+  pub process-state : configBroken (ch .config) ≡ true → refusedExit ch out (outcome.Refused State) ≡ process ch p r out
+  unfolding process verdict firstOf numbered orElse decide order
   process-state a = simp a
 
-  pub process-counts : configBroken (ch .config) ≡ false → statsFull (ch .stats) ≡ true → refusedExit ch out (outcome.Refused Counts) ≡ processDef ch p r out
-  unfolding processDef verdict firstOf numbered orElse decide order
+  pub process-counts : configBroken (ch .config) ≡ false → statsFull (ch .stats) ≡ true → refusedExit ch out (outcome.Refused Counts) ≡ process ch p r out
+  unfolding process verdict firstOf numbered orElse decide order
   process-counts a b = simp (a, b)
 
-  pub process-roll : configBroken (ch .config) ≡ false → statsFull (ch .stats) ≡ false → rollsBroken r ≡ true → refusedExit ch out (outcome.Refused Roll) ≡ processDef ch p r out
-  unfolding processDef verdict firstOf numbered orElse decide order
+  pub process-roll : configBroken (ch .config) ≡ false → statsFull (ch .stats) ≡ false → rollsBroken r ≡ true → refusedExit ch out (outcome.Refused Roll) ≡ process ch p r out
+  unfolding process verdict firstOf numbered orElse decide order
   process-roll a b c = simp (a, b, c)
 
-  pub process-long : configBroken (ch .config) ≡ false → statsFull (ch .stats) ≡ false → rollsBroken r ≡ false → ltb 1410 (length p) ≡ true → refusedExit ch out (outcome.Refused Long) ≡ processDef ch p r out
-  unfolding processDef verdict firstOf numbered orElse decide order
+  pub process-long : configBroken (ch .config) ≡ false → statsFull (ch .stats) ≡ false → rollsBroken r ≡ false → ltb 1410 (length p) ≡ true → refusedExit ch out (outcome.Refused Long) ≡ process ch p r out
+  unfolding process verdict firstOf numbered orElse decide order
   process-long a b c d = simp (a, b, c, d)
 
-  pub process-full : configBroken (ch .config) ≡ false → statsFull (ch .stats) ≡ false → rollsBroken r ≡ false → ltb 1410 (length p) ≡ false → outShort ch r (length p) (length out) ≡ true → refusedExit ch out (outcome.Refused Full) ≡ processDef ch p r out
-  unfolding processDef verdict firstOf numbered orElse decide order
+  pub process-full : configBroken (ch .config) ≡ false → statsFull (ch .stats) ≡ false → rollsBroken r ≡ false → ltb 1410 (length p) ≡ false → outShort ch r (length p) (length out) ≡ true → refusedExit ch out (outcome.Refused Full) ≡ process ch p r out
+  unfolding process verdict firstOf numbered orElse decide order
   process-full a b c d e = simp (a, b, c, d, e)
 
-  pub process-done : {o : List ℕ} {t : Transit} → CanProcess ch p r out → transitExit o t ≡ transitDef ch p r out → processExit o (record { channel = t .channel; answer = outcome.Delivered (t .deliveries) }) ≡ processDef ch p r out
-  unfolding processDef verdict firstOf numbered orElse decide order
+  pub process-done : {o : List ℕ} {t : Transit} → CanProcess ch p r out → transitExit o t ≡ processUnchecked ch p r out → processExit o (record { channel = t .channel; answer = outcome.Delivered (t .deliveries) }) ≡ process ch p r out
+  unfolding process verdict firstOf numbered orElse decide order
   process-done can e = simp (can .config, can .counts, can .rolls, can .short, can .room) (ap transited e)

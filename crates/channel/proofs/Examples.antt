@@ -10,14 +10,14 @@ use Rattle.checksum.specs.Flip.{flip}
 use Rattle.schedule.specs.declared.Deliveries.{Deliveries}
 use Rattle.schedule.specs.declared.Deliveries.the-variants.{Lost, One, Two}
 use Rattle.channel.specs.Bounds.{configBroken, statsFull, rollsBroken}
-use Rattle.channel.specs.Faults.{isLost, isDuplicated, isReordered, isCorrupted, carried, deliveriesOf}
-use Rattle.channel.specs.Process.{stats6, channelOf, countedDef, transitDef, ProcessExit, processExit, processDef}
+use Rattle.channel.specs.Faults.{isLost, isDuplicated, isReordered, isCorrupted, carriedBytes, deliveriesOf}
+use Rattle.channel.specs.Process.{stats6, channelOf, countedStats, processUnchecked, ProcessExit, processExit, process}
 use Rattle.channel.specs.History.{Call, filter, turnedAway, accepted, afterCalls}
 use Rattle.channel.specs.declared.ChannelConfig.{ChannelConfig}
 use Rattle.channel.specs.declared.ChannelStats.{ChannelStats}
 use Rattle.channel.specs.declared.Channel.{Channel}
 use Rattle.channel.specs.declared.Rolls.{Rolls}
-use Rattle.channel.specs.declared.Outcome.the-variants.{Delivered}
+use Rattle.channel.specs.declared.ProcessAnswer.the-variants.{Delivered}
 use Rattle.channel.proofs.Tallies.{history}
 
 abbrev none : Float
@@ -59,12 +59,12 @@ abbrev delivers : List ℕ → ChannelStats → Deliveries → ProcessExit
 delivers out s ds = processExit out (record { channel = channelOf setup s; answer = Delivered ds })
 
 pub record ChannelRows : Type 0 where
-  pub lost : processDef made (0x41 ∷ 0x42 ∷ []) lostRolls (7 ∷ 8 ∷ 9 ∷ []) ≡ delivers (7 ∷ 8 ∷ 9 ∷ []) (stats6 1 1 0 0 0 0) Lost
-  pub duplicated : processDef made (0x41 ∷ 0x42 ∷ []) duplicatedRolls (7 ∷ 8 ∷ 9 ∷ []) ≡ delivers (0x41 ∷ 0x42 ∷ 9 ∷ []) (stats6 1 0 0 1 1 2) (Two 37 35)
-  pub corrupted : processDef made (0x41 ∷ 0x42 ∷ []) corruptedRolls (7 ∷ 8 ∷ 9 ∷ []) ≡ delivers (0x41 ∷ 0x52 ∷ 9 ∷ []) (stats6 1 0 1 0 0 1) (One 6)
+  pub lost : process made (0x41 ∷ 0x42 ∷ []) lostRolls (7 ∷ 8 ∷ 9 ∷ []) ≡ delivers (7 ∷ 8 ∷ 9 ∷ []) (stats6 1 1 0 0 0 0) Lost
+  pub duplicated : process made (0x41 ∷ 0x42 ∷ []) duplicatedRolls (7 ∷ 8 ∷ 9 ∷ []) ≡ delivers (0x41 ∷ 0x42 ∷ 9 ∷ []) (stats6 1 0 0 1 1 2) (Two 37 35)
+  pub corrupted : process made (0x41 ∷ 0x42 ∷ []) corruptedRolls (7 ∷ 8 ∷ 9 ∷ []) ≡ delivers (0x41 ∷ 0x52 ∷ 9 ∷ []) (stats6 1 0 1 0 0 1) (One 6)
 
 pub channel-rows : ChannelRows
-unfolding le lt mul ofInt toUnsigned flip order orElse numbered firstOf verdict decide configBroken statsFull rollsBroken isLost isDuplicated isReordered isCorrupted carried deliveriesOf countedDef transitDef processDef
+unfolding le lt mul ofInt toUnsigned flip order orElse numbered firstOf verdict decide configBroken statsFull rollsBroken isLost isDuplicated isReordered isCorrupted carriedBytes deliveriesOf countedStats processUnchecked process
 channel-rows = record { lost = refl; duplicated = refl; corrupted = refl }
 
 -- the latest call stands first

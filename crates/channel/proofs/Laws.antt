@@ -22,7 +22,7 @@ use Rattle.schedule.specs.State.{leavesAt, delayLate, deliveriesLate}
 use Rattle.schedule.specs.declared.Deliveries.the-variants.{Lost, One, Two}
 use Rattle.schedule.proofs.Laws.{or-both}
 use Rattle.channel.specs.Bounds.{configBroken, rollsBroken}
-use Rattle.channel.specs.Faults.{isLost, isDuplicated, isReordered, isCorrupted, byteAt, bitAt, carried, holdOf, delayOf, deliveriesOf}
+use Rattle.channel.specs.Faults.{isLost, isDuplicated, isReordered, isCorrupted, byteAt, bitAt, carriedBytes, holdOf, delayOf, deliveriesOf}
 use Rattle.channel.specs.declared.ChannelConfig.{ChannelConfig}
 use Rattle.channel.specs.declared.Rolls.{Rolls}
 use Rattle.channel.proofs.Limits.{delays-within, rolls-within}
@@ -104,10 +104,10 @@ lost-only c r n h = (sym (unless-lost (isLost c r) _ h), sym (unless-lost (isLos
 
 -- ---- the bytes of the copies
 module _ (c : ChannelConfig) (r : Rolls) (p : List ℕ) where
-  pub uncorrupted-is : isCorrupted c r (length p) ≡ false → carried c r p ≡ p
+  pub uncorrupted-is : isCorrupted c r (length p) ≡ false → carriedBytes c r p ≡ p
   uncorrupted-is h = sym (uncorrupted-law c r p h)
 
-  pub corrupted-is : isCorrupted c r (length p) ≡ true → carried c r p ≡ flip p (byteAt r (length p)) (bitAt r)
+  pub corrupted-is : isCorrupted c r (length p) ≡ true → carriedBytes c r p ≡ flip p (byteAt r (length p)) (bitAt r)
   corrupted-is h = sym (corrupt-law c r p h refl refl refl)
 
 -- one bit of one byte: the length and the other bytes are as they were, that byte is not
@@ -142,15 +142,15 @@ pub record OneBit (p q : List ℕ) : Type 0 where
   pub others-same : (j : ℕ) → j ≢ byte → getD q j 0 ≡ getD p j 0
   pub turned : getD q byte 0 ≡ bitXor (getD p byte 0) (2 ^ bit)
 
-pub corrupted-one-bit : (c : ChannelConfig) (r : Rolls) (p : List ℕ) → Doubles r → rollsBroken r ≡ false → length p ≤ 1410 → isCorrupted c r (length p) ≡ true → OneBit p (carried c r p)
+pub corrupted-one-bit : (c : ChannelConfig) (r : Rolls) (p : List ℕ) → Doubles r → rollsBroken r ≡ false → length p ≤ 1410 → isCorrupted c r (length p) ≡ true → OneBit p (carriedBytes c r p)
 corrupted-one-bit c r p d good h k = subst (λ (q : List ℕ). OneBit p q) (sym (corrupted-is c r p k)) (one (byteAt r (length p)) (bitAt r) (byte-below r d good (length p) (corrupted-some c r (length p) k) h) (bit-below r d good))
   where
     one : (i b : ℕ) → i < length p → b < 8 → OneBit p (flip p i b)
     one i b l m = record { byte = i; bit = b; inside = l; low = m; length-same = flip-length p i b; others-same = λ j. flip-other p i b j; turned = flip-at p i b l }
 
 -- a copy has the packet's length
-pub carried-length : (c : ChannelConfig) (r : Rolls) (p : List ℕ) → length (carried c r p) ≡ length p
-unfolding carried
+pub carried-length : (c : ChannelConfig) (r : Rolls) (p : List ℕ) → length (carriedBytes c r p) ≡ length p
+unfolding carriedBytes
 carried-length c r p = go (isCorrupted c r (length p))
   where
     go : (t : Bool) → length (cond t (flip p (byteAt r (length p)) (bitAt r)) p) ≡ length p

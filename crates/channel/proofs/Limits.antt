@@ -10,7 +10,7 @@ use borrow.Author.Tests.{ltb-false, leb-false}
 use Rattle.refusal.specs.Counts.{countLimit, countFull}
 use Rattle.refusal.proofs.Laws.{or-false}
 use Rattle.float.specs.Roll.{rollInBounds}
-use Rattle.channel.specs.Bounds.{chancesBroken, delaysBroken, configBroken, statsFull, fourBroken, rollsBroken}
+use Rattle.channel.specs.Bounds.{chancesBroken, delaysBroken, configBroken, statsFull, anyRollBroken, rollsBroken}
 use Rattle.channel.specs.Process.{one}
 use Rattle.channel.specs.declared.ChannelConfig.{ChannelConfig}
 use Rattle.channel.specs.declared.ChannelStats.{ChannelStats}
@@ -50,7 +50,7 @@ rolls-within r h =
     let b = rollInBounds (r .«bit_roll») in
     let c = rollInBounds (r .«jitter_roll») in
     let d = rollInBounds (r .«dup_jitter_roll») in
-    let p = or-false (fourBroken (r .«loss_roll») (r .«dup_roll») (r .«reorder_roll») (r .«corrupt_roll»)) (not a || (not b || (not c || not d))) h .1 in
+    let p = or-false (anyRollBroken (r .«loss_roll») (r .«dup_roll») (r .«reorder_roll») (r .«corrupt_roll»)) (not a || (not b || (not c || not d))) h .1 in
     let q = or-false (not a) (not b || (not c || not d)) p .1 in
     let s = or-false (not b) (not c || not d) q .1 in
     record { byte = holds a (or-false (not a) (not b || (not c || not d)) p .0); bit = holds b (or-false (not b) (not c || not d) q .0); jitter = holds c (or-false (not c) (not d) s .0); dup-jitter = holds d (or-false (not c) (not d) s .1) }

@@ -15,7 +15,7 @@ use Rattle.schedule.specs.State.{copies}
 use Rattle.schedule.specs.declared.Deliveries.the-variants.{Lost, One, Two}
 use Rattle.channel.specs.Bounds.{configBroken, statsFull, rollsBroken}
 use Rattle.channel.specs.Faults.{isLost, isDuplicated, isReordered, isCorrupted, delayOf, deliveriesOf}
-use Rattle.channel.specs.Process.{stats6, channelOf, one, countedDef, transitDef, ProcessExit, outShort, processDef}
+use Rattle.channel.specs.Process.{stats6, channelOf, one, countedStats, processUnchecked, ProcessExit, outShort, process}
 use Rattle.channel.specs.History.{Call, isRefused, afterCalls, turnedAway, accepted, filter, count, loses, corrupts, duplicates, reorders, kept, tallies}
 use Rattle.channel.specs.declared.ChannelConfig.{ChannelConfig}
 use Rattle.channel.specs.declared.Channel.{Channel}
@@ -36,10 +36,10 @@ module _ (ch : Channel) (p : List ℕ) (r : Rolls) (out : List ℕ) where
   abbrev lineTrue : Bool
   lineTrue = configBroken (ch .config) || (statsFull (ch .stats) || (rollsBroken r || (ltb 1410 (length p) || outShort ch r (length p) (length out))))
 
-  pub processed : (processDef ch p r out .result .channel ≡ cond lineTrue ch (channelOf (ch .config) (countedDef (ch .config) r (length p) (ch .stats)))) × (isRefused (processDef ch p r out .result .answer) ≡ lineTrue)
-  unfolding processDef transitDef
+  pub processed : (process ch p r out .result .channel ≡ cond lineTrue ch (channelOf (ch .config) (countedStats (ch .config) r (length p) (ch .stats)))) × (isRefused (process ch p r out .result .answer) ≡ lineTrue)
+  unfolding process processUnchecked
   processed =
-      by-tests (λ (z : ProcessExit) (b : Bool). (z .result .channel ≡ cond b ch (channelOf (ch .config) (countedDef (ch .config) r (length p) (ch .stats)))) × (isRefused (z .result .answer) ≡ b)) _ _ _ _ _ _ _ (λ x. (refl, refl)) (refl, refl)
+      by-tests (λ (z : ProcessExit) (b : Bool). (z .result .channel ≡ cond b ch (channelOf (ch .config) (countedStats (ch .config) r (length p) (ch .stats)))) × (isRefused (z .result .answer) ≡ b)) _ _ _ _ _ _ _ (λ x. (refl, refl)) (refl, refl)
 
 -- ---- one call more
 counted : (p : Call → Bool) (x : Call) (xs : List Call) → count p (x ∷ xs) ≡ count p xs + one (p x)
@@ -74,8 +74,8 @@ granted-is c x = go (loses c x) (duplicates c x)
     go false true = refl
     go false false = refl
 
-tallied : (c : ChannelConfig) (x : Call) (xs : List Call) → countedDef c (x .rolls) (length (x .packet)) (tallies c xs) ≡ tallies c (x ∷ xs)
-unfolding countedDef isLost isCorrupted isDuplicated isReordered
+tallied : (c : ChannelConfig) (x : Call) (xs : List Call) → countedStats c (x .rolls) (length (x .packet)) (tallies c xs) ≡ tallies c (x ∷ xs)
+unfolding countedStats isLost isCorrupted isDuplicated isReordered
 tallied c x xs =
     let k = kept c xs in
     let q : Call → Bool = λ y. not (loses c y) in
@@ -93,16 +93,16 @@ pub history : (c : ChannelConfig) (xs : List Call) → afterCalls c xs ≡ chann
 unfolding afterCalls accepted filter turnedAway isLost
 history c [] = refl
 history c (x ∷ xs) =
-    ap (λ (ch : Channel). processDef ch (x .packet) (x .rolls) (x .out) .result .channel) (history c xs)
+    ap (λ (ch : Channel). process ch (x .packet) (x .rolls) (x .out) .result .channel) (history c xs)
     ∙ processed (channelOf c (tallies c (accepted c xs))) (x .packet) (x .rolls) (x .out) .0 ∙ go (turnedAway c (accepted c xs) x)
   where
-    go : (b : Bool) → cond b (channelOf c (tallies c (accepted c xs))) (channelOf c (countedDef c (x .rolls) (length (x .packet)) (tallies c (accepted c xs)))) ≡ channelOf c (tallies c (cond b (accepted c xs) (x ∷ accepted c xs)))
+    go : (b : Bool) → cond b (channelOf c (tallies c (accepted c xs))) (channelOf c (countedStats c (x .rolls) (length (x .packet)) (tallies c (accepted c xs)))) ≡ channelOf c (tallies c (cond b (accepted c xs) (x ∷ accepted c xs)))
     go true = refl
     go false = ap (channelOf c) (tallied c x (accepted c xs))
 
 -- the calls that are refused are those that the list says
-pub refused-are : (c : ChannelConfig) (x : Call) (xs : List Call) → isRefused (processDef (afterCalls c xs) (x .packet) (x .rolls) (x .out) .result .answer) ≡ turnedAway c (accepted c xs) x
+pub refused-are : (c : ChannelConfig) (x : Call) (xs : List Call) → isRefused (process (afterCalls c xs) (x .packet) (x .rolls) (x .out) .result .answer) ≡ turnedAway c (accepted c xs) x
 unfolding turnedAway isLost
 refused-are c x xs =
-    ap (λ (ch : Channel). isRefused (processDef ch (x .packet) (x .rolls) (x .out) .result .answer)) (history c xs)
+    ap (λ (ch : Channel). isRefused (process ch (x .packet) (x .rolls) (x .out) .result .answer)) (history c xs)
     ∙ processed (channelOf c (tallies c (accepted c xs))) (x .packet) (x .rolls) (x .out) .1

@@ -21,15 +21,15 @@ unfoldable pub configBroken : ChannelConfig → Bool
 configBroken c = chancesBroken (c .loss) (c .duplicate) (c .reorder) (c .corrupt) || delaysBroken (c .«reorder_extra_ms») (c .«base_delay_ms») (c .«jitter_ms»)
 
 -- line 8 of three counters
-abbrev pub threeFull : ℕ → ℕ → ℕ → Bool
-threeFull a b c = countFull a || (countFull b || countFull c)
+abbrev pub anyCountFull : ℕ → ℕ → ℕ → Bool
+anyCountFull a b c = countFull a || (countFull b || countFull c)
 
 unfoldable pub statsFull : ChannelStats → Bool
-statsFull s = threeFull (s .«packets_seen») (s .lost) (s .corrupted) || threeFull (s .duplicated) (s .reordered) (s .«copies_delivered»)
+statsFull s = anyCountFull (s .«packets_seen») (s .lost) (s .corrupted) || anyCountFull (s .duplicated) (s .reordered) (s .«copies_delivered»)
 
 -- "Rolls at least 0 and below 1"
-abbrev pub fourBroken : Float → Float → Float → Float → Bool
-fourBroken a b c d = not (rollInBounds a) || (not (rollInBounds b) || (not (rollInBounds c) || not (rollInBounds d)))
+abbrev pub anyRollBroken : Float → Float → Float → Float → Bool
+anyRollBroken a b c d = not (rollInBounds a) || (not (rollInBounds b) || (not (rollInBounds c) || not (rollInBounds d)))
 
 unfoldable pub rollsBroken : Rolls → Bool
-rollsBroken r = fourBroken (r .«loss_roll») (r .«dup_roll») (r .«reorder_roll») (r .«corrupt_roll») || fourBroken (r .«byte_roll») (r .«bit_roll») (r .«jitter_roll») (r .«dup_jitter_roll»)
+rollsBroken r = anyRollBroken (r .«loss_roll») (r .«dup_roll») (r .«reorder_roll») (r .«corrupt_roll») || anyRollBroken (r .«byte_roll») (r .«bit_roll») (r .«jitter_roll») (r .«dup_jitter_roll»)

@@ -33,8 +33,8 @@ abbrev pub bitAt : Rolls → ℕ
 bitAt r = scaled (r .«bit_roll») 8
 
 -- the bytes of a packet's copies
-unfoldable pub carried : ChannelConfig → Rolls → List ℕ → List ℕ
-carried c r p = cond (isCorrupted c r (length p)) (flip p (byteAt r (length p)) (bitAt r)) p
+unfoldable pub carriedBytes : ChannelConfig → Rolls → List ℕ → List ℕ
+carriedBytes c r p = cond (isCorrupted c r (length p)) (flip p (byteAt r (length p)) (bitAt r)) p
 
 abbrev pub holdOf : ChannelConfig → Rolls → ℕ
 holdOf c r = cond (isReordered c r) (c .«reorder_extra_ms») 0

@@ -6,13 +6,13 @@ use lib.ListN.{length}
 use lib.Dec.{ltb}
 use lib.Ieee.{lt}
 use Rattle.channel.specs.Bounds.{configBroken, statsFull, rollsBroken}
-use Rattle.channel.specs.Process.{stats6, channelOf, processDef}
+use Rattle.channel.specs.Process.{stats6, channelOf, process}
 use Rattle.channel.specs.declared.ChannelConfig.{ChannelConfig}
 use Rattle.channel.specs.declared.ChannelStats.{ChannelStats}
 use Rattle.channel.specs.declared.Channel.{Channel}
 use Rattle.channel.specs.declared.Rolls.{Rolls}
-use Rattle.channel.specs.declared.Outcome.{Outcome}
-use Rattle.channel.specs.declared.Outcome.the-variants.{Delivered, Refused}
+use Rattle.channel.specs.declared.ProcessAnswer.{ProcessAnswer}
+use Rattle.channel.specs.declared.ProcessAnswer.the-variants.{Delivered, Refused}
 
 -- one call of `process`
 pub record Call : Type 0 where
@@ -70,8 +70,8 @@ accepted c (x ∷ xs) = cond (turnedAway c (accepted c xs) x) (accepted c xs) (x
 -- ---- the channel after a list of calls from one just made, each of which finds it as the last one left it
 unfoldable pub afterCalls : ChannelConfig → List Call → Channel
 afterCalls c [] = channelOf c (stats6 0 0 0 0 0 0)
-afterCalls c (x ∷ xs) = processDef (afterCalls c xs) (x .packet) (x .rolls) (x .out) .result .channel
+afterCalls c (x ∷ xs) = process (afterCalls c xs) (x .packet) (x .rolls) (x .out) .result .channel
 
-abbrev pub isRefused : Outcome → Bool
+abbrev pub isRefused : ProcessAnswer → Bool
 isRefused (Delivered d) = false
 isRefused (Refused r) = true

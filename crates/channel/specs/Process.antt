@@ -9,16 +9,16 @@ use Rattle.refusal.specs.Order.{check, verdict, decide}
 use Rattle.refusal.specs.declared.Refusal.the-variants.{Setup, State, Counts, Roll, Long, Full}
 use Rattle.schedule.specs.State.{copies}
 use Rattle.channel.specs.Bounds.{configBroken, statsFull, rollsBroken}
-use Rattle.channel.specs.Faults.{isLost, isDuplicated, isReordered, isCorrupted, carried, deliveriesOf}
+use Rattle.channel.specs.Faults.{isLost, isDuplicated, isReordered, isCorrupted, carriedBytes, deliveriesOf}
 use Rattle.channel.specs.declared.ChannelConfig.{ChannelConfig}
 use Rattle.channel.specs.declared.ChannelStats.{ChannelStats}
 use Rattle.channel.specs.declared.Channel.{Channel}
 use Rattle.channel.specs.declared.Rolls.{Rolls}
-use Rattle.channel.specs.declared.Making.{Making}
-use Rattle.channel.specs.declared.Making.the-variants as making
-use Rattle.channel.specs.declared.Outcome.{Outcome}
-use Rattle.channel.specs.declared.Outcome.the-variants as outcome
-use Rattle.channel.specs.declared.Processed.{Processed}
+use Rattle.channel.specs.declared.ChannelAnswer.{ChannelAnswer}
+use Rattle.channel.specs.declared.ChannelAnswer.the-variants as making
+use Rattle.channel.specs.declared.ProcessAnswer.{ProcessAnswer}
+use Rattle.channel.specs.declared.ProcessAnswer.the-variants as outcome
+use Rattle.channel.specs.declared.ProcessResult.{ProcessResult}
 use Rattle.channel.specs.declared.Transit.{Transit}
 
 abbrev pub stats6 : ℕ → ℕ → ℕ → ℕ → ℕ → ℕ → ChannelStats
@@ -27,16 +27,16 @@ stats6 seen lost corrupted duplicated reordered delivered = record { «packets_s
 abbrev pub channelOf : ChannelConfig → ChannelStats → Channel
 channelOf c s = record { config = c; stats = s }
 
-unfoldable pub newDef : ChannelConfig → Making
-newDef c = decide (verdict (check (configBroken c) Setup ∷ [])) making.Refused (making.Made (channelOf c (stats6 0 0 0 0 0 0)))
+unfoldable pub newChannel : ChannelConfig → ChannelAnswer
+newChannel c = decide (verdict (check (configBroken c) Setup ∷ [])) making.Refused (making.Made (channelOf c (stats6 0 0 0 0 0 0)))
 
 abbrev pub one : Bool → ℕ
 one true = 1
 one false = 0
 
 -- the counters after a packet of n bytes
-unfoldable pub countedDef : ChannelConfig → Rolls → ℕ → ChannelStats → ChannelStats
-countedDef c r n s =
+unfoldable pub countedStats : ChannelConfig → Rolls → ℕ → ChannelStats → ChannelStats
+countedStats c r n s =
     stats6 (s .«packets_seen» + 1) (s .lost + one (isLost c r)) (s .corrupted + one (isCorrupted c r n)) (s .duplicated + one (isDuplicated c r)) (s .reordered + one (isReordered c r)) (s .«copies_delivered» + copies (deliveriesOf c r))
 
 -- what a packet leaves in the lent buffer, and the result
@@ -48,19 +48,19 @@ abbrev pub transitExit : List ℕ → Transit → TransitExit
 transitExit o t = record { out = o; result = t }
 
 -- a lost packet writes nothing; the copies of any other have the same bytes
-unfoldable pub transitDef : Channel → List ℕ → Rolls → List ℕ → TransitExit
-transitDef ch p r out =
+unfoldable pub processUnchecked : Channel → List ℕ → Rolls → List ℕ → TransitExit
+processUnchecked ch p r out =
     let c = ch .config in
-    transitExit (cond (isLost c r) out (carried c r p ++ drop (length p) out)) (record { channel = channelOf c (countedDef c r (length p) (ch .stats)); deliveries = deliveriesOf c r })
+    transitExit (cond (isLost c r) out (carriedBytes c r p ++ drop (length p) out)) (record { channel = channelOf c (countedStats c r (length p) (ch .stats)); deliveries = deliveriesOf c r })
 
 pub record ProcessExit : Type 0 where
   pub out : List ℕ
-  pub result : Processed
+  pub result : ProcessResult
 
-abbrev pub processExit : List ℕ → Processed → ProcessExit
+abbrev pub processExit : List ℕ → ProcessResult → ProcessExit
 processExit o p = record { out = o; result = p }
 
-abbrev pub refusedExit : Channel → List ℕ → Outcome → ProcessExit
+abbrev pub refusedExit : Channel → List ℕ → ProcessAnswer → ProcessExit
 refusedExit ch out a = processExit out (record { channel = ch; answer = a })
 
 abbrev pub transited : TransitExit → ProcessExit
@@ -70,8 +70,8 @@ transited x = processExit (x .out) (record { channel = x .result .channel; answe
 abbrev pub outShort : Channel → Rolls → ℕ → ℕ → Bool
 outShort ch r n size = not (isLost (ch .config) r) && ltb size n
 
-unfoldable pub processDef : Channel → List ℕ → Rolls → List ℕ → ProcessExit
-processDef ch p r out =
+unfoldable pub process : Channel → List ℕ → Rolls → List ℕ → ProcessExit
+process ch p r out =
     decide
     (verdict
     (check (configBroken (ch .config)) State
@@ -81,7 +81,7 @@ processDef ch p r out =
     ∷ check (outShort ch r (length p) (length out)) Full
     ∷ []))
     (λ x. refusedExit ch out (outcome.Refused x))
-    (transited (transitDef ch p r out))
+    (transited (processUnchecked ch p r out))
 
 -- what the call below the entry point takes for granted: the checks before it are false
 pub record CanProcess (ch : Channel) (p : List ℕ) (r : Rolls) (out : List ℕ) : Type 0 where

@@ -7,9 +7,9 @@ ghost use lib.ListN.{length};
 ghost use Rattle.checksum.specs.Flip.{flip};
 ghost use Rattle.float.specs.Roll.{rollInBounds};
 ghost use Rattle.schedule.specs.State.{copies};
-ghost use Rattle.channel.specs.Bounds.{chancesBroken, delaysBroken, configBroken, threeFull, statsFull, fourBroken, rollsBroken};
-ghost use Rattle.channel.specs.Faults.{isLost, isDuplicated, isReordered, isCorrupted, carried, holdOf, delayOf, deliveriesOf};
-ghost use Rattle.channel.specs.Process.{newDef, one, countedDef, transitExit, transitDef, outShort, processExit, processDef, CanProcess};
+ghost use Rattle.channel.specs.Bounds.{chancesBroken, delaysBroken, configBroken, anyCountFull, statsFull, anyRollBroken, rollsBroken};
+ghost use Rattle.channel.specs.Faults.{isLost, isDuplicated, isReordered, isCorrupted, carriedBytes, holdOf, delayOf, deliveriesOf};
+ghost use Rattle.channel.specs.Process.{newChannel, one, countedStats, transitExit, processUnchecked, outShort, processExit, process, CanProcess};
 use refusal::COUNT_LIMIT;
 use refusal::Refusal;
 use schedule::Deliveries;
@@ -51,19 +51,19 @@ pub struct Rolls {
     pub dup_jitter_roll: f64,
 }
 
-pub enum Making {
+pub enum ChannelAnswer {
     Made(Channel),
     Refused(Refusal),
 }
 
-pub enum Outcome {
+pub enum ProcessAnswer {
     Delivered(Deliveries),
     Refused(Refusal),
 }
 
-pub struct Processed {
+pub struct ProcessResult {
     pub channel: Channel,
-    pub answer: Outcome,
+    pub answer: ProcessAnswer,
 }
 
 pub struct Transit {
@@ -109,8 +109,8 @@ fn delays_broken(a: u64, b: u64, c: u64) -> bool
     60000 < c
 }
 
-fn three_full(a: u64, b: u64, c: u64) -> bool
-    ensures { λ r. ⌜ r ≡ threeFull a b c ⌝ }
+fn any_count_full(a: u64, b: u64, c: u64) -> bool
+    ensures { λ r. ⌜ r ≡ anyCountFull a b c ⌝ }
 {
     if COUNT_LIMIT <= a {
         return true;
@@ -121,8 +121,8 @@ fn three_full(a: u64, b: u64, c: u64) -> bool
     COUNT_LIMIT <= c
 }
 
-fn four_broken(a: f64, b: f64, c: f64, d: f64) -> bool
-    ensures { λ r. ⌜ r ≡ fourBroken a b c d ⌝ }
+fn any_roll_broken(a: f64, b: f64, c: f64, d: f64) -> bool
+    ensures { λ r. ⌜ r ≡ anyRollBroken a b c d ⌝ }
 {
     any_false(
         float::roll_in_bounds(a),
@@ -200,10 +200,10 @@ impl ChannelStats {
     fn stats_full(self) -> bool
         ensures { λ r. ⌜ r ≡ statsFull self ⌝ }
     {
-        if three_full(self.packets_seen, self.lost, self.corrupted) {
+        if any_count_full(self.packets_seen, self.lost, self.corrupted) {
             return true;
         }
-        three_full(self.duplicated, self.reordered, self.copies_delivered)
+        any_count_full(self.duplicated, self.reordered, self.copies_delivered)
     }
 }
 
@@ -211,7 +211,7 @@ impl Rolls {
     fn rolls_broken(self) -> bool
         ensures { λ r. ⌜ r ≡ rollsBroken self ⌝ }
     {
-        if four_broken(
+        if any_roll_broken(
             self.loss_roll,
             self.dup_roll,
             self.reorder_roll,
@@ -219,7 +219,7 @@ impl Rolls {
         ) {
             return true;
         }
-        four_broken(
+        any_roll_broken(
             self.byte_roll,
             self.bit_roll,
             self.jitter_roll,
@@ -230,13 +230,13 @@ impl Rolls {
 
 impl Channel {
     // A channel that has seen no packet.
-    pub fn new(config: ChannelConfig) -> Making
-        ensures { λ r. ⌜ r ≡ newDef config ⌝ }
+    pub fn new(config: ChannelConfig) -> ChannelAnswer
+        ensures { λ r. ⌜ r ≡ newChannel config ⌝ }
     {
         if config.config_broken() {
-            return Making::Refused(Refusal::Setup);
+            return ChannelAnswer::Refused(Refusal::Setup);
         }
-        Making::Made(Channel {
+        ChannelAnswer::Made(Channel {
             config: config,
             stats: ChannelStats {
                 packets_seen: 0,
@@ -288,7 +288,7 @@ fn deliveries_of(config: ChannelConfig, rolls: Rolls) -> Deliveries
 // The counters after a packet of `len` bytes.
 fn counted(config: ChannelConfig, rolls: Rolls, len: usize, stats: ChannelStats) -> ChannelStats
     requires { ⌜ statsFull stats ≡ false ⌝ }
-    ensures { λ s. ⌜ s ≡ countedDef config rolls len stats ⌝ }
+    ensures { λ s. ⌜ s ≡ countedStats config rolls len stats ⌝ }
 {
     ChannelStats {
         packets_seen: stats.packets_seen + 1,
@@ -316,7 +316,7 @@ fn granted(config: ChannelConfig, rolls: Rolls) -> u64
 // Corrupts a packet, if the rolls say so.
 fn corrupt(config: ChannelConfig, rolls: Rolls, d: &mut [u8])
     requires { ⌜ (length (now d) ≤ 1410) × (rollsBroken rolls ≡ false) ⌝ }
-    ensures { λ _. ⌜ now (d .exit) ≡ carried config rolls (now (d .entry)) ⌝ }
+    ensures { λ _. ⌜ now (d .exit) ≡ carriedBytes config rolls (now (d .entry)) ⌝ }
 {
     let len = d.len();
     if config.is_corrupted(rolls, len) {
@@ -341,7 +341,7 @@ impl Channel {
     // What becomes of one packet; the bytes of its copies are written to the front of `out`.
     pub fn process_unchecked(self, packet: &[u8], rolls: Rolls, out: &mut [u8]) -> Transit
         requires { ⌜ CanProcess self (now packet) rolls (now out) ⌝ }
-        ensures { λ r. ⌜ transitExit (now (out .exit)) r ≡ transitDef self (now (packet .entry)) rolls (now (out .entry)) ⌝ }
+        ensures { λ r. ⌜ transitExit (now (out .exit)) r ≡ processUnchecked self (now (packet .entry)) rolls (now (out .entry)) ⌝ }
     {
         let config = self.config;
         let before = self.stats;
@@ -368,47 +368,47 @@ impl Channel {
     }
 
     // Takes one packet and answers when its copies are delivered.
-    pub fn process(self, packet: &[u8], rolls: Rolls, out: &mut [u8]) -> Processed
-        ensures { λ r. ⌜ processExit (now (out .exit)) r ≡ processDef self (now (packet .entry)) rolls (now (out .entry)) ⌝ }
+    pub fn process(self, packet: &[u8], rolls: Rolls, out: &mut [u8]) -> ProcessResult
+        ensures { λ r. ⌜ processExit (now (out .exit)) r ≡ process self (now (packet .entry)) rolls (now (out .entry)) ⌝ }
     {
         let config = self.config;
         if config.config_broken() {
-            return Processed {
+            return ProcessResult {
                 channel: self,
-                answer: Outcome::Refused(Refusal::State),
+                answer: ProcessAnswer::Refused(Refusal::State),
             };
         }
         let stats = self.stats;
         if stats.stats_full() {
-            return Processed {
+            return ProcessResult {
                 channel: self,
-                answer: Outcome::Refused(Refusal::Counts),
+                answer: ProcessAnswer::Refused(Refusal::Counts),
             };
         }
         if rolls.rolls_broken() {
-            return Processed {
+            return ProcessResult {
                 channel: self,
-                answer: Outcome::Refused(Refusal::Roll),
+                answer: ProcessAnswer::Refused(Refusal::Roll),
             };
         }
         if 1410 < packet.len() {
-            return Processed {
+            return ProcessResult {
                 channel: self,
-                answer: Outcome::Refused(Refusal::Long),
+                answer: ProcessAnswer::Refused(Refusal::Long),
             };
         }
         if self.out_short(rolls, packet.len(), out.len()) {
-            return Processed {
+            return ProcessResult {
                 channel: self,
-                answer: Outcome::Refused(Refusal::Full),
+                answer: ProcessAnswer::Refused(Refusal::Full),
             };
         }
         let done = self.process_unchecked(packet, rolls, out);
         let next = done.channel;
         let deliveries = done.deliveries;
-        Processed {
+        ProcessResult {
             channel: next,
-            answer: Outcome::Delivered(deliveries),
+            answer: ProcessAnswer::Delivered(deliveries),
         }
     }
 }

@@ -7,23 +7,23 @@
 // just written to the stack, read back as one, make the processor wait.
 ghost use mathlib.Core.Path.{_≡_};
 ghost use Prim.Native.Nat.{_<_};
-ghost use Rattle.schedule.specs.State.{mem, CanSchedule};
+ghost use Rattle.schedule.specs.State.{schedule, CanSchedule};
 ghost use Rattle.schedule.specs.Schedule.{scheduler, CanPop};
 ghost use Rattle.schedule.specs.declared.Deliveries.the-variants.{One};
 use channel::Channel;
+use channel::ChannelAnswer;
 use channel::ChannelConfig;
 use channel::ChannelStats;
-use channel::Making;
-use channel::Outcome;
+use channel::ProcessAnswer;
 use channel::Rolls;
+use refusal::CountAnswer;
+use refusal::DoneAnswer;
 use refusal::Refusal;
-use schedule::Amount;
+use refusal::TestAnswer;
 use schedule::ChannelScheduler;
-use schedule::Deadline;
+use schedule::DeadlineAnswer;
 use schedule::Deliveries;
-use schedule::Emptiness;
-use schedule::Queued;
-use schedule::Ready;
+use schedule::ReadyAnswer;
 
 fn number_at(s: &[u64], i: usize) -> u64 {
     if i < s.len() { s[i] } else { 0 }
@@ -117,46 +117,46 @@ fn put_deliveries(answer: &mut [u64], d: Deliveries) {
     }
 }
 
-fn put_outcome(answer: &mut [u64], o: Outcome) {
+fn put_outcome(answer: &mut [u64], o: ProcessAnswer) {
     match o {
-        Outcome::Delivered(d) => put_deliveries(answer, d),
-        Outcome::Refused(r) => put(answer, 0, code(r)),
+        ProcessAnswer::Delivered(d) => put_deliveries(answer, d),
+        ProcessAnswer::Refused(r) => put(answer, 0, code(r)),
     }
 }
 
-fn put_queued(answer: &mut [u64], q: Queued) {
+fn put_queued(answer: &mut [u64], q: DoneAnswer) {
     match q {
-        Queued::Accepted => put(answer, 0, 0),
-        Queued::Refused(r) => put(answer, 0, code(r)),
+        DoneAnswer::Done => put(answer, 0, 0),
+        DoneAnswer::Refused(r) => put(answer, 0, code(r)),
     }
 }
 
-fn put_ready(answer: &mut [u64], r: Ready) {
+fn put_ready(answer: &mut [u64], r: ReadyAnswer) {
     match r {
-        Ready::Nothing => put(answer, 0, 0),
-        Ready::Packet(n) => {
+        ReadyAnswer::Nothing => put(answer, 0, 0),
+        ReadyAnswer::Packet(n) => {
             put(answer, 0, 1);
             put(answer, 1, n as u64);
         }
-        Ready::Refused(x) => put(answer, 0, code(x)),
+        ReadyAnswer::Refused(x) => put(answer, 0, code(x)),
     }
 }
 
-fn put_deadline(answer: &mut [u64], d: Deadline) {
+fn put_deadline(answer: &mut [u64], d: DeadlineAnswer) {
     match d {
-        Deadline::Nothing => put(answer, 0, 0),
-        Deadline::At(t) => {
+        DeadlineAnswer::Nothing => put(answer, 0, 0),
+        DeadlineAnswer::At(t) => {
             put(answer, 0, 1);
             put(answer, 1, t);
         }
-        Deadline::Refused(r) => put(answer, 0, code(r)),
+        DeadlineAnswer::Refused(r) => put(answer, 0, code(r)),
     }
 }
 
-fn put_emptiness(answer: &mut [u64], e: Emptiness) {
+fn put_emptiness(answer: &mut [u64], e: TestAnswer) {
     match e {
-        Emptiness::Empty(b) => put(answer, 6, flag(b)),
-        Emptiness::Refused(r) => put(answer, 6, code(r)),
+        TestAnswer::Is(b) => put(answer, 6, flag(b)),
+        TestAnswer::Refused(r) => put(answer, 6, code(r)),
     }
 }
 
@@ -182,8 +182,8 @@ fn put_scheduler(answer: &mut [u64], s: ChannelScheduler) {
 #[no_mangle]
 pub extern "C" fn channel_new(reals: &[f64], numbers: &[u64]) -> u64 {
     match Channel::new(config_of(reals, numbers)) {
-        Making::Made(_) => 0,
-        Making::Refused(r) => code(r),
+        ChannelAnswer::Made(_) => 0,
+        ChannelAnswer::Refused(r) => code(r),
     }
 }
 
@@ -283,15 +283,15 @@ pub extern "C" fn schedule_read(
     put_emptiness(answer, s.is_empty(records, places));
 }
 
-fn put_amount(answer: &mut [u64], i: usize, a: Amount)
+fn put_amount(answer: &mut [u64], i: usize, a: CountAnswer)
     requires { ⌜ i < 8 ⌝ }
 {
     match a {
-        Amount::Copies(n) => {
+        CountAnswer::Count(n) => {
             put(answer, i, 1);
             put(answer, i + 1, n as u64);
         }
-        Amount::Refused(r) => put(answer, i, code(r)),
+        CountAnswer::Refused(r) => put(answer, i, code(r)),
     }
 }
 
@@ -306,7 +306,7 @@ pub extern "C" fn schedule_at_unchecked(
     next: u64,
     delay: u64,
 )
-    requires { ⌜ CanSchedule (mem (records .now) (places .now) (scheduler count next)) now (packet .now) (One delay) ⌝ }
+    requires { ⌜ CanSchedule (schedule (records .now) (places .now) (scheduler count next)) now (packet .now) (One delay) ⌝ }
 {
     let s = ChannelScheduler {
         count: count,
@@ -324,7 +324,7 @@ pub extern "C" fn pop_ready_at_unchecked(
     now: u64,
     next: u64,
 ) -> usize
-    requires { ⌜ CanPop (mem (records .now) (places .now) (scheduler count next)) now (out .now) ⌝ }
+    requires { ⌜ CanPop (schedule (records .now) (places .now) (scheduler count next)) now (out .now) ⌝ }
 {
     let s = ChannelScheduler {
         count: count,
@@ -333,8 +333,8 @@ pub extern "C" fn pop_ready_at_unchecked(
     let done = s.pop_ready_at_unchecked(records, places, now, out);
     let ready = done.answer;
     match ready {
-        Ready::Packet(n) => n,
-        Ready::Nothing => 4096,
-        Ready::Refused(_) => 8192,
+        ReadyAnswer::Packet(n) => n,
+        ReadyAnswer::Nothing => 4096,
+        ReadyAnswer::Refused(_) => 8192,
     }
 }

@@ -8,18 +8,18 @@
 // Chances and rolls are in units of 2^-53. `refused` and the number stand for the copies, or before how many wait where the schedule
 // refuses.
 use channel::Channel;
+use channel::ChannelAnswer;
 use channel::ChannelConfig;
 use channel::ChannelStats;
-use channel::Making;
-use channel::Outcome;
+use channel::ProcessAnswer;
 use channel::Rolls;
 use libc::STDIN_FILENO;
 use libc::STDOUT_FILENO;
-use lines::Fields;
+use refusal::DoneAnswer;
+use replay_io::Fields;
 use schedule::ChannelScheduler;
 use schedule::Deliveries;
-use schedule::Queued;
-use schedule::Ready;
+use schedule::ReadyAnswer;
 
 struct State {
     channel: Channel,
@@ -52,20 +52,20 @@ fn run(text: &[u8], n: usize) {
 }
 
 fn line(text: &[u8], state: State, records: &mut [[u64; 4]], places: &mut [u8]) -> State {
-    let kind = lines::read_number(text, state.next);
+    let kind = replay_io::read_number(text, state.next);
     if kind.value == 1 {
-        return made(lines::read_fields(text, kind.next, 7), records, places);
+        return made(replay_io::read_fields(text, kind.next, 7), records, places);
     }
     if kind.value == 2 {
         return sent(
-            lines::read_fields(text, kind.next, 11),
+            replay_io::read_fields(text, kind.next, 11),
             state,
             records,
             places,
         );
     }
     taken(
-        lines::read_fields(text, kind.next, 1),
+        replay_io::read_fields(text, kind.next, 1),
         state,
         records,
         places,
@@ -120,15 +120,15 @@ fn made(f: Fields, records: &mut [[u64; 4]], places: &mut [u8]) -> State {
     }
 }
 
-fn channel_or_idle(m: Making) -> Channel {
+fn channel_or_idle(m: ChannelAnswer) -> Channel {
     match m {
-        Making::Made(c) => {
-            lines::print(b"made\n");
+        ChannelAnswer::Made(c) => {
+            replay_io::print(b"made\n");
             c
         }
-        Making::Refused(r) => {
-            lines::print_refusal(r);
-            lines::print(b"\n");
+        ChannelAnswer::Refused(r) => {
+            replay_io::print_refusal(r);
+            replay_io::print(b"\n");
             idle()
         }
     }
@@ -150,25 +150,29 @@ fn rolls_of(v: [u64; 12]) -> Rolls {
 fn sent(f: Fields, state: State, records: &mut [[u64; 4]], places: &mut [u8]) -> State {
     let v = f.values;
     let n = (v[1] % 65) as usize;
-    let bytes = lines::packet_bytes(v[2]);
+    let bytes = replay_io::packet_bytes(v[2]);
     let mut out = [0u8; 64];
     let done = state
         .channel
-        .process(lines::prefix(&bytes, n), rolls_of(v), &mut out);
+        .process(replay_io::prefix(&bytes, n), rolls_of(v), &mut out);
     let outcome = done.answer;
     let after = done.channel;
     let stats = after.stats;
     let deliveries = print_outcome(outcome);
-    lines::print_number(lines::sum(&out, n));
+    replay_io::print_number(replay_io::sum(&out, n));
     print_stats(stats);
-    let queued = state
-        .scheduler
-        .schedule_at(records, places, v[0], lines::prefix(&out, n), deliveries);
+    let queued = state.scheduler.schedule_at(
+        records,
+        places,
+        v[0],
+        replay_io::prefix(&out, n),
+        deliveries,
+    );
     let answer = queued.answer;
     print_queued(answer);
     let s = queued.scheduler;
-    lines::print_number(s.count as u64);
-    lines::print(b"\n");
+    replay_io::print_number(s.count as u64);
+    replay_io::print(b"\n");
     State {
         channel: after,
         scheduler: s,
@@ -184,16 +188,16 @@ fn taken(f: Fields, state: State, records: &mut [[u64; 4]], places: &mut [u8]) -
         .pop_ready_at(records, places, v[0], &mut out);
     let answer = done.answer;
     match answer {
-        Ready::Packet(n) => {
+        ReadyAnswer::Packet(n) => {
             io::print_decimal(STDOUT_FILENO, n as u64);
-            lines::print_number(lines::sum(&out, n));
+            replay_io::print_number(replay_io::sum(&out, n));
         }
-        Ready::Nothing => lines::print(b"none"),
-        Ready::Refused(r) => lines::print_refusal(r),
+        ReadyAnswer::Nothing => replay_io::print(b"none"),
+        ReadyAnswer::Refused(r) => replay_io::print_refusal(r),
     }
     let s = done.scheduler;
-    lines::print_number(s.count as u64);
-    lines::print(b"\n");
+    replay_io::print_number(s.count as u64);
+    replay_io::print(b"\n");
     let c = state.channel;
     State {
         channel: c,
@@ -202,14 +206,14 @@ fn taken(f: Fields, state: State, records: &mut [[u64; 4]], places: &mut [u8]) -
     }
 }
 
-fn print_outcome(o: Outcome) -> Deliveries {
+fn print_outcome(o: ProcessAnswer) -> Deliveries {
     match o {
-        Outcome::Delivered(d) => {
+        ProcessAnswer::Delivered(d) => {
             print_deliveries(d);
             d
         }
-        Outcome::Refused(r) => {
-            lines::print_refusal(r);
+        ProcessAnswer::Refused(r) => {
+            replay_io::print_refusal(r);
             Deliveries::Lost
         }
     }
@@ -217,34 +221,34 @@ fn print_outcome(o: Outcome) -> Deliveries {
 
 fn print_deliveries(d: Deliveries) {
     match d {
-        Deliveries::Lost => lines::print(b"0"),
+        Deliveries::Lost => replay_io::print(b"0"),
         Deliveries::One(first) => {
-            lines::print(b"1");
-            lines::print_number(first);
+            replay_io::print(b"1");
+            replay_io::print_number(first);
         }
         Deliveries::Two(first, second) => {
-            lines::print(b"2");
-            lines::print_number(first);
-            lines::print_number(second);
+            replay_io::print(b"2");
+            replay_io::print_number(first);
+            replay_io::print_number(second);
         }
     }
 }
 
-fn print_queued(q: Queued) {
+fn print_queued(q: DoneAnswer) {
     match q {
-        Queued::Accepted => {}
-        Queued::Refused(r) => {
-            lines::print(b"\t");
-            lines::print_refusal(r);
+        DoneAnswer::Done => {}
+        DoneAnswer::Refused(r) => {
+            replay_io::print(b"\t");
+            replay_io::print_refusal(r);
         }
     }
 }
 
 fn print_stats(s: ChannelStats) {
-    lines::print_number(s.packets_seen);
-    lines::print_number(s.lost);
-    lines::print_number(s.corrupted);
-    lines::print_number(s.duplicated);
-    lines::print_number(s.reordered);
-    lines::print_number(s.copies_delivered);
+    replay_io::print_number(s.packets_seen);
+    replay_io::print_number(s.lost);
+    replay_io::print_number(s.corrupted);
+    replay_io::print_number(s.duplicated);
+    replay_io::print_number(s.reordered);
+    replay_io::print_number(s.copies_delivered);
 }

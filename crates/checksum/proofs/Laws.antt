@@ -12,7 +12,7 @@ use lib.Bits.{bitXor}
 use lib.Pow.{pow-pos}
 use Rattle.checksum.specs.Below.{Octets, Integers16}
 use Rattle.checksum.specs.Rfc1071.{words, onesAdd, onesSum, complement}
-use Rattle.checksum.specs.Techniques.{plainSum, carried}
+use Rattle.checksum.specs.Techniques.{plainSum, folded}
 use Rattle.checksum.specs.Flip.{flip}
 use Rattle.checksum.proofs.Carry.{carried-le, carried-apart, add-carried}
 use Rattle.checksum.proofs.Words.{sum, ones-carried}
@@ -27,15 +27,15 @@ pub ones-add-comm : (a b : ℕ) → onesAdd a b ≡ onesAdd b a
 unfolding onesAdd
 ones-add-comm a b = omega arith
 
-add-small : (a b : ℕ) → a ≤ 65535 → b ≤ 65535 → onesAdd a b ≡ carried (a + b)
+add-small : (a b : ℕ) → a ≤ 65535 → b ≤ 65535 → onesAdd a b ≡ folded (a + b)
 add-small a b h k = sym (ap (onesAdd a) (carried-small b (omega arith))) ∙ add-carried a b h
 
 pub ones-add-assoc : (a b c : ℕ) → a ≤ 65535 → b ≤ 65535 → c ≤ 65535 → onesAdd a (onesAdd b c) ≡ onesAdd (onesAdd a b) c
 ones-add-assoc a b c h k l =
     let left = ap (onesAdd a) (add-small b c k l) ∙ add-carried a (b + c) h in
-    let right = ap (λ (x : ℕ). onesAdd x c) (add-small a b h k) ∙ ones-add-comm (carried (a + b)) c ∙ add-carried c (a + b) l in
+    let right = ap (λ (x : ℕ). onesAdd x c) (add-small a b h k) ∙ ones-add-comm (folded (a + b)) c ∙ add-carried c (a + b) l in
     let same : a + (b + c) ≡ c + (a + b) = omega arith in
-    left ∙ ap carried same ∙ sym right
+    left ∙ ap folded same ∙ sym right
 
 pub ones-add-le : (a b : ℕ) → a ≤ 65535 → b ≤ 65535 → onesAdd a b ≤ 65535
 unfolding onesAdd
@@ -64,7 +64,7 @@ unfolding onesAdd
 complement-all-ones field others l e = omega arith
 
 -- section 2 (1): the carries may be deferred; bringing them back is adding the high half to the low half until it is 0
-pub deferred-carries : (ws : List ℕ) → Integers16 ws → onesSum ws ≡ carried (plainSum ws)
+pub deferred-carries : (ws : List ℕ) → Integers16 ws → onesSum ws ≡ folded (plainSum ws)
 deferred-carries = ones-carried
 
 -- the sum doesn't depend on the order of the words
@@ -76,17 +76,17 @@ plain-order (List·Permᴰ·swap e f) = omega arith
 plain-order (List·Permᴰ·trans p q) = plain-order p ∙ plain-order q
 
 pub ones-sum-order : {v w : List ℕ} → List·Permᴰ v w → Integers16 v → Integers16 w → onesSum v ≡ onesSum w
-ones-sum-order {v} {w} p h k = ones-carried v h ∙ ap carried (plain-order p) ∙ sym (ones-carried w k)
+ones-sum-order {v} {w} p h k = ones-carried v h ∙ ap folded (plain-order p) ∙ sym (ones-carried w k)
 
 -- one bit turned over changes an octet, and the sum
 pub xor-differs : (a b : ℕ) → bitXor a (2 ^ b) ≡ a → ⊥
 xor-differs a b e = ⊎-elim {C = ⊥} (λ f. omega (arith, pow-pos b)) (λ f. omega (arith, pow-pos b)) (xor-moves a b)
 
-never-same : (m n : ℕ) → Apart m n → carried n ≡ carried m → ⊥
+never-same : (m n : ℕ) → Apart m n → folded n ≡ folded m → ⊥
 never-same m n h e =
     ⊎-elim {C = ⊥}
-    (λ f. carried-apart m (h .by) (h .positive) (h .small) (sym (ap carried f) ∙ e))
-    (λ f. carried-apart n (h .by) (h .positive) (h .small) (sym (ap carried f) ∙ sym e))
+    (λ f. carried-apart m (h .by) (h .positive) (h .small) (sym (ap folded f) ∙ e))
+    (λ f. carried-apart n (h .by) (h .positive) (h .small) (sym (ap folded f) ∙ sym e))
     (h .way)
 
 pub flip-changes-sum : (l : List ℕ) (i b : ℕ) → Octets l → b < 8 → i < length l → onesSum (words (flip l i b)) ≡ onesSum (words l) → ⊥

@@ -5,7 +5,7 @@ use mathlib.Core.List.{List}
 use native.Mathlib.Omega.{arith}
 use native.Mathlib.Nat.{add-mul-mod-self-right}
 use lib.ListN.{length, getD}
-use Rattle.checksum.specs.Techniques.{carried, sumFrom, Swapped}
+use Rattle.checksum.specs.Techniques.{folded, sumFrom, Swapped}
 use Rattle.checksum.proofs.Carry.{carried-same}
 use Rattle.checksum.proofs.Words.{sum, sum-drop, sum-last, sum-end}
 
@@ -51,7 +51,7 @@ swapped-four s i r h e =
     exact s i (i + 4) r (getD s (i + 1) 0 + getD s (i + 2) 0 * 256 + getD s (i + 3) 0 * 65537) (omega arith) (omega arith)
 
 -- the whole row: its carried sum
-pub swapped-all : (s : List ℕ) (r : ℕ) → Swapped s 0 (length s) r → carried (256 * r) ≡ carried (sum s)
+pub swapped-all : (s : List ℕ) (r : ℕ) → Swapped s 0 (length s) r → folded (256 * r) ≡ folded (sum s)
 swapped-all s r h =
     let z = sum-end s (length s) (omega arith) in
     let e : (256 * r) % 65535 ≡ sum s % 65535 = ap (λ (n : ℕ). n % 65535) (omega arith) ∙ h .same in

@@ -8,7 +8,7 @@ use lib.Seq.{drop-cons}
 use lib.Dec.{lit<}
 use Rattle.checksum.specs.Below.{Octets, Integers16}
 use Rattle.checksum.specs.Rfc1071.{words, onesAdd, onesSum}
-use Rattle.checksum.specs.Techniques.{plainSum, carried, sumFrom}
+use Rattle.checksum.specs.Techniques.{plainSum, folded, sumFrom}
 use Rattle.checksum.proofs.Carry.{add-carried}
 use Rattle.checksum.proofs.Bounded.{below-nil, below-cons, below-head, below-tail}
 
@@ -51,7 +51,7 @@ words-below (a ∷ b ∷ l) h =
     below-cons (omega (arith, below-head h, below-head (below-tail h))) (words-below l (below-tail (below-tail h)))
 
 -- the 1's complement sum is the plain sum with its carries brought back
-pub ones-carried : (ws : List ℕ) → Integers16 ws → onesSum ws ≡ carried (plainSum ws)
+pub ones-carried : (ws : List ℕ) → Integers16 ws → onesSum ws ≡ folded (plainSum ws)
 unfolding onesSum plainSum
 ones-carried [] h = refl
 ones-carried (w ∷ ws) h =

@@ -11,8 +11,8 @@ plainSum [] = 0
 plainSum (w ∷ ws) = w + plainSum ws
 
 -- a plain sum with its carries brought back: 0 for 0, else the number from 1 to 65535 with the same remainder by 65535
-abbrev pub carried : ℕ → ℕ
-carried n = n - (n - 1) / 65535 * 65535
+abbrev pub folded : ℕ → ℕ
+folded n = n - (n - 1) / 65535 * 65535
 
 -- the sum of the words of s from the place i on
 abbrev pub sumFrom : List ℕ → ℕ → ℕ

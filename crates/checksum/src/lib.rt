@@ -3,7 +3,7 @@ ghost use mathlib.Core.Path.{_≡_};
 ghost use Prim.Native.Nat.{_+_, _*_, _≤_, _<_};
 ghost use lib.ListN.{length};
 ghost use Rattle.checksum.specs.Rfc1071.{words, onesAdd, onesSum};
-ghost use Rattle.checksum.specs.Techniques.{plainSum, carried, Swapped};
+ghost use Rattle.checksum.specs.Techniques.{plainSum, folded, Swapped};
 
 // The one's complement sum of two words, by end-around carry.
 pub fn ones_add(a: u16, b: u16) -> u16
@@ -23,7 +23,7 @@ pub fn ones_sum_unchecked(word: u16, octets: &[u8]) -> u16
 
 // Brings the deferred carries of a plain sum back in.
 fn fold_carries(sum: u64) -> u16
-    ensures { λ r. ⌜ r ≡ carried sum ⌝ }
+    ensures { λ r. ⌜ r ≡ folded sum ⌝ }
 {
     let mut s = sum;
     while (s >> 16) != 0 {
@@ -35,7 +35,7 @@ fn fold_carries(sum: u64) -> u16
 // The plain sum of the octets taken low octet first, four at a time, in four sums of their own.
 fn swapped_sum(s: &[u8]) -> u64
     requires { ⌜ length (now s) ≤ 65535 ⌝ }
-    ensures { λ r. ⌜ (carried (256 * r) ≡ carried (plainSum (words (now (s .entry))))) × (r < 2251799813685248) ⌝ }
+    ensures { λ r. ⌜ (folded (256 * r) ≡ folded (plainSum (words (now (s .entry))))) × (r < 2251799813685248) ⌝ }
 {
     let mut a: u64 = 0;
     let mut b: u64 = 0;

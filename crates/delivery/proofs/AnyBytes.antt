@@ -7,20 +7,20 @@ use Rattle.protocol.specs.declared.ProtocolType.{ProtocolType}
 use Rattle.protocol.specs.declared.ProtocolType.the-variants.{StopAndWait, GoBackN, SelectiveRepeat}
 use Rattle.protocol.specs.Machine.{ReceiverState}
 use Rattle.window.specs.Slots as slots
-use Rattle.window.specs.Sending.{Sending, sendChunk}
-use Rattle.window.specs.Resending.{Resending}
-use Rattle.window.specs.Acknowledgement.{Acknowledging}
-use Rattle.receiver.specs.Receive.{Receiving}
+use Rattle.window.specs.Sending.{SendExit, sendChunk}
+use Rattle.window.specs.Resending.{TimeoutExit}
+use Rattle.window.specs.Acknowledgement.{AckExit}
+use Rattle.receiver.specs.Receive.{ReceiveExit}
 use Rattle.stop_and_wait.specs.Receiver as stopAndWaitReceiver
 use Rattle.go_back_n.specs.Receiver as goBackNReceiver
 use Rattle.selective_repeat.specs.Receiver as selectiveRepeatReceiver
-use Rattle.arq.specs.Good.{Good}
-use Rattle.arq.proofs.Laws.{fresh-good, fresh-receiver-good, stop-and-wait-made, send-good, AckOutcome, ack-refused, ack-ignored, ack-taken, ResendOutcome, timeout-refused, nothing-sent, sent-again}
+use Rattle.refinement.specs.Good.{Good}
+use Rattle.refinement.proofs.Laws.{fresh-good, fresh-receiver-good, stop-and-wait-made, send-good, AckOutcome, ack-refused, ack-ignored, ack-taken, ResendOutcome, timeout-refused, nothing-sent, sent-again}
 use Rattle.delivery.specs.Calls.{Ends, World}
 use Rattle.delivery.specs.Ends.{endsOf, stopAndWaitEnds, goBackNEnds, selectiveRepeatEnds, ends, freshEnds, Made}
 use Rattle.delivery.specs.AnyBytes.{SenderCall, send, timeout, ack, senderStep, senderAfter, ReceiverCall, receiverAfter, SenderSound, ReceiverSound}
 use Rattle.delivery.proofs.Instances.{SenderCalls, ReceiverCalls}
-use Rattle.delivery.proofs.Protocols.{stop-and-wait-sender, go-back-n-sender, selective-repeat-sender, stop-and-wait-receiver, go-back-n-receiver, selective-repeat-receiver, GoodOf, fresh-mark}
+use Rattle.delivery.proofs.Demand3.{stop-and-wait-sender, go-back-n-sender, selective-repeat-sender, stop-and-wait-receiver, go-back-n-receiver, selective-repeat-receiver, GoodOf, fresh-mark}
 
 -- what each call keeps, any list keeps
 every-sender : (E : Ends) (P : E .Sender → Type 0) → ((s : E .Sender) (c : SenderCall (E .Timeout)) → P s → P (senderStep E s c)) → (s : E .Sender) (cs : List (SenderCall (E .Timeout))) → P s → P (senderAfter E s cs)
@@ -33,8 +33,8 @@ unfolding receiverAfter
 every-receiver E P step r [] h = h
 every-receiver E P step r (c ∷ cs) h = every-receiver E P step (E .handlePacket r (c .raw) (c .buffer) .after) cs (step r c h)
 
-module _ (p : ProtocolType) (selective : Bool) {S R T : Type 0} (view : S → slots.Sender) (send′ : S → List ℕ → List ℕ → Sending S) (timeout′ : S → T → List ℕ → Resending S)
-    (ack′ : S → List ℕ → Acknowledging S) (base : S → ℕ) (c : SenderCalls p selective view send′ timeout′ ack′ base) (packet : R → List ℕ → List ℕ → List ℕ → Receiving R) (receiverBase filled : R → ℕ) where
+module _ (p : ProtocolType) (selective : Bool) {S R T : Type 0} (view : S → slots.Sender) (send′ : S → List ℕ → List ℕ → SendExit S) (timeout′ : S → T → List ℕ → TimeoutExit S)
+    (ack′ : S → List ℕ → AckExit S) (base : S → ℕ) (c : SenderCalls p selective view send′ timeout′ ack′ base) (packet : R → List ℕ → List ℕ → List ℕ → ReceiveExit R) (receiverBase filled : R → ℕ) where
   abbrev E : Ends
   E = endsOf send′ timeout′ ack′ packet base receiverBase filled
 
@@ -48,8 +48,8 @@ module _ (p : ProtocolType) (selective : Bool) {S R T : Type 0} (view : S → sl
         | sent-again y ↦ y .good
       ])
   step-good s (ack raw) g = elim (c .ack-outcome s raw) [
-    | ack-refused r e ↦ subst (λ (y : Acknowledging S). Good selective (view (y .after))) (sym e) g
-    | ack-ignored n e ↦ subst (λ (y : Acknowledging S). Good selective (view (y .after))) (sym e) g
+    | ack-refused r e ↦ subst (λ (y : AckExit S). Good selective (view (y .after))) (sym e) g
+    | ack-ignored n e ↦ subst (λ (y : AckExit S). Good selective (view (y .after))) (sym e) g
     | ack-taken n e x ↦ x .good
   ]
 

@@ -11,7 +11,7 @@ use Rattle.packet.specs.Reading.{declared}
 use Rattle.packet.specs.declared.Packet.{Packet}
 use Rattle.packet.specs.declared.PacketType.the-variants.{Ack}
 use Rattle.protocol.specs.Machine.{Segment}
-use Rattle.arq.specs.Copies.{DataOf, AckOf}
+use Rattle.refinement.specs.Copies.{DataOf, AckOf}
 use Rattle.delivery.specs.Calls.{cut, datagrams, numberOf}
 
 -- raw is a datagram of the segment q; the datagram that acknowledges n

@@ -26,7 +26,7 @@ use Rattle.window.specs.Resending.{datagramsFrom, markFrom, resend}
 use Rattle.window.specs.Acknowledgement.{readAck, ackDecision, byDecision}
 use Rattle.receiver.specs.State.{marksBroken, countsBroken}
 use Rattle.receiver.specs.Handed.{readPacket}
-use Rattle.receiver.specs.Reply.{ackAfter, roomMissing, carriedOut}
+use Rattle.receiver.specs.Reply.{ackAfter, roomMissing, applied}
 use Rattle.receiver.specs.Receive.{receive}
 use Rattle.selective_repeat.specs.Sender.{acknowledgeOne}
 use Rattle.selective_repeat.specs.Receiver as sr
@@ -34,11 +34,11 @@ use Rattle.stop_and_wait.specs.Receiver as stopAndWaitReceiver
 use Rattle.go_back_n.specs.Receiver as goBackNReceiver
 use Rattle.protocol.specs.declared.ProtocolType.{ProtocolType}
 use Rattle.protocol.specs.declared.ProtocolType.the-variants.{StopAndWait, GoBackN, SelectiveRepeat}
-use Rattle.delivery.specs.Calls.{Call, whole, flipped, send, timeout, toReceiver, toSender, World, datagrams, step, run, Line, fedBy, fedIn}
+use Rattle.delivery.specs.Calls.{Call, whole, flipped, send, timeout, toReceiver, toSender, World, datagrams, step, run, Admissible, fedBy, fedIn}
 use Rattle.protocol.specs.PlainMachine.{plainStart, plainSend, plainData, plainAck, plainCall, plainStep, plainRun, plainOutstanding}
-use Rattle.delivery.specs.Ends.{One, one, Which, all, earliest, ends, freshEnds, Made}
-use Rattle.delivery.specs.Claim.{plainAfter, Resending, Demand3}
-use Rattle.delivery.proofs.Protocols.{delivery}
+use Rattle.delivery.specs.Ends.{SingleTimeout, one, GoBackNTimeout, all, earliest, ends, freshEnds, Made}
+use Rattle.delivery.specs.Demand3.{plainAfter, ResendsAll, Demand3}
+use Rattle.delivery.proofs.Demand3.{demand-3}
 
 abbrev start : (p : ProtocolType) → ℕ → ℕ → World (ends p)
 start p w limit = freshEnds p w limit (replicate (w * 1404) 7) (replicate (w * 1404) 7) (0 ∷ 0 ∷ 0 ∷ [])
@@ -56,19 +56,19 @@ sevens (suc n) (suc i) = sevens n i
 
 -- what is seen of a list cs from fresh ends, and of the resending ds after it
 record Computed (p : ProtocolType) (w limit : ℕ) (cs ds : List (Call (ends p .Timeout))) (output : List ℕ) (receiverAt senderAt : ℕ) : Type 0 where
-  fair : Line (ends p) (start p w limit) cs
+  fair : Admissible (ends p) (start p w limit) cs
   output-is : ends p .output (run (ends p) (start p w limit) cs .receiver) ≡ output
   receiver-at : ends p .receiverBase (run (ends p) (start p w limit) cs .receiver) ≡ receiverAt
   sender-at : ends p .senderBase (run (ends p) (start p w limit) cs .sender) ≡ senderAt
-  resending : Resending p w (ends p) (run (ends p) (start p w limit) cs) (plainAfter p w (ends p) (start p w limit) cs) (plainOutstanding (plainAfter p w (ends p) (start p w limit) cs)) [] [] ds
+  resending : ResendsAll p w (ends p) (run (ends p) (start p w limit) cs) (plainAfter p w (ends p) (start p w limit) cs) (plainOutstanding (plainAfter p w (ends p) (start p w limit) cs)) [] [] ds
 
 -- Stop-and-Wait: the first comes again late, after B was sent
-abbrev stopAndWait : List (Call One)
+abbrev stopAndWait : List (Call SingleTimeout)
 stopAndWait =
     send (65 ∷ []) buffer ∷ toReceiver (flipped 0 10 3) buffer ∷ timeout one buffer ∷ toReceiver (whole 1) buffer ∷ toSender (whole 0) ∷ send (66 ∷ []) buffer ∷ toReceiver (whole 0) buffer ∷ toSender (whole 1) ∷ []
 
 -- Go-Back-N: B comes first and is discarded; both are sent again, A comes twice, and its second ACK arrives
-abbrev goBackN : List (Call Which)
+abbrev goBackN : List (Call GoBackNTimeout)
 goBackN =
     send (65 ∷ []) buffer ∷ send (66 ∷ []) buffer ∷ toReceiver (whole 1) buffer ∷ toReceiver (flipped 0 10 3) buffer ∷ timeout all buffer ∷ toReceiver (whole 2) buffer ∷ toReceiver (whole 2) buffer
     ∷ toSender (whole 1) ∷ []
@@ -82,7 +82,7 @@ selectiveRepeat =
 computed : Computed StopAndWait 1 3 stopAndWait (timeout one buffer ∷ toReceiver (whole 3) buffer ∷ toSender (whole 2) ∷ []) (65 ∷ []) 1 1
     × Computed GoBackN 2 0 goBackN (timeout earliest buffer ∷ toReceiver (whole 4) buffer ∷ toSender (whole 2) ∷ []) (65 ∷ []) 1 1
     × Computed SelectiveRepeat 2 0 selectiveRepeat (timeout 1 buffer ∷ toReceiver (whole 3) buffer ∷ toSender (whole 3) ∷ []) (65 ∷ 66 ∷ []) 2 1
-unfolding words onesAdd onesSum checksum flip anyOf order orElse numbered firstOf verdict decide headerBytes datagram checksumOf matches readChecks headerOf payloadPart payloadOf slotAt slotBytes putSlot slot.payloadOf anyBelow senderSlotBroken senderSlotsBroken receiverSlotBroken receiverSlotsBroken markedRun payloadsFrom windowBroken storeShort window.numbersBroken window.stateBroken window.countsBroken fresh hold markRetransmitted datagramFor emptyFrom release sendChecks sendChunk datagramsFrom markFrom resend readAck ackDecision byDecision countsBroken readPacket ackAfter roomMissing carriedOut receive acknowledgeOne sr.stateBroken sr.receivingBroken sr.dataDecision sr.decision sr.deliveredBytes datagrams step run stopAndWaitReceiver.decision stopAndWaitReceiver.dataDecision goBackNReceiver.decision goBackNReceiver.dataDecision marksBroken fedBy fedIn plainStart plainSend plainData plainAck plainCall plainStep plainRun plainOutstanding
+unfolding words onesAdd onesSum checksum flip anyOf order orElse numbered firstOf verdict decide headerBytes datagram checksumOf matches readChecks headerOf payloadPart payloadOf slotAt slotBytes putSlot slot.slotPayload anyBelow senderSlotBroken senderSlotsBroken receiverSlotBroken receiverSlotsBroken markedRun payloadsFrom windowBroken storeShort window.numbersBroken window.stateBroken window.countsBroken fresh hold markRetransmitted datagramFor emptyFrom release sendChecks sendChunk datagramsFrom markFrom resend readAck ackDecision byDecision countsBroken readPacket ackAfter roomMissing applied receive acknowledgeOne sr.stateBroken sr.receivingBroken sr.dataDecision sr.decision sr.deliveredBytes datagrams step run stopAndWaitReceiver.decision stopAndWaitReceiver.dataDecision goBackNReceiver.decision goBackNReceiver.dataDecision marksBroken fedBy fedIn plainStart plainSend plainData plainAck plainCall plainStep plainRun plainOutstanding
 computed = (
   record {
     fair = (byte 65 (lit< tt), ((lit< tt, lit< tt, lit< tt, (λ e. let z : _≡_ {A = ℕ} 10 6 = e in omega arith), (λ e. let z : _≡_ {A = ℕ} 10 7 = e in omega arith)), (tt, (lit< tt, (lit< tt, (byte 66 (lit< tt), (lit< tt, (lit< tt, tt))))))));
@@ -112,5 +112,5 @@ made : Made SelectiveRepeat 2 (replicate (2 * 1404) 7) (replicate (2 * 1404) 7)
 unfolding windowBroken storeShort anyOf
 made = record { in-bounds = refl; window = tt; sending-room = refl; receiving-room = refl; octets = record { at = sevens (2 * 1404) } }
 
-applied : Demand3 SelectiveRepeat 2 (ends SelectiveRepeat) (start SelectiveRepeat 2 0) selectiveRepeat
-applied = delivery SelectiveRepeat 2 0 (replicate (2 * 1404) 7) (replicate (2 * 1404) 7) (0 ∷ 0 ∷ 0 ∷ []) made selectiveRepeat (computed .2 .fair)
+admitted : Demand3 SelectiveRepeat 2 (ends SelectiveRepeat) (start SelectiveRepeat 2 0) selectiveRepeat
+admitted = demand-3 SelectiveRepeat 2 0 (replicate (2 * 1404) 7) (replicate (2 * 1404) 7) (0 ∷ 0 ∷ 0 ∷ []) made selectiveRepeat (computed .2 .fair)

@@ -12,16 +12,16 @@ use Rattle.protocol.specs.declared.ProtocolType.the-variants.{StopAndWait, GoBa
 use Rattle.protocol.specs.Machine.{Segment, SenderState, ReceiverState}
 use Rattle.window.specs.Slots as slots
 use Rattle.window.specs.Slots.{release}
-use Rattle.window.specs.Sending.{Sending, sendChunk}
-use Rattle.window.specs.Resending.{Resending}
-use Rattle.window.specs.Acknowledgement.{ackDecision, Acknowledging, byDecision}
+use Rattle.window.specs.Sending.{SendExit, sendChunk}
+use Rattle.window.specs.Resending.{TimeoutExit}
+use Rattle.window.specs.Acknowledgement.{ackDecision, AckExit, byDecision}
 use Rattle.receiver.specs.State.{marksBroken}
-use Rattle.receiver.specs.Receive.{Receiving}
+use Rattle.receiver.specs.Receive.{ReceiveExit}
 use Rattle.packet.specs.Format.{newPacket}
 use Rattle.packet.specs.declared.PacketType.the-variants.{Ack}
 use Rattle.packet.proofs.Laws.{made-length}
-use Rattle.arq.specs.Copies.{Flipped}
-use Rattle.arq.proofs.Laws.{AckOutcome, ResendOutcome, ReceiveOutcome, data-flipped, ack-flipped}
+use Rattle.refinement.specs.Copies.{Flipped}
+use Rattle.refinement.proofs.Laws.{AckOutcome, ResendOutcome, ReceiveOutcome, data-flipped, ack-flipped}
 use Rattle.delivery.specs.Calls.{Done, Ends}
 use Rattle.delivery.specs.Ends.{isSent, isResent, isHandled, isReceived, byReceiving, WithOutput, withOutput, endsOf}
 use Rattle.delivery.proofs.Datagrams.{AckBytes}
@@ -30,10 +30,10 @@ use Rattle.delivery.proofs.SenderFollows.{SenderIs, SentAs, ResentAs, c
 use Rattle.delivery.proofs.ReceiverFollows.{ReceiverIs, Taken, Kept, packet-follows, packet-kept, packet-ignored}
 
 -- a timeout of a sender as k numbers of its window from n on
-pub record TimeoutAs {S : Type 0} (selective : Bool) (view : S → slots.Sender) (s : S) (out : List ℕ) (r : Resending S) : Type 0 where
+pub record TimeoutAs {S : Type 0} (selective : Bool) (view : S → slots.Sender) (s : S) (out : List ℕ) (r : TimeoutExit S) : Type 0 where
   pub first : ℕ
   pub count : ℕ
-  pub by : Resending slots.Sender
+  pub by : TimeoutExit slots.Sender
   pub after : view (r .after) ≡ by .after
   pub answer : r .answer ≡ by .answer
   pub out-is : r .out ≡ by .out
@@ -42,8 +42,8 @@ pub record TimeoutAs {S : Type 0} (selective : Bool) (view : S → slots.Sender)
   pub size : by .after .window .«window_size» ≡ view s .window .«window_size»
 
 -- what the calls of a sender do
-pub record SenderCalls (p : ProtocolType) (selective : Bool) {S T : Type 0} (view : S → slots.Sender) (send : S → List ℕ → List ℕ → Sending S) (timeout : S → T → List ℕ → Resending S)
-    (ack : S → List ℕ → Acknowledging S) (base : S → ℕ) : Type 0 where
+pub record SenderCalls (p : ProtocolType) (selective : Bool) {S T : Type 0} (view : S → slots.Sender) (send : S → List ℕ → List ℕ → SendExit S) (timeout : S → T → List ℕ → TimeoutExit S)
+    (ack : S → List ℕ → AckExit S) (base : S → ℕ) : Type 0 where
   pub base-is : (s : S) → base s ≡ view s .window .«send_base»
   pub send-after : (s : S) (payload out : List ℕ) → view (send s payload out .after) ≡ sendChunk selective (view s) payload out .after
   pub send-answer : (s : S) (payload out : List ℕ) → send s payload out .answer ≡ sendChunk selective (view s) payload out .answer
@@ -55,7 +55,7 @@ pub record SenderCalls (p : ProtocolType) (selective : Bool) {S T : Type 0} (vie
   pub ack-refused : (s : S) (raw : List ℕ) → isHandled (ack s raw .answer) ≡ false → ack s raw .after ≡ s
 
 -- what the call of a receiver does
-pub record ReceiverCalls (p : ProtocolType) (w : ℕ) {R : Type 0} (view : R → ReceiverState) (filled : R → ℕ) (Good : R → List ℕ → Type 0) (packet : R → List ℕ → List ℕ → List ℕ → Receiving R) (base : R → ℕ) : Type 0 where
+pub record ReceiverCalls (p : ProtocolType) (w : ℕ) {R : Type 0} (view : R → ReceiverState) (filled : R → ℕ) (Good : R → List ℕ → Type 0) (packet : R → List ℕ → List ℕ → List ℕ → ReceiveExit R) (base : R → ℕ) : Type 0 where
   pub base-is : (r : R) → base r ≡ view r .base
   pub outcome : (r : R) (raw output ack : List ℕ) → Good r output → ReceiveOutcome p w view filled r raw output ack (packet r raw output ack)
   pub good : (r : R) (raw output ack : List ℕ) → Good r output → Good (packet r raw output ack .receiver) (packet r raw output ack .output)
@@ -68,9 +68,9 @@ flipped-of raw j b f = record { byte = j; bit = b; is = refl; bit-low = f .bit; 
 pub ack-within : (raw : List ℕ) (n j : ℕ) → AckBytes raw n → j < length raw → j < 10
 ack-within raw n j a h = let e : length raw ≡ 10 = ap length (a .is) ∙ made-length (newPacket n Ack) [] in omega arith
 
-module _ (p : ProtocolType) (w : ℕ) (selective : Bool) {S R T : Type 0} (view : S → slots.Sender) (send : S → List ℕ → List ℕ → Sending S) (timeout : S → T → List ℕ → Resending S)
-    (ack : S → List ℕ → Acknowledging S) (senderBase : S → ℕ) (c : SenderCalls p selective view send timeout ack senderBase)
-    (viewR : R → ReceiverState) (filled : R → ℕ) (Good : R → List ℕ → Type 0) (packet : R → List ℕ → List ℕ → List ℕ → Receiving R) (receiverBase : R → ℕ) (k : ReceiverCalls p w viewR filled Good packet receiverBase) where
+module _ (p : ProtocolType) (w : ℕ) (selective : Bool) {S R T : Type 0} (view : S → slots.Sender) (send : S → List ℕ → List ℕ → SendExit S) (timeout : S → T → List ℕ → TimeoutExit S)
+    (ack : S → List ℕ → AckExit S) (senderBase : S → ℕ) (c : SenderCalls p selective view send timeout ack senderBase)
+    (viewR : R → ReceiverState) (filled : R → ℕ) (Good : R → List ℕ → Type 0) (packet : R → List ℕ → List ℕ → List ℕ → ReceiveExit R) (receiverBase : R → ℕ) (k : ReceiverCalls p w viewR filled Good packet receiverBase) where
   abbrev E : Ends
   E = endsOf send timeout ack packet senderBase receiverBase filled
 

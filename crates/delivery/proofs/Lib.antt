@@ -2,11 +2,11 @@ pub mod Datagrams
 pub mod Follow
 pub mod Simulation
 pub mod Resending
-pub mod Theorem
+pub mod FromCalls
 pub mod SenderFollows
 pub mod ReceiverFollows
 pub mod Instances
-pub mod Protocols
+pub mod Demand3
 pub mod Making
 pub mod Progress
 pub mod AnyBytes

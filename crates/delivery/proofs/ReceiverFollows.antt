@@ -15,17 +15,17 @@ use Rattle.packet.specs.Reading.{payloadOf}
 use Rattle.receiver.specs.Handed.{packetChecks, readPacket}
 use Rattle.receiver.specs.Reply.{roomMissing, answerOf}
 use Rattle.receiver.specs.Receive as receiver
-use Rattle.receiver.specs.Receive.{Receiving}
+use Rattle.receiver.specs.Receive.{ReceiveExit}
 use Rattle.receiver.specs.declared.Decision.{Decision}
-use Rattle.receiver.specs.declared.Handed.the-variants as handed
+use Rattle.receiver.specs.declared.PacketReading.the-variants as handed
 use Rattle.receiver.specs.declared.Reply.{Reply}
 use Rattle.receiver.specs.declared.Reply.the-variants as reply
 use Rattle.receiver.specs.declared.ReceiveAnswer.{ReceiveAnswer}
 use Rattle.receiver.specs.declared.ReceiveAnswer.the-variants as answer
-use Rattle.arq.specs.Follows.{acksOf}
-use Rattle.arq.specs.Copies.{AckOf, NoPacket}
-use Rattle.arq.specs.Copies as Copies
-use Rattle.arq.proofs.Laws.{Took, ReceiveOutcome, packet-refused, not-data, data-taken, took-output, written-behind, outcome-mark, data-number, data-payload}
+use Rattle.refinement.specs.Follows.{acksOf}
+use Rattle.refinement.specs.Copies.{AckOf, NoPacket}
+use Rattle.refinement.specs.Copies as Copies
+use Rattle.refinement.proofs.Laws.{Took, ReceiveOutcome, packet-refused, not-data, data-taken, took-output, written-behind, outcome-mark, data-number, data-payload}
 use Rattle.delivery.specs.Calls.{Done}
 use Rattle.delivery.specs.Ends.{bytesReplied, isReceived, WithOutput, withOutput, byReceiving}
 use Rattle.delivery.proofs.Datagrams.{DataBytes, AckBytes, Each}
@@ -45,7 +45,7 @@ not-received broken counts r filled d bytes after raw output ack h = by-verdict 
     by-verdict : (v : Verdict) → verdict (check broken State ∷ check counts Counts ∷ check (roomMissing d (length bytes) filled output ack) Full ∷ packetChecks raw) ≡ v
         → byReceiving (receiver.receive broken counts r filled d bytes after raw output ack) ≡ record { after = withOutput r output; written = []; isDone = false }
     by-verdict (refused s) e = ap byReceiving (on-refused _ _ e)
-    by-verdict accepted e = false-true (sym h ∙ ap (λ (x : Receiving _). isReceived (x .answer)) (on-accepted _ _ e) ∙ answered (d .reply))
+    by-verdict accepted e = false-true (sym h ∙ ap (λ (x : ReceiveExit _). isReceived (x .answer)) (on-accepted _ _ e) ∙ answered (d .reply))
 
 -- the ACKs that were written
 replies-of : (a : ReceiveAnswer) (ack : List ℕ) → List (List ℕ)
@@ -99,11 +99,11 @@ module _ (p : ProtocolType) (w : ℕ) (R : Type 0) (view : R → ReceiverState) 
     pub output : outputOf (d .after) ≡ outputOf x
     pub behind : behindOf (d .after) ≡ behindOf x
 
-  module _ (x : WithOutput R) (m : ReceiverState) (h : ReceiverIs x m) (raw ack : List ℕ) (y : Receiving R)
+  module _ (x : WithOutput R) (m : ReceiverState) (h : ReceiverIs x m) (raw ack : List ℕ) (y : ReceiveExit R)
       (o : ReceiveOutcome p w view filledOf (x .receiver) raw (x .output) ack y) (good : Good (y .receiver) (y .output)) where
     pub packet-follows : (q : Segment) → DataBytes raw q → isReceived (y .answer) ≡ true → Taken x (byReceiving y) m q
     packet-follows q b e = elim o [
-      | packet-refused s f ↦ false-true (sym (ap (λ (z : Receiving R). isReceived (z .answer)) f) ∙ e)
+      | packet-refused s f ↦ false-true (sym (ap (λ (z : ReceiveExit R). isReceived (z .answer)) f) ∙ e)
       | not-data none i ↦ absurd (none (q .number) (data-number q raw b))
       | data-taken n f low t ↦ taken q n f (data-number q raw b) (data-payload q raw b) t
     ]

@@ -12,10 +12,10 @@ use Rattle.protocol.specs.Runs.{upFrom}
 use Rattle.protocol.specs.Machine.{Segment, SenderState, nextNumber, segmentsFrom, receive}
 use Rattle.protocol.specs.PlainMachine.{PlainState, plainStep, plainOutstanding}
 use Rattle.protocol.specs.Trace as trace
-use Rattle.protocol.specs.Trace.{Event, callOf, Window}
+use Rattle.protocol.specs.Trace.{Event, callOf, WindowFits}
 use Rattle.protocol.proofs.Laws.{isSelective, Invariant, Own, Every, every-nil, every-append, every-mono, every-head, every-tail, step-ok, claimed}
 use Rattle.delivery.specs.Calls.{whole, flipped, Call, send, timeout, toReceiver, toSender, Ends, World, datagrams, step, run, numberOf, fedBy, fedIn}
-use Rattle.delivery.specs.Claim.{isOutstanding, outstandingOf, Resending}
+use Rattle.delivery.specs.Demand3.{isOutstanding, outstandingOf, ResendsAll}
 use Rattle.delivery.proofs.Datagrams.{DataBytes, AckBytes, Each, each-length, datagrams-flatten, data-framed, data-number, data-numbers, ack-number}
 use Rattle.delivery.proofs.Follow.{SentAgain, Follow}
 use Rattle.delivery.proofs.Simulation.{data-added, acks-added, Follows, sent-again, packet-taken, ack-taken}
@@ -68,7 +68,7 @@ module _ (selective : Bool) (w : ℕ) (m : trace.World) (s : PlainState) (i : In
   same-outstanding [] = refl
   same-outstanding (n ∷ ns) = rw (same-one n, same-outstanding ns) refl
 
-module _ (p : ProtocolType) (w : ℕ) (o : Window p w) (E : Ends) (F : Follow p w E) (rest : List ℕ) where
+module _ (p : ProtocolType) (w : ℕ) (o : WindowFits p w) (E : Ends) (F : Follow p w E) (rest : List ℕ) where
   -- in the midst of a resending: what was made and not yet handed over, as bytes and as segments and numbers
   record Going (v : World E) (m : trace.World) (s : PlainState) (packets replies : List (List ℕ)) (qs : List Segment) (ns : List ℕ) : Type 0 where
     follows : Follows p w E F rest v m
@@ -80,7 +80,7 @@ module _ (p : ProtocolType) (w : ℕ) (o : Window p w) (E : Ends) (F : Follow p 
 
   pub record ResentAs (v : World E) (m : trace.World) (numbers : List ℕ) (qs : List Segment) (ns : List ℕ) (cs : List (Call (E .Timeout))) : Type 0 where
     pub events : List Event
-    pub resending : trace.Resending p w m numbers qs ns events
+    pub resending : trace.ResendsAll p w m numbers qs ns events
     pub same-fed : map callOf events ≡ fedIn E v cs
     pub follows : Follows p w E F rest (run E v cs) (trace.run p w m events)
 
@@ -172,7 +172,7 @@ module _ (p : ProtocolType) (w : ℕ) (o : Window p w) (E : Ends) (F : Follow p 
       }
 
   resending-follows : (v : World E) (m : trace.World) (s : PlainState) (numbers : List ℕ) (packets replies : List (List ℕ)) (qs : List Segment) (ns : List ℕ)
-      → Going v m s packets replies qs ns → (cs : List (Call (E .Timeout))) → Resending p w E v s numbers packets replies cs → ResentAs v m numbers qs ns cs
+      → Going v m s packets replies qs ns → (cs : List (Call (E .Timeout))) → ResendsAll p w E v s numbers packets replies cs → ResentAs v m numbers qs ns cs
   unfolding fedIn run trace.run
   resending-follows v m s numbers packets replies qs ns g [] h =
       record {
@@ -212,7 +212,7 @@ module _ (p : ProtocolType) (w : ℕ) (o : Window p w) (E : Ends) (F : Follow p 
 
   -- from its start
   pub resent-as : (v : World E) (m : trace.World) (s : PlainState) → Follows p w E F rest v m → Invariant (isSelective p) w m s
-      → (cs : List (Call (E .Timeout))) → Resending p w E v s (plainOutstanding s) [] [] cs → ResentAs v m (trace.outstanding (m .sender)) [] [] cs
+      → (cs : List (Call (E .Timeout))) → ResendsAll p w E v s (plainOutstanding s) [] [] cs → ResentAs v m (trace.outstanding (m .sender)) [] [] cs
   resent-as v m s f i cs h =
       subst (λ (ns : List ℕ). ResentAs v m ns [] [] cs) (sym (claimed (isSelective p) w m s i .outstanding-is))
       (resending-follows v m s (plainOutstanding s) [] [] [] []

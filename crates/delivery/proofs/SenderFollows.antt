@@ -13,19 +13,19 @@ use Rattle.protocol.specs.Runs.{upFrom}
 use Rattle.protocol.specs.Machine.{SenderState, nextNumber, send, segmentAt, segmentsFrom, acknowledge}
 use Rattle.window.specs.Slots as slots
 use Rattle.window.specs.Slots.{datagramFor}
-use Rattle.window.specs.Sending.{Sending, sending, sendChunk}
-use Rattle.window.specs.Acknowledgement.{readAck, Acknowledging, byDecision}
-use Rattle.window.specs.Resending.{Resending, resending}
+use Rattle.window.specs.Sending.{SendExit, sendExit, sendChunk}
+use Rattle.window.specs.Acknowledgement.{readAck, AckExit, byDecision}
+use Rattle.window.specs.Resending.{TimeoutExit, timeoutExit}
 use Rattle.window.specs.declared.AckDecision.{AckDecision}
 use Rattle.window.specs.declared.AckDecision.the-variants as decision
-use Rattle.window.specs.declared.AckRead.the-variants as ackRead
+use Rattle.window.specs.declared.AckReading.the-variants as ackRead
 use Rattle.window.specs.declared.SendAnswer.the-variants as sendAnswer
 use Rattle.window.specs.declared.TimeoutAnswer.the-variants as timeoutAnswer
-use Rattle.arq.specs.Follows.{senderOf}
-use Rattle.arq.specs.Good.{Good}
-use Rattle.arq.specs.Copies.{DataOf, AckOf, NoAck}
-use Rattle.arq.specs.Copies as Copies
-use Rattle.arq.proofs.Laws.{Sent, SendOutcome, send-refused, window-full, chunk-sent, send-outcome, send-octets, AckOutcome, ack-refused, ack-ignored, ack-taken, ResendOutcome, timeout-refused, nothing-sent, sent-again, ack-number, ack-flipped, next-number}
+use Rattle.refinement.specs.Follows.{senderOf}
+use Rattle.refinement.specs.Good.{Good}
+use Rattle.refinement.specs.Copies.{DataOf, AckOf, NoAck}
+use Rattle.refinement.specs.Copies as Copies
+use Rattle.refinement.proofs.Laws.{Sent, SendOutcome, send-refused, window-full, chunk-sent, send-outcome, send-octets, AckOutcome, ack-refused, ack-ignored, ack-taken, ResendOutcome, timeout-refused, nothing-sent, sent-again, ack-number, ack-flipped, next-number}
 use Rattle.delivery.specs.Calls.{Done, Ends}
 use Rattle.delivery.specs.Ends.{bytesSent, isSent, bySending, bytesResent, isResent, byResending, isHandled, byAcknowledging}
 use Rattle.delivery.proofs.Datagrams.{DataBytes, AckBytes, Each}
@@ -42,7 +42,7 @@ pub record SenderIs (selective : Bool) (w : ℕ) (v : slots.Sender) (m : SenderS
   pub is : senderOf v ≡ m
 
 -- a call of the sender as a send of its window
-pub record SentAs (E : Ends) (view : E .Sender → slots.Sender) (d : Done (E .Sender)) (y : Sending slots.Sender) : Type 0 where
+pub record SentAs (E : Ends) (view : E .Sender → slots.Sender) (d : Done (E .Sender)) (y : SendExit slots.Sender) : Type 0 where
   pub after : view (d .after) ≡ y .after
   pub written : d .written ≡ bytesSent (y .answer) (y .out)
   pub isDone : d .isDone ≡ isSent (y .answer)
@@ -54,8 +54,8 @@ module _ (E : Ends) (view : E .Sender → slots.Sender) (selective : Bool) (w : 
   module _ (s : E .Sender) (m : SenderState) (h : Is s m) (payload out : List ℕ) (d : Done (E .Sender)) (c : SentAs E view d (sendChunk selective (view s) payload out)) where
     pub chunk-follows : Octets payload → d .isDone ≡ true → ChunkSent E Is w d m payload
     chunk-follows o e = elim (send-outcome selective (view s) payload out) [
-      | send-refused r f ↦ false-true (sym (ap (λ (y : Sending slots.Sender). isSent (y .answer)) f) ∙ sym (c .isDone) ∙ e)
-      | window-full n f ↦ false-true (sym (ap (λ (y : Sending slots.Sender). isSent (y .answer)) f) ∙ sym (c .isDone) ∙ e)
+      | send-refused r f ↦ false-true (sym (ap (λ (y : SendExit slots.Sender). isSent (y .answer)) f) ∙ sym (c .isDone) ∙ e)
+      | window-full n f ↦ false-true (sym (ap (λ (y : SendExit slots.Sender). isSent (y .answer)) f) ∙ sym (c .isDone) ∙ e)
       | chunk-sent x ↦ record {
         after = rw (c .after) (record {
           good = x .good;
@@ -80,13 +80,13 @@ module _ (E : Ends) (view : E .Sender → slots.Sender) (selective : Bool) (w : 
 
     pub chunk-not-sent : d .isDone ≡ false → SenderKept E Is d m
     chunk-not-sent e = elim (send-outcome selective (view s) payload out) [
-      | send-refused r f ↦ kept (c .after ∙ ap (λ (y : Sending slots.Sender). y .after) f) (c .written ∙ ap (λ (y : Sending slots.Sender). bytesSent (y .answer) (y .out)) f)
-      | window-full n f ↦ kept (c .after ∙ ap (λ (y : Sending slots.Sender). y .after) f) (c .written ∙ ap (λ (y : Sending slots.Sender). bytesSent (y .answer) (y .out)) f)
+      | send-refused r f ↦ kept (c .after ∙ ap (λ (y : SendExit slots.Sender). y .after) f) (c .written ∙ ap (λ (y : SendExit slots.Sender). bytesSent (y .answer) (y .out)) f)
+      | window-full n f ↦ kept (c .after ∙ ap (λ (y : SendExit slots.Sender). y .after) f) (c .written ∙ ap (λ (y : SendExit slots.Sender). bytesSent (y .answer) (y .out)) f)
       | chunk-sent x ↦ false-true (sym e ∙ c .isDone ∙ ap isSent (x .answered))
     ]
 
   -- an ACK
-  module _ (p : ProtocolType) (s : E .Sender) (m : SenderState) (h : Is s m) (raw : List ℕ) (r : Acknowledging (E .Sender)) (a : AckOutcome p selective view s raw r)
+  module _ (p : ProtocolType) (s : E .Sender) (m : SenderState) (h : Is s m) (raw : List ℕ) (r : AckExit (E .Sender)) (a : AckOutcome p selective view s raw r)
       (octets : Octets (view (r .after) .store)) (size : view (r .after) .window .«window_size» ≡ view s .window .«window_size») (refused : isHandled (r .answer) ≡ false → r .after ≡ s) where
     unchanged : r .after ≡ s → SenderKept E Is (byAcknowledging r) m
     unchanged e = record { after = rw e h; nothing = refl }
@@ -100,7 +100,7 @@ module _ (E : Ends) (view : E .Sender → slots.Sender) (selective : Bool) (w : 
 
     pub ack-follows : (n : ℕ) → AckBytes raw n → isHandled (r .answer) ≡ true → SenderKept E Is (byAcknowledging r) (acknowledge p m n)
     ack-follows n b e = elim a [
-      | ack-refused t f ↦ false-true (sym (ap (λ (x : Acknowledging (E .Sender)). isHandled (x .answer)) f) ∙ e)
+      | ack-refused t f ↦ false-true (sym (ap (λ (x : AckExit (E .Sender)). isHandled (x .answer)) f) ∙ e)
       | ack-ignored t f ↦ no-ack n t (ack-number n raw b)
       | ack-taken k f x ↦ record {
         after = record {
@@ -118,8 +118,8 @@ module _ (E : Ends) (view : E .Sender → slots.Sender) (selective : Bool) (w : 
 
     pub ack-no-number : NoAck raw → SenderKept E Is (byAcknowledging r) m
     ack-no-number t = elim a [
-      | ack-refused u f ↦ unchanged (ap (λ (x : Acknowledging (E .Sender)). x .after) f)
-      | ack-ignored u f ↦ unchanged (ap (λ (x : Acknowledging (E .Sender)). x .after) f)
+      | ack-refused u f ↦ unchanged (ap (λ (x : AckExit (E .Sender)). x .after) f)
+      | ack-ignored u f ↦ unchanged (ap (λ (x : AckExit (E .Sender)). x .after) f)
       | ack-taken k f x ↦ no-ack k t f
     ]
 
@@ -130,18 +130,18 @@ each-datagram v m n zero h = tt
 each-datagram v m n (suc k) h = (h n (omega arith) (omega arith), each-datagram v m (suc n) k (λ i f g. h i (omega arith) (omega arith)))
 
 -- a call of the sender as a resending of its window
-pub record ResentAs (E : Ends) (view : E .Sender → slots.Sender) (d : Done (E .Sender)) (y : Resending slots.Sender) : Type 0 where
+pub record ResentAs (E : Ends) (view : E .Sender → slots.Sender) (d : Done (E .Sender)) (y : TimeoutExit slots.Sender) : Type 0 where
   pub after : view (d .after) ≡ y .after
   pub written : d .written ≡ bytesResent (y .answer) (y .out)
   pub isDone : d .isDone ≡ isResent (y .answer)
 
 module _ (E : Ends) (view : E .Sender → slots.Sender) (selective : Bool) (w : ℕ) (s : E .Sender) (m : SenderState) (h : SenderIs selective w (view s) m) (n k : ℕ) (out : List ℕ)
-    (d : Done (E .Sender)) (y : Resending slots.Sender) (c : ResentAs E view d y) (r : ResendOutcome selective (view s) n k out y)
+    (d : Done (E .Sender)) (y : TimeoutExit slots.Sender) (c : ResentAs E view d y) (r : ResendOutcome selective (view s) n k out y)
     (octets : Octets (y .after .store)) (size : y .after .window .«window_size» ≡ view s .window .«window_size») where
   pub timeout-follows : d .isDone ≡ true → SentAgain E (λ s m. SenderIs selective w (view s) m) d m
   timeout-follows e = elim r [
-    | timeout-refused t f ↦ false-true (sym (ap (λ (x : Resending slots.Sender). isResent (x .answer)) f) ∙ sym (c .isDone) ∙ e)
-    | nothing-sent z f ↦ false-true (sym (ap (λ (x : Resending slots.Sender). isResent (x .answer)) f) ∙ sym (c .isDone) ∙ e)
+    | timeout-refused t f ↦ false-true (sym (ap (λ (x : TimeoutExit slots.Sender). isResent (x .answer)) f) ∙ sym (c .isDone) ∙ e)
+    | nothing-sent z f ↦ false-true (sym (ap (λ (x : TimeoutExit slots.Sender). isResent (x .answer)) f) ∙ sym (c .isDone) ∙ e)
     | sent-again x ↦ record {
       after = rw (c .after) (record { good = x .good; octets = octets; size = size ∙ h .size; is = x .follows ∙ h .is });
       first = n;
@@ -158,12 +158,12 @@ module _ (E : Ends) (view : E .Sender → slots.Sender) (selective : Bool) (w : 
   pub timeout-kept : d .isDone ≡ false → SenderKept E (λ s m. SenderIs selective w (view s) m) d m
   timeout-kept e = elim r [
     | timeout-refused t f ↦ record {
-      after = rw (c .after ∙ ap (λ (x : Resending slots.Sender). x .after) f) h;
-      nothing = c .written ∙ ap (λ (x : Resending slots.Sender). bytesResent (x .answer) (x .out)) f;
+      after = rw (c .after ∙ ap (λ (x : TimeoutExit slots.Sender). x .after) f) h;
+      nothing = c .written ∙ ap (λ (x : TimeoutExit slots.Sender). bytesResent (x .answer) (x .out)) f;
     }
     | nothing-sent z f ↦ record {
-      after = rw (c .after ∙ ap (λ (x : Resending slots.Sender). x .after) f) h;
-      nothing = c .written ∙ ap (λ (x : Resending slots.Sender). bytesResent (x .answer) (x .out)) f;
+      after = rw (c .after ∙ ap (λ (x : TimeoutExit slots.Sender). x .after) f) h;
+      nothing = c .written ∙ ap (λ (x : TimeoutExit slots.Sender). bytesResent (x .answer) (x .out)) f;
     }
     | sent-again x ↦ false-true (sym e ∙ c .isDone ∙ ap isResent (x .answered))
   ]

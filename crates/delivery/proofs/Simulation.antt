@@ -12,10 +12,10 @@ use Rattle.protocol.specs.PlainMachine as plain
 use Rattle.protocol.specs.PlainMachine.{Fed, fed, plainStart, plainRun}
 use Rattle.protocol.specs.Machine.{Segment, SenderState, ReceiverState, nextNumber, segmentsFrom, acknowledge, receive}
 use Rattle.protocol.specs.Trace as trace
-use Rattle.protocol.specs.Trace.{Event, Allowed, Fair, callOf, newWorld}
-use Rattle.delivery.specs.Calls.{Copy, whole, flipped, copyOf, CopyOf, isWhole, Call, send, timeout, toReceiver, toSender, Done, Ends, World, fresh, datagrams, bySender, byReceiver, step, run, Handed, Line, numberOf, fedBy, fedIn}
+use Rattle.protocol.specs.Trace.{Event, callOf, newWorld}
+use Rattle.delivery.specs.Calls.{Copy, whole, flipped, copyBytes, IsCopy, isWhole, Call, send, timeout, toReceiver, toSender, Done, Ends, World, fresh, datagrams, bySender, byReceiver, step, run, Allowed, Admissible, numberOf, fedBy, fedIn}
 use Rattle.delivery.proofs.Datagrams.{DataBytes, AckBytes, Each, Paired, each-append, each-at, each-length, datagrams-flatten, data-framed, acks-framed, data-number, ack-number}
-use Rattle.arq.proofs.Laws.{flatten-append}
+use Rattle.refinement.proofs.Laws.{flatten-append}
 use Rattle.delivery.proofs.Follow.{SenderKept, ReceiverKept, ChunkSent, SentAgain, PacketTaken, Flips, Follow}
 
 -- datagrams written end to end, added to those made before
@@ -53,7 +53,7 @@ module _ (p : ProtocolType) (w : ℕ) (E : Ends) (F : Follow p w E) (rest : List
   -- a call as an event
   pub record Stepped (v : World E) (m : trace.World) (c : Call (E .Timeout)) : Type 0 where
     pub event : Event
-    pub allowed : Allowed w m event
+    pub allowed : trace.Allowed w m event
     pub same-fed : callOf event ≡ fedBy E v c
     pub follows : Follows (step E v c) (trace.step p w m event)
 
@@ -156,7 +156,7 @@ module _ (p : ProtocolType) (w : ℕ) (E : Ends) (F : Follow p w E) (rest : List
           follows = receiver-kept (E .handlePacket (v .receiver) (getD (v .sent) i []) buffer) (F .packet-refused (v .receiver) (m .receiver) (getD (v .sent) i []) buffer (f .receiver) e);
         }
 
-    step-packet-flipped : (i j b : ℕ) (buffer : List ℕ) → CopyOf (v .sent) (flipped i j b) → Stepped v m (toReceiver (flipped i j b) buffer)
+    step-packet-flipped : (i j b : ℕ) (buffer : List ℕ) → IsCopy (v .sent) (flipped i j b) → Stepped v m (toReceiver (flipped i j b) buffer)
     unfolding step fedBy trace.step
     step-packet-flipped i j b buffer h =
         let q = each-at DataBytes [] (v .sent) (m .segments) i (f .sent) (h .0) in
@@ -196,7 +196,7 @@ module _ (p : ProtocolType) (w : ℕ) (E : Ends) (F : Follow p w E) (rest : List
           follows = sender-kept (E .handleAck (v .sender) (getD (v .replies) i [])) (F .ack-refused (v .sender) (m .sender) (getD (v .replies) i []) (f .sender) e);
         }
 
-    step-ack-flipped : (i j b : ℕ) → CopyOf (v .replies) (flipped i j b) → Stepped v m (toSender (flipped i j b))
+    step-ack-flipped : (i j b : ℕ) → IsCopy (v .replies) (flipped i j b) → Stepped v m (toSender (flipped i j b))
     unfolding step fedBy trace.step
     step-ack-flipped i j b h =
         let q = each-at AckBytes [] (v .replies) (m .acks) i (f .replies) (h .0) in
@@ -210,7 +210,7 @@ module _ (p : ProtocolType) (w : ℕ) (E : Ends) (F : Follow p w E) (rest : List
         }
 
     -- any call
-    pub one-step : (c : Call (E .Timeout)) → Handed v c → Stepped v m c
+    pub one-step : (c : Call (E .Timeout)) → Allowed v c → Stepped v m c
     one-step (send payload buffer) h = step-send payload buffer h _ refl
     one-step (timeout t buffer) h = step-timeout t buffer _ refl
     one-step (toReceiver (whole i) buffer) h = step-packet i buffer h _ refl
@@ -221,11 +221,11 @@ module _ (p : ProtocolType) (w : ℕ) (E : Ends) (F : Follow p w E) (rest : List
   -- a list of calls as a list of events
   pub record Followed (v : World E) (m : trace.World) (cs : List (Call (E .Timeout))) : Type 0 where
     pub events : List Event
-    pub fair : Fair p w m events
+    pub fair : trace.Admissible p w m events
     pub same-fed : map callOf events ≡ fedIn E v cs
     pub follows : Follows (run E v cs) (trace.run p w m events)
 
-  pub every-list : (v : World E) (m : trace.World) → Follows v m → (cs : List (Call (E .Timeout))) → Line E v cs → Followed v m cs
+  pub every-list : (v : World E) (m : trace.World) → Follows v m → (cs : List (Call (E .Timeout))) → Admissible E v cs → Followed v m cs
   unfolding run fedIn trace.run
   every-list v m f [] l = record { events = []; fair = tt; same-fed = refl; follows = f }
   every-list v m f (c ∷ cs) l =

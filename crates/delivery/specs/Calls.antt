@@ -16,18 +16,18 @@ pub data Copy : Type 0 where
   whole : ℕ → Copy
   flipped : ℕ → ℕ → ℕ → Copy
 
-abbrev pub copyOf : List (List ℕ) → Copy → List ℕ
-copyOf made (whole i) = getD made i []
-copyOf made (flipped i j b) = flip (getD made i []) j b
+abbrev pub copyBytes : List (List ℕ) → Copy → List ℕ
+copyBytes made (whole i) = getD made i []
+copyBytes made (flipped i j b) = flip (getD made i []) j b
 
 abbrev pub isWhole : Copy → Bool
 isWhole (whole i) = true
 isWhole (flipped i j b) = false
 
 -- one of those made before; not in the length bytes
-abbrev pub CopyOf : List (List ℕ) → Copy → Type 0
-CopyOf made (whole i) = i < length made
-CopyOf made (flipped i j b) = (i < length made) × (j < length (getD made i [])) × (b < 8) × (j ≡ 6 → ⊥) × (j ≡ 7 → ⊥)
+abbrev pub IsCopy : List (List ℕ) → Copy → Type 0
+IsCopy made (whole i) = i < length made
+IsCopy made (flipped i j b) = (i < length made) × (j < length (getD made i [])) × (b < 8) × (j ≡ 6 → ⊥) × (j ≡ 7 → ⊥)
 
 -- a call with the buffers lent to it: a payload and the datagram's buffer; a timeout and the datagrams' buffer; a copy and the ACK's buffer; a copy
 pub data Call (Timeout : Type 0) : Type 0 where
@@ -88,23 +88,23 @@ byReceiver v d = record { sender = v .sender; receiver = d .after; sent = v .sen
 unfoldable pub step : (E : Ends) → World E → Call (E .Timeout) → World E
 step E v (send payload buffer) = bySender v (E .sendChunk (v .sender) payload buffer)
 step E v (timeout t buffer) = bySender v (E .handleTimeout (v .sender) t buffer)
-step E v (toReceiver c buffer) = byReceiver v (E .handlePacket (v .receiver) (copyOf (v .sent) c) buffer)
-step E v (toSender c) = bySender v (E .handleAck (v .sender) (copyOf (v .replies) c))
+step E v (toReceiver c buffer) = byReceiver v (E .handlePacket (v .receiver) (copyBytes (v .sent) c) buffer)
+step E v (toSender c) = bySender v (E .handleAck (v .sender) (copyBytes (v .replies) c))
 
 unfoldable pub run : (E : Ends) → World E → List (Call (E .Timeout)) → World E
 run E v [] = v
 run E v (c ∷ cs) = run E (step E v c) cs
 
 -- each end is handed only copies of what the other made before; a payload's bytes are bytes
-abbrev pub Handed : {E : Ends} → World E → Call (E .Timeout) → Type 0
-Handed v (send payload buffer) = Octets payload
-Handed v (timeout t buffer) = Unit {0}
-Handed v (toReceiver c buffer) = CopyOf (v .sent) c
-Handed v (toSender c) = CopyOf (v .replies) c
+abbrev pub Allowed : {E : Ends} → World E → Call (E .Timeout) → Type 0
+Allowed v (send payload buffer) = Octets payload
+Allowed v (timeout t buffer) = Unit {0}
+Allowed v (toReceiver c buffer) = IsCopy (v .sent) c
+Allowed v (toSender c) = IsCopy (v .replies) c
 
-abbrev pub Line : (E : Ends) → World E → List (Call (E .Timeout)) → Type 0
-Line E v [] = Unit {0}
-Line E v (c ∷ cs) = Handed v c × Line E (step E v c) cs
+abbrev pub Admissible : (E : Ends) → World E → List (Call (E .Timeout)) → Type 0
+Admissible E v [] = Unit {0}
+Admissible E v (c ∷ cs) = Allowed v c × Admissible E (step E v c) cs
 
 -- the number in a datagram
 abbrev pub numberOf : List ℕ → ℕ
@@ -114,8 +114,8 @@ numberOf raw = headerOf raw .«seq_num»
 unfoldable pub fedBy : (E : Ends) → World E → Call (E .Timeout) → Fed
 fedBy E v (send payload buffer) = fed (plain.sendChunk payload) (E .sendChunk (v .sender) payload buffer .isDone)
 fedBy E v (timeout t buffer) = fed plain.handleTimeout (E .handleTimeout (v .sender) t buffer .isDone)
-fedBy E v (toReceiver c buffer) = fed (plain.handleData (numberOf (copyOf (v .sent) c))) (isWhole c && E .handlePacket (v .receiver) (copyOf (v .sent) c) buffer .isDone)
-fedBy E v (toSender c) = fed (plain.handleAck (numberOf (copyOf (v .replies) c))) (isWhole c && E .handleAck (v .sender) (copyOf (v .replies) c) .isDone)
+fedBy E v (toReceiver c buffer) = fed (plain.handleData (numberOf (copyBytes (v .sent) c))) (isWhole c && E .handlePacket (v .receiver) (copyBytes (v .sent) c) buffer .isDone)
+fedBy E v (toSender c) = fed (plain.handleAck (numberOf (copyBytes (v .replies) c))) (isWhole c && E .handleAck (v .sender) (copyBytes (v .replies) c) .isDone)
 
 unfoldable pub fedIn : (E : Ends) → World E → List (Call (E .Timeout)) → List Fed
 fedIn E v [] = []

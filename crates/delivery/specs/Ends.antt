@@ -7,17 +7,17 @@ use lib.ListN.{take, drop, replicate}
 use Rattle.checksum.specs.Below.{Octets}
 use Rattle.window.specs.State.{windowBroken, storeShort}
 use Rattle.window.specs.Slots as slots
-use Rattle.window.specs.Sending.{making, makeWindow, Sending, sendChunk}
-use Rattle.window.specs.declared.MakeAnswer.the-variants as makeAnswer
-use Rattle.window.specs.Acknowledgement.{Acknowledging}
-use Rattle.window.specs.Resending.{Resending}
+use Rattle.window.specs.Sending.{makeExit, makeWindow, SendExit, sendChunk}
+use Rattle.window.specs.declared.SendWindowAnswer.the-variants as makeAnswer
+use Rattle.window.specs.Acknowledgement.{AckExit}
+use Rattle.window.specs.Resending.{TimeoutExit}
 use Rattle.window.specs.declared.SendAnswer.{SendAnswer}
 use Rattle.window.specs.declared.SendAnswer.the-variants as sendAnswer
 use Rattle.window.specs.declared.AckAnswer.{AckAnswer}
 use Rattle.window.specs.declared.AckAnswer.the-variants as ackAnswer
 use Rattle.window.specs.declared.TimeoutAnswer.{TimeoutAnswer}
 use Rattle.window.specs.declared.TimeoutAnswer.the-variants as timeoutAnswer
-use Rattle.receiver.specs.Receive.{Receiving}
+use Rattle.receiver.specs.Receive.{ReceiveExit}
 use Rattle.receiver.specs.declared.ReceiveAnswer.{ReceiveAnswer}
 use Rattle.receiver.specs.declared.ReceiveAnswer.the-variants as receiveAnswer
 use Rattle.go_back_n.specs.Sender as goBackN
@@ -26,11 +26,11 @@ use Rattle.stop_and_wait.specs.Sender as stopAndWait
 use Rattle.stop_and_wait.specs.Receiver as stopAndWaitReceiver
 use Rattle.selective_repeat.specs.Sender as selectiveRepeat
 use Rattle.selective_repeat.specs.Receiver as selectiveRepeatReceiver
-use Rattle.stop_and_wait.specs.declared.StopAndWaitMade.the-variants as stopAndWaitMade
-use Rattle.selective_repeat.specs.declared.SelectiveRepeatReceiverMade.the-variants as selectiveRepeatMade
+use Rattle.stop_and_wait.specs.declared.StopAndWaitSenderAnswer.the-variants as stopAndWaitMade
+use Rattle.selective_repeat.specs.declared.SelectiveRepeatReceiverAnswer.the-variants as selectiveRepeatMade
 use Rattle.protocol.specs.declared.ProtocolType.{ProtocolType}
 use Rattle.protocol.specs.declared.ProtocolType.the-variants.{StopAndWait, GoBackN, SelectiveRepeat}
-use Rattle.protocol.specs.Trace.{Window}
+use Rattle.protocol.specs.Trace.{WindowFits}
 use Rattle.delivery.specs.Calls.{Done, done, Ends, World, fresh}
 
 -- the bytes that an answer says were written, and whether the call was done
@@ -44,7 +44,7 @@ isSent (sendAnswer.Sent n) = true
 isSent sendAnswer.WindowFull = false
 isSent (sendAnswer.Refused r) = false
 
-abbrev pub bySending : {S : Type 0} → Sending S → Done S
+abbrev pub bySending : {S : Type 0} → SendExit S → Done S
 bySending x = done (x .after) (bytesSent (x .answer) (x .out)) (isSent (x .answer))
 
 abbrev pub bytesResent : TimeoutAnswer → List ℕ → List ℕ
@@ -57,7 +57,7 @@ isResent (timeoutAnswer.Resent n) = true
 isResent timeoutAnswer.Nothing = false
 isResent (timeoutAnswer.Refused r) = false
 
-abbrev pub byResending : {S : Type 0} → Resending S → Done S
+abbrev pub byResending : {S : Type 0} → TimeoutExit S → Done S
 byResending x = done (x .after) (bytesResent (x .answer) (x .out)) (isResent (x .answer))
 
 abbrev pub isHandled : AckAnswer → Bool
@@ -65,7 +65,7 @@ isHandled ackAnswer.Accepted = true
 isHandled ackAnswer.NotAccepted = true
 isHandled (ackAnswer.Refused r) = false
 
-abbrev pub byAcknowledging : {S : Type 0} → Acknowledging S → Done S
+abbrev pub byAcknowledging : {S : Type 0} → AckExit S → Done S
 byAcknowledging x = done (x .after) [] (isHandled (x .answer))
 
 abbrev pub bytesReplied : ReceiveAnswer → List ℕ → List ℕ
@@ -86,12 +86,12 @@ pub record WithOutput (R : Type 0) : Type 0 where
 abbrev pub withOutput : {R : Type 0} → R → List ℕ → WithOutput R
 withOutput r output = record { receiver = r; output = output }
 
-abbrev pub byReceiving : {R : Type 0} → Receiving R → Done (WithOutput R)
+abbrev pub byReceiving : {R : Type 0} → ReceiveExit R → Done (WithOutput R)
 byReceiving x = done (withOutput (x .receiver) (x .output)) (bytesReplied (x .answer) (x .ack)) (isReceived (x .answer))
 
 -- two ends by their calls: sending, timeout, ACK, packet; and by their bases and the receiver's fill mark
-abbrev pub endsOf : {S R T : Type 0} → (S → List ℕ → List ℕ → Sending S) → (S → T → List ℕ → Resending S) → (S → List ℕ → Acknowledging S)
-    → (R → List ℕ → List ℕ → List ℕ → Receiving R) → (S → ℕ) → (R → ℕ) → (R → ℕ) → Ends
+abbrev pub endsOf : {S R T : Type 0} → (S → List ℕ → List ℕ → SendExit S) → (S → T → List ℕ → TimeoutExit S) → (S → List ℕ → AckExit S)
+    → (R → List ℕ → List ℕ → List ℕ → ReceiveExit R) → (S → ℕ) → (R → ℕ) → (R → ℕ) → Ends
 endsOf {S} {R} {T} send timeout ack packet senderBase receiverBase filled = record {
   Sender = S;
   Receiver = WithOutput R;
@@ -107,20 +107,20 @@ endsOf {S} {R} {T} send timeout ack packet senderBase receiverBase filled = reco
 }
 
 -- Stop-and-Wait has one timeout
-pub data One : Type 0 where
-  one : One
+pub data SingleTimeout : Type 0 where
+  one : SingleTimeout
 
 abbrev pub stopAndWaitEnds : Ends
 stopAndWaitEnds =
-    endsOf {T = One} stopAndWait.sendChunk (λ v t out. stopAndWait.handleTimeout v out) stopAndWait.handleAck stopAndWaitReceiver.handlePacket
+    endsOf {T = SingleTimeout} stopAndWait.sendChunk (λ v t out. stopAndWait.handleTimeout v out) stopAndWait.handleAck stopAndWaitReceiver.handlePacket
     (λ v. v .sender .«current_seq») (λ r. r .«expected_seq») (λ r. r .filled)
 
 -- Go-Back-N: all outstanding numbers, or only the earliest
-pub data Which : Type 0 where
-  all : Which
-  earliest : Which
+pub data GoBackNTimeout : Type 0 where
+  all : GoBackNTimeout
+  earliest : GoBackNTimeout
 
-abbrev pub goBackNTimeout : slots.Sender → Which → List ℕ → Resending slots.Sender
+abbrev pub goBackNTimeout : slots.Sender → GoBackNTimeout → List ℕ → TimeoutExit slots.Sender
 goBackNTimeout v all out = goBackN.handleTimeout v out
 goBackNTimeout v earliest out = goBackN.handleTimeoutEarliest v out
 
@@ -156,7 +156,7 @@ ReceivingRoom SelectiveRepeat w store = storeShort store w ≡ false
 
 pub record Made (p : ProtocolType) (w : ℕ) (sending receiving : List ℕ) : Type 0 where
   pub in-bounds : windowBroken w ≡ false
-  pub window : Window p w
+  pub window : WindowFits p w
   pub sending-room : storeShort sending w ≡ false
   pub receiving-room : ReceivingRoom p w receiving
   pub octets : Octets sending
@@ -164,10 +164,10 @@ pub record Made (p : ProtocolType) (w : ℕ) (sending receiving : List ℕ) : Ty
 -- The fresh ends are what the makers answer and leave in their stores; a Stop-and-Wait or Go-Back-N receiver is made of nothing.
 abbrev pub FromMaking : (p : ProtocolType) → ℕ → ℕ → List ℕ → List ℕ → List ℕ → Type 0
 FromMaking StopAndWait w limit sending receiving output =
-    stopAndWait.newSender limit sending ≡ making (stopAndWaitMade.Sender (freshEnds StopAndWait w limit sending receiving output .sender .sender)) (freshEnds StopAndWait w limit sending receiving output .sender .store)
+    stopAndWait.newSender limit sending ≡ makeExit (stopAndWaitMade.Sender (freshEnds StopAndWait w limit sending receiving output .sender .sender)) (freshEnds StopAndWait w limit sending receiving output .sender .store)
 FromMaking GoBackN w limit sending receiving output =
-    makeWindow w sending ≡ making (makeAnswer.Window (freshEnds GoBackN w limit sending receiving output .sender .window)) (freshEnds GoBackN w limit sending receiving output .sender .store)
+    makeWindow w sending ≡ makeExit (makeAnswer.Window (freshEnds GoBackN w limit sending receiving output .sender .window)) (freshEnds GoBackN w limit sending receiving output .sender .store)
 FromMaking SelectiveRepeat w limit sending receiving output =
-    (makeWindow w sending ≡ making (makeAnswer.Window (freshEnds SelectiveRepeat w limit sending receiving output .sender .window)) (freshEnds SelectiveRepeat w limit sending receiving output .sender .store))
+    (makeWindow w sending ≡ makeExit (makeAnswer.Window (freshEnds SelectiveRepeat w limit sending receiving output .sender .window)) (freshEnds SelectiveRepeat w limit sending receiving output .sender .store))
     × (selectiveRepeatReceiver.makeReceiver w receiving
-    ≡ making (selectiveRepeatMade.Receiver (freshEnds SelectiveRepeat w limit sending receiving output .receiver .receiver .state)) (freshEnds SelectiveRepeat w limit sending receiving output .receiver .receiver .store))
+    ≡ makeExit (selectiveRepeatMade.Receiver (freshEnds SelectiveRepeat w limit sending receiving output .receiver .receiver .state)) (freshEnds SelectiveRepeat w limit sending receiving output .receiver .receiver .store))

@@ -22,7 +22,7 @@ use Rattle.window.specs.declared.TimeoutAnswer.the-variants as timeoutAnswer
 use Rattle.stop_and_wait.specs.Sender as stopAndWaitSender
 use Rattle.receiver.specs.State.{marksBroken, countsBroken}
 use Rattle.receiver.specs.Handed.{readPacket}
-use Rattle.receiver.specs.Reply.{ackAfter, roomMissing, carriedOut}
+use Rattle.receiver.specs.Reply.{ackAfter, roomMissing, applied}
 use Rattle.receiver.specs.Receive.{receive}
 use Rattle.receiver.specs.declared.ReceiveAnswer.the-variants as answer
 use Rattle.stop_and_wait.specs.Receiver as stopAndWait
@@ -37,7 +37,7 @@ pub record S3 : Type 0 where
   pub stop-and-wait : stopAndWait.handlePacket stopAndWait.newReceiver dataOne [] (replicate 10 0) .answer ≡ answer.Ack 0
 
 pub s3 : S3
-unfolding words onesAdd onesSum checksum anyOf order orElse numbered firstOf verdict decide headerBytes datagram checksumOf matches readChecks headerOf payloadPart payloadOf marksBroken countsBroken readPacket ackAfter roomMissing carriedOut receive stopAndWait.dataDecision stopAndWait.decision goBackN.dataDecision goBackN.decision
+unfolding words onesAdd onesSum checksum anyOf order orElse numbered firstOf verdict decide headerBytes datagram checksumOf matches readChecks headerOf payloadPart payloadOf marksBroken countsBroken readPacket ackAfter roomMissing applied receive stopAndWait.dataDecision stopAndWait.decision goBackN.dataDecision goBackN.decision
 s3 = record { go-back-n = refl; stop-and-wait = refl }
 
 -- Departures from Kurose and Ross (docs/DIFFERENCES.md), on whole calls: Data 0 with a bit flipped is not answered; with a retry limit of 0 a
@@ -54,5 +54,5 @@ pub record Departures : Type 0 where
   pub retry-limit : stopAndWaitSender.handleTimeout (stopAndWaitSender.sendChunk limitZero [] (replicate 10 0) .after) (replicate 10 0) .answer ≡ timeoutAnswer.Nothing
 
 pub departures : Departures
-unfolding words onesAdd onesSum checksum anyOf order orElse numbered firstOf verdict decide headerBytes datagram checksumOf matches readChecks headerOf payloadPart payloadOf marksBroken countsBroken readPacket ackAfter roomMissing carriedOut receive stopAndWait.dataDecision stopAndWait.decision goBackN.dataDecision goBackN.decision flip anyBelow senderSlotBroken senderSlotsBroken slotAt slotBytes putSlot windowBroken storeShort numbersBroken stateBroken window.countsBroken hold markRetransmitted datagramFor sendChecks sendChunk datagramsFrom markFrom resend
+unfolding words onesAdd onesSum checksum anyOf order orElse numbered firstOf verdict decide headerBytes datagram checksumOf matches readChecks headerOf payloadPart payloadOf marksBroken countsBroken readPacket ackAfter roomMissing applied receive stopAndWait.dataDecision stopAndWait.decision goBackN.dataDecision goBackN.decision flip anyBelow senderSlotBroken senderSlotsBroken slotAt slotBytes putSlot windowBroken storeShort numbersBroken stateBroken window.countsBroken hold markRetransmitted datagramFor sendChecks sendChunk datagramsFrom markFrom resend
 departures = record { go-back-n-corrupt = refl; stop-and-wait-corrupt = refl; retry-limit = refl }

@@ -1,5 +1,5 @@
 pub mod Calls
-pub mod Claim
+pub mod Demand3
 pub mod Ends
 pub mod AnyBytes
 pub mod KnownAnswers

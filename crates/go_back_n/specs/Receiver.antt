@@ -6,9 +6,9 @@ use lib.Dec.{eqb}
 use Rattle.packet.specs.Reading.{payloadOf}
 use Rattle.receiver.specs.State.{marksBroken, countsBroken}
 use Rattle.receiver.specs.Handed.{readPacket}
-use Rattle.receiver.specs.Receive.{Receiving, receive}
-use Rattle.receiver.specs.declared.Handed.{Handed}
-use Rattle.receiver.specs.declared.Handed.the-variants as handed
+use Rattle.receiver.specs.Receive.{ReceiveExit, receive}
+use Rattle.receiver.specs.declared.PacketReading.{PacketReading}
+use Rattle.receiver.specs.declared.PacketReading.the-variants as handed
 use Rattle.receiver.specs.declared.Reply.{Reply}
 use Rattle.receiver.specs.declared.Reply.the-variants as reply
 use Rattle.go_back_n.specs.declared.GoBackNReceiver.{GoBackNReceiver}
@@ -35,20 +35,20 @@ dataDecision r n =
     (reply.Ack (r .«expected_seq» - 1))))
 
 -- every packet is counted; Fin is acknowledged by its own number; an ACK and a corrupted packet are not answered
-abbrev pub byKind : GoBackNReceiver → Handed → GoBackNDecision
+abbrev pub byKind : GoBackNReceiver → PacketReading → GoBackNDecision
 byKind r (handed.Data n) = dataDecision r n
 byKind r (handed.Fin n) = decided r false (reply.Ack n)
 byKind r handed.Ack = decided r false reply.Silent
 byKind r handed.Corrupted = decided r false reply.Silent
 byKind r (handed.Refused s) = decided r false reply.Silent
 
-unfoldable pub decision : GoBackNReceiver → Handed → GoBackNDecision
+unfoldable pub decision : GoBackNReceiver → PacketReading → GoBackNDecision
 decision r h = byKind (state (r .«expected_seq») (r .filled) (r .«total_received» + 1) (r .«discarded_out_of_order») (r .«duplicate_acks_sent»)) h
 
 -- the state with its fill mark
 abbrev pub withMark : GoBackNReceiver → ℕ → GoBackNReceiver
 withMark r filled = state (r .«expected_seq») filled (r .«total_received») (r .«discarded_out_of_order») (r .«duplicate_acks_sent»)
 
-abbrev pub handlePacket : GoBackNReceiver → List ℕ → List ℕ → List ℕ → Receiving GoBackNReceiver
+abbrev pub handlePacket : GoBackNReceiver → List ℕ → List ℕ → List ℕ → ReceiveExit GoBackNReceiver
 handlePacket r raw output ack =
     receive (marksBroken (r .«expected_seq») (r .filled) output) (countsBroken (r .«total_received») (r .«discarded_out_of_order») (r .«duplicate_acks_sent»)) r (r .filled) (decision r (readPacket raw) .decision) (payloadOf raw) (withMark (decision r (readPacket raw) .receiver)) raw output ack

@@ -4,26 +4,26 @@ use mathlib.Core.List.{List}
 use mathlib.Core.Bool.{false}
 use Rattle.window.specs.State.{outstanding, stateBroken, countsBroken}
 use Rattle.window.specs.Slots.{Sender, release}
-use Rattle.window.specs.Acknowledgement.{ackDecision, Acknowledging, byDecision}
-use Rattle.window.specs.Resending.{Resending, resend, resendOutstanding}
-use Rattle.window.specs.declared.MakeAnswer.{MakeAnswer}
-use Rattle.window.specs.declared.MakeAnswer.the-variants as makeAnswer
-use Rattle.go_back_n.specs.declared.GoBackNMade.{GoBackNMade}
-use Rattle.go_back_n.specs.declared.GoBackNMade.the-variants as made
+use Rattle.window.specs.Acknowledgement.{ackDecision, AckExit, byDecision}
+use Rattle.window.specs.Resending.{TimeoutExit, resend, resendOutstanding}
+use Rattle.window.specs.declared.SendWindowAnswer.{SendWindowAnswer}
+use Rattle.window.specs.declared.SendWindowAnswer.the-variants as makeAnswer
+use Rattle.go_back_n.specs.declared.GoBackNSenderAnswer.{GoBackNSenderAnswer}
+use Rattle.go_back_n.specs.declared.GoBackNSenderAnswer.the-variants as made
 
-abbrev pub madeWindow : GoBackNMade → MakeAnswer
+abbrev pub madeWindow : GoBackNSenderAnswer → SendWindowAnswer
 madeWindow (made.Sender s) = makeAnswer.Window (s .window)
 madeWindow (made.Refused r) = makeAnswer.Refused r
 
 -- an accepted ACK acknowledges its number and all before it
-abbrev pub handleAck : Sender → List ℕ → Acknowledging Sender
+abbrev pub handleAck : Sender → List ℕ → AckExit Sender
 handleAck v raw = byDecision (ackDecision false (v .window) (v .store) raw) v (λ n. release v (n + 1))
 
 -- a timeout sends every outstanding number again, lowest first
-abbrev pub handleTimeout : Sender → List ℕ → Resending Sender
+abbrev pub handleTimeout : Sender → List ℕ → TimeoutExit Sender
 handleTimeout v out =
     resend (stateBroken false (v .window) (v .store)) (countsBroken (v .window)) v (v .window .«send_base») (outstanding (v .window)) out
 
 -- document 01, "The edition clock": only the earliest outstanding number, if there is one
-abbrev pub handleTimeoutEarliest : Sender → List ℕ → Resending Sender
+abbrev pub handleTimeoutEarliest : Sender → List ℕ → TimeoutExit Sender
 handleTimeoutEarliest v out = resendOutstanding false v 1 out

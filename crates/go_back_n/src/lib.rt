@@ -4,94 +4,96 @@ ghost use Prim.Native.Nat.{_≤_, _<_};
 ghost use mathlib.Core.Bool.{false};
 ghost use Rattle.refusal.specs.Counts.{countLimit};
 ghost use Rattle.window.specs.Slots.{sender};
-ghost use Rattle.window.specs.Sending.{making, makeWindow, sending, sendChunk};
-ghost use Rattle.window.specs.Acknowledgement.{acknowledging};
-ghost use Rattle.window.specs.Resending.{resending};
+ghost use Rattle.window.specs.Sending.{makeExit, makeWindow, sendExit, sendChunk};
+ghost use Rattle.window.specs.Acknowledgement.{ackExit};
+ghost use Rattle.window.specs.Resending.{timeoutExit};
 ghost use Rattle.window.specs.Outstanding.{canSend, inFlightCount, hasUnackedPackets};
 ghost use Rattle.go_back_n.specs.Sender.{madeWindow, handleAck, handleTimeout, handleTimeoutEarliest};
 ghost use Rattle.go_back_n.specs.Receiver.{newReceiver, decided, dataDecision, decision, handlePacket};
-ghost use Rattle.receiver.specs.Receive.{receiving};
+ghost use Rattle.receiver.specs.Receive.{receiveExit};
 ghost use Rattle.receiver.specs.State.{countsBroken};
 use receiver::Decision;
-use receiver::Handed;
+use receiver::PacketReading;
 use receiver::ReceiveAnswer;
 use receiver::Reply;
+use refusal::CountAnswer;
 use refusal::Refusal;
+use refusal::TestAnswer;
 use window::AckAnswer;
 use window::AckDecision;
-use window::MakeAnswer;
 use window::SendAnswer;
 use window::SendWindow;
+use window::SendWindowAnswer;
 use window::TimeoutAnswer;
-use window::WindowCount;
-use window::WindowTest;
 
 pub struct GoBackNSender {
     pub window: SendWindow,
 }
 
-pub enum GoBackNMade {
+pub enum GoBackNSenderAnswer {
     Sender(GoBackNSender),
     Refused(Refusal),
 }
 
-pub struct GoBackNSent {
+pub struct GoBackNSendResult {
     pub sender: GoBackNSender,
     pub answer: SendAnswer,
 }
 
-pub struct GoBackNAcknowledged {
+pub struct GoBackNAckResult {
     pub sender: GoBackNSender,
     pub answer: AckAnswer,
 }
 
-pub struct GoBackNTimedOut {
+pub struct GoBackNTimeoutResult {
     pub sender: GoBackNSender,
     pub answer: TimeoutAnswer,
 }
 
 impl GoBackNSender {
-    pub fn new(window_size: usize, store: &mut [u8]) -> GoBackNMade
-        ensures { λ r. ⌜ making (madeWindow r) (now (store .exit)) ≡ makeWindow «window_size» (now (store .entry)) ⌝ }
+    pub fn new(window_size: usize, store: &mut [u8]) -> GoBackNSenderAnswer
+        ensures { λ r. ⌜ makeExit (madeWindow r) (now (store .exit)) ≡ makeWindow «window_size» (now (store .entry)) ⌝ }
     {
         match SendWindow::new(window_size, store) {
-            MakeAnswer::Window(window) => GoBackNMade::Sender(GoBackNSender { window }),
-            MakeAnswer::Refused(r) => GoBackNMade::Refused(r),
+            SendWindowAnswer::Window(window) => GoBackNSenderAnswer::Sender(GoBackNSender {
+                window,
+            }),
+            SendWindowAnswer::Refused(r) => GoBackNSenderAnswer::Refused(r),
         }
     }
 
     // A chunk into its slot and as a datagram to the start of out.
-    pub fn send_chunk(self, store: &mut [u8], payload: &[u8], out: &mut [u8]) -> GoBackNSent
-        ensures { λ r. ⌜ sending (r .answer) (sender (r .sender .window) (now (store .exit))) (now (out .exit)) ≡ sendChunk false (sender (self .window) (now (store .entry))) (now (payload .entry)) (now (out .entry)) ⌝ }
+    pub fn send_chunk(self, store: &mut [u8], payload: &[u8], out: &mut [u8]) -> GoBackNSendResult
+        ensures { λ r. ⌜ sendExit (r .answer) (sender (r .sender .window) (now (store .exit))) (now (out .exit)) ≡ sendChunk false (sender (self .window) (now (store .entry))) (now (payload .entry)) (now (out .entry)) ⌝ }
     {
         let window = self.window;
         let sent = window.send_chunk(false, store, payload, out);
         let window = sent.window;
         let answer = sent.answer;
-        GoBackNSent {
+        GoBackNSendResult {
             sender: GoBackNSender { window },
             answer,
         }
     }
 
     // A datagram as an ACK.
-    pub fn handle_ack(self, store: &mut [u8], raw: &[u8]) -> GoBackNAcknowledged
-        ensures { λ r. ⌜ acknowledging (r .answer) (sender (r .sender .window) (now (store .exit))) ≡ handleAck (sender (self .window) (now (store .entry))) (now (raw .entry)) ⌝ }
+    pub fn handle_ack(self, store: &mut [u8], raw: &[u8]) -> GoBackNAckResult
+        ensures { λ r. ⌜ ackExit (r .answer) (sender (r .sender .window) (now (store .exit))) ≡ handleAck (sender (self .window) (now (store .entry))) (now (raw .entry)) ⌝ }
     {
         let window = self.window;
         match window.decide_ack(store, false, raw) {
             AckDecision::Accept(n) => {
                 let window = window.release_unchecked(store, n + 1);
-                GoBackNAcknowledged {
+                GoBackNAckResult {
                     sender: GoBackNSender { window },
                     answer: AckAnswer::Accepted,
                 }
             }
-            AckDecision::NotAccepted => GoBackNAcknowledged {
+            AckDecision::NotAccepted => GoBackNAckResult {
                 sender: self,
                 answer: AckAnswer::NotAccepted,
             },
-            AckDecision::Refused(r) => GoBackNAcknowledged {
+            AckDecision::Refused(r) => GoBackNAckResult {
                 sender: self,
                 answer: AckAnswer::Refused(r),
             },
@@ -99,49 +101,49 @@ impl GoBackNSender {
     }
 
     // Every outstanding number again, lowest first.
-    pub fn handle_timeout(self, store: &mut [u8], out: &mut [u8]) -> GoBackNTimedOut
-        ensures { λ r. ⌜ resending (r .answer) (sender (r .sender .window) (now (store .exit))) (now (out .exit)) ≡ handleTimeout (sender (self .window) (now (store .entry))) (now (out .entry)) ⌝ }
+    pub fn handle_timeout(self, store: &mut [u8], out: &mut [u8]) -> GoBackNTimeoutResult
+        ensures { λ r. ⌜ timeoutExit (r .answer) (sender (r .sender .window) (now (store .exit))) (now (out .exit)) ≡ handleTimeout (sender (self .window) (now (store .entry))) (now (out .entry)) ⌝ }
     {
         let window = self.window;
         let all = window::MAX_WINDOW_SIZE as u32;
         let result = window.resend_outstanding(false, store, all, out);
         let window = result.window;
         let answer = result.answer;
-        GoBackNTimedOut {
+        GoBackNTimeoutResult {
             sender: GoBackNSender { window },
             answer,
         }
     }
 
     // Only the number at send_base again: the edition clock's timeout.
-    pub fn handle_timeout_earliest(self, store: &mut [u8], out: &mut [u8]) -> GoBackNTimedOut
-        ensures { λ r. ⌜ resending (r .answer) (sender (r .sender .window) (now (store .exit))) (now (out .exit)) ≡ handleTimeoutEarliest (sender (self .window) (now (store .entry))) (now (out .entry)) ⌝ }
+    pub fn handle_timeout_earliest(self, store: &mut [u8], out: &mut [u8]) -> GoBackNTimeoutResult
+        ensures { λ r. ⌜ timeoutExit (r .answer) (sender (r .sender .window) (now (store .exit))) (now (out .exit)) ≡ handleTimeoutEarliest (sender (self .window) (now (store .entry))) (now (out .entry)) ⌝ }
     {
         let window = self.window;
         let result = window.resend_outstanding(false, store, 1, out);
         let window = result.window;
         let answer = result.answer;
-        GoBackNTimedOut {
+        GoBackNTimeoutResult {
             sender: GoBackNSender { window },
             answer,
         }
     }
 
-    pub fn can_send(self) -> WindowTest
+    pub fn can_send(self) -> TestAnswer
         ensures { λ r. ⌜ r ≡ canSend (self .window) ⌝ }
     {
         let window = self.window;
         window.can_send()
     }
 
-    pub fn in_flight_count(self) -> WindowCount
+    pub fn in_flight_count(self) -> CountAnswer
         ensures { λ r. ⌜ r ≡ inFlightCount (self .window) ⌝ }
     {
         let window = self.window;
         window.in_flight_count()
     }
 
-    pub fn has_unacked_packets(self) -> WindowTest
+    pub fn has_unacked_packets(self) -> TestAnswer
         ensures { λ r. ⌜ r ≡ hasUnackedPackets (self .window) ⌝ }
     {
         let window = self.window;
@@ -164,7 +166,7 @@ pub struct GoBackNDecision {
     pub decision: Decision,
 }
 
-pub struct GoBackNReceived {
+pub struct GoBackNReceiveResult {
     pub receiver: GoBackNReceiver,
     pub answer: ReceiveAnswer,
 }
@@ -183,8 +185,13 @@ impl GoBackNReceiver {
     }
 
     // A datagram, with the lent output and a buffer for the ACK.
-    pub fn handle_packet(self, raw: &[u8], output: &mut [u8], ack: &mut [u8]) -> GoBackNReceived
-        ensures { λ r. ⌜ receiving (r .answer) (r .receiver) (now (output .exit)) (now (ack .exit)) ≡ handlePacket self (now (raw .entry)) (now (output .entry)) (now (ack .entry)) ⌝ }
+    pub fn handle_packet(
+        self,
+        raw: &[u8],
+        output: &mut [u8],
+        ack: &mut [u8],
+    ) -> GoBackNReceiveResult
+        ensures { λ r. ⌜ receiveExit (r .answer) (r .receiver) (now (output .exit)) (now (ack .exit)) ≡ handlePacket self (now (raw .entry)) (now (output .entry)) (now (ack .entry)) ⌝ }
     {
         let handed = receiver::read_checked(
             receiver::marks_broken(self.expected_seq, self.filled, output),
@@ -193,8 +200,8 @@ impl GoBackNReceiver {
             self.duplicate_acks_sent,
             raw,
         );
-        if let Handed::Refused(r) = handed {
-            return GoBackNReceived {
+        if let PacketReading::Refused(r) = handed {
+            return GoBackNReceiveResult {
                 receiver: self,
                 answer: ReceiveAnswer::Refused(r),
             };
@@ -204,29 +211,29 @@ impl GoBackNReceiver {
         let result = receiver::finish_unchecked(decision, raw, self.filled, output, ack);
         let answer = result.answer;
         if let ReceiveAnswer::Refused(_) = answer {
-            return GoBackNReceived {
+            return GoBackNReceiveResult {
                 receiver: self,
                 answer,
             };
         }
         let mut receiver = after.receiver;
         receiver.filled = result.filled;
-        GoBackNReceived { receiver, answer }
+        GoBackNReceiveResult { receiver, answer }
     }
 
     // What a packet that isn't refused does to the state, and what is to be written.
-    pub fn decide_unchecked(mut self, handed: Handed) -> GoBackNDecision
+    pub fn decide_unchecked(mut self, handed: PacketReading) -> GoBackNDecision
         requires { ⌜ countsBroken (self .«total_received») (self .«discarded_out_of_order») (self .«duplicate_acks_sent») ≡ false ⌝ }
         requires { ⌜ self .«expected_seq» ≤ 4294901760 ⌝ }
         ensures { λ r. ⌜ r ≡ decision self handed ⌝ }
     {
         self.total_received = self.total_received + 1;
         match handed {
-            Handed::Data(n) => self.decide_data(n),
-            Handed::Fin(n) => self.decided(false, Reply::Ack(n)),
-            Handed::Ack => self.decided(false, Reply::Silent),
-            Handed::Corrupted => self.decided(false, Reply::Silent),
-            Handed::Refused(_) => self.decided(false, Reply::Silent),
+            PacketReading::Data(n) => self.decide_data(n),
+            PacketReading::Fin(n) => self.decided(false, Reply::Ack(n)),
+            PacketReading::Ack => self.decided(false, Reply::Silent),
+            PacketReading::Corrupted => self.decided(false, Reply::Silent),
+            PacketReading::Refused(_) => self.decided(false, Reply::Silent),
         }
     }
 

@@ -12,17 +12,17 @@ use lib.Seq.{take-at, drop-at, drop-drop}
 use borrow.Author.Tests.{leb-false}
 use Rattle.multi_timer.specs.Map.{Entry, keysOf, deadlinesOf, ascending, lookup, isSome, keep, due, pending, least, earliest}
 use Rattle.multi_timer.specs.Search.{searchIn, insertedAt, removedAt, clearedIn, dueIn, Partitioned}
-use Rattle.multi_timer.specs.MultiTimer.{used, laid, after, After, afterPop, timers, nextGeneration, broken, startFull, startUnchecked, cancelUnchecked, popUnchecked, clearUnchecked}
+use Rattle.multi_timer.specs.MultiTimer.{used, laid, timersExit, TimersExit, popExit, timers, nextGeneration, broken, startFull, startTimerAtUnchecked, cancelTimerUnchecked, popExpiredAtUnchecked, clearUnchecked}
 use Rattle.multi_timer.specs.declared.MultiTimer.{MultiTimer}
-use Rattle.multi_timer.specs.declared.Place.the-variants.{At, Absent}
+use Rattle.multi_timer.specs.declared.KeyPosition.the-variants.{At, Absent}
 use Rattle.multi_timer.proofs.Checks.{Good, good-of, in-order}
 use Rattle.multi_timer.proofs.Lists.{rest, rest-cons, rest-nil}
 use Rattle.multi_timer.proofs.Sorted.{length-keys, length-deadlines}
 use Rattle.multi_timer.proofs.Parting.{both, entries-length, next-length}
 use Rattle.multi_timer.proofs.Places.{laid-fewer, at-bound, absent-lookup, absent-bound, kept-keys, kept-deadlines, kept-count, inserted-keys, inserted-deadlines, inserted-count, removed-keys, removed-deadlines, removed-count, same-keys, same-deadlines, same-count}
 
-same-after : {A : Type 0} (a b : A) (ks ls ds es : List ℕ) → a ≡ b → ks ≡ ls → ds ≡ es → after a ks ds ≡ after b ls es
-same-after {A = A} a b ks ls ds es p q r = ap₂ (λ (x : After A) (l : List ℕ). after (x .answer) (x .keys) l) (ap₂ (λ (x : A) (l : List ℕ). after x l ds) p q) r
+same-after : {A : Type 0} (a b : A) (ks ls ds es : List ℕ) → a ≡ b → ks ≡ ls → ds ≡ es → timersExit a ks ds ≡ timersExit b ls es
+same-after {A = A} a b ks ls ds es p q r = ap₂ (λ (x : TimersExit A) (l : List ℕ). timersExit (x .answer) (x .keys) l) (ap₂ (λ (x : A) (l : List ℕ). timersExit x l ds) p q) r
 
 -- where none were used before
 pub front : (new old : List ℕ) → laid new 0 old ≡ new ++ drop (length new) old
@@ -45,14 +45,14 @@ module _ (t : MultiTimer) (ks ds : List ℕ) (b : broken (t .count) ks ds ≡ fa
   pub count-fits-deadlines : t .count ≤ length ds
   count-fits-deadlines = subst (λ (m : ℕ). t .count ≤ m) (g .same) (g .within)
 
-  pub started-at : (key d p next : ℕ) (ds' : List ℕ) → At p ≡ searchIn key (take (t .count) ks) → next ≡ nextGeneration (t .«global_generation») → ds' ≡ set ds p d → after (timers (t .count) next) ks ds' ≡ startUnchecked t ks ds key d
-  unfolding startUnchecked
+  pub started-at : (key d p next : ℕ) (ds' : List ℕ) → At p ≡ searchIn key (take (t .count) ks) → next ≡ nextGeneration (t .«global_generation») → ds' ≡ set ds p d → timersExit (timers (t .count) next) ks ds' ≡ startTimerAtUnchecked t ks ds key d
+  unfolding startTimerAtUnchecked
   started-at key d p next ds' e n q =
       same-after _ _ ks _ ds' _ (ap₂ timers (sym (kept-count (t .count) ks ds g key d p e)) n) (sym (kept-keys (t .count) ks ds g key d p e)) (q ∙ sym (kept-deadlines (t .count) ks ds g key d p e))
 
   pub started-absent : (key d p next : ℕ) (ks' ds' : List ℕ) → Absent p ≡ searchIn key (take (t .count) ks) → next ≡ nextGeneration (t .«global_generation») → ks' ≡ insertedAt p (t .count) key ks → ds' ≡ insertedAt p (t .count) d ds
-      → after (timers (t .count + 1) next) ks' ds' ≡ startUnchecked t ks ds key d
-  unfolding startUnchecked
+      → timersExit (timers (t .count + 1) next) ks' ds' ≡ startTimerAtUnchecked t ks ds key d
+  unfolding startTimerAtUnchecked
   started-absent key d p next ks' ds' e n q r =
       same-after _ _ ks' _ ds' _ (ap₂ timers (sym (inserted-count (t .count) ks ds g key d p e)) n) (q ∙ sym (inserted-keys (t .count) ks ds g key d p e)) (r ∙ sym (inserted-deadlines (t .count) ks ds g key d p e))
 
@@ -74,17 +74,17 @@ module _ (t : MultiTimer) (ks ds : List ℕ) (b : broken (t .count) ks ds ≡ fa
   pub unused-deadline : (key p : ℕ) → Absent p ≡ searchIn key (take (t .count) ks) → startFull t ks ds key ≡ false → t .count < length ds
   unused-deadline key p e f = subst (λ (m : ℕ). t .count < m) (g .same) (unused key p e f)
 
-  pub cancelled-at : (key p n : ℕ) (ks' ds' : List ℕ) → At p ≡ searchIn key (take (t .count) ks) → n ≡ t .count - 1 → ks' ≡ removedAt p (t .count) ks → ds' ≡ removedAt p (t .count) ds → after (timers n (t .«global_generation»)) ks' ds' ≡ cancelUnchecked t ks ds key
-  unfolding cancelUnchecked
+  pub cancelled-at : (key p n : ℕ) (ks' ds' : List ℕ) → At p ≡ searchIn key (take (t .count) ks) → n ≡ t .count - 1 → ks' ≡ removedAt p (t .count) ks → ds' ≡ removedAt p (t .count) ds → timersExit (timers n (t .«global_generation»)) ks' ds' ≡ cancelTimerUnchecked t ks ds key
+  unfolding cancelTimerUnchecked
   cancelled-at key p n ks' ds' e m q r =
       same-after _ _ ks' _ ds' _ (ap (λ (k : ℕ). timers k (t .«global_generation»)) (m ∙ sym (removed-count (t .count) ks ds g key p e))) (q ∙ sym (removed-keys (t .count) ks ds g key p e)) (r ∙ sym (removed-deadlines (t .count) ks ds g key p e))
 
-  pub cancelled-absent : (key p : ℕ) → Absent p ≡ searchIn key (take (t .count) ks) → after t ks ds ≡ cancelUnchecked t ks ds key
-  unfolding cancelUnchecked
+  pub cancelled-absent : (key p : ℕ) → Absent p ≡ searchIn key (take (t .count) ks) → timersExit t ks ds ≡ cancelTimerUnchecked t ks ds key
+  unfolding cancelTimerUnchecked
   cancelled-absent key p e =
       same-after _ _ ks _ ds _ (ap (λ (k : ℕ). timers k (t .«global_generation»)) (sym (same-count (t .count) ks ds g key p e))) (sym (same-keys (t .count) ks ds g key p e)) (sym (same-deadlines (t .count) ks ds g key p e))
 
-  pub cleared-all : (ks' ds' : List ℕ) → ks' ≡ clearedIn 0 (t .count) ks → ds' ≡ clearedIn 0 (t .count) ds → after (timers 0 (t .«global_generation»)) ks' ds' ≡ clearUnchecked t ks ds
+  pub cleared-all : (ks' ds' : List ℕ) → ks' ≡ clearedIn 0 (t .count) ks → ds' ≡ clearedIn 0 (t .count) ds → timersExit (timers 0 (t .«global_generation»)) ks' ds' ≡ clearUnchecked t ks ds
   unfolding clearUnchecked keysOf deadlinesOf
   cleared-all ks' ds' q r = same-after _ _ ks' _ ds' _ refl (q ∙ sym (laid-fewer [] ks (t .count) zero-le)) (r ∙ sym (laid-fewer [] ds (t .count) zero-le))
 
@@ -119,11 +119,11 @@ module _ (t : MultiTimer) (ks ds : List ℕ) (b : broken (t .count) ks ds ≡ fa
     pub parted-deadlines : length ds' ≡ length ds
     parted-deadlines = next-length (deadlinesOf P) ds ds' left (p .deadlines) (length-deadlines P ∙ sym (p .count)) (le-trans left-fits count-fits-deadlines)
 
-    pub popped-all : ks'' ≡ clearedIn left (t .count) ks' → ds'' ≡ clearedIn left (t .count) ds' → afterPop (after (timers left (t .«global_generation»)) ks'' ds'') out' ≡ popUnchecked t ks ds now out
-    unfolding popUnchecked
+    pub popped-all : ks'' ≡ clearedIn left (t .count) ks' → ds'' ≡ clearedIn left (t .count) ds' → popExit (timersExit (timers left (t .«global_generation»)) ks'' ds'') out' ≡ popExpiredAtUnchecked t ks ds now out
+    unfolding popExpiredAtUnchecked
     popped-all q r =
         let h = left-fits in
-        ap₂ (λ (a : After MultiTimer) (o : List ℕ). afterPop a o)
+        ap₂ (λ (a : TimersExit MultiTimer) (o : List ℕ). popExit a o)
         (same-after _ _ ks'' _ ds'' _ (ap (λ (k : ℕ). timers k (t .«global_generation»)) (p .count))
         (after-parting ks ks' (keysOf P) ks'' (p .keys) (length-keys P ∙ sym (p .count)) h q)
         (after-parting ds ds' (deadlinesOf P) ds'' (p .deadlines) (length-deadlines P ∙ sym (p .count)) h r))

@@ -4,9 +4,9 @@ use mathlib.Core.Bool.{true}
 use mathlib.Core.List.{List, [], _∷_}
 use mathlib.Core.Option.{some}
 use Rattle.multi_timer.specs.Map.{keysOf, deadlinesOf, lookup, keep, put, least, earliest}
-use Rattle.multi_timer.specs.MultiTimer.{used, isExpiredAtDef, popExpiredAtDef, earliestDeadlineDef}
+use Rattle.multi_timer.specs.MultiTimer.{used, isExpiredAt, popExpiredAt, earliestDeadline}
 use Rattle.multi_timer.specs.History.{Call, start, pop, afterCalls, isRefused, entriesAfter, deadlineOf, turnedAway, accepted}
-use Rattle.multi_timer.specs.declared.ExpiredAnswer.the-variants.{Is}
+use Rattle.refusal.specs.declared.TestAnswer.the-variants.{Is}
 use Rattle.multi_timer.specs.declared.EarliestAnswer.the-variants.{At}
 use Rattle.multi_timer.proofs.History.{Took, deadlines-are, expired-is, earliest-is, pop-is, history, refused-are}
 
@@ -25,14 +25,14 @@ pub deadline-held : lookup 7 (used (afterCalls 1 calls .answer) (afterCalls 1 ca
 unfolding accepted turnedAway entriesAfter deadlineOf keep put
 deadline-held = deadlines-are 1 (accepted 1 calls) (afterCalls 1 calls) (history 1 calls) 7
 
-pub earliest-held : earliestDeadlineDef (afterCalls 1 calls .answer) (afterCalls 1 calls .keys) (afterCalls 1 calls .deadlines) ≡ At 8
+pub earliest-held : earliestDeadline (afterCalls 1 calls .answer) (afterCalls 1 calls .keys) (afterCalls 1 calls .deadlines) ≡ At 8
 unfolding accepted turnedAway entriesAfter deadlineOf keep put deadlinesOf earliest least
 earliest-held = earliest-is 1 (accepted 1 calls) (afterCalls 1 calls) (history 1 calls)
 
-pub expired-at-deadline : isExpiredAtDef (afterCalls 1 calls .answer) (afterCalls 1 calls .keys) (afterCalls 1 calls .deadlines) 7 8 ≡ Is true
+pub expired-at-deadline : isExpiredAt (afterCalls 1 calls .answer) (afterCalls 1 calls .keys) (afterCalls 1 calls .deadlines) 7 8 ≡ Is true
 unfolding accepted turnedAway entriesAfter deadlineOf keep put
 expired-at-deadline = expired-is 1 (accepted 1 calls) (afterCalls 1 calls) (history 1 calls) 7 8 refl
 
-pub key-popped : Took (7 ∷ []) (0 ∷ 6 ∷ []) (popExpiredAtDef (afterCalls 1 calls .answer) (afterCalls 1 calls .keys) (afterCalls 1 calls .deadlines) 8 (0 ∷ 6 ∷ []))
+pub key-popped : Took (7 ∷ []) (0 ∷ 6 ∷ []) (popExpiredAt (afterCalls 1 calls .answer) (afterCalls 1 calls .keys) (afterCalls 1 calls .deadlines) 8 (0 ∷ 6 ∷ []))
 unfolding accepted turnedAway entriesAfter deadlineOf keep put keysOf
 key-popped = pop-is 1 (accepted 1 calls) (afterCalls 1 calls) (history 1 calls) 8 (0 ∷ 6 ∷ []) refl

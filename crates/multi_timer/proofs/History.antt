@@ -16,18 +16,18 @@ use Rattle.refusal.specs.declared.Refusal.{Refusal}
 use Rattle.refusal.specs.declared.Refusal.the-variants.{State, Time, Full}
 use Rattle.multi_timer.specs.Map.{Entry, entriesOf, keysOf, deadlinesOf, ascending, ascendingFrom, lookup, isSome, keep, put, other, due, pending, dueAt, stillSet, earliest, contains, LeastOf}
 use Rattle.multi_timer.specs.Search.{searchIn}
-use Rattle.multi_timer.specs.MultiTimer.{used, laid, After, after, timers, nextGeneration, broken, anyLate, heldTooLate, startFull, startUnchecked, cancelUnchecked, popUnchecked, clearUnchecked, newDef, startTimerAtDef, cancelTimerDef, isExpiredAtDef, AfterPop, popExpiredAtDef, earliestAnswer, earliestDeadlineDef, clearDef, answering}
+use Rattle.multi_timer.specs.MultiTimer.{used, laid, TimersExit, timersExit, timers, nextGeneration, broken, anyLate, heldTooLate, startFull, startTimerAtUnchecked, cancelTimerUnchecked, popExpiredAtUnchecked, clearUnchecked, newTimers, startTimerAt, cancelTimer, isExpiredAt, PopExit, popExpiredAt, earliestAnswer, earliestDeadline, clearTimers, answering}
 use Rattle.multi_timer.specs.History.{Call, start, cancel, pop, clear, fresh, step, afterCalls, startRefused, cancelRefused, popRefused, clearRefused, isRefused, entriesAfter, deadlineOf, earliestOf, dueKeys, starts, turnedAway, accepted}
 use Rattle.multi_timer.specs.declared.MultiTimer.{MultiTimer}
-use Rattle.multi_timer.specs.declared.Making.the-variants.{Made}
-use Rattle.multi_timer.specs.declared.Started.{Started}
-use Rattle.multi_timer.specs.declared.Cancelled.{Cancelled}
-use Rattle.multi_timer.specs.declared.ExpiredAnswer.the-variants.{Is}
+use Rattle.multi_timer.specs.declared.MultiTimerAnswer.the-variants.{Made}
+use Rattle.multi_timer.specs.declared.StartResult.{StartResult}
+use Rattle.multi_timer.specs.declared.CancelResult.{CancelResult}
+use Rattle.refusal.specs.declared.TestAnswer.the-variants.{Is}
 use Rattle.multi_timer.specs.declared.PopAnswer.the-variants.{Keys}
-use Rattle.multi_timer.specs.declared.Popped.{Popped}
-use Rattle.multi_timer.specs.declared.Cleared.{Cleared}
-use Rattle.multi_timer.specs.declared.Place.{Place}
-use Rattle.multi_timer.specs.declared.Place.the-variants.{At, Absent}
+use Rattle.multi_timer.specs.declared.PopResult.{PopResult}
+use Rattle.multi_timer.specs.declared.ClearResult.{ClearResult}
+use Rattle.multi_timer.specs.declared.KeyPosition.{KeyPosition}
+use Rattle.multi_timer.specs.declared.KeyPosition.the-variants.{At, Absent}
 use Rattle.multi_timer.proofs.Checks.{Good, good-of, state-only, state-time}
 use Rattle.multi_timer.proofs.Sorted.{deadlines-entries, length-keys, length-deadlines}
 use Rattle.multi_timer.proofs.Places.{one-length, kept-count, inserted-count}
@@ -47,7 +47,7 @@ module _ (t : MultiTimer) (ks ds : List ℕ) (b : broken (t .count) ks ds ≡ fa
       next : {a m n : ℕ} → a ≡ m + 1 → suc m ≤ n → a ≤ n
       next e h = omega arith
 
-      go : (p : Place) → p ≡ searchIn key (take (t .count) ks) → length (put key d (used t ks ds)) ≤ length ks
+      go : (p : KeyPosition) → p ≡ searchIn key (take (t .count) ks) → length (put key d (used t ks ds)) ≤ length ks
       go (At p) e = le-trans (le-of-eq (kept-count (t .count) ks ds g key d p e)) (g .within)
       go (Absent p) e = next (inserted-count (t .count) ks ds g key d p e) (unused t ks ds b key p e f)
 
@@ -84,7 +84,7 @@ pub due-ascending : (now : ℕ) (xs : List Call) → ascending (dueKeys now xs) 
 due-ascending now xs = keep-ascending (due now) 0 (entriesAfter xs) (entries-ascending xs)
 
 -- ---- what holds of the set after any list of calls
-pub record Kept (n : ℕ) (xs : List Call) (s : After MultiTimer) : Type 0 where
+pub record Kept (n : ℕ) (xs : List Call) (s : TimersExit MultiTimer) : Type 0 where
   pub keys-length : length (s .keys) ≡ n
   -- line 9 of the next call: slices of one length, the count within it, the used keys strictly ascending
   pub state : broken (s .answer .count) (s .keys) (s .deadlines) ≡ false
@@ -94,7 +94,7 @@ pub record Kept (n : ℕ) (xs : List Call) (s : After MultiTimer) : Type 0 where
   pub generation-is : s .answer .«global_generation» ≡ starts xs % 2 ^ 64
 
 -- a pop answers how many keys it takes; they go to the front of the lent slice, and the rest of it stays
-pub record Took (keys out : List ℕ) (z : AfterPop Popped) : Type 0 where
+pub record Took (keys out : List ℕ) (z : PopExit PopResult) : Type 0 where
   pub answered : z .rest .answer .answer ≡ Keys (length keys)
   pub written : z .out ≡ keys ++ drop (length keys) out
 
@@ -117,7 +117,7 @@ by-tests P false false true u f a p q k l = k Time
 by-tests P false false false true f a p q k l = k Full
 by-tests P false false false false f a p q k l = l refl refl
 
-module _ (n : ℕ) (xs : List Call) (s : After MultiTimer) (k : Kept n xs s) where
+module _ (n : ℕ) (xs : List Call) (s : TimersExit MultiTimer) (k : Kept n xs s) where
   abbrev es : List Entry
   es = used (s .answer) (s .keys) (s .deadlines)
 
@@ -134,18 +134,18 @@ module _ (n : ℕ) (xs : List Call) (s : After MultiTimer) (k : Kept n xs s) whe
   deadlines-are key = ap (lookup key) (k .entries-are) ∙ lookup-entries key xs
 
   -- ---- what the calls that only read answer, and what a pop writes
-  pub expired-is : (key now : ℕ) → ltb maxTime now ≡ false → isExpiredAtDef (s .answer) (s .keys) (s .deadlines) key now ≡ Is (dueAt now (deadlineOf key xs))
+  pub expired-is : (key now : ℕ) → ltb maxTime now ≡ false → isExpiredAt (s .answer) (s .keys) (s .deadlines) key now ≡ Is (dueAt now (deadlineOf key xs))
   expired-is key now h = sym (expired-done (s .answer) (s .keys) (s .deadlines) key now _ (k .state) (simp (k .times, h)) refl) ∙ ap (λ (o : Option ℕ). Is (dueAt now o)) (deadlines-are key)
 
-  pub earliest-is : earliestDeadlineDef (s .answer) (s .keys) (s .deadlines) ≡ earliestAnswer (earliestOf xs)
+  pub earliest-is : earliestDeadline (s .answer) (s .keys) (s .deadlines) ≡ earliestAnswer (earliestOf xs)
   earliest-is = sym (earliest-done (s .answer) (s .keys) (s .deadlines) _ (k .state) (k .times) refl) ∙ ap (λ (z : List Entry). earliestAnswer (earliest (deadlinesOf z))) (k .entries-are)
 
   -- an accepted pop
-  pub pop-is : (now : ℕ) (out : List ℕ) → turnedAway n xs (pop now out) ≡ false → Took (dueKeys now xs) out (popExpiredAtDef (s .answer) (s .keys) (s .deadlines) now out)
-  unfolding turnedAway popExpiredAtDef popUnchecked
+  pub pop-is : (now : ℕ) (out : List ℕ) → turnedAway n xs (pop now out) ≡ false → Took (dueKeys now xs) out (popExpiredAt (s .answer) (s .keys) (s .deadlines) now out)
+  unfolding turnedAway popExpiredAt popExpiredAtUnchecked
   pop-is now out =
-      subst (λ (z : List Entry). (ltb maxTime now || ltb (length out) (length (keep (due now) z))) ≡ false → Took (dueKeys now xs) out (popExpiredAtDef (s .answer) (s .keys) (s .deadlines) now out)) (k .entries-are)
-      (by-tests (λ (z : AfterPop Popped) (b : Bool). b ≡ false → Took (dueKeys now xs) out z) _ _ _ _ _ _ (k .state) (k .times) (λ r e. absurd (true≢false e))
+      subst (λ (z : List Entry). (ltb maxTime now || ltb (length out) (length (keep (due now) z))) ≡ false → Took (dueKeys now xs) out (popExpiredAt (s .answer) (s .keys) (s .deadlines) now out)) (k .entries-are)
+      (by-tests (λ (z : PopExit PopResult) (b : Bool). b ≡ false → Took (dueKeys now xs) out z) _ _ _ _ _ _ (k .state) (k .times) (λ r e. absurd (true≢false e))
       (λ t f e.
       record {
         answered = ap (λ (z : List Entry). Keys (length (keep (due now) z))) (k .entries-are) ∙ ap Keys (sym (length-keys (keep (due now) (entriesAfter xs))));
@@ -154,7 +154,7 @@ module _ (n : ℕ) (xs : List Call) (s : After MultiTimer) (k : Kept n xs s) whe
 
   -- other entries in the place of those held
   held : (ys : List Call) (new : List Entry) (next : ℕ) → length new ≤ length (s .keys) → anyLate (deadlinesOf new) ≡ false → new ≡ entriesAfter ys → next ≡ starts ys % 2 ^ 64
-      → Kept n ys (after (timers (length new) next) (laid (keysOf new) (s .answer .count) (s .keys)) (laid (deadlinesOf new) (s .answer .count) (s .deadlines)))
+      → Kept n ys (timersExit (timers (length new) next) (laid (keysOf new) (s .answer .count) (s .keys)) (laid (deadlinesOf new) (s .answer .count) (s .deadlines)))
   held ys new next l t d e =
       record {
         keys-length = laid-length (keysOf new) (s .answer .count) (s .keys) (g .within) (subst (λ (m : ℕ). m ≤ length (s .keys)) (sym (length-keys new)) l) ∙ k .keys-length;
@@ -165,7 +165,7 @@ module _ (n : ℕ) (xs : List Call) (s : After MultiTimer) (k : Kept n xs s) whe
       }
 
   kept-entries : (p : Entry → Bool) (ys : List Call) → keep p (entriesAfter xs) ≡ entriesAfter ys → starts xs ≡ starts ys
-      → Kept n ys (after (timers (length (keep p es)) (s .answer .«global_generation»)) (laid (keysOf (keep p es)) (s .answer .count) (s .keys)) (laid (deadlinesOf (keep p es)) (s .answer .count) (s .deadlines)))
+      → Kept n ys (timersExit (timers (length (keep p es)) (s .answer .«global_generation»)) (laid (keysOf (keep p es)) (s .answer .count) (s .keys)) (laid (deadlinesOf (keep p es)) (s .answer .count) (s .deadlines)))
   kept-entries p ys d e =
       held ys (keep p es) (s .answer .«global_generation») (le-trans (keep-most p es) (le-trans (le-of-eq count-is) (g .within))) (keep-in-time p es in-time) (ap (keep p) (k .entries-are) ∙ d) (k .generation-is ∙ ap (λ (m : ℕ). m % 2 ^ 64) e)
 
@@ -185,10 +185,10 @@ module _ (n : ℕ) (xs : List Call) (s : After MultiTimer) (k : Kept n xs s) whe
   no-line P f a h = rw (state-time, k .state, k .times) h
 
   step-told : (x : Call) → Told x (turnedAway n xs x)
-  unfolding step isRefused turnedAway startTimerAtDef startUnchecked cancelTimerDef cancelUnchecked popExpiredAtDef popUnchecked clearDef clearUnchecked entriesAfter starts keysOf deadlinesOf anyLate
+  unfolding step isRefused turnedAway startTimerAt startTimerAtUnchecked cancelTimer cancelTimerUnchecked popExpiredAt popExpiredAtUnchecked clearTimers clearUnchecked entriesAfter starts keysOf deadlinesOf anyLate
   step-told (start key now duration) =
       subst (λ (b : Bool). Told (start key now duration) (startLate now duration || b)) (full-is key)
-      (by-tests (λ (z : After Started) (b : Bool). Kept n (cond b xs (start key now duration ∷ xs)) (answering (λ r. r .timers) z) × (startRefused (z .answer .answer) ≡ b)) _ _ _ _ _ _ (k .state) (k .times) (λ r. (k, refl))
+      (by-tests (λ (z : TimersExit StartResult) (b : Bool). Kept n (cond b xs (start key now duration ∷ xs)) (answering (λ r. r .timers) z) × (startRefused (z .answer .answer) ≡ b)) _ _ _ _ _ _ (k .state) (k .times) (λ r. (k, refl))
       (λ t f. (
         held (start key now duration ∷ xs) (put key (now + duration) es) (nextGeneration (s .answer .«global_generation»)) (start-fits (s .answer) (s .keys) (s .deadlines) (k .state) key (now + duration) f)
             (put-in-time key (now + duration) es (start-in-time false now duration t) in-time) (ap (put key (now + duration)) (k .entries-are)) (next-start (s .answer .«global_generation») (starts xs) (k .generation-is)),
@@ -198,13 +198,13 @@ module _ (n : ℕ) (xs : List Call) (s : After MultiTimer) (k : Kept n xs s) whe
       next-start : (a m : ℕ) → a ≡ m % 2 ^ 64 → nextGeneration a ≡ suc m % 2 ^ 64
       next-start a m e = omega arith
   step-told (cancel key) =
-      no-line (λ (z : After Cancelled). Kept n (cancel key ∷ xs) (answering (λ r. r .timers) z) × (cancelRefused (z .answer .answer) ≡ false)) _ _ (kept-entries (other key) (cancel key ∷ xs) refl refl, refl)
+      no-line (λ (z : TimersExit CancelResult). Kept n (cancel key ∷ xs) (answering (λ r. r .timers) z) × (cancelRefused (z .answer .answer) ≡ false)) _ _ (kept-entries (other key) (cancel key ∷ xs) refl refl, refl)
   step-told (pop now out) =
       subst (λ (es : List Entry). Told (pop now out) (ltb maxTime now || ltb (length out) (length (keep (due now) es)))) (k .entries-are)
-      (by-tests (λ (z : AfterPop Popped) (b : Bool). Kept n (cond b xs (pop now out ∷ xs)) (answering (λ r. r .timers) (z .rest)) × (popRefused (z .rest .answer .answer) ≡ b)) _ _ _ _ _ _ (k .state) (k .times) (λ r. (k, refl))
+      (by-tests (λ (z : PopExit PopResult) (b : Bool). Kept n (cond b xs (pop now out ∷ xs)) (answering (λ r. r .timers) (z .rest)) × (popRefused (z .rest .answer .answer) ≡ b)) _ _ _ _ _ _ (k .state) (k .times) (λ r. (k, refl))
       (λ t f. (kept-entries (pending now) (pop now out ∷ xs) refl refl, refl)))
   step-told clear =
-      no-line (λ (z : After Cleared). Kept n (clear ∷ xs) (answering (λ r. r .timers) z) × (clearRefused (z .answer .answer) ≡ false)) _ _ (held (clear ∷ xs) [] (s .answer .«global_generation») zero-le refl refl (k .generation-is), refl)
+      no-line (λ (z : TimersExit ClearResult). Kept n (clear ∷ xs) (answering (λ r. r .timers) z) × (clearRefused (z .answer .answer) ≡ false)) _ _ (held (clear ∷ xs) [] (s .answer .«global_generation») zero-le refl refl (k .generation-is), refl)
 
 fresh-kept : (n : ℕ) → Kept n [] (fresh n)
 unfolding fresh entriesAfter starts entriesOf ascendingFrom anyLate
@@ -214,9 +214,9 @@ fresh-kept n = record { keys-length = length-replicate n 0; state = empty (repli
     empty ks = simp (eq-eqb (length ks) (length ks) refl, le-ltb (length ks) 0 zero-le)
 
 -- a set is made so
-pub new-fresh : (ks ds : List ℕ) → length ks ≡ length ds → newDef ks ds ≡ answering Made (fresh (length ks))
-unfolding newDef fresh
-new-fresh ks ds e = simp (state-only, eq-eqb (length ks) (length ds) e) (ap (λ (m : ℕ). after (Made (timers 0 0)) (replicate (length ks) 0) (replicate m 0)) (sym e))
+pub new-fresh : (ks ds : List ℕ) → length ks ≡ length ds → newTimers ks ds ≡ answering Made (fresh (length ks))
+unfolding newTimers fresh
+new-fresh ks ds e = simp (state-only, eq-eqb (length ks) (length ds) e) (ap (λ (m : ℕ). timersExit (Made (timers 0 0)) (replicate (length ks) 0) (replicate m 0)) (sym e))
 
 pub history : (n : ℕ) (xs : List Call) → Kept n (accepted n xs) (afterCalls n xs)
 unfolding afterCalls accepted

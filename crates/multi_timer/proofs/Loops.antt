@@ -13,8 +13,8 @@ use Rattle.duration.specs.Bounds.{maxTime}
 use Rattle.multi_timer.specs.Map.{ascending, ascendingFrom}
 use Rattle.multi_timer.specs.MultiTimer.{anyLate}
 use Rattle.multi_timer.specs.Search.{searchIn, later, risingFrom, allBelowPower}
-use Rattle.multi_timer.specs.declared.Place.{Place}
-use Rattle.multi_timer.specs.declared.Place.the-variants.{At, Absent}
+use Rattle.multi_timer.specs.declared.KeyPosition.{KeyPosition}
+use Rattle.multi_timer.specs.declared.KeyPosition.the-variants.{At, Absent}
 use lib.Seq.{length-take-le, getD-take}
 use Rattle.multi_timer.proofs.Lists.{rest, rest-cons, rest-nil}
 use Rattle.multi_timer.proofs.Sorted.{search-behind}
@@ -62,7 +62,7 @@ module _ (n i : ℕ) (xs : List ℕ) where
   unfolding searchIn
   search-absent key h l k e = rw (rest-cons n i xs h l) (simp (le-ltb _ _ k, ne-eqb _ _ e) (ap Absent (sym (add-zero i))))
 
-  later-twice : (p : Place) → later (i + 1) p ≡ later i (later 1 p)
+  later-twice : (p : KeyPosition) → later (i + 1) p ≡ later i (later 1 p)
   later-twice (At p) = ap At (add-assoc i 1 p)
   later-twice (Absent p) = ap Absent (add-assoc i 1 p)
 
@@ -231,6 +231,6 @@ module _ (n i : ℕ) (ks ds : List ℕ) (r0 r1 r2 r3 : Bool) (d0 d1 d2 d3 : ℕ)
       go true e = k
       go false e = absurd (true≢false e)
 
-pub later-none : (p : Place) → later 0 p ≡ p
+pub later-none : (p : KeyPosition) → later 0 p ≡ p
 later-none (At p) = ap At (zero-add p)
 later-none (Absent p) = ap Absent (zero-add p)

@@ -13,8 +13,8 @@ use Rattle.refusal.proofs.Tails.{tail-is, tail-back}
 use Rattle.multi_timer.specs.Map.{Entry, entriesOf, keysOf, deadlinesOf, lookup, put, remove}
 use Rattle.multi_timer.specs.Search.{searchIn, insertedAt, removedAt, clearedIn}
 use Rattle.multi_timer.specs.MultiTimer.{laid}
-use Rattle.multi_timer.specs.declared.Place.{Place}
-use Rattle.multi_timer.specs.declared.Place.the-variants.{At, Absent}
+use Rattle.multi_timer.specs.declared.KeyPosition.{KeyPosition}
+use Rattle.multi_timer.specs.declared.KeyPosition.the-variants.{At, Absent}
 use Rattle.multi_timer.proofs.Checks.{Good}
 use Rattle.multi_timer.proofs.Sorted.{PutIs, put-is, RemoveIs, remove-is, LookupIs, lookup-is, length-keys}
 
@@ -121,7 +121,7 @@ module _ (n : ℕ) (ks ds : List ℕ) (g : Good n ks ds) where
 
   module _ (key p : ℕ) where
     at-is : At p ≡ searchIn key K → LookupIs (At p) D (lookup key (entriesOf K D))
-    at-is e = subst (λ (q : Place). LookupIs q D (lookup key (entriesOf K D))) (sym e) (lookup-is key 0 K D one-length (g .sorted))
+    at-is e = subst (λ (q : KeyPosition). LookupIs q D (lookup key (entriesOf K D))) (sym e) (lookup-is key 0 K D one-length (g .sorted))
 
     pub at-bound : At p ≡ searchIn key K → p < n
     at-bound e = subst (λ (m : ℕ). p < m) nd (at-is e .0)
@@ -130,17 +130,17 @@ module _ (n : ℕ) (ks ds : List ℕ) (g : Good n ks ds) where
     at-lookup e = at-is e .1 ∙ ap some (getD-take n ds p 0 (at-bound e))
 
     pub absent-lookup : Absent p ≡ searchIn key K → lookup key (entriesOf K D) ≡ none
-    absent-lookup e = subst (λ (q : Place). LookupIs q D (lookup key (entriesOf K D))) (sym e) (lookup-is key 0 K D one-length (g .sorted))
+    absent-lookup e = subst (λ (q : KeyPosition). LookupIs q D (lookup key (entriesOf K D))) (sym e) (lookup-is key 0 K D one-length (g .sorted))
 
   module _ (key d p : ℕ) where
     abbrev E : List Entry
     E = put key d (entriesOf K D)
 
     put-at : At p ≡ searchIn key K → PutIs (At p) K D key d E
-    put-at e = subst (λ (q : Place). PutIs q K D key d E) (sym e) (put-is key d K D one-length)
+    put-at e = subst (λ (q : KeyPosition). PutIs q K D key d E) (sym e) (put-is key d K D one-length)
 
     put-absent : Absent p ≡ searchIn key K → PutIs (Absent p) K D key d E
-    put-absent e = subst (λ (q : Place). PutIs q K D key d E) (sym e) (put-is key d K D one-length)
+    put-absent e = subst (λ (q : KeyPosition). PutIs q K D key d E) (sym e) (put-is key d K D one-length)
 
     pub absent-bound : Absent p ≡ searchIn key K → p ≤ n
     absent-bound e = subst (λ (m : ℕ). p ≤ m) nk (put-absent e .bound)
@@ -177,10 +177,10 @@ module _ (n : ℕ) (ks ds : List ℕ) (g : Good n ks ds) where
     R = remove key (entriesOf K D)
 
     remove-at : At p ≡ searchIn key K → RemoveIs (At p) K D R
-    remove-at e = subst (λ (q : Place). RemoveIs q K D R) (sym e) (remove-is key 0 K D one-length (g .sorted))
+    remove-at e = subst (λ (q : KeyPosition). RemoveIs q K D R) (sym e) (remove-is key 0 K D one-length (g .sorted))
 
     remove-absent : Absent p ≡ searchIn key K → RemoveIs (Absent p) K D R
-    remove-absent e = subst (λ (q : Place). RemoveIs q K D R) (sym e) (remove-is key 0 K D one-length (g .sorted))
+    remove-absent e = subst (λ (q : KeyPosition). RemoveIs q K D R) (sym e) (remove-is key 0 K D one-length (g .sorted))
 
     less : (xs : List ℕ) → length xs ≡ n → p < n → suc (length (take p xs ++ drop (suc p) xs)) ≡ n
     less xs e h = let q : length (take p xs ++ drop (suc p) xs) ≡ length (take p xs) + length (drop (suc p) xs) = length-append (take p xs) (drop (suc p) xs) in let a : length (take p xs) ≡ p = length-take-le p xs (subst (λ (m : ℕ). p ≤ m) (sym e) (le-of-lt h)) in let b = length-drop (suc p) xs in omega arith

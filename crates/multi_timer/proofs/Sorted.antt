@@ -12,8 +12,8 @@ use lib.ListN.{length, getD, take, drop, set}
 use borrow.Author.Tests.{lt-ltb, ltb-true, ltb-false, eqb-true, eqb-false, leb-true, ne-eqb}
 use Rattle.multi_timer.specs.Map.{Entry, entry, entriesOf, keysOf, deadlinesOf, ascendingFrom, lookup, keep, put, other}
 use Rattle.multi_timer.specs.Search.{searchIn, later}
-use Rattle.multi_timer.specs.declared.Place.{Place}
-use Rattle.multi_timer.specs.declared.Place.the-variants.{At, Absent}
+use Rattle.multi_timer.specs.declared.KeyPosition.{KeyPosition}
+use Rattle.multi_timer.specs.declared.KeyPosition.the-variants.{At, Absent}
 
 -- the first key is at least low, and the others are above it
 pub first-key : (low k : ℕ) (ks : List ℕ) → ascendingFrom low (k ∷ ks) ≡ true → low ≤ k
@@ -46,7 +46,7 @@ search-behind key low (suc p) (k ∷ ks) a h l =
     below : {m : ℕ} → suc k ≤ m → m < key → k < key
     below f g = omega arith
 
-    later-suc : (n : ℕ) (q : Place) → later (suc n) q ≡ later 1 (later n q)
+    later-suc : (n : ℕ) (q : KeyPosition) → later (suc n) q ≡ later 1 (later n q)
     later-suc n (At q) = ap At (omega arith)
     later-suc n (Absent q) = ap Absent (omega arith)
 
@@ -114,11 +114,11 @@ pub record Inserted (p : ℕ) (ks ds : List ℕ) (key d : ℕ) (es : List Entry)
   pub keys : keysOf es ≡ take p ks ++ key ∷ drop p ks
   pub deadlines : deadlinesOf es ≡ take p ds ++ d ∷ drop p ds
 
-abbrev pub PutIs : Place → List ℕ → List ℕ → ℕ → ℕ → List Entry → Type 0
+abbrev pub PutIs : KeyPosition → List ℕ → List ℕ → ℕ → ℕ → List Entry → Type 0
 PutIs (At p) ks ds key d es = Kept p ks ds d es
 PutIs (Absent p) ks ds key d es = Inserted p ks ds key d es
 
-put-later : (q : Place) (k d0 : ℕ) (ks ds : List ℕ) (key d : ℕ) (es : List Entry) → PutIs q ks ds key d es → PutIs (later 1 q) (k ∷ ks) (d0 ∷ ds) key d (entry k d0 ∷ es)
+put-later : (q : KeyPosition) (k d0 : ℕ) (ks ds : List ℕ) (key d : ℕ) (es : List Entry) → PutIs q ks ds key d es → PutIs (later 1 q) (k ∷ ks) (d0 ∷ ds) key d (entry k d0 ∷ es)
 unfolding keysOf deadlinesOf
 put-later (At p) k d0 ks ds key d es r =
     subst (λ (n : ℕ). Kept n (k ∷ ks) (d0 ∷ ds) d (entry k d0 ∷ es)) (sym (one-add p))
@@ -159,11 +159,11 @@ pub record Same (ks ds : List ℕ) (es : List Entry) : Type 0 where
   pub keys : keysOf es ≡ ks
   pub deadlines : deadlinesOf es ≡ ds
 
-abbrev pub RemoveIs : Place → List ℕ → List ℕ → List Entry → Type 0
+abbrev pub RemoveIs : KeyPosition → List ℕ → List ℕ → List Entry → Type 0
 RemoveIs (At p) ks ds es = Dropped p ks ds es
 RemoveIs (Absent p) ks ds es = Same ks ds es
 
-remove-later : (q : Place) (k d0 : ℕ) (ks ds : List ℕ) (es : List Entry) → RemoveIs q ks ds es → RemoveIs (later 1 q) (k ∷ ks) (d0 ∷ ds) (entry k d0 ∷ es)
+remove-later : (q : KeyPosition) (k d0 : ℕ) (ks ds : List ℕ) (es : List Entry) → RemoveIs q ks ds es → RemoveIs (later 1 q) (k ∷ ks) (d0 ∷ ds) (entry k d0 ∷ es)
 unfolding keysOf deadlinesOf
 remove-later (At p) k d0 ks ds es r =
     subst (λ (n : ℕ). Dropped n (k ∷ ks) (d0 ∷ ds) (entry k d0 ∷ es)) (sym (one-add p))
@@ -204,11 +204,11 @@ remove-is key low (k ∷ ks) (y ∷ ds) e a = go (ltb k key) (eqb k key) (ltb-tr
         near : key ≤ k → key < suc k
         near h = omega arith
 
-abbrev pub LookupIs : Place → List ℕ → Option ℕ → Type 0
+abbrev pub LookupIs : KeyPosition → List ℕ → Option ℕ → Type 0
 LookupIs (At p) ds o = (p < length ds) × (o ≡ some (getD ds p 0))
 LookupIs (Absent p) ds o = o ≡ none
 
-lookup-later : (q : Place) (y : ℕ) (ds : List ℕ) (o : Option ℕ) → LookupIs q ds o → LookupIs (later 1 q) (y ∷ ds) o
+lookup-later : (q : KeyPosition) (y : ℕ) (ds : List ℕ) (o : Option ℕ) → LookupIs q ds o → LookupIs (later 1 q) (y ∷ ds) o
 lookup-later (At p) y ds o r = subst (λ (n : ℕ). (n < suc (length ds)) × (o ≡ some (getD (y ∷ ds) n 0))) (sym (one-add p)) (suc-le-suc (r .0), r .1)
 lookup-later (Absent p) y ds o r = r
 

@@ -10,9 +10,9 @@ use Rattle.multi_timer.specs.declared.MultiTimer.{MultiTimer}
 use Rattle.multi_timer.specs.declared.StartAnswer as St
 use Rattle.multi_timer.specs.declared.CancelAnswer as Ca
 use Rattle.multi_timer.specs.declared.PopAnswer as Po
-use Rattle.multi_timer.specs.declared.ClearAnswer as Cl
+use Rattle.refusal.specs.declared.DoneAnswer as Cl
 use Rattle.multi_timer.specs.Map.{Entry, keysOf, deadlinesOf, isSome, keep, put, remove, due, pending, stillSet, earliest}
-use Rattle.multi_timer.specs.MultiTimer.{After, after, timers, answering, startTimerAtDef, cancelTimerDef, popExpiredAtDef, clearDef}
+use Rattle.multi_timer.specs.MultiTimer.{TimersExit, timersExit, timers, answering, startTimerAt, cancelTimer, popExpiredAt, clearTimers}
 
 -- `start_timer_at` with key, time and duration, `cancel_timer` with the key, `pop_expired_at` with the time and the lent slice, `clear`
 pub data Call : Type 0 where
@@ -22,16 +22,16 @@ pub data Call : Type 0 where
   clear : Call
 
 -- a set just made in slices of n entries
-unfoldable pub fresh : ℕ → After MultiTimer
-fresh n = after (timers 0 0) (replicate n 0) (replicate n 0)
+unfoldable pub fresh : ℕ → TimersExit MultiTimer
+fresh n = timersExit (timers 0 0) (replicate n 0) (replicate n 0)
 
-unfoldable pub step : After MultiTimer → Call → After MultiTimer
-step s (start key now duration) = answering (λ r. r .timers) (startTimerAtDef (s .answer) (s .keys) (s .deadlines) key now duration)
-step s (cancel key) = answering (λ r. r .timers) (cancelTimerDef (s .answer) (s .keys) (s .deadlines) key)
-step s (pop now out) = answering (λ r. r .timers) (popExpiredAtDef (s .answer) (s .keys) (s .deadlines) now out .rest)
-step s clear = answering (λ r. r .timers) (clearDef (s .answer) (s .keys) (s .deadlines))
+unfoldable pub step : TimersExit MultiTimer → Call → TimersExit MultiTimer
+step s (start key now duration) = answering (λ r. r .timers) (startTimerAt (s .answer) (s .keys) (s .deadlines) key now duration)
+step s (cancel key) = answering (λ r. r .timers) (cancelTimer (s .answer) (s .keys) (s .deadlines) key)
+step s (pop now out) = answering (λ r. r .timers) (popExpiredAt (s .answer) (s .keys) (s .deadlines) now out .rest)
+step s clear = answering (λ r. r .timers) (clearTimers (s .answer) (s .keys) (s .deadlines))
 
-unfoldable pub afterCalls : ℕ → List Call → After MultiTimer
+unfoldable pub afterCalls : ℕ → List Call → TimersExit MultiTimer
 afterCalls n [] = fresh n
 afterCalls n (x ∷ xs) = step (afterCalls n xs) x
 
@@ -48,15 +48,15 @@ abbrev pub popRefused : Po.PopAnswer → Bool
 popRefused (Po.the-variants.Keys n) = false
 popRefused (Po.the-variants.Refused r) = true
 
-abbrev pub clearRefused : Cl.ClearAnswer → Bool
+abbrev pub clearRefused : Cl.DoneAnswer → Bool
 clearRefused Cl.the-variants.Done = false
 clearRefused (Cl.the-variants.Refused r) = true
 
-unfoldable pub isRefused : After MultiTimer → Call → Bool
-isRefused s (start key now duration) = startRefused (startTimerAtDef (s .answer) (s .keys) (s .deadlines) key now duration .answer .answer)
-isRefused s (cancel key) = cancelRefused (cancelTimerDef (s .answer) (s .keys) (s .deadlines) key .answer .answer)
-isRefused s (pop now out) = popRefused (popExpiredAtDef (s .answer) (s .keys) (s .deadlines) now out .rest .answer .answer)
-isRefused s clear = clearRefused (clearDef (s .answer) (s .keys) (s .deadlines) .answer .answer)
+unfoldable pub isRefused : TimersExit MultiTimer → Call → Bool
+isRefused s (start key now duration) = startRefused (startTimerAt (s .answer) (s .keys) (s .deadlines) key now duration .answer .answer)
+isRefused s (cancel key) = cancelRefused (cancelTimer (s .answer) (s .keys) (s .deadlines) key .answer .answer)
+isRefused s (pop now out) = popRefused (popExpiredAt (s .answer) (s .keys) (s .deadlines) now out .rest .answer .answer)
+isRefused s clear = clearRefused (clearTimers (s .answer) (s .keys) (s .deadlines) .answer .answer)
 
 -- ---- what a list of accepted calls says; nothing from here on looks at a timer set
 -- the entries of the map

@@ -9,20 +9,20 @@ use Rattle.duration.specs.Bounds.{maxTime, startLate}
 use Rattle.refusal.specs.Order.{check, verdict, decide}
 use Rattle.refusal.specs.declared.Refusal.the-variants.{State, Time, Full}
 use Rattle.multi_timer.specs.declared.MultiTimer.{MultiTimer}
-use Rattle.multi_timer.specs.declared.Making as Mk
-use Rattle.multi_timer.specs.declared.Making.{Making}
+use Rattle.multi_timer.specs.declared.MultiTimerAnswer as Mk
+use Rattle.multi_timer.specs.declared.MultiTimerAnswer.{MultiTimerAnswer}
 use Rattle.multi_timer.specs.declared.StartAnswer as St
-use Rattle.multi_timer.specs.declared.Started.{Started}
+use Rattle.multi_timer.specs.declared.StartResult.{StartResult}
 use Rattle.multi_timer.specs.declared.CancelAnswer as Ca
-use Rattle.multi_timer.specs.declared.Cancelled.{Cancelled}
-use Rattle.multi_timer.specs.declared.ExpiredAnswer as Ex
-use Rattle.multi_timer.specs.declared.ExpiredAnswer.{ExpiredAnswer}
+use Rattle.multi_timer.specs.declared.CancelResult.{CancelResult}
+use Rattle.refusal.specs.declared.TestAnswer as Ex
+use Rattle.refusal.specs.declared.TestAnswer.{TestAnswer}
 use Rattle.multi_timer.specs.declared.PopAnswer as Po
-use Rattle.multi_timer.specs.declared.Popped.{Popped}
+use Rattle.multi_timer.specs.declared.PopResult.{PopResult}
 use Rattle.multi_timer.specs.declared.EarliestAnswer as Ea
 use Rattle.multi_timer.specs.declared.EarliestAnswer.{EarliestAnswer}
-use Rattle.multi_timer.specs.declared.ClearAnswer as Cl
-use Rattle.multi_timer.specs.declared.Cleared.{Cleared}
+use Rattle.refusal.specs.declared.DoneAnswer as Cl
+use Rattle.multi_timer.specs.declared.ClearResult.{ClearResult}
 use Rattle.multi_timer.specs.Map.{Entry, entriesOf, keysOf, deadlinesOf, ascending, lookup, isSome, keep, put, remove, due, pending, dueAt, earliest}
 
 -- ---- the lent slices
@@ -34,17 +34,17 @@ unfoldable pub laid : List ℕ → ℕ → List ℕ → List ℕ
 laid new n old = new ++ (replicate (n - length new) 0 ++ drop (max n (length new)) old)
 
 -- an answer, and the slices at exit
-pub record After (A : Type 0) : Type 0 where
+pub record TimersExit (A : Type 0) : Type 0 where
   pub answer : A
   pub keys : List ℕ
   pub deadlines : List ℕ
 
-abbrev pub after : {A : Type 0} → A → List ℕ → List ℕ → After A
-after a ks ds = record { answer = a; keys = ks; deadlines = ds }
+abbrev pub timersExit : {A : Type 0} → A → List ℕ → List ℕ → TimersExit A
+timersExit a ks ds = record { answer = a; keys = ks; deadlines = ds }
 
 -- what holds the entries es, after the set t
-abbrev pub holding : {A : Type 0} → A → MultiTimer → List Entry → List ℕ → List ℕ → After A
-holding a t es ks ds = after a (laid (keysOf es) (t .count) ks) (laid (deadlinesOf es) (t .count) ds)
+abbrev pub holding : {A : Type 0} → A → MultiTimer → List Entry → List ℕ → List ℕ → TimersExit A
+holding a t es ks ds = timersExit a (laid (keysOf es) (t .count) ks) (laid (deadlinesOf es) (t .count) ds)
 
 abbrev pub timers : ℕ → ℕ → MultiTimer
 timers n g = record { count = n; «global_generation» = g }
@@ -75,93 +75,93 @@ abbrev pub startFull : MultiTimer → List ℕ → List ℕ → ℕ → Bool
 startFull t ks ds key = leb (length ks) (t .count) && not (isSome (lookup key (used t ks ds)))
 
 -- ---- the entry points
-unfoldable pub newDef : List ℕ → List ℕ → After Making
-newDef ks ds =
-    decide (verdict (check (not (eqb (length ks) (length ds))) State ∷ [])) (λ r. after (Mk.the-variants.Refused r) ks ds)
-    (after (Mk.the-variants.Made (timers 0 0)) (replicate (length ks) 0) (replicate (length ds) 0))
+unfoldable pub newTimers : List ℕ → List ℕ → TimersExit MultiTimerAnswer
+newTimers ks ds =
+    decide (verdict (check (not (eqb (length ks) (length ds))) State ∷ [])) (λ r. timersExit (Mk.the-variants.Refused r) ks ds)
+    (timersExit (Mk.the-variants.Made (timers 0 0)) (replicate (length ks) 0) (replicate (length ds) 0))
 
 -- "in `MultiTimer` at start, not at `cancel_timer`", "passes from 2^64 - 1 to 0"
 abbrev pub nextGeneration : ℕ → ℕ
 nextGeneration g = (g + 1) % 2 ^ 64
 
-abbrev pub started : MultiTimer → St.StartAnswer → Started
-started t a = record { timers = t; answer = a }
+abbrev pub startResult : MultiTimer → St.StartAnswer → StartResult
+startResult t a = record { timers = t; answer = a }
 
-unfoldable pub startUnchecked : MultiTimer → List ℕ → List ℕ → ℕ → ℕ → After MultiTimer
-startUnchecked t ks ds key deadline = let es = put key deadline (used t ks ds) in holding (timers (length es) (nextGeneration (t .«global_generation»))) t es ks ds
+unfoldable pub startTimerAtUnchecked : MultiTimer → List ℕ → List ℕ → ℕ → ℕ → TimersExit MultiTimer
+startTimerAtUnchecked t ks ds key deadline = let es = put key deadline (used t ks ds) in holding (timers (length es) (nextGeneration (t .«global_generation»))) t es ks ds
 
-abbrev pub answering : {A B : Type 0} → (A → B) → After A → After B
-answering f a = after (f (a .answer)) (a .keys) (a .deadlines)
+abbrev pub answering : {A B : Type 0} → (A → B) → TimersExit A → TimersExit B
+answering f a = timersExit (f (a .answer)) (a .keys) (a .deadlines)
 
-unfoldable pub startTimerAtDef : MultiTimer → List ℕ → List ℕ → ℕ → ℕ → ℕ → After Started
-startTimerAtDef t ks ds key now duration =
+unfoldable pub startTimerAt : MultiTimer → List ℕ → List ℕ → ℕ → ℕ → ℕ → TimersExit StartResult
+startTimerAt t ks ds key now duration =
     decide (verdict (check (broken (t .count) ks ds) State ∷ check (startTooLate (t .count) ds now duration) Time ∷ check (startFull t ks ds key) Full ∷ []))
-    (λ r. after (started t (St.the-variants.Refused r)) ks ds)
-    (answering (λ u. started u (St.the-variants.Id (u .«global_generation»))) (startUnchecked t ks ds key (now + duration)))
+    (λ r. timersExit (startResult t (St.the-variants.Refused r)) ks ds)
+    (answering (λ u. startResult u (St.the-variants.Id (u .«global_generation»))) (startTimerAtUnchecked t ks ds key (now + duration)))
 
-abbrev pub cancelled : MultiTimer → Ca.CancelAnswer → Cancelled
-cancelled t a = record { timers = t; answer = a }
+abbrev pub cancelResult : MultiTimer → Ca.CancelAnswer → CancelResult
+cancelResult t a = record { timers = t; answer = a }
 
-unfoldable pub cancelUnchecked : MultiTimer → List ℕ → List ℕ → ℕ → After MultiTimer
-cancelUnchecked t ks ds key = let es = remove key (used t ks ds) in holding (timers (length es) (t .«global_generation»)) t es ks ds
+unfoldable pub cancelTimerUnchecked : MultiTimer → List ℕ → List ℕ → ℕ → TimersExit MultiTimer
+cancelTimerUnchecked t ks ds key = let es = remove key (used t ks ds) in holding (timers (length es) (t .«global_generation»)) t es ks ds
 
-unfoldable pub cancelTimerDef : MultiTimer → List ℕ → List ℕ → ℕ → After Cancelled
-cancelTimerDef t ks ds key =
+unfoldable pub cancelTimer : MultiTimer → List ℕ → List ℕ → ℕ → TimersExit CancelResult
+cancelTimer t ks ds key =
     decide (verdict (check (broken (t .count) ks ds) State ∷ check (heldTooLate (t .count) ds) Time ∷ []))
-    (λ r. after (cancelled t (Ca.the-variants.Refused r)) ks ds)
-    (answering (λ u. cancelled u (Ca.the-variants.Existed (isSome (lookup key (used t ks ds))))) (cancelUnchecked t ks ds key))
+    (λ r. timersExit (cancelResult t (Ca.the-variants.Refused r)) ks ds)
+    (answering (λ u. cancelResult u (Ca.the-variants.Existed (isSome (lookup key (used t ks ds))))) (cancelTimerUnchecked t ks ds key))
 
-abbrev pub expiredUnchecked : MultiTimer → List ℕ → List ℕ → ℕ → ℕ → Bool
-expiredUnchecked t ks ds key now = dueAt now (lookup key (used t ks ds))
+abbrev pub isExpiredAtUnchecked : MultiTimer → List ℕ → List ℕ → ℕ → ℕ → Bool
+isExpiredAtUnchecked t ks ds key now = dueAt now (lookup key (used t ks ds))
 
-unfoldable pub isExpiredAtDef : MultiTimer → List ℕ → List ℕ → ℕ → ℕ → ExpiredAnswer
-isExpiredAtDef t ks ds key now =
+unfoldable pub isExpiredAt : MultiTimer → List ℕ → List ℕ → ℕ → ℕ → TestAnswer
+isExpiredAt t ks ds key now =
     decide (verdict (check (broken (t .count) ks ds) State ∷ check (readTooLate (t .count) ds now) Time ∷ []))
-    (λ r. Ex.the-variants.Refused r) (Ex.the-variants.Is (expiredUnchecked t ks ds key now))
+    (λ r. Ex.the-variants.Refused r) (Ex.the-variants.Is (isExpiredAtUnchecked t ks ds key now))
 
 -- the expired keys, ascending, go to the front of the lent slice `out`
-pub record AfterPop (A : Type 0) : Type 0 where
-  pub rest : After A
+pub record PopExit (A : Type 0) : Type 0 where
+  pub rest : TimersExit A
   pub out : List ℕ
 
-abbrev pub afterPop : {A : Type 0} → After A → List ℕ → AfterPop A
-afterPop a out = record { rest = a; out = out }
+abbrev pub popExit : {A : Type 0} → TimersExit A → List ℕ → PopExit A
+popExit a out = record { rest = a; out = out }
 
-abbrev pub popped : MultiTimer → Po.PopAnswer → Popped
-popped t a = record { timers = t; answer = a }
+abbrev pub popResult : MultiTimer → Po.PopAnswer → PopResult
+popResult t a = record { timers = t; answer = a }
 
-unfoldable pub popUnchecked : MultiTimer → List ℕ → List ℕ → ℕ → List ℕ → AfterPop MultiTimer
-popUnchecked t ks ds now out =
+unfoldable pub popExpiredAtUnchecked : MultiTimer → List ℕ → List ℕ → ℕ → List ℕ → PopExit MultiTimer
+popExpiredAtUnchecked t ks ds now out =
     let left = keep (pending now) (used t ks ds) in
-    afterPop (holding (timers (length left) (t .«global_generation»)) t left ks ds) (laid (keysOf (keep (due now) (used t ks ds))) 0 out)
+    popExit (holding (timers (length left) (t .«global_generation»)) t left ks ds) (laid (keysOf (keep (due now) (used t ks ds))) 0 out)
 
-unfoldable pub popExpiredAtDef : MultiTimer → List ℕ → List ℕ → ℕ → List ℕ → AfterPop Popped
-popExpiredAtDef t ks ds now out =
+unfoldable pub popExpiredAt : MultiTimer → List ℕ → List ℕ → ℕ → List ℕ → PopExit PopResult
+popExpiredAt t ks ds now out =
     let n = length (keep (due now) (used t ks ds)) in
-    let w = popUnchecked t ks ds now out in
+    let w = popExpiredAtUnchecked t ks ds now out in
     decide (verdict (check (broken (t .count) ks ds) State ∷ check (readTooLate (t .count) ds now) Time ∷ check (ltb (length out) n) Full ∷ []))
-    (λ r. afterPop (after (popped t (Po.the-variants.Refused r)) ks ds) out)
-    (afterPop (answering (λ u. popped u (Po.the-variants.Keys n)) (w .rest)) (w .out))
+    (λ r. popExit (timersExit (popResult t (Po.the-variants.Refused r)) ks ds) out)
+    (popExit (answering (λ u. popResult u (Po.the-variants.Keys n)) (w .rest)) (w .out))
 
 abbrev pub earliestAnswer : Option ℕ → EarliestAnswer
 earliestAnswer none = Ea.the-variants.Nothing
 earliestAnswer (some d) = Ea.the-variants.At d
 
-abbrev pub earliestUnchecked : MultiTimer → List ℕ → List ℕ → EarliestAnswer
-earliestUnchecked t ks ds = earliestAnswer (earliest (deadlinesOf (used t ks ds)))
+abbrev pub earliestDeadlineUnchecked : MultiTimer → List ℕ → List ℕ → EarliestAnswer
+earliestDeadlineUnchecked t ks ds = earliestAnswer (earliest (deadlinesOf (used t ks ds)))
 
-unfoldable pub earliestDeadlineDef : MultiTimer → List ℕ → List ℕ → EarliestAnswer
-earliestDeadlineDef t ks ds =
+unfoldable pub earliestDeadline : MultiTimer → List ℕ → List ℕ → EarliestAnswer
+earliestDeadline t ks ds =
     decide (verdict (check (broken (t .count) ks ds) State ∷ check (heldTooLate (t .count) ds) Time ∷ []))
-    (λ r. Ea.the-variants.Refused r) (earliestUnchecked t ks ds)
+    (λ r. Ea.the-variants.Refused r) (earliestDeadlineUnchecked t ks ds)
 
-abbrev pub cleared : MultiTimer → Cl.ClearAnswer → Cleared
-cleared t a = record { timers = t; answer = a }
+abbrev pub clearResult : MultiTimer → Cl.DoneAnswer → ClearResult
+clearResult t a = record { timers = t; answer = a }
 
-unfoldable pub clearUnchecked : MultiTimer → List ℕ → List ℕ → After MultiTimer
+unfoldable pub clearUnchecked : MultiTimer → List ℕ → List ℕ → TimersExit MultiTimer
 clearUnchecked t ks ds = holding (timers 0 (t .«global_generation»)) t [] ks ds
 
-unfoldable pub clearDef : MultiTimer → List ℕ → List ℕ → After Cleared
-clearDef t ks ds =
+unfoldable pub clearTimers : MultiTimer → List ℕ → List ℕ → TimersExit ClearResult
+clearTimers t ks ds =
     decide (verdict (check (broken (t .count) ks ds) State ∷ check (heldTooLate (t .count) ds) Time ∷ []))
-    (λ r. after (cleared t (Cl.the-variants.Refused r)) ks ds) (answering (λ u. cleared u Cl.the-variants.Done) (clearUnchecked t ks ds))
+    (λ r. timersExit (clearResult t (Cl.the-variants.Refused r)) ks ds) (answering (λ u. clearResult u Cl.the-variants.Done) (clearUnchecked t ks ds))

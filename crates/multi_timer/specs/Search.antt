@@ -6,14 +6,14 @@ use mathlib.Core.List.{List, [], _∷_, _++_}
 use lib.ListN.{length, getD, take, drop, replicate}
 use lib.Dec.{leb, ltb, eqb}
 use Rattle.multi_timer.specs.Map.{ascendingFrom, entriesOf, keysOf, deadlinesOf, keep, due, pending}
-use Rattle.multi_timer.specs.declared.Place.{Place}
-use Rattle.multi_timer.specs.declared.Place.the-variants.{At, Absent}
+use Rattle.multi_timer.specs.declared.KeyPosition.{KeyPosition}
+use Rattle.multi_timer.specs.declared.KeyPosition.the-variants.{At, Absent}
 
-abbrev pub later : ℕ → Place → Place
+abbrev pub later : ℕ → KeyPosition → KeyPosition
 later i (At p) = At (i + p)
 later i (Absent p) = Absent (i + p)
 
-unfoldable pub searchIn : ℕ → List ℕ → Place
+unfoldable pub searchIn : ℕ → List ℕ → KeyPosition
 searchIn k [] = Absent 0
 searchIn k (x ∷ xs) = cond (ltb x k) (later 1 (searchIn k xs)) (cond (eqb x k) (At 0) (Absent 0))
 

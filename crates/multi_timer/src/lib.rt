@@ -1,6 +1,8 @@
 // A set of timers by key in two lent slices: the reference's MultiTimer on nanoseconds.
 use duration::MAX_TIME;
+use refusal::DoneAnswer;
 use refusal::Refusal;
+use refusal::TestAnswer;
 ghost use mathlib.Core.Path.{_≡_};
 ghost use mathlib.Core.Bool.{true, false, cond, _&&_, _||_};
 ghost use lib.Dec.{leb, ltb, eqb};
@@ -11,7 +13,7 @@ ghost use lib.ListN.{length, take, drop, set, replicate};
 ghost use Rattle.duration.specs.Bounds.{maxTime, startLate};
 ghost use Rattle.multi_timer.specs.Map.{entriesOf, ascending, lookup, isSome, earliest};
 ghost use Rattle.multi_timer.specs.Search.{searchIn, later, risingFrom, allBelowPower, dueIn, Partitioned, insertedAt, removedAt, clearedIn};
-ghost use Rattle.multi_timer.specs.MultiTimer.{after, afterPop, broken, heldTooLate, brokenLine, startFull, startUnchecked, cancelUnchecked, popUnchecked, clearUnchecked, expiredUnchecked, earliestUnchecked, newDef, startTimerAtDef, cancelTimerDef, isExpiredAtDef, popExpiredAtDef, earliestDeadlineDef, clearDef};
+ghost use Rattle.multi_timer.specs.MultiTimer.{timersExit, popExit, broken, heldTooLate, brokenLine, startFull, startTimerAtUnchecked, cancelTimerUnchecked, popExpiredAtUnchecked, clearUnchecked, isExpiredAtUnchecked, earliestDeadlineUnchecked, newTimers, startTimerAt, cancelTimer, isExpiredAt, popExpiredAt, earliestDeadline, clearTimers};
 
 // 2^47, the greatest power of two within MAX_TIME: numbers below it stay below it when they are or-ed.
 const TIME_POWER: u64 = 140737488355328;
@@ -22,7 +24,7 @@ pub struct MultiTimer {
     pub global_generation: u64,
 }
 
-pub enum Making {
+pub enum MultiTimerAnswer {
     Made(MultiTimer),
     Refused(Refusal),
 }
@@ -32,7 +34,7 @@ pub enum StartAnswer {
     Refused(Refusal),
 }
 
-pub struct Started {
+pub struct StartResult {
     pub timers: MultiTimer,
     pub answer: StartAnswer,
 }
@@ -43,14 +45,9 @@ pub enum CancelAnswer {
     Refused(Refusal),
 }
 
-pub struct Cancelled {
+pub struct CancelResult {
     pub timers: MultiTimer,
     pub answer: CancelAnswer,
-}
-
-pub enum ExpiredAnswer {
-    Is(bool),
-    Refused(Refusal),
 }
 
 pub enum PopAnswer {
@@ -59,7 +56,7 @@ pub enum PopAnswer {
     Refused(Refusal),
 }
 
-pub struct Popped {
+pub struct PopResult {
     pub timers: MultiTimer,
     pub answer: PopAnswer,
 }
@@ -70,18 +67,13 @@ pub enum EarliestAnswer {
     Refused(Refusal),
 }
 
-pub enum ClearAnswer {
-    Done,
-    Refused(Refusal),
-}
-
-pub struct Cleared {
+pub struct ClearResult {
     pub timers: MultiTimer,
-    pub answer: ClearAnswer,
+    pub answer: DoneAnswer,
 }
 
 // Where a key stands, or where it would.
-pub enum Place {
+pub enum KeyPosition {
     At(usize),
     Absent(usize),
 }
@@ -226,7 +218,7 @@ fn skip_below(count: usize, keys: &[u32], key: u32) -> usize
     i
 }
 
-fn search(count: usize, keys: &[u32], key: u32) -> Place
+fn search(count: usize, keys: &[u32], key: u32) -> KeyPosition
     requires { ⌜ (count ≤ length (now keys)) × (ascending (take count (now keys)) ≡ true) ⌝ }
     ensures { λ r. ⌜ r ≡ searchIn key (take count (now (keys .entry))) ⌝ }
 {
@@ -235,13 +227,13 @@ fn search(count: usize, keys: &[u32], key: u32) -> Place
         let k = keys[i];
         if k >= key {
             if k == key {
-                return Place::At(i);
+                return KeyPosition::At(i);
             }
-            return Place::Absent(i);
+            return KeyPosition::Absent(i);
         }
         i += 1;
     }
-    Place::Absent(i)
+    KeyPosition::Absent(i)
 }
 
 fn clear_keys(keys: &mut [u32])
@@ -300,8 +292,8 @@ fn has_key(count: usize, keys: &[u32], deadlines: &[u64], key: u32) -> bool
 {
     let place = search(count, keys, key);
     match place {
-        Place::At(_) => true,
-        Place::Absent(_) => false,
+        KeyPosition::At(_) => true,
+        KeyPosition::Absent(_) => false,
     }
 }
 
@@ -442,15 +434,15 @@ fn clear_deadlines_in(deadlines: &mut [u64], from: usize, to: usize)
 }
 
 // Makes an empty set in two slices of one length.
-pub fn new_timers(keys: &mut [u32], deadlines: &mut [u64]) -> Making
-    ensures { λ r. ⌜ after r (now (keys .exit)) (now (deadlines .exit)) ≡ newDef (now (keys .entry)) (now (deadlines .entry)) ⌝ }
+pub fn new_timers(keys: &mut [u32], deadlines: &mut [u64]) -> MultiTimerAnswer
+    ensures { λ r. ⌜ timersExit r (now (keys .exit)) (now (deadlines .exit)) ≡ newTimers (now (keys .entry)) (now (deadlines .entry)) ⌝ }
 {
     if keys.len() != deadlines.len() {
-        return Making::Refused(Refusal::State);
+        return MultiTimerAnswer::Refused(Refusal::State);
     }
     clear_keys(keys);
     clear_deadlines(deadlines);
-    Making::Made(MultiTimer {
+    MultiTimerAnswer::Made(MultiTimer {
         count: 0,
         global_generation: 0,
     })
@@ -465,20 +457,20 @@ impl MultiTimer {
         deadline: u64,
     ) -> MultiTimer
         requires { ⌜ (broken (self .count) (now keys) (now deadlines) ≡ false) × (startFull self (now keys) (now deadlines) key ≡ false) ⌝ }
-        ensures { λ r. ⌜ after r (now (keys .exit)) (now (deadlines .exit)) ≡ startUnchecked self (now (keys .entry)) (now (deadlines .entry)) key deadline ⌝ }
+        ensures { λ r. ⌜ timersExit r (now (keys .exit)) (now (deadlines .exit)) ≡ startTimerAtUnchecked self (now (keys .entry)) (now (deadlines .entry)) key deadline ⌝ }
     {
         let count = self.count;
         let next = std::num::wrapping_add_u64(self.global_generation, 1);
         let place = search(count, keys, key);
         match place {
-            Place::At(i) => {
+            KeyPosition::At(i) => {
                 set_deadline(deadlines, i, deadline);
                 MultiTimer {
                     count,
                     global_generation: next,
                 }
             }
-            Place::Absent(i) => {
+            KeyPosition::Absent(i) => {
                 insert_at(keys, deadlines, i, count, key, deadline);
                 MultiTimer {
                     count: count + 1,
@@ -495,19 +487,19 @@ impl MultiTimer {
         key: u32,
     ) -> MultiTimer
         requires { ⌜ broken (self .count) (now keys) (now deadlines) ≡ false ⌝ }
-        ensures { λ r. ⌜ after r (now (keys .exit)) (now (deadlines .exit)) ≡ cancelUnchecked self (now (keys .entry)) (now (deadlines .entry)) key ⌝ }
+        ensures { λ r. ⌜ timersExit r (now (keys .exit)) (now (deadlines .exit)) ≡ cancelTimerUnchecked self (now (keys .entry)) (now (deadlines .entry)) key ⌝ }
     {
         let count = self.count;
         let place = search(count, keys, key);
         match place {
-            Place::At(i) => {
+            KeyPosition::At(i) => {
                 remove_at(keys, deadlines, i, count);
                 MultiTimer {
                     count: count - 1,
                     global_generation: self.global_generation,
                 }
             }
-            Place::Absent(_) => self,
+            KeyPosition::Absent(_) => self,
         }
     }
 
@@ -519,7 +511,7 @@ impl MultiTimer {
         out: &mut [u32],
     ) -> MultiTimer
         requires { ⌜ (broken (self .count) (now keys) (now deadlines) ≡ false) × (dueIn time (take (self .count) (now deadlines)) ≤ length (now out)) ⌝ }
-        ensures { λ r. ⌜ afterPop (after r (now (keys .exit)) (now (deadlines .exit))) (now (out .exit)) ≡ popUnchecked self (now (keys .entry)) (now (deadlines .entry)) time (now (out .entry)) ⌝ }
+        ensures { λ r. ⌜ popExit (timersExit r (now (keys .exit)) (now (deadlines .exit))) (now (out .exit)) ≡ popExpiredAtUnchecked self (now (keys .entry)) (now (deadlines .entry)) time (now (out .entry)) ⌝ }
     {
         let count = self.count;
         let left = partition(keys, deadlines, out, count, time);
@@ -539,19 +531,19 @@ impl MultiTimer {
         time: u64,
     ) -> bool
         requires { ⌜ broken (self .count) (now keys) (now deadlines) ≡ false ⌝ }
-        ensures { λ r. ⌜ r ≡ expiredUnchecked self (now (keys .entry)) (now (deadlines .entry)) key time ⌝ }
+        ensures { λ r. ⌜ r ≡ isExpiredAtUnchecked self (now (keys .entry)) (now (deadlines .entry)) key time ⌝ }
     {
         let place = search(self.count, keys, key);
         match place {
-            Place::At(i) => time >= deadlines[i],
-            Place::Absent(_) => false,
+            KeyPosition::At(i) => time >= deadlines[i],
+            KeyPosition::Absent(_) => false,
         }
     }
 
     // The keys are lent for the contract alone.
     pub fn earliest_deadline_unchecked(self, keys: &[u32], deadlines: &[u64]) -> EarliestAnswer
         requires { ⌜ broken (self .count) (now keys) (now deadlines) ≡ false ⌝ }
-        ensures { λ r. ⌜ r ≡ earliestUnchecked self (now (keys .entry)) (now (deadlines .entry)) ⌝ }
+        ensures { λ r. ⌜ r ≡ earliestDeadlineUnchecked self (now (keys .entry)) (now (deadlines .entry)) ⌝ }
     {
         let count = self.count;
         if count == 0 {
@@ -562,7 +554,7 @@ impl MultiTimer {
 
     pub fn clear_unchecked(self, keys: &mut [u32], deadlines: &mut [u64]) -> MultiTimer
         requires { ⌜ broken (self .count) (now keys) (now deadlines) ≡ false ⌝ }
-        ensures { λ r. ⌜ after r (now (keys .exit)) (now (deadlines .exit)) ≡ clearUnchecked self (now (keys .entry)) (now (deadlines .entry)) ⌝ }
+        ensures { λ r. ⌜ timersExit r (now (keys .exit)) (now (deadlines .exit)) ≡ clearUnchecked self (now (keys .entry)) (now (deadlines .entry)) ⌝ }
     {
         let count = self.count;
         clear_keys_in(keys, 0, count);
@@ -593,72 +585,72 @@ impl MultiTimer {
         key: u32,
         now: u64,
         duration: u64,
-    ) -> Started
-        ensures { λ r. ⌜ after r (keys .exit .now) (deadlines .exit .now) ≡ startTimerAtDef self (keys .entry .now) (deadlines .entry .now) key now duration ⌝ }
+    ) -> StartResult
+        ensures { λ r. ⌜ timersExit r (keys .exit .now) (deadlines .exit .now) ≡ startTimerAt self (keys .entry .now) (deadlines .entry .now) key now duration ⌝ }
     {
         let count = self.count;
         let line = broken_line(count, keys, deadlines);
         if line == 9 {
-            return Started {
+            return StartResult {
                 timers: self,
                 answer: StartAnswer::Refused(Refusal::State),
             };
         }
         if start_too_late(line, now, duration) {
-            return Started {
+            return StartResult {
                 timers: self,
                 answer: StartAnswer::Refused(Refusal::Time),
             };
         }
         if start_full(self, keys, deadlines, key) {
-            return Started {
+            return StartResult {
                 timers: self,
                 answer: StartAnswer::Refused(Refusal::Full),
             };
         }
         let t = self.start_timer_at_unchecked(keys, deadlines, key, now + duration);
-        Started {
+        StartResult {
             timers: t,
             answer: StartAnswer::Id(t.global_generation),
         }
     }
 
-    pub fn cancel_timer(self, keys: &mut [u32], deadlines: &mut [u64], key: u32) -> Cancelled
-        ensures { λ r. ⌜ after r (now (keys .exit)) (now (deadlines .exit)) ≡ cancelTimerDef self (now (keys .entry)) (now (deadlines .entry)) key ⌝ }
+    pub fn cancel_timer(self, keys: &mut [u32], deadlines: &mut [u64], key: u32) -> CancelResult
+        ensures { λ r. ⌜ timersExit r (now (keys .exit)) (now (deadlines .exit)) ≡ cancelTimer self (now (keys .entry)) (now (deadlines .entry)) key ⌝ }
     {
         let count = self.count;
         let line = broken_line(count, keys, deadlines);
         if line == 9 {
-            return Cancelled {
+            return CancelResult {
                 timers: self,
                 answer: CancelAnswer::Refused(Refusal::State),
             };
         }
         if line == 10 {
-            return Cancelled {
+            return CancelResult {
                 timers: self,
                 answer: CancelAnswer::Refused(Refusal::Time),
             };
         }
         let t = self.cancel_timer_unchecked(keys, deadlines, key);
-        Cancelled {
+        CancelResult {
             timers: t,
             answer: CancelAnswer::Existed(t.count < count),
         }
     }
 
-    pub fn is_expired_at(self, keys: &[u32], deadlines: &[u64], key: u32, now: u64) -> ExpiredAnswer
-        ensures { λ r. ⌜ r ≡ isExpiredAtDef self (keys .entry .now) (deadlines .entry .now) key now ⌝ }
+    pub fn is_expired_at(self, keys: &[u32], deadlines: &[u64], key: u32, now: u64) -> TestAnswer
+        ensures { λ r. ⌜ r ≡ isExpiredAt self (keys .entry .now) (deadlines .entry .now) key now ⌝ }
     {
         let count = self.count;
         let line = broken_line(count, keys, deadlines);
         if line == 9 {
-            return ExpiredAnswer::Refused(Refusal::State);
+            return TestAnswer::Refused(Refusal::State);
         }
         if read_too_late(line, now) {
-            return ExpiredAnswer::Refused(Refusal::Time);
+            return TestAnswer::Refused(Refusal::Time);
         }
-        ExpiredAnswer::Is(self.is_expired_at_unchecked(keys, deadlines, key, now))
+        TestAnswer::Is(self.is_expired_at_unchecked(keys, deadlines, key, now))
     }
 
     // The expired keys, ascending, go to the front of out.
@@ -668,38 +660,38 @@ impl MultiTimer {
         deadlines: &mut [u64],
         now: u64,
         out: &mut [u32],
-    ) -> Popped
-        ensures { λ r. ⌜ afterPop (after r (keys .exit .now) (deadlines .exit .now)) (out .exit .now) ≡ popExpiredAtDef self (keys .entry .now) (deadlines .entry .now) now (out .entry .now) ⌝ }
+    ) -> PopResult
+        ensures { λ r. ⌜ popExit (timersExit r (keys .exit .now) (deadlines .exit .now)) (out .exit .now) ≡ popExpiredAt self (keys .entry .now) (deadlines .entry .now) now (out .entry .now) ⌝ }
     {
         let count = self.count;
         let line = broken_line(count, keys, deadlines);
         if line == 9 {
-            return Popped {
+            return PopResult {
                 timers: self,
                 answer: PopAnswer::Refused(Refusal::State),
             };
         }
         if read_too_late(line, now) {
-            return Popped {
+            return PopResult {
                 timers: self,
                 answer: PopAnswer::Refused(Refusal::Time),
             };
         }
         if pop_full(count, deadlines, now, out.len()) {
-            return Popped {
+            return PopResult {
                 timers: self,
                 answer: PopAnswer::Refused(Refusal::Full),
             };
         }
         let t = self.pop_expired_at_unchecked(keys, deadlines, now, out);
-        Popped {
+        PopResult {
             timers: t,
             answer: PopAnswer::Keys(count - t.count),
         }
     }
 
     pub fn earliest_deadline(self, keys: &[u32], deadlines: &[u64]) -> EarliestAnswer
-        ensures { λ r. ⌜ r ≡ earliestDeadlineDef self (now (keys .entry)) (now (deadlines .entry)) ⌝ }
+        ensures { λ r. ⌜ r ≡ earliestDeadline self (now (keys .entry)) (now (deadlines .entry)) ⌝ }
     {
         let count = self.count;
         let line = broken_line(count, keys, deadlines);
@@ -712,27 +704,27 @@ impl MultiTimer {
         self.earliest_deadline_unchecked(keys, deadlines)
     }
 
-    pub fn clear(self, keys: &mut [u32], deadlines: &mut [u64]) -> Cleared
-        ensures { λ r. ⌜ after r (now (keys .exit)) (now (deadlines .exit)) ≡ clearDef self (now (keys .entry)) (now (deadlines .entry)) ⌝ }
+    pub fn clear(self, keys: &mut [u32], deadlines: &mut [u64]) -> ClearResult
+        ensures { λ r. ⌜ timersExit r (now (keys .exit)) (now (deadlines .exit)) ≡ clearTimers self (now (keys .entry)) (now (deadlines .entry)) ⌝ }
     {
         let count = self.count;
         let line = broken_line(count, keys, deadlines);
         if line == 9 {
-            return Cleared {
+            return ClearResult {
                 timers: self,
-                answer: ClearAnswer::Refused(Refusal::State),
+                answer: DoneAnswer::Refused(Refusal::State),
             };
         }
         if line == 10 {
-            return Cleared {
+            return ClearResult {
                 timers: self,
-                answer: ClearAnswer::Refused(Refusal::Time),
+                answer: DoneAnswer::Refused(Refusal::Time),
             };
         }
         let t = self.clear_unchecked(keys, deadlines);
-        Cleared {
+        ClearResult {
             timers: t,
-            answer: ClearAnswer::Done,
+            answer: DoneAnswer::Done,
         }
     }
 }

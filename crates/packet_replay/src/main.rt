@@ -32,7 +32,7 @@ fn main() {
 fn replay(text: &[u8]) {
     let mut at: usize = 0;
     while at < text.len() {
-        let end = lines::line_end_unchecked(text, at);
+        let end = replay_io::line_end_unchecked(text, at);
         case(&text[at..end]);
         at = end;
         if at < text.len() {
@@ -293,7 +293,7 @@ fn decode(text: &[u8], out: &mut [u8]) -> usize
     let most = least(text.len() / 2, out.len());
     let mut i: usize = 0;
     while i < most {
-        out[i] = lines::hex_value(text[2 * i]) * 16 + lines::hex_value(text[2 * i + 1]);
+        out[i] = replay_io::hex_value(text[2 * i]) * 16 + replay_io::hex_value(text[2 * i + 1]);
         i += 1;
     }
     most

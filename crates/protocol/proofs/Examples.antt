@@ -7,7 +7,7 @@ use Prim.Native.Nat.{ℕ}
 use native.Mathlib.Omega.{arith}
 use Rattle.protocol.specs.Machine.{Segment, send, segmentsFrom, acknowledge, receive}
 use Rattle.protocol.specs.PlainMachine.{sendChunk, handleData, handleAck, plainStart, plainSend, plainData, plainAck, plainCall, plainStep, plainRun}
-use Rattle.protocol.specs.Trace.{newWorld, Event, sent, resent, received, acknowledged, other, step, run, Fair, plainAfter, outstanding, Resending}
+use Rattle.protocol.specs.Trace.{newWorld, Event, sent, resent, received, acknowledged, other, step, run, Admissible, plainAfter, outstanding, ResendsAll}
 use Rattle.protocol.specs.KuroseRoss.{Packet}
 use Rattle.protocol.specs.KuroseRossRuns.{book, newBookWorld, bookRun, WorldIs, AllLikeBook}
 use Rattle.protocol.specs.declared.ProtocolType.the-variants.{StopAndWait, GoBackN, SelectiveRepeat}
@@ -45,13 +45,13 @@ selective-plain : plainAfter SelectiveRepeat 2 selective
 unfolding plainRun plainStep plainCall plainStart plainSend plainData plainAck
 selective-plain = refl
 
-selective-fair : Fair SelectiveRepeat 2 (newWorld SelectiveRepeat 2) selective
+selective-fair : Admissible SelectiveRepeat 2 (newWorld SelectiveRepeat 2) selective
 unfolding run step newWorld send segmentsFrom acknowledge receive
 selective-fair =
     (omega arith, (omega arith, (tt, (tt, (List·Memᴰ·tail (List·Memᴰ·head refl), (List·Memᴰ·head refl, ((omega arith, omega arith), (List·Memᴰ·head refl, (List·Memᴰ·head refl, tt)))))))))
 
 -- number 0 is all that is outstanding
-selective-resending : Resending SelectiveRepeat 2 (run SelectiveRepeat 2 (newWorld SelectiveRepeat 2) selective)
+selective-resending : ResendsAll SelectiveRepeat 2 (run SelectiveRepeat 2 (newWorld SelectiveRepeat 2) selective)
     (outstanding (run SelectiveRepeat 2 (newWorld SelectiveRepeat 2) selective .sender)) [] [] (resent 0 1 ∷ received q0 ∷ acknowledged 0 ∷ [])
 unfolding outstanding run step newWorld send segmentsFrom acknowledge receive
 selective-resending = (omega arith, refl, (refl, (refl, (refl, refl, refl))))
@@ -78,19 +78,19 @@ goBack-plain : plainAfter GoBackN 3 goBack ≡ record { sent = (7 ∷ []) ∷ (8
 unfolding plainRun plainStep plainCall plainStart plainSend plainData plainAck
 goBack-plain = refl
 
-goBack-fair : Fair GoBackN 3 (newWorld GoBackN 3) goBack
+goBack-fair : Admissible GoBackN 3 (newWorld GoBackN 3) goBack
 unfolding run step newWorld send segmentsFrom acknowledge receive
 goBack-fair =
     (omega arith, (omega arith, (omega arith, (List·Memᴰ·tail (List·Memᴰ·head refl), (List·Memᴰ·head refl, (List·Memᴰ·head refl, ((omega arith, omega arith), (List·Memᴰ·tail (List·Memᴰ·head refl), (List·Memᴰ·tail (List·Memᴰ·tail (List·Memᴰ·head refl)), (List·Memᴰ·head refl, (List·Memᴰ·head refl, (tt, tt))))))))))))
 
 -- the whole window sent again; segments and ACKs carried in turn
-goBack-resending : Resending GoBackN 3 (run GoBackN 3 (newWorld GoBackN 3) goBack) (outstanding (run GoBackN 3 (newWorld GoBackN 3) goBack .sender)) [] []
+goBack-resending : ResendsAll GoBackN 3 (run GoBackN 3 (newWorld GoBackN 3) goBack) (outstanding (run GoBackN 3 (newWorld GoBackN 3) goBack .sender)) [] []
     (resent 1 2 ∷ received q1 ∷ acknowledged 2 ∷ received q2 ∷ acknowledged 2 ∷ [])
 unfolding outstanding run step newWorld send segmentsFrom acknowledge receive
 goBack-resending = (omega arith, refl, (refl, (refl, (refl, (refl, (refl, refl, refl))))))
 
 -- the earliest alone sent again: its ACK is of 2, and nothing is outstanding any more
-goBack-earliest : Resending GoBackN 3 (run GoBackN 3 (newWorld GoBackN 3) goBack) (outstanding (run GoBackN 3 (newWorld GoBackN 3) goBack .sender)) [] []
+goBack-earliest : ResendsAll GoBackN 3 (run GoBackN 3 (newWorld GoBackN 3) goBack) (outstanding (run GoBackN 3 (newWorld GoBackN 3) goBack .sender)) [] []
     (resent 1 1 ∷ received q1 ∷ acknowledged 2 ∷ [])
 unfolding outstanding run step newWorld send segmentsFrom acknowledge receive
 goBack-earliest = (omega arith, refl, (refl, (refl, (refl, refl, refl))))
@@ -115,12 +115,12 @@ stopAndWait-plain : plainAfter StopAndWait 1 stopAndWait ≡ record { sent = (7 
 unfolding plainRun plainStep plainCall plainStart plainSend plainData plainAck
 stopAndWait-plain = refl
 
-stopAndWait-fair : Fair StopAndWait 1 (newWorld StopAndWait 1) stopAndWait
+stopAndWait-fair : Admissible StopAndWait 1 (newWorld StopAndWait 1) stopAndWait
 unfolding run step newWorld send segmentsFrom acknowledge receive
 stopAndWait-fair =
     (omega arith, (List·Memᴰ·head refl, ((omega arith, omega arith), (List·Memᴰ·head refl, (List·Memᴰ·head refl, (omega arith, (List·Memᴰ·head refl, (List·Memᴰ·head refl, (List·Memᴰ·tail (List·Memᴰ·tail (List·Memᴰ·head refl)), tt)))))))))
 
-stopAndWait-resending : Resending StopAndWait 1 (run StopAndWait 1 (newWorld StopAndWait 1) stopAndWait)
+stopAndWait-resending : ResendsAll StopAndWait 1 (run StopAndWait 1 (newWorld StopAndWait 1) stopAndWait)
     (outstanding (run StopAndWait 1 (newWorld StopAndWait 1) stopAndWait .sender)) [] [] (resent 1 1 ∷ received q1 ∷ acknowledged 1 ∷ [])
 unfolding outstanding run step newWorld send segmentsFrom acknowledge receive
 stopAndWait-resending = (omega arith, refl, (refl, (refl, (refl, refl, refl))))
@@ -141,7 +141,7 @@ goBackInOrder =
     sent (7 ∷ []) ∷ sent (8 ∷ 9 ∷ []) ∷ sent [] ∷ received q0 ∷ received q0 ∷ resent 0 3 ∷ received q1 ∷ received q2 ∷ acknowledged 0 ∷ acknowledged 0
     ∷ other (handleAck 1) ∷ []
 
-goBackInOrder-fair : Fair GoBackN 3 (newWorld GoBackN 3) goBackInOrder
+goBackInOrder-fair : Admissible GoBackN 3 (newWorld GoBackN 3) goBackInOrder
 unfolding run step newWorld send segmentsFrom acknowledge receive
 goBackInOrder-fair =
     (omega arith, (omega arith, (omega arith, (List·Memᴰ·head refl, (List·Memᴰ·head refl, ((omega arith, omega arith), (List·Memᴰ·tail (List·Memᴰ·head refl), (List·Memᴰ·tail (List·Memᴰ·tail (List·Memᴰ·head refl)), (List·Memᴰ·head refl, (List·Memᴰ·head refl, (tt, tt)))))))))))

@@ -11,7 +11,7 @@ use borrow.Author.Tests.{leb-true, eqb-true, eqb-false, lt-ltb, le-leb, lt-leb}
 use Rattle.protocol.specs.Machine.{Chunk, Segment, SenderState, nextNumber, moveBase, accept, acknowledge, lateAcks, receiveInOrder}
 use Rattle.protocol.specs.Machine
 use Rattle.protocol.specs.PlainMachine.{PlainState, withD, withA, plainAck}
-use Rattle.protocol.specs.Trace.{World, acknowledged, step, Window}
+use Rattle.protocol.specs.Trace.{World, acknowledged, step, WindowFits}
 use Rattle.protocol.specs.declared.ProtocolType.{ProtocolType}
 use Rattle.protocol.specs.declared.ProtocolType.the-variants.{StopAndWait, GoBackN, SelectiveRepeat}
 use Rattle.protocol.proofs.Every.{Every, every-nil, every-cons, every-append, every-snoc, every-mono}
@@ -46,7 +46,7 @@ taken w v s q i c e =
     }
 
 -- an answer to a number that isn't the expected one is below it; a Stop-and-Wait receiver is never handed a number above it
-late-below : (p : ProtocolType) (w d n a : ℕ) → Window p w → (n ≡ d → ⊥) → n < a + w → a ≤ d → Every (λ m. m < d) (lateAcks p d n)
+late-below : (p : ProtocolType) (w d n a : ℕ) → WindowFits p w → (n ≡ d → ⊥) → n < a + w → a ≤ d → Every (λ m. m < d) (lateAcks p d n)
 late-below StopAndWait w d n a o ne l le = let e : ltb n d ≡ true = lt-ltb n d (omega arith) in rw e (every-cons (omega arith) every-nil)
 late-below GoBackN w d n a o ne l le = go (eqb d 0) refl
   where
@@ -55,7 +55,7 @@ late-below GoBackN w d n a o ne l le = go (eqb d 0) refl
     go false e = let x : d ≡ 0 → ⊥ = eqb-false d 0 e in rw e (every-cons (omega arith) every-nil)
 late-below SelectiveRepeat w d n a o ne l le = every-nil
 
-pub received-in-order : (p : ProtocolType) (w : ℕ) (v : World) (s : PlainState) (q : Segment) → Window p w → Invariant false w v s
+pub received-in-order : (p : ProtocolType) (w : ℕ) (v : World) (s : PlainState) (q : Segment) → WindowFits p w → Invariant false w v s
     → List·Memᴰ q (v .segments)
     → Invariant false w (answered v (receiveInOrder p (v .receiver) q)) (cond (eqb (q .number) (s .D)) (withD s (s .D + 1)) s)
 received-in-order p w v s q o i m = go (eqb (q .number) (s .D)) refl
@@ -116,7 +116,7 @@ raised w v s n i t l =
 abbrev pub raise : PlainState → ℕ → PlainState
 raise s n = cond (leb (s .A) n) (withA s (n + 1)) s
 
-pub raise-is : (p : ProtocolType) (w : ℕ) (s : PlainState) (n : ℕ) → isSelective p ≡ false → Window p w → n < s .A + w → plainAck p s n ≡ raise s n
+pub raise-is : (p : ProtocolType) (w : ℕ) (s : PlainState) (n : ℕ) → isSelective p ≡ false → WindowFits p w → n < s .A + w → plainAck p s n ≡ raise s n
 unfolding plainAck
 raise-is SelectiveRepeat w s n z o l = false-true (sym z)
 raise-is GoBackN w s n z o l = refl
@@ -138,7 +138,7 @@ accept-is StopAndWait s n z = refl
 accept-is GoBackN s n z = refl
 accept-is SelectiveRepeat s n z = false-true (sym z)
 
-pub acknowledged-in-order : (p : ProtocolType) (w : ℕ) (v : World) (s : PlainState) (n : ℕ) → isSelective p ≡ false → Window p w → Invariant false w v s
+pub acknowledged-in-order : (p : ProtocolType) (w : ℕ) (v : World) (s : PlainState) (n : ℕ) → isSelective p ≡ false → WindowFits p w → Invariant false w v s
     → List·Memᴰ n (v .acks) → Invariant false w (step p w v (acknowledged n)) (plainAck p s n)
 unfolding step acknowledge
 acknowledged-in-order p w v s n z o i m = rw (raise-is p w s n z o (omega (arith, l, h))) (go (leb (s .A) n) refl)

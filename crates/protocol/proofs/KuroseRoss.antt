@@ -416,7 +416,7 @@ sr-ack-past N b s n h l =
 -- ---- Selective Repeat: the receiver
 
 consecutive-run : (f : ℕ → Option Chunk) (l : List (Option Chunk)) (a : ℕ) → ((i : ℕ) → f (a + i) ≡ getD l i none)
-    → consecutive f a (length l) ≡ Machine.run l
+    → consecutive f a (length l) ≡ Machine.heldRun l
 consecutive-run f [] a h = refl
 consecutive-run f (x ∷ l) a h =
     let z : a + 0 ≡ a = omega arith in
@@ -424,22 +424,22 @@ consecutive-run f (x ∷ l) a h =
     let ih = consecutive-run f l (suc a) (λ i. let e : suc a + i ≡ a + suc i = omega arith in rw e (h (suc i))) in
     ap₂ thenNext y ih ∙ go x
   where
-    go : (x : Option Chunk) → thenNext x (Machine.run l) ≡ Machine.run (x ∷ l)
+    go : (x : Option Chunk) → thenNext x (Machine.heldRun l) ≡ Machine.heldRun (x ∷ l)
     go none = refl
     go (some c) = refl
 
 -- what is delivered ends where a place is empty
-run-stops : (l : List (Option Chunk)) → getD l (length (Machine.run l)) none ≡ none
+run-stops : (l : List (Option Chunk)) → getD l (length (Machine.heldRun l)) none ≡ none
 run-stops [] = refl
 run-stops (none ∷ l) = refl
 run-stops (some c ∷ l) = run-stops l
 
-run-short : (l : List (Option Chunk)) → length (Machine.run l) ≤ length l
+run-short : (l : List (Option Chunk)) → length (Machine.heldRun l) ≤ length l
 run-short [] = zero-le
 run-short (none ∷ l) = zero-le
 run-short (some c ∷ l) = suc-le-suc (run-short l)
 
-run-none : (l : List (Option Chunk)) → getD l 0 none ≡ none → Machine.run l ≡ []
+run-none : (l : List (Option Chunk)) → getD l 0 none ≡ none → Machine.heldRun l ≡ []
 run-none [] h = refl
 run-none (none ∷ l) h = refl
 run-none (some c ∷ l) h = let z : _≡_ {A = ℕ} 0 1 = cc in absurd (omega arith)
@@ -474,11 +474,11 @@ sr-receiver-start N =
 
 -- what is delivered leaves the window, which is moved by as many
 sr-delivered : (N : ℕ) (f : ℕ → Option Chunk) (l : List (Option Chunk)) (a n : ℕ) → length l ≡ N → ((i : ℕ) → f (n + i) ≡ getD l i none)
-    → a ≡ n + length (Machine.run l)
+    → a ≡ n + length (Machine.heldRun l)
     → SrReceiverIs N (record { rcvBase = a; buffer = f })
-    (record { base = n + length (Machine.run l); held = drop (length (Machine.run l)) l ++ replicate (length (Machine.run l)) none })
+    (record { base = n + length (Machine.heldRun l); held = drop (length (Machine.heldRun l)) l ++ replicate (length (Machine.heldRun l)) none })
 sr-delivered N f l a n e h i =
-    let k : ℕ = length (Machine.run l) in
+    let k : ℕ = length (Machine.heldRun l) in
     let s : k ≤ length l = run-short l in
     let x : length (drop k l) ≡ length l - k = length-drop k l in
     let y : length (replicate {A = Option Chunk} k none) ≡ k = length-replicate k none in
@@ -508,16 +508,16 @@ sr-in-window N b r q h t u =
     elim (ℕ-discrete n (b .rcvBase)) [
       | yes y ↦
           let e : eqb n (b .rcvBase) ≡ true = eq-eqb n (b .rcvBase) y in
-          let d : consecutive f (b .rcvBase) N ≡ Machine.run l = ap₂ (consecutive f) (h .base-is) (sym x) ∙ consecutive-run f l (r .base) g in
-          let a : b .rcvBase + length (consecutive f (b .rcvBase) N) ≡ r .base + length (Machine.run l) =
+          let d : consecutive f (b .rcvBase) N ≡ Machine.heldRun l = ap₂ (consecutive f) (h .base-is) (sym x) ∙ consecutive-run f l (r .base) g in
+          let a : b .rcvBase + length (consecutive f (b .rcvBase) N) ≡ r .base + length (Machine.heldRun l) =
           ap₂ (λ (u v : ℕ). u + v) (h .base-is) (ap length d) in
           rw e record
           { after = sr-delivered N f l (b .rcvBase + length (consecutive f (b .rcvBase) N)) (r .base) x g a; delivered = d; acks = refl }
       | no y ↦
           let e : eqb n (b .rcvBase) ≡ false = ne-eqb n (b .rcvBase) y in
           let k : 0 ≢ i = λ (k : 0 ≡ i). y (omega (arith, h)) in
-          let d : Machine.run l ≡ [] = run-none l (getD-set-other (r .held) i 0 o none k ∙ h .base-unbuffered) in
-          let c : length (Machine.run l) ≡ 0 = ap length d in
+          let d : Machine.heldRun l ≡ [] = run-none l (getD-set-other (r .held) i 0 o none k ∙ h .base-unbuffered) in
+          let c : length (Machine.heldRun l) ≡ 0 = ap length d in
           rw e record { after = sr-delivered N f l (b .rcvBase) (r .base) x g (omega (arith, h)); delivered = sym d; acks = refl }
     ]
 

@@ -9,7 +9,7 @@ use lib.ListN.{length}
 use Rattle.protocol.specs.Runs.{upFrom}
 use Rattle.protocol.specs.Machine.{Chunk, Segment, SenderState, ReceiverState, Received, nextNumber, send, segmentsFrom, acknowledge, receive}
 use Rattle.protocol.specs.PlainMachine.{PlainState, plainStart, plainStep, sendChunk, handleTimeout, handleData, handleAck}
-use Rattle.protocol.specs.Trace.{World, newWorld, Event, sent, resent, received, acknowledged, other, step, run, Allowed, Fair, callOf, Window}
+use Rattle.protocol.specs.Trace.{World, newWorld, Event, sent, resent, received, acknowledged, other, step, run, Allowed, Admissible, callOf, WindowFits}
 use Rattle.protocol.specs.KuroseRoss.{Data, Packet, corrupt, notcorrupt, ReceiverDid, rdt3Send, rdt3Timeout, rdt3SenderRcv, rdt3ReceiverRcv, rdt3Packet, rdt3Waits, rdt3SenderOf, rdt3Answer, gbnReceiverRcv, gbnPacket, gbnReceiverOf, gbnAnswer, SrSender, srPacket, SrSenderIs}
 use Rattle.protocol.specs.KuroseRossRuns.{srTimeouts, book, BookWorld, newBookWorld, atSender, atReceiver, bookStep, bookRun, SenderIs, ReceiverIs, WorldIs, InOrderOnly, NumberLikeBook, AckLikeBook, LikeBook, AllLikeBook}
 use Rattle.protocol.specs.declared.ProtocolType.{ProtocolType}
@@ -25,7 +25,7 @@ record Sends (p : ProtocolType) (w : ℕ) (b : book p w .Sender) (s : SenderStat
   after : SenderIs p w (book p w .rdtSend b c .after) (send s c)
   packets : book p w .rdtSend b c .udtSend ≡ book p w .packet (record { number = nextNumber s; payload = c }) ∷ []
 
-sends : (p : ProtocolType) (w : ℕ) (b : book p w .Sender) (s : SenderState) (c : Chunk) → Window p w → SenderIs p w b s → length (s .chunks) < w
+sends : (p : ProtocolType) (w : ℕ) (b : book p w .Sender) (s : SenderState) (c : Chunk) → WindowFits p w → SenderIs p w b s → length (s .chunks) < w
     → Sends p w b s c
 sends StopAndWait w b s c o h l =
     let x = rdt3-send s c (empty (s .chunks) (omega arith)) in
@@ -45,7 +45,7 @@ sr-timeouts w b s n (suc k) h l m =
     ap₂ (λ (x y : List Packet). x ++ y) (ap (λ a. a .udtSend) (sr-timeout w b s n h l (omega arith)))
     (sr-timeouts w b s (suc n) k h (omega arith) (omega arith))
 
-resends : (p : ProtocolType) (w : ℕ) (b : book p w .Sender) (s : SenderState) (n k : ℕ) → Window p w → SenderIs p w b s → length (s .chunks) ≤ w
+resends : (p : ProtocolType) (w : ℕ) (b : book p w .Sender) (s : SenderState) (n k : ℕ) → WindowFits p w → SenderIs p w b s → length (s .chunks) ≤ w
     → s .base ≤ n → n + k ≤ nextNumber s → InOrderOnly p ((n ≡ s .base) × (k ≡ length (s .chunks)))
     → book p w .timeouts b n k ≡ map (book p w .packet) (segmentsFrom s n k)
 resends StopAndWait w b s n k o h c l m i =
@@ -55,7 +55,7 @@ resends GoBackN w b s n k o h c l m i =
     ap (λ a. a .udtSend) (gbn-timeout b s h) ∙ ap₂ (λ (x y : ℕ). map gbnPacket (segmentsFrom s x y)) (sym (i .0)) (sym (i .1))
 resends SelectiveRepeat w b s n k o h c l m i = sr-timeouts w b s n k h l m
 
-acknowledges : (p : ProtocolType) (w : ℕ) (b : book p w .Sender) (s : SenderState) (n : ℕ) → Window p w → SenderIs p w b s → length (s .chunks) ≤ w
+acknowledges : (p : ProtocolType) (w : ℕ) (b : book p w .Sender) (s : SenderState) (n : ℕ) → WindowFits p w → SenderIs p w b s → length (s .chunks) ≤ w
     → n < nextNumber s → AckLikeBook p s n
     → SenderIs p w (book p w .senderRcv b (notcorrupt (book p w .ack n))) (acknowledge p s n)
 acknowledges StopAndWait w b s n o h c l i = ap (λ b. rdt3SenderRcv b (notcorrupt (n % 2))) h ∙ go (ℕ-discrete n (s .base))
@@ -75,7 +75,7 @@ record Receives (p : ProtocolType) (w : ℕ) (x : ReceiverDid (book p w .Receive
   delivered : x .deliverData ≡ y .delivered
   acks : x .udtSend ≡ map (book p w .ack) (y .acks)
 
-receives : (p : ProtocolType) (w : ℕ) (b : book p w .Receiver) (r : ReceiverState) (q : Segment) → Window p w → ReceiverIs p w b r → q .number < r .base + w
+receives : (p : ProtocolType) (w : ℕ) (b : book p w .Receiver) (r : ReceiverState) (q : Segment) → WindowFits p w → ReceiverIs p w b r → q .number < r .base + w
     → NumberLikeBook p (r .base) (q .number) → Receives p w (book p w .receiverRcv b (notcorrupt (book p w .packet q))) (receive p w r q)
 receives StopAndWait w b r q o h l i =
     let x = ap (λ b. rdt3ReceiverRcv b (notcorrupt (rdt3Packet q))) h ∙ go (ℕ-discrete (q .number) (r .base)) in
@@ -176,7 +176,7 @@ ack-sent selective w v s n i m =
     go false i = let l : n < s .D = i .acks-noted .all n m in omega (arith, l, i .ends .D≤sent)
     go true i = i .own .noted-sent n (i .acks-noted .all n m)
 
-pub step-like-book : (p : ProtocolType) (w : ℕ) (b : BookWorld (book p w)) (v : World) (s : PlainState) (e : Event) → Window p w → Invariant (isSelective p) w v s
+pub step-like-book : (p : ProtocolType) (w : ℕ) (b : BookWorld (book p w)) (v : World) (s : PlainState) (e : Event) → WindowFits p w → Invariant (isSelective p) w v s
     → Allowed w v e → LikeBook p v e → WorldIs p w b v → WorldIs p w (bookStep (book p w) b e) (step p w v e)
 unfolding step
 step-like-book p w b v s (sent c) o i a k h =
@@ -205,8 +205,8 @@ step-like-book p w b v s (other (handleData n)) o i a k h =
 step-like-book p w b v s (other (handleAck n)) o i a k h =
     sender-quiet p w b v (book p w .senderRcv (b .sender) corrupt) (v .sender) [] h (rw (corrupt-acknowledges p w (b .sender)) (h .sender-is)) refl
 
-run-like-book : (p : ProtocolType) (w : ℕ) (b : BookWorld (book p w)) (v : World) (s : PlainState) (es : List Event) → Window p w → Invariant (isSelective p) w v s
-    → Fair p w v es → AllLikeBook p w v es → WorldIs p w b v → WorldIs p w (bookRun (book p w) b es) (run p w v es)
+run-like-book : (p : ProtocolType) (w : ℕ) (b : BookWorld (book p w)) (v : World) (s : PlainState) (es : List Event) → WindowFits p w → Invariant (isSelective p) w v s
+    → Admissible p w v es → AllLikeBook p w v es → WorldIs p w b v → WorldIs p w (bookRun (book p w) b es) (run p w v es)
 unfolding run
 run-like-book p w b v s [] o i f k h = h
 run-like-book p w b v s (e ∷ es) o i f k h =
@@ -222,7 +222,7 @@ start-like-book GoBackN w f =
 start-like-book SelectiveRepeat w f =
     record { sender-is = sr-start w f; receiver-is = sr-receiver-start w; same-delivered = refl; same-packets = refl; same-acks = refl }
 
-pub like-book : (p : ProtocolType) (w : ℕ) (f : ℕ → Packet) (es : List Event) → Window p w → Fair p w (newWorld p w) es → AllLikeBook p w (newWorld p w) es
+pub like-book : (p : ProtocolType) (w : ℕ) (f : ℕ → Packet) (es : List Event) → WindowFits p w → Admissible p w (newWorld p w) es → AllLikeBook p w (newWorld p w) es
     → WorldIs p w (bookRun (book p w) (newBookWorld (book p w) f) es) (run p w (newWorld p w) es)
 like-book p w f es o a k = run-like-book p w (newBookWorld (book p w) f) (newWorld p w) plainStart es o (at-start p w) a k (start-like-book p w f)
 
@@ -240,7 +240,7 @@ all-like-book w v (e ∷ es) = (one e, all-like-book w (step SelectiveRepeat w v
     one (other (handleData n)) = tt
     one (other (handleAck n)) = tt
 
-pub selective-repeat-like-book : (w : ℕ) (f : ℕ → Packet) (es : List Event) → Fair SelectiveRepeat w (newWorld SelectiveRepeat w) es
+pub selective-repeat-like-book : (w : ℕ) (f : ℕ → Packet) (es : List Event) → Admissible SelectiveRepeat w (newWorld SelectiveRepeat w) es
     → WorldIs SelectiveRepeat w (bookRun (book SelectiveRepeat w) (newBookWorld (book SelectiveRepeat w) f) es)
     (run SelectiveRepeat w (newWorld SelectiveRepeat w) es)
 selective-repeat-like-book w f es a =

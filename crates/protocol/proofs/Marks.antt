@@ -10,7 +10,7 @@ use native.Mathlib.Omega.{arith}
 use native.Mathlib.Decide.{decLt}
 use lib.ListN.{length, getD, take, drop}
 use Rattle.protocol.specs.Runs.{lead}
-use Rattle.protocol.specs.Machine.{Chunk, run}
+use Rattle.protocol.specs.Machine.{Chunk, heldRun}
 use Rattle.protocol.specs.PlainMachine.{note}
 
 -- number n is noted
@@ -117,7 +117,7 @@ place-same false x y f = refl
 
 pub run-is : (held : List (Option Chunk)) (m : List Bool) (s : List Chunk)
     → ((i : ℕ) → i < length held → getD held i none ≡ place (getD m i false) (getD s i [])) → lead m ≤ length held → lead m ≤ length s
-    → run held ≡ take (lead m) s
+    → heldRun held ≡ take (lead m) s
 run-is [] m s f h k = let z : lead m ≡ 0 = omega arith in rw z
 run-is (x ∷ held) [] s f h k = rw (f 0 (suc-le-suc zero-le))
 run-is (x ∷ held) (false ∷ m) s f h k = rw (f 0 (suc-le-suc zero-le))

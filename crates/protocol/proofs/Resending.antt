@@ -12,7 +12,7 @@ use borrow.Author.Tests.{leb-true, leb-false, eqb-false, lt-ltb, le-leb, ne-eqb}
 use Rattle.protocol.specs.Runs.{lead, upFrom}
 use Rattle.protocol.specs.Machine.{Segment, SenderState, nextNumber, segmentAt, segmentsFrom, isAcknowledged, acknowledge, lateAcks, receive, receiveInOrder}
 use Rattle.protocol.specs.PlainMachine.{PlainState, note, withD, withReceiver, plainData, plainAck, plainCall, plainStep, plainRun}
-use Rattle.protocol.specs.Trace.{World, Event, sent, resent, received, acknowledged, other, step, Allowed, Fair, callOf, Window, isOutstanding, outstandingOf, outstanding, Resending}
+use Rattle.protocol.specs.Trace.{World, Event, sent, resent, received, acknowledged, other, step, Allowed, Admissible, callOf, WindowFits, isOutstanding, outstandingOf, outstanding, ResendsAll}
 use Rattle.protocol.specs.declared.ProtocolType.{ProtocolType}
 use Rattle.protocol.specs.declared.ProtocolType.the-variants.{StopAndWait, GoBackN, SelectiveRepeat}
 use Rattle.protocol.proofs.Every.{Every, every-nil, every-append, every-mono, every-head, every-tail}
@@ -272,7 +272,7 @@ raised-in-order s m = go (leb (s .A) m) refl
         let l : m < s .A = leb-false (s .A) m e in
         rw e (record { same-sent = refl; same-D = refl; keeps = λ n a. a; covers = λ n a. omega arith })
 
-raised : (p : ProtocolType) (w : ℕ) (v : World) (s : PlainState) (m : ℕ) → Window p w → Invariant (isSelective p) w v s → List·Memᴰ m (v .acks)
+raised : (p : ProtocolType) (w : ℕ) (v : World) (s : PlainState) (m : ℕ) → WindowFits p w → Invariant (isSelective p) w v s → List·Memᴰ m (v .acks)
     → Raised (isSelective p) s m (plainAck p s m)
 unfolding plainAck
 raised StopAndWait w v s m o i x =
@@ -351,7 +351,7 @@ resent-allowed w v n k numbers f l e =
 -- ---- the whole resending
 
 pub record Resent (p : ProtocolType) (w : ℕ) (v : World) (s : PlainState) (es : List Event) : Type 0 where
-  pub fair : Fair p w v es
+  pub fair : Admissible p w v es
   pub same-sent : plainRun p w s (map callOf es) .sent ≡ s .sent
   pub last-D : plainRun p w s (map callOf es) .D ≡ length (s .sent)
   pub last-A : plainRun p w s (map callOf es) .A ≡ length (s .sent)
@@ -377,8 +377,8 @@ below-sent b w v s numbers i f =
     every-mono (λ n e. let j = in-window (v .sender) n e in omega arith) f
 
 through : (p : ProtocolType) (w : ℕ) (v : World) (s : PlainState) (numbers : List ℕ) (segments : List Segment) (acks : List ℕ) (es : List Event)
-    → Window p w → Invariant (isSelective p) w v s → Queued v numbers segments acks → Left (isSelective p) s (numbersOf segments ++ numbers) acks
-    → Resending p w v numbers segments acks es → Resent p w v s es
+    → WindowFits p w → Invariant (isSelective p) w v s → Queued v numbers segments acks → Left (isSelective p) s (numbersOf segments ++ numbers) acks
+    → ResendsAll p w v numbers segments acks es → Resent p w v s es
 unfolding plainRun plainStep plainCall step
 through p w v s numbers segments acks [] o i f c r =
     let h = i .ends in
@@ -428,8 +428,8 @@ through p w v s numbers segments (x ∷ acks) (acknowledged n ∷ es) o i f c r 
     (acknowledged-left (isSelective p) w (step p w v (acknowledged n)) s (plainAck p s n) n (numbersOf segments) numbers acks i′ below t c′)
     (r .1))
 
-pub resending-ok : (p : ProtocolType) (w : ℕ) (v : World) (s : PlainState) (es : List Event) → Window p w → Invariant (isSelective p) w v s
-    → Resending p w v (outstanding (v .sender)) [] [] es → Resent p w v s es
+pub resending-ok : (p : ProtocolType) (w : ℕ) (v : World) (s : PlainState) (es : List Event) → WindowFits p w → Invariant (isSelective p) w v s
+    → ResendsAll p w v (outstanding (v .sender)) [] [] es → Resent p w v s es
 unfolding outstanding
 resending-ok p w v s es o i r =
     through p w v s (outstanding (v .sender)) [] [] es o i

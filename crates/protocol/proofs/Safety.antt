@@ -10,7 +10,7 @@ use borrow.Author.Tests.{le-leb, lt-ltb}
 use Rattle.protocol.specs.Runs.{upFrom}
 use Rattle.protocol.specs.Machine.{Segment, nextNumber, isAcknowledged, receive}
 use Rattle.protocol.specs.PlainMachine.{PlainState, notNoted, plainOutstanding, plainStart, plainData, plainAck, plainCall, plainStep, plainRun}
-use Rattle.protocol.specs.Trace.{World, newWorld, Event, sent, resent, received, acknowledged, other, step, run, Allowed, Fair, callOf, plainAfter, Window, outstanding, Claim}
+use Rattle.protocol.specs.Trace.{World, newWorld, Event, sent, resent, received, acknowledged, other, step, run, Allowed, Admissible, callOf, plainAfter, WindowFits, outstanding, Claim}
 use Rattle.protocol.specs.declared.ProtocolType.{ProtocolType}
 use Rattle.protocol.specs.declared.ProtocolType.the-variants.{StopAndWait, GoBackN, SelectiveRepeat}
 use Rattle.protocol.proofs.Invariant.{isSelective, Invariant, at-start, chunks-length, sent-ok, resent-ok}
@@ -18,20 +18,20 @@ use Rattle.protocol.proofs.InOrder.{received-in-order, acknowledged-in-
 use Rattle.protocol.proofs.Outstanding.{kept-is}
 use Rattle.protocol.proofs.Selective.{received-selective, acknowledged-selective}
 
-received-ok : (p : ProtocolType) (w : ℕ) (v : World) (s : PlainState) (q : Segment) → Window p w → Invariant (isSelective p) w v s → List·Memᴰ q (v .segments)
+received-ok : (p : ProtocolType) (w : ℕ) (v : World) (s : PlainState) (q : Segment) → WindowFits p w → Invariant (isSelective p) w v s → List·Memᴰ q (v .segments)
     → Invariant (isSelective p) w (step p w v (received q)) (plainData p w s (q .number))
 unfolding step receive plainData
 received-ok StopAndWait w v s q o h m = received-in-order StopAndWait w v s q o h m
 received-ok GoBackN w v s q o h m = received-in-order GoBackN w v s q o h m
 received-ok SelectiveRepeat w v s q o h m = received-selective w v s q h m
 
-acknowledged-ok : (p : ProtocolType) (w : ℕ) (v : World) (s : PlainState) (n : ℕ) → Window p w → Invariant (isSelective p) w v s → List·Memᴰ n (v .acks)
+acknowledged-ok : (p : ProtocolType) (w : ℕ) (v : World) (s : PlainState) (n : ℕ) → WindowFits p w → Invariant (isSelective p) w v s → List·Memᴰ n (v .acks)
     → Invariant (isSelective p) w (step p w v (acknowledged n)) (plainAck p s n)
 acknowledged-ok StopAndWait w v s n o h m = acknowledged-in-order StopAndWait w v s n refl o h m
 acknowledged-ok GoBackN w v s n o h m = acknowledged-in-order GoBackN w v s n refl o h m
 acknowledged-ok SelectiveRepeat w v s n o h m = acknowledged-selective w v s n h m
 
-pub step-ok : (p : ProtocolType) (w : ℕ) (v : World) (s : PlainState) (e : Event) → Window p w → Invariant (isSelective p) w v s → Allowed w v e
+pub step-ok : (p : ProtocolType) (w : ℕ) (v : World) (s : PlainState) (e : Event) → WindowFits p w → Invariant (isSelective p) w v s → Allowed w v e
     → Invariant (isSelective p) w (step p w v e) (plainStep p w s (callOf e))
 unfolding step plainStep plainCall
 step-ok p w v s (sent c) o h a = sent-ok p (isSelective p) w v s c h a
@@ -40,13 +40,13 @@ step-ok p w v s (received q) o h a = received-ok p w v s q o h a
 step-ok p w v s (acknowledged n) o h a = acknowledged-ok p w v s n o h a
 step-ok p w v s (other c) o h a = h
 
-pub run-ok : (p : ProtocolType) (w : ℕ) (v : World) (s : PlainState) (es : List Event) → Window p w → Invariant (isSelective p) w v s → Fair p w v es
+pub run-ok : (p : ProtocolType) (w : ℕ) (v : World) (s : PlainState) (es : List Event) → WindowFits p w → Invariant (isSelective p) w v s → Admissible p w v es
     → Invariant (isSelective p) w (run p w v es) (plainRun p w s (map callOf es))
 unfolding run plainRun
 run-ok p w v s [] o h f = h
 run-ok p w v s (e ∷ es) o h f = run-ok p w (step p w v e) (plainStep p w s (callOf e)) es o (step-ok p w v s e o h (f .0)) (f .1)
 
-pub from-start : (p : ProtocolType) (w : ℕ) (es : List Event) → Window p w → Fair p w (newWorld p w) es
+pub from-start : (p : ProtocolType) (w : ℕ) (es : List Event) → WindowFits p w → Admissible p w (newWorld p w) es
     → Invariant (isSelective p) w (run p w (newWorld p w) es) (plainAfter p w es)
 from-start p w es o f = run-ok p w (newWorld p w) plainStart es o (at-start p w) f
 

@@ -65,8 +65,8 @@ holds-rest w held m s n k lh kw lm f i l = go (decLt (k + i) w)
 -- what is delivered when the places from number n on hold what is noted in m
 record Delivers (w : ℕ) (held : List (Option Chunk)) (m : List Bool) (s : List Chunk) (n k : ℕ) : Type 0 where
   lead-is : lead m ≡ n + k
-  delivers : Machine.run held ≡ take k (drop n s)
-  long : length (Machine.run held) ≡ k
+  delivers : Machine.heldRun held ≡ take k (drop n s)
+  long : length (Machine.heldRun held) ≡ k
   all-places : length (drop k held ++ replicate k none) ≡ w
   rest : Holds w (drop k held ++ replicate k none) m s (n + k)
 
@@ -76,7 +76,7 @@ holds-deliver w held m s n lh nl ls fits on f =
     let k = lead (drop n m) in
     let e : lead m ≡ n + k = lead-drop n m nl in
     let z : length (drop n s) ≡ length s - n = length-drop n s in
-    let g : Machine.run held ≡ take k (drop n s) =
+    let g : Machine.heldRun held ≡ take k (drop n s) =
     run-is held (drop n m) (drop n s) (λ i l. rw (getD-drop n m, getD-drop n s) (f i (omega arith))) (omega arith) (omega arith) in
     let u : length (drop k held) ≡ length held - k = length-drop k held in
     let t : length (replicate {A = Option Chunk} k none) ≡ k = length-replicate k none in

@@ -7,7 +7,7 @@ use lib.ListN.{length, take}
 use lib.Seq.{take-length}
 use Rattle.protocol.specs.Machine.{Segment, segmentsFrom, receive}
 use Rattle.protocol.specs.PlainMachine.{PlainState, plainStart, plainStep, plainRun, Fed}
-use Rattle.protocol.specs.Trace.{World, newWorld, Event, resent, received, acknowledged, step, run, Fair, callOf, plainAfter, Window, Claim, outstanding, Resending, AllDelivered}
+use Rattle.protocol.specs.Trace.{World, newWorld, Event, resent, received, acknowledged, step, run, Admissible, callOf, plainAfter, WindowFits, Claim, outstanding, ResendsAll, AllDelivered}
 use Rattle.protocol.specs.declared.ProtocolType.{ProtocolType}
 use Rattle.protocol.proofs.Invariant.{isSelective}
 use Rattle.protocol.proofs.Safety.{from-start, claimed}
@@ -18,7 +18,7 @@ unfolding plainRun
 plain-append p w s [] fs = refl
 plain-append p w s (e ∷ es) fs = plain-append p w (plainStep p w s e) es fs
 
-pub fair-append : (p : ProtocolType) (w : ℕ) (v : World) (es fs : List Event) → Fair p w v es → Fair p w (run p w v es) fs → Fair p w v (es ++ fs)
+pub fair-append : (p : ProtocolType) (w : ℕ) (v : World) (es fs : List Event) → Admissible p w v es → Admissible p w (run p w v es) fs → Admissible p w v (es ++ fs)
 unfolding run
 fair-append p w v [] fs f g = g
 fair-append p w v (e ∷ es) fs f g = (f .0, fair-append p w (step p w v e) es fs (f .1) g)
@@ -27,22 +27,22 @@ pub after-append : (p : ProtocolType) (w : ℕ) (es fs : List Event) → plainAf
 after-append p w es fs = ap (plainRun p w plainStart) (map-append callOf es fs) ∙ plain-append p w plainStart (map callOf es) (map callOf fs)
 
 -- after every fair list
-pub safe : (p : ProtocolType) (w : ℕ) (es : List Event) → Window p w → Fair p w (newWorld p w) es
+pub safe : (p : ProtocolType) (w : ℕ) (es : List Event) → WindowFits p w → Admissible p w (newWorld p w) es
     → Claim w (run p w (newWorld p w) es) (plainAfter p w es)
 safe p w es o f = claimed (isSelective p) w (run p w (newWorld p w) es) (plainAfter p w es) (from-start p w es o f)
 
 -- if one resending follows
 pub record ResentAll (p : ProtocolType) (w : ℕ) (es fs : List Event) : Type 0 where
-  pub fair : Fair p w (newWorld p w) (es ++ fs)
+  pub fair : Admissible p w (newWorld p w) (es ++ fs)
   pub all : AllDelivered (plainAfter p w es) (run p w (newWorld p w) (es ++ fs)) (plainAfter p w (es ++ fs))
 
-pub resent-all : (p : ProtocolType) (w : ℕ) (es fs : List Event) → Window p w → Fair p w (newWorld p w) es
-    → Resending p w (run p w (newWorld p w) es) (outstanding (run p w (newWorld p w) es .sender)) [] [] fs → ResentAll p w es fs
+pub resent-all : (p : ProtocolType) (w : ℕ) (es fs : List Event) → WindowFits p w → Admissible p w (newWorld p w) es
+    → ResendsAll p w (run p w (newWorld p w) es) (outstanding (run p w (newWorld p w) es .sender)) [] [] fs → ResentAll p w es fs
 resent-all p w es fs o f r =
     let v : World = run p w (newWorld p w) es in
     let s : PlainState = plainAfter p w es in
     let x : Resent p w v s fs = resending-ok p w v s fs o (from-start p w es o f) r in
-    let g : Fair p w (newWorld p w) (es ++ fs) = fair-append p w (newWorld p w) es fs f (x .fair) in
+    let g : Admissible p w (newWorld p w) (es ++ fs) = fair-append p w (newWorld p w) es fs f (x .fair) in
     let c = safe p w (es ++ fs) o g in
     let e : plainAfter p w (es ++ fs) ≡ plainRun p w s (map callOf fs) = after-append p w es fs in
     let same : plainAfter p w (es ++ fs) .sent ≡ s .sent = ap (λ (t : PlainState). t .sent) e ∙ x .same-sent in
@@ -60,7 +60,7 @@ resent-all p w es fs o f r =
 -- in every world there is a resending: all numbers, then all segments, then all ACKs
 pub record SomeResending (p : ProtocolType) (w : ℕ) (v : World) (numbers : List ℕ) (segments : List Segment) (acks : List ℕ) : Type 0 where
   pub events : List Event
-  pub resending : Resending p w v numbers segments acks events
+  pub resending : ResendsAll p w v numbers segments acks events
 
 carry-acks : (p : ProtocolType) (w : ℕ) (v : World) (acks : List ℕ) → SomeResending p w v [] [] acks
 carry-acks p w v [] = record { events = []; resending = (refl, refl, refl) }

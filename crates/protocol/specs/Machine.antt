@@ -103,10 +103,10 @@ receiveInOrder p r q =
     (received r [] (lateAcks p (r .base) (q .number)))
 
 -- Selective Repeat: the chunks held in a row from the front
-abbrev pub run : List (Option Chunk) → List Chunk
-run [] = []
-run (some c ∷ held) = c ∷ run held
-run (none ∷ held) = []
+abbrev pub heldRun : List (Option Chunk) → List Chunk
+heldRun [] = []
+heldRun (some c ∷ held) = c ∷ heldRun held
+heldRun (none ∷ held) = []
 
 -- a chunk is held once
 abbrev pub hold : Option Chunk → Chunk → Option Chunk
@@ -117,8 +117,8 @@ hold none d = some d
 abbrev pub deliverRun : ReceiverState → ℕ → Received
 deliverRun r n =
     received
-    (record { base = r .base + length (run (r .held)); held = drop (length (run (r .held))) (r .held) ++ replicate (length (run (r .held))) none })
-    (run (r .held))
+    (record { base = r .base + length (heldRun (r .held)); held = drop (length (heldRun (r .held))) (r .held) ++ replicate (length (heldRun (r .held))) none })
+    (heldRun (r .held))
     (n ∷ [])
 
 abbrev pub holdAt : ReceiverState → Segment → ReceiverState

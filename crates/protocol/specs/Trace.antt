@@ -78,9 +78,9 @@ Allowed w v (received q) = List·Memᴰ q (v .segments)
 Allowed w v (acknowledged n) = List·Memᴰ n (v .acks)
 Allowed w v (other c) = Unit {0}
 
-abbrev pub Fair : ProtocolType → ℕ → World → List Event → Type 0
-Fair p w v [] = Unit {0}
-Fair p w v (e ∷ es) = Allowed w v e × Fair p w (step p w v e) es
+abbrev pub Admissible : ProtocolType → ℕ → World → List Event → Type 0
+Admissible p w v [] = Unit {0}
+Admissible p w v (e ∷ es) = Allowed w v e × Admissible p w (step p w v e) es
 
 -- what the plain machine is fed
 abbrev pub callOf : Event → Fed
@@ -95,10 +95,10 @@ abbrev pub plainAfter : ProtocolType → ℕ → List Event → PlainState
 plainAfter p w es = plainRun p w plainStart (map callOf es)
 
 -- Stop-and-Wait's window is 1
-abbrev pub Window : ProtocolType → ℕ → Type 0
-Window StopAndWait w = w ≡ 1
-Window GoBackN w = Unit {0}
-Window SelectiveRepeat w = Unit {0}
+abbrev pub WindowFits : ProtocolType → ℕ → Type 0
+WindowFits StopAndWait w = w ≡ 1
+WindowFits GoBackN w = Unit {0}
+WindowFits SelectiveRepeat w = Unit {0}
 
 -- outstanding: sent, and not acknowledged
 abbrev pub isOutstanding : SenderState → ℕ → Bool
@@ -132,18 +132,18 @@ First x (y ∷ ys) = x ≡ y
 -- One resending, however its calls, segments and ACKs interleave. Still to come are: the numbers to be sent again, as far as they are
 -- outstanding; the segments made and not yet handed over; the ACKs made and not yet handed over. Each event takes what stands first; at
 -- the end nothing is left.
-abbrev pub Resending : ProtocolType → ℕ → World → List ℕ → List Segment → List ℕ → List Event → Type 0
-Resending p w v numbers segments acks [] = (numbers ≡ []) × (segments ≡ []) × (acks ≡ [])
-Resending p w v numbers segments acks (sent c ∷ es) = ⊥
-Resending p w v numbers segments acks (resent n k ∷ es) =
+abbrev pub ResendsAll : ProtocolType → ℕ → World → List ℕ → List Segment → List ℕ → List Event → Type 0
+ResendsAll p w v numbers segments acks [] = (numbers ≡ []) × (segments ≡ []) × (acks ≡ [])
+ResendsAll p w v numbers segments acks (sent c ∷ es) = ⊥
+ResendsAll p w v numbers segments acks (resent n k ∷ es) =
     (0 < k) × (take k numbers ≡ upFrom n k)
-    × Resending p w (step p w v (resent n k)) (drop k numbers) (segments ++ segmentsFrom (v .sender) n k) acks es
-Resending p w v numbers segments acks (received q ∷ es) =
-    First q segments × Resending p w (step p w v (received q)) numbers (drop 1 segments) (acks ++ receive p w (v .receiver) q .acks) es
-Resending p w v numbers segments acks (acknowledged n ∷ es) =
+    × ResendsAll p w (step p w v (resent n k)) (drop k numbers) (segments ++ segmentsFrom (v .sender) n k) acks es
+ResendsAll p w v numbers segments acks (received q ∷ es) =
+    First q segments × ResendsAll p w (step p w v (received q)) numbers (drop 1 segments) (acks ++ receive p w (v .receiver) q .acks) es
+ResendsAll p w v numbers segments acks (acknowledged n ∷ es) =
     First n acks
-    × Resending p w (step p w v (acknowledged n)) (outstandingOf (acknowledge p (v .sender) n) numbers) segments (drop 1 acks) es
-Resending p w v numbers segments acks (other c ∷ es) = ⊥
+    × ResendsAll p w (step p w v (acknowledged n)) (outstandingOf (acknowledge p (v .sender) n) numbers) segments (drop 1 acks) es
+ResendsAll p w v numbers segments acks (other c ∷ es) = ⊥
 
 -- what one resending of all outstanding chunks leaves: S as it was, D and A at its end, and all of it delivered
 pub record AllDelivered (s : PlainState) (v : World) (t : PlainState) : Type 0 where

@@ -20,7 +20,7 @@ use Rattle.packet.proofs.Laws.{read-header}
 use Rattle.window.specs.Acknowledgement.{handedChecks}
 use Rattle.window.proofs.Laws.{handed-accepted}
 use Rattle.receiver.specs.Handed.{byType, numberHigh, packetChecks, readPacket}
-use Rattle.receiver.specs.declared.Handed.the-variants as handed
+use Rattle.receiver.specs.declared.PacketReading.the-variants as handed
 
 -- lines 1, 2, 3 and 6 come before 7
 earlier : (high long short kind cut : Bool) (n m d e : ℕ) (r : Refusal)

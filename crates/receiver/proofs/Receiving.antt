@@ -12,11 +12,11 @@ use Rattle.refusal.specs.Order.{check, verdict, refused, order, orElse, numbere
 use Rattle.refusal.proofs.Laws.{false-check, true-check, accepted-none-true, on-accepted, on-refused}
 use Rattle.packet.specs.Reading.{readChecks}
 use Rattle.receiver.specs.Handed.{packetChecks, readPacket, readChecked}
-use Rattle.receiver.specs.Reply.{roomMissing, answerOf, carriedOut, replied}
-use Rattle.receiver.specs.Receive.{Receiving, receiving, carried, finish, receive}
+use Rattle.receiver.specs.Reply.{roomMissing, answerOf, applied, applyExit}
+use Rattle.receiver.specs.Receive.{ReceiveExit, receiveExit, applyResult, apply, receive}
 use Rattle.receiver.specs.declared.Decision.{Decision}
-use Rattle.receiver.specs.declared.Handed.{Handed}
-use Rattle.receiver.specs.declared.Handed.the-variants as handed
+use Rattle.receiver.specs.declared.PacketReading.{PacketReading}
+use Rattle.receiver.specs.declared.PacketReading.the-variants as handed
 use Rattle.receiver.specs.declared.Reply.{Reply}
 use Rattle.receiver.specs.declared.Reply.the-variants as reply
 use Rattle.receiver.specs.declared.ReceiveAnswer.{ReceiveAnswer}
@@ -31,7 +31,7 @@ pub not-two : OneOf (0 ∷ 1 ∷ []) 2 → ⊥
 not-two k = miss (0 ∷ 1 ∷ []) 2 tt k
 
 -- a datagram that isn't refused
-abbrev pub Taken : Handed → Type 0
+abbrev pub Taken : PacketReading → Type 0
 Taken h = (s : Refusal) → h ≡ handed.Refused s → ⊥
 
 pub taken : (broken counts : Bool) (raw : List ℕ) → Taken (readChecked broken counts raw) → (broken ≡ false) × (counts ≡ false) × (readChecked broken counts raw ≡ readPacket raw)
@@ -56,10 +56,10 @@ never-refused (reply.Ack n) s e = let z : _≡_ {A = ℕ} 0 1 = cc in omega arit
 never-refused reply.Silent s e = let z : _≡_ {A = ℕ} 0 1 = cc in omega arith
 
 module _ {R : Type 0} (broken counts : Bool) (r : R) (filled : ℕ) (d : Decision) (delivered : List ℕ) (after : ℕ → R) (raw output ack : List ℕ) where
-  pub refused-packet : (s : Refusal) → readChecked broken counts raw ≡ handed.Refused s → receiving (answer.Refused s) r output ack ≡ receive broken counts r filled d delivered after raw output ack
+  pub refused-packet : (s : Refusal) → readChecked broken counts raw ≡ handed.Refused s → receiveExit (answer.Refused s) r output ack ≡ receive broken counts r filled d delivered after raw output ack
   unfolding receive
   refused-packet s e =
-      sym (on-refused (λ (s : Refusal). receiving (answer.Refused s) r output ack) _ (refused-verdict broken counts _ raw s e))
+      sym (on-refused (λ (s : Refusal). receiveExit (answer.Refused s) r output ack) _ (refused-verdict broken counts _ raw s e))
 
   -- with a datagram taken, by the room
   beyond : Taken (readChecked broken counts raw) → (b : Bool) → roomMissing d (length delivered) filled output ack ≡ b
@@ -70,28 +70,28 @@ module _ {R : Type 0} (broken counts : Bool) (r : R) (filled : ℕ) (d : Decisio
   reads h s e = h s (taken broken counts raw h .2 ∙ e)
 
   pub refused-full : Taken (readChecked broken counts raw) → roomMissing d (length delivered) filled output ack ≡ true
-      → receiving (answer.Refused Full) r output ack ≡ receive broken counts r filled d delivered after raw output ack
+      → receiveExit (answer.Refused Full) r output ack ≡ receive broken counts r filled d delivered after raw output ack
   unfolding receive
   refused-full h g =
-      sym (on-refused (λ (s : Refusal). receiving (answer.Refused s) r output ack) _ (beyond h true g ∙ true-check Full (packetChecks raw) (accepted-none-true (packetChecks raw) (read-accepted raw (reads h)))))
+      sym (on-refused (λ (s : Refusal). receiveExit (answer.Refused s) r output ack) _ (beyond h true g ∙ true-check Full (packetChecks raw) (accepted-none-true (packetChecks raw) (read-accepted raw (reads h)))))
 
   -- the functions below carried the decision out, delivering a part that is what is to be delivered
   pub received : (part written acked : List ℕ) (n : ℕ) (a : ReceiveAnswer) → Taken (readChecked broken counts raw)
-      → roomMissing d (length delivered) filled output ack ≡ false → part ≡ delivered → a ≡ answerOf (d .reply) → replied n written acked ≡ carriedOut d part filled output ack
-      → receiving a (after n) written acked ≡ receive broken counts r filled d delivered after raw output ack
+      → roomMissing d (length delivered) filled output ack ≡ false → part ≡ delivered → a ≡ answerOf (d .reply) → applyExit n written acked ≡ applied d part filled output ack
+      → receiveExit a (after n) written acked ≡ receive broken counts r filled d delivered after raw output ack
   unfolding receive
   received part written acked n a h g p q v =
-      ap (λ (x : ReceiveAnswer). receiving x (after n) written acked) q ∙ ap (carried after d) (v ∙ ap (λ (l : List ℕ). carriedOut d l filled output ack) p)
-      ∙ sym (on-accepted (λ (s : Refusal). receiving (answer.Refused s) r output ack) _ (beyond h false g ∙ false-check Full (packetChecks raw) ∙ read-accepted raw (reads h)))
+      ap (λ (x : ReceiveAnswer). receiveExit x (after n) written acked) q ∙ ap (applyResult after d) (v ∙ ap (λ (l : List ℕ). applied d l filled output ack) p)
+      ∙ sym (on-accepted (λ (s : Refusal). receiveExit (answer.Refused s) r output ack) _ (beyond h false g ∙ false-check Full (packetChecks raw) ∙ read-accepted raw (reads h)))
 
 pub finish-done : (d : Decision) (payload : List ℕ) (filled : ℕ) (output ack written acked : List ℕ) (n : ℕ) (a : ReceiveAnswer) → roomMissing d (length payload) filled output ack ≡ false
-    → a ≡ answerOf (d .reply) → replied n written acked ≡ carriedOut d payload filled output ack → receiving a n written acked ≡ finish d payload filled output ack
-unfolding finish
+    → a ≡ answerOf (d .reply) → applyExit n written acked ≡ applied d payload filled output ack → receiveExit a n written acked ≡ apply d payload filled output ack
+unfolding apply
 finish-done d payload filled output ack written acked n a g q v =
-    rw g (ap (λ (x : ReceiveAnswer). receiving x n written acked) q ∙ ap (carried (λ n. n) d) v)
+    rw g (ap (λ (x : ReceiveAnswer). receiveExit x n written acked) q ∙ ap (applyResult (λ n. n) d) v)
 
--- a datagram that is taken, and `finish` of the decision on it
-module _ {R : Type 0} (broken counts : Bool) (r : R) (filled : ℕ) (d : Handed → Decision) (after : Handed → ℕ → R) (delivered raw output ack : List ℕ) (h : Handed) (v : Receiving ℕ) (is-read : h ≡ readChecked broken counts raw) (t : Taken h) (e : v ≡ finish (d h) delivered filled output ack) where
+-- a datagram that is taken, and `apply` of the decision on it
+module _ {R : Type 0} (broken counts : Bool) (r : R) (filled : ℕ) (d : PacketReading → Decision) (after : PacketReading → ℕ → R) (delivered raw output ack : List ℕ) (h : PacketReading) (v : ReceiveExit ℕ) (is-read : h ≡ readChecked broken counts raw) (t : Taken h) (e : v ≡ apply (d h) delivered filled output ack) where
   taken-checked : Taken (readChecked broken counts raw)
   taken-checked s q = t s (is-read ∙ q)
 
@@ -99,20 +99,20 @@ module _ {R : Type 0} (broken counts : Bool) (r : R) (filled : ℕ) (d : Handed 
   is-packet = is-read ∙ taken broken counts raw taken-checked .2
 
   abbrev Received : R → Type 0
-  Received s = receiving (v .answer) s (v .output) (v .ack) ≡ receive broken counts r filled (d (readPacket raw)) delivered (after (readPacket raw)) raw output ack
+  Received s = receiveExit (v .answer) s (v .output) (v .ack) ≡ receive broken counts r filled (d (readPacket raw)) delivered (after (readPacket raw)) raw output ack
 
   by-room : (b : Bool) → roomMissing (d (readPacket raw)) (length delivered) filled output ack ≡ b
       → ((s : Refusal) → v .answer ≡ answer.Refused s → Received r) × (((s : Refusal) → v .answer ≡ answer.Refused s → ⊥) → Received (after h (v .receiver)))
-  unfolding finish
+  unfolding apply
   by-room true g =
-      let full : v ≡ receiving (answer.Refused Full) filled output ack = e ∙ rw (is-packet, g) in (
-        λ s q. ap (λ (x : Receiving ℕ). receiving (x .answer) r (x .output) (x .ack)) full ∙ refused-full broken counts r filled _ delivered (after (readPacket raw)) raw output ack taken-checked g,
-        λ n. absurd (n Full (ap (λ (x : Receiving ℕ). x .answer) full)),
+      let full : v ≡ receiveExit (answer.Refused Full) filled output ack = e ∙ rw (is-packet, g) in (
+        λ s q. ap (λ (x : ReceiveExit ℕ). receiveExit (x .answer) r (x .output) (x .ack)) full ∙ refused-full broken counts r filled _ delivered (after (readPacket raw)) raw output ack taken-checked g,
+        λ n. absurd (n Full (ap (λ (x : ReceiveExit ℕ). x .answer) full)),
       )
   by-room false g =
-      let done : v ≡ carried (λ n. n) (d (readPacket raw)) (carriedOut (d (readPacket raw)) delivered filled output ack) = e ∙ rw (is-packet, g) in (
-        λ s q. absurd (never-refused (d (readPacket raw) .reply) s (sym (ap (λ (x : Receiving ℕ). x .answer) done) ∙ q)),
-        λ n. rw is-packet (ap (λ (x : Receiving ℕ). receiving (x .answer) (after (readPacket raw) (x .receiver)) (x .output) (x .ack)) done ∙ received broken counts r filled _ delivered (after (readPacket raw)) raw output ack delivered _ _ _ _ taken-checked g refl refl refl),
+      let done : v ≡ applyResult (λ n. n) (d (readPacket raw)) (applied (d (readPacket raw)) delivered filled output ack) = e ∙ rw (is-packet, g) in (
+        λ s q. absurd (never-refused (d (readPacket raw) .reply) s (sym (ap (λ (x : ReceiveExit ℕ). x .answer) done) ∙ q)),
+        λ n. rw is-packet (ap (λ (x : ReceiveExit ℕ). receiveExit (x .answer) (after (readPacket raw) (x .receiver)) (x .output) (x .ack)) done ∙ received broken counts r filled _ delivered (after (readPacket raw)) raw output ack delivered _ _ _ _ taken-checked g refl refl refl),
       )
 
   pub finish-refused : (s : Refusal) → v .answer ≡ answer.Refused s → Received r

@@ -11,7 +11,7 @@ use lib.Dec.{ltb}
 use Rattle.refusal.proofs.Laws.{or-false}
 use Rattle.store.specs.Numbers.{writtenAt}
 use Rattle.store.proofs.Laws.{written-on, written-none, written-length}
-use Rattle.receiver.specs.Reply.{ackMissing, roomMissing, RoomFor, replied, carriedOut}
+use Rattle.receiver.specs.Reply.{ackMissing, roomMissing, RoomFor, applyExit, applied}
 use Rattle.receiver.specs.declared.Reply.{Reply}
 use Rattle.receiver.specs.declared.Reply.the-variants as reply
 use Rattle.receiver.specs.declared.Decision.{Decision}
@@ -31,7 +31,7 @@ room-output d size filled output ack h e =
     let few : size ≤ length output - filled = ltb-false (length output - filled) size (rw e at left) in
     omega arith
 
-pub replied-is : (filled : ℕ) {output output′ ack ack′ : List ℕ} → output ≡ output′ → ack ≡ ack′ → replied filled output ack ≡ replied filled output′ ack′
+pub replied-is : (filled : ℕ) {output output′ ack ack′ : List ℕ} → output ≡ output′ → ack ≡ ack′ → applyExit filled output ack ≡ applyExit filled output′ ack′
 replied-is filled e f = rw (e, f)
 
 -- room for more is room for less
@@ -49,9 +49,9 @@ room-less d size less filled output ack h few = record { mark = h .mark; room = 
 -- a payload delivered, and then more bytes after it
 module _ (d : Decision) (payload more : List ℕ) (filled : ℕ) (output ack : List ℕ) (room : RoomFor d (length (payload ++ more)) filled output ack) (none : d .deliver ≡ false → more ≡ []) where
   carried-parts : (b : Bool) → d .deliver ≡ b
-      → (carriedOut d payload filled output ack .filled + length more ≤ length (carriedOut d payload filled output ack .output))
-      × (replied (carriedOut d payload filled output ack .filled + length more) (writtenAt (carriedOut d payload filled output ack .output) (carriedOut d payload filled output ack .filled) more) (carriedOut d payload filled output ack .ack) ≡ carriedOut d (payload ++ more) filled output ack)
-  unfolding carriedOut
+      → (applied d payload filled output ack .filled + length more ≤ length (applied d payload filled output ack .output))
+      × (applyExit (applied d payload filled output ack .filled + length more) (writtenAt (applied d payload filled output ack .output) (applied d payload filled output ack .filled) more) (applied d payload filled output ack .ack) ≡ applied d (payload ++ more) filled output ack)
+  unfolding applied
   carried-parts true e =
       let fits = room-output d (length (payload ++ more)) filled output ack room e in
       let size = length-append payload more in
@@ -64,8 +64,8 @@ module _ (d : Decision) (payload more : List ℕ) (filled : ℕ) (output ack : L
       let mark = room .mark in
       rw (e, none e) (rw add-zero mark, rw (written-none output filled [] refl, add-zero))
 
-  pub carried-room : carriedOut d payload filled output ack .filled + length more ≤ length (carriedOut d payload filled output ack .output)
+  pub carried-room : applied d payload filled output ack .filled + length more ≤ length (applied d payload filled output ack .output)
   carried-room = carried-parts (d .deliver) refl .0
 
-  pub carried-on : replied (carriedOut d payload filled output ack .filled + length more) (writtenAt (carriedOut d payload filled output ack .output) (carriedOut d payload filled output ack .filled) more) (carriedOut d payload filled output ack .ack) ≡ carriedOut d (payload ++ more) filled output ack
+  pub carried-on : applyExit (applied d payload filled output ack .filled + length more) (writtenAt (applied d payload filled output ack .output) (applied d payload filled output ack .filled) more) (applied d payload filled output ack .ack) ≡ applied d (payload ++ more) filled output ack
   carried-on = carried-parts (d .deliver) refl .1

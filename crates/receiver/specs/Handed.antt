@@ -11,11 +11,11 @@ use Rattle.packet.specs.declared.Packet.{Packet}
 use Rattle.packet.specs.declared.PacketType.{PacketType}
 use Rattle.packet.specs.declared.PacketType.the-variants as packetType
 use Rattle.window.specs.Acknowledgement.{handedChecks}
-use Rattle.receiver.specs.declared.Handed.{Handed}
-use Rattle.receiver.specs.declared.Handed.the-variants as handed
+use Rattle.receiver.specs.declared.PacketReading.{PacketReading}
+use Rattle.receiver.specs.declared.PacketReading.the-variants as handed
 
 -- a valid packet, by its type
-abbrev pub byType : PacketType → ℕ → Handed
+abbrev pub byType : PacketType → ℕ → PacketReading
 byType packetType.Data n = handed.Data n
 byType packetType.Ack n = handed.Ack
 byType packetType.Fin n = handed.Fin n
@@ -32,11 +32,11 @@ numberHigh p payload = matches p payload && isData (p .«pkt_type») && leb 4294
 abbrev pub packetChecks : List ℕ → List Check
 packetChecks raw = check (numberHigh (headerOf raw) (payloadOf raw)) Numbers ∷ handedChecks raw
 
-unfoldable pub readPacket : List ℕ → Handed
+unfoldable pub readPacket : List ℕ → PacketReading
 readPacket raw =
     decide (verdict (packetChecks raw)) handed.Refused
     (cond (matches (headerOf raw) (payloadOf raw)) (byType (headerOf raw .«pkt_type») (headerOf raw .«seq_num»)) handed.Corrupted)
 
 -- the same with 9 and 8 before
-unfoldable pub readChecked : Bool → Bool → List ℕ → Handed
+unfoldable pub readChecked : Bool → Bool → List ℕ → PacketReading
 readChecked stateBroken countsBroken raw = cond stateBroken (handed.Refused State) (cond countsBroken (handed.Refused Counts) (readPacket raw))

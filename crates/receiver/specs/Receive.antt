@@ -6,34 +6,34 @@ use lib.ListN.{length}
 use Rattle.refusal.specs.declared.Refusal.the-variants.{State, Counts, Full}
 use Rattle.refusal.specs.Order.{check, verdict, decide}
 use Rattle.receiver.specs.Handed.{packetChecks}
-use Rattle.receiver.specs.Reply.{roomMissing, answerOf, carriedOut, Replied}
+use Rattle.receiver.specs.Reply.{roomMissing, answerOf, applied, ApplyExit}
 use Rattle.receiver.specs.declared.Decision.{Decision}
 use Rattle.receiver.specs.declared.ReceiveAnswer.{ReceiveAnswer}
 use Rattle.receiver.specs.declared.ReceiveAnswer.the-variants as answer
 
 -- the answer, and the state, the output and the buffer for the ACK when the call returns
-pub record Receiving (R : Type 0) : Type 0 where
+pub record ReceiveExit (R : Type 0) : Type 0 where
   pub answer : ReceiveAnswer
   pub receiver : R
   pub output : List ℕ
   pub ack : List ℕ
 
-abbrev pub receiving : {R : Type 0} → ReceiveAnswer → R → List ℕ → List ℕ → Receiving R
-receiving a r output ack = record { answer = a; receiver = r; output = output; ack = ack }
+abbrev pub receiveExit : {R : Type 0} → ReceiveAnswer → R → List ℕ → List ℕ → ReceiveExit R
+receiveExit a r output ack = record { answer = a; receiver = r; output = output; ack = ack }
 
 -- a decision carried out, with the fill mark put into the state after it
-abbrev pub carried : {R : Type 0} → (ℕ → R) → Decision → Replied → Receiving R
-carried after d v = receiving (answerOf (d .reply)) (after (v .filled)) (v .output) (v .ack)
+abbrev pub applyResult : {R : Type 0} → (ℕ → R) → Decision → ApplyExit → ReceiveExit R
+applyResult after d v = receiveExit (answerOf (d .reply)) (after (v .filled)) (v .output) (v .ack)
 
 -- 5, or a decision carried out; the fill mark stands for the state
-unfoldable pub finish : Decision → List ℕ → ℕ → List ℕ → List ℕ → Receiving ℕ
-finish d payload filled output ack =
+unfoldable pub apply : Decision → List ℕ → ℕ → List ℕ → List ℕ → ReceiveExit ℕ
+apply d payload filled output ack =
     cond (roomMissing d (length payload) filled output ack)
-    (receiving (answer.Refused Full) filled output ack)
-    (carried (λ n. n) d (carriedOut d payload filled output ack))
+    (receiveExit (answer.Refused Full) filled output ack)
+    (applyResult (λ n. n) d (applied d payload filled output ack))
 
 -- r the state, filled its fill mark; d, delivered and after what a packet that isn't refused does
-unfoldable pub receive : {R : Type 0} → Bool → Bool → R → ℕ → Decision → List ℕ → (ℕ → R) → List ℕ → List ℕ → List ℕ → Receiving R
+unfoldable pub receive : {R : Type 0} → Bool → Bool → R → ℕ → Decision → List ℕ → (ℕ → R) → List ℕ → List ℕ → List ℕ → ReceiveExit R
 receive stateBroken countsBroken r filled d delivered after raw output ack =
     decide
     (verdict
@@ -41,5 +41,5 @@ receive stateBroken countsBroken r filled d delivered after raw output ack =
     ∷ check countsBroken Counts
     ∷ check (roomMissing d (length delivered) filled output ack) Full
     ∷ packetChecks raw))
-    (λ s. receiving (answer.Refused s) r output ack)
-    (carried after d (carriedOut d delivered filled output ack))
+    (λ s. receiveExit (answer.Refused s) r output ack)
+    (applyResult after d (applied d delivered filled output ack))

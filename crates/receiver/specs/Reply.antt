@@ -31,19 +31,19 @@ unfoldable pub roomMissing : Decision → ℕ → ℕ → List ℕ → List ℕ 
 roomMissing d size filled output ack = (d .deliver && ltb (length output - filled) size) || ackMissing (d .reply) ack
 
 -- the fill mark, the output and the buffer for the ACK when the call returns
-pub record Replied : Type 0 where
+pub record ApplyExit : Type 0 where
   pub filled : ℕ
   pub output : List ℕ
   pub ack : List ℕ
 
-abbrev pub replied : ℕ → List ℕ → List ℕ → Replied
-replied filled output ack = record { filled = filled; output = output; ack = ack }
+abbrev pub applyExit : ℕ → List ℕ → List ℕ → ApplyExit
+applyExit filled output ack = record { filled = filled; output = output; ack = ack }
 
-unfoldable pub carriedOut : Decision → List ℕ → ℕ → List ℕ → List ℕ → Replied
-carriedOut d payload filled output ack =
+unfoldable pub applied : Decision → List ℕ → ℕ → List ℕ → List ℕ → ApplyExit
+applied d payload filled output ack =
     cond (d .deliver)
-    (replied (filled + length payload) (take filled output ++ payload ++ drop (filled + length payload) output) (ackAfter (d .reply) ack))
-    (replied filled output (ackAfter (d .reply) ack))
+    (applyExit (filled + length payload) (take filled output ++ payload ++ drop (filled + length payload) output) (ackAfter (d .reply) ack))
+    (applyExit filled output (ackAfter (d .reply) ack))
 
 -- what carrying out asks for
 abbrev pub RoomForReply : Reply → List ℕ → Type 0

@@ -7,8 +7,8 @@ ghost use mathlib.Core.Bool.{_&&_};
 ghost use Rattle.packet.specs.Reading.{payloadOf};
 ghost use Rattle.receiver.specs.State.{marksBroken, countsBroken};
 ghost use Rattle.receiver.specs.Handed.{readPacket, readChecked};
-ghost use Rattle.receiver.specs.Reply.{replied, carriedOut, roomMissing, RoomFor, RoomForReply, ackAfter, answerOf};
-ghost use Rattle.receiver.specs.Receive.{receiving, finish};
+ghost use Rattle.receiver.specs.Reply.{applyExit, applied, roomMissing, RoomFor, RoomForReply, ackAfter, answerOf};
+ghost use Rattle.receiver.specs.Receive.{receiveExit, apply};
 use packet::Packet;
 use packet::PacketAnswer;
 use packet::PacketType;
@@ -17,7 +17,7 @@ use refusal::Refusal;
 use window::SEQ_NUM_LIMIT;
 
 // What a datagram handed to a receiver is.
-pub enum Handed {
+pub enum PacketReading {
     // Valid, with its number.
     Data(u32),
     Fin(u32),
@@ -48,7 +48,7 @@ pub enum ReceiveAnswer {
 }
 
 // The fill mark and the answer when a decision is carried out, or refused.
-pub struct Finished {
+pub struct ApplyResult {
     pub filled: usize,
     pub answer: ReceiveAnswer,
 }
@@ -65,44 +65,44 @@ impl Reply {
 }
 
 // A datagram for a receiver: broken is whether line 9 is true of its state; a, b, c are its counters.
-pub fn read_checked(broken: bool, a: u64, b: u64, c: u64, raw: &[u8]) -> Handed
+pub fn read_checked(broken: bool, a: u64, b: u64, c: u64, raw: &[u8]) -> PacketReading
     ensures { λ r. ⌜ r ≡ readChecked broken (countsBroken a b c) (now (raw .entry)) ⌝ }
 {
     if broken {
-        return Handed::Refused(Refusal::State);
+        return PacketReading::Refused(Refusal::State);
     }
     if counts_broken(a, b, c) {
-        return Handed::Refused(Refusal::Counts);
+        return PacketReading::Refused(Refusal::Counts);
     }
     read_packet(raw)
 }
 
-fn read_packet(raw: &[u8]) -> Handed
+fn read_packet(raw: &[u8]) -> PacketReading
     ensures { λ r. ⌜ r ≡ readPacket (now (raw .entry)) ⌝ }
 {
     let packet = match Packet::from_bytes(raw) {
         PacketAnswer::Packet(p) => p,
-        PacketAnswer::Refused(r) => return Handed::Refused(r),
+        PacketAnswer::Refused(r) => return PacketReading::Refused(r),
     };
     let payload = Packet::payload(raw);
     if Packet::MAX_PAYLOAD_SIZE < payload.len() {
-        return Handed::Refused(Refusal::Long);
+        return PacketReading::Refused(Refusal::Long);
     }
     if !packet.is_valid_unchecked(payload) {
-        return Handed::Corrupted;
+        return PacketReading::Corrupted;
     }
     let seq_num = packet.seq_num;
     let pkt_type = packet.pkt_type;
     match pkt_type {
         PacketType::Data => {
             if SEQ_NUM_LIMIT <= seq_num {
-                Handed::Refused(Refusal::Numbers)
+                PacketReading::Refused(Refusal::Numbers)
             } else {
-                Handed::Data(seq_num)
+                PacketReading::Data(seq_num)
             }
         }
-        PacketType::Ack => Handed::Ack,
-        PacketType::Fin => Handed::Fin(seq_num),
+        PacketType::Ack => PacketReading::Ack,
+        PacketType::Fin => PacketReading::Fin(seq_num),
     }
 }
 
@@ -113,20 +113,20 @@ pub fn finish_unchecked(
     filled: usize,
     output: &mut [u8],
     ack: &mut [u8],
-) -> Finished
+) -> ApplyResult
     requires { ⌜ filled ≤ length (now output) ⌝ }
-    ensures { λ r. ⌜ receiving (r .answer) (r .filled) (now (output .exit)) (now (ack .exit)) ≡ finish decision (payloadOf (now (raw .entry))) filled (now (output .entry)) (now (ack .entry)) ⌝ }
+    ensures { λ r. ⌜ receiveExit (r .answer) (r .filled) (now (output .exit)) (now (ack .exit)) ≡ apply decision (payloadOf (now (raw .entry))) filled (now (output .entry)) (now (ack .entry)) ⌝ }
 {
     let payload = Packet::payload(raw);
     if room_missing_unchecked(decision, payload.len(), filled, output, ack) {
-        return Finished {
+        return ApplyResult {
             filled,
             answer: ReceiveAnswer::Refused(Refusal::Full),
         };
     }
     let end = carry_out_unchecked(decision, payload, filled, output, ack);
     let reply = decision.reply;
-    Finished {
+    ApplyResult {
         filled: end,
         answer: reply.answer(),
     }
@@ -171,7 +171,7 @@ pub fn carry_out_unchecked(
     ack: &mut [u8],
 ) -> usize
     requires { ⌜ RoomFor decision (length (now payload)) filled (now output) (now ack) ⌝ }
-    ensures { λ r. ⌜ replied r (now (output .exit)) (now (ack .exit)) ≡ carriedOut decision (now (payload .entry)) filled (now (output .entry)) (now (ack .entry)) ⌝ }
+    ensures { λ r. ⌜ applyExit r (now (output .exit)) (now (ack .exit)) ≡ applied decision (now (payload .entry)) filled (now (output .entry)) (now (ack .entry)) ⌝ }
 {
     let reply = decision.reply;
     write_reply(reply, ack);

@@ -6,7 +6,7 @@ use mathlib.Core.List.{List, [], _∷_}
 use native.Mathlib.Omega.{arith}
 use borrow.Author.Tests.{eq-eqb}
 use lib.Dec.{eqb}
-use Rattle.refusal.specs.Refusal.{lineOf}
+use Rattle.refusal.specs.Refusal.{entryOf}
 use Rattle.refusal.specs.Clauses.{anyOf}
 use Rattle.refusal.specs.Order.{Check, check, Verdict, accepted, refused, order, orElse, numbered, firstOf, verdict, decide}
 use Rattle.refusal.specs.declared.Refusal.{Refusal}
@@ -39,7 +39,7 @@ each-number (n ∷ ns) cs e =
     (first-accepted (numbered n cs) (firstOf ns cs) e, each-number ns cs (second-accepted (numbered n cs) (firstOf ns cs) e))
 
 -- every refusal's number stands in the order
-at-number : (cs : List Check) → verdict cs ≡ accepted → (r : Refusal) → numbered (lineOf r .number) cs ≡ accepted
+at-number : (cs : List Check) → verdict cs ≡ accepted → (r : Refusal) → numbered (entryOf r .number) cs ≡ accepted
 unfolding verdict order
 at-number cs e State = each-number order cs e .0
 at-number cs e Counts = each-number order cs e .1 .0
@@ -57,13 +57,13 @@ not-fired : (b : Bool) (r : Refusal) → cond b (refused r) accepted ≡ accepte
 not-fired false r e = refl
 not-fired true r e = let z : _≡_ {A = ℕ} 0 1 = cc in absurd (omega arith)
 
-each-false : (cs : List Check) → ((r : Refusal) → numbered (lineOf r .number) cs ≡ accepted) → NoneTrue cs
+each-false : (cs : List Check) → ((r : Refusal) → numbered (entryOf r .number) cs ≡ accepted) → NoneTrue cs
 unfolding numbered
 each-false [] h = tt
 each-false (c ∷ cs) h =
-    let n = lineOf (c .refusal) .number in
+    let n = entryOf (c .refusal) .number in
     let e : cond (eqb n n) (cond (c .fires) (refused (c .refusal)) accepted) accepted ≡ accepted = first-accepted _ (numbered n cs) (h (c .refusal)) in
-    (not-fired (c .fires) (c .refusal) (rw (eq-eqb n n refl) at e), each-false cs (λ r. second-accepted _ (numbered (lineOf r .number) cs) (h r)))
+    (not-fired (c .fires) (c .refusal) (rw (eq-eqb n n refl) at e), each-false cs (λ r. second-accepted _ (numbered (entryOf r .number) cs) (h r)))
 
 pub accepted-none-true : (cs : List Check) → verdict cs ≡ accepted → NoneTrue cs
 accepted-none-true cs e = each-false cs (at-number cs e)
@@ -75,7 +75,7 @@ either false = refl
 numbered-none-true : (n : ℕ) (cs : List Check) → NoneTrue cs → numbered n cs ≡ accepted
 unfolding numbered orElse
 numbered-none-true n [] h = refl
-numbered-none-true n (c ∷ cs) h = rw (h .0, either (eqb (lineOf (c .refusal) .number) n)) (numbered-none-true n cs (h .1))
+numbered-none-true n (c ∷ cs) h = rw (h .0, either (eqb (entryOf (c .refusal) .number) n)) (numbered-none-true n cs (h .1))
 
 first-none-true : (ns : List ℕ) (cs : List Check) → NoneTrue cs → firstOf ns cs ≡ accepted
 unfolding firstOf orElse
@@ -89,7 +89,7 @@ none-true-accepted cs h = first-none-true order cs h
 -- a check that is false changes nothing; one that is true beside checks that are false is answered
 skip-numbered : (n : ℕ) (r : Refusal) (cs : List Check) → numbered n (check false r ∷ cs) ≡ numbered n cs
 unfolding numbered orElse
-skip-numbered n r cs = rw (either (eqb (lineOf r .number) n))
+skip-numbered n r cs = rw (either (eqb (entryOf r .number) n))
 
 skip-first : (ns : List ℕ) (r : Refusal) (cs : List Check) → firstOf ns (check false r ∷ cs) ≡ firstOf ns cs
 unfolding firstOf
@@ -104,7 +104,7 @@ has : ℕ → List ℕ → Bool
 has n [] = false
 has n (m ∷ ms) = cond (eqb n m) true (has n ms)
 
-in-order : (r : Refusal) → has (lineOf r .number) order ≡ true
+in-order : (r : Refusal) → has (entryOf r .number) order ≡ true
 unfolding has order
 in-order (Short n) = refl
 in-order (Kind b) = refl
@@ -118,12 +118,12 @@ in-order State = refl
 in-order Time = refl
 in-order Roll = refl
 
-true-first : (ns : List ℕ) (r : Refusal) (cs : List Check) → NoneTrue cs → firstOf ns (check true r ∷ cs) ≡ cond (has (lineOf r .number) ns) (refused r) accepted
+true-first : (ns : List ℕ) (r : Refusal) (cs : List Check) → NoneTrue cs → firstOf ns (check true r ∷ cs) ≡ cond (has (entryOf r .number) ns) (refused r) accepted
 unfolding firstOf numbered orElse has
 true-first [] r cs h = refl
-true-first (n ∷ ns) r cs h = rw (numbered-none-true n cs h) (by-number (eqb (lineOf r .number) n) (true-first ns r cs h)) where
-  by-number : (b : Bool) → firstOf ns (check true r ∷ cs) ≡ cond (has (lineOf r .number) ns) (refused r) accepted
-      → orElse (orElse (cond b (refused r) accepted) accepted) (firstOf ns (check true r ∷ cs)) ≡ cond (cond b true (has (lineOf r .number) ns)) (refused r) accepted
+true-first (n ∷ ns) r cs h = rw (numbered-none-true n cs h) (by-number (eqb (entryOf r .number) n) (true-first ns r cs h)) where
+  by-number : (b : Bool) → firstOf ns (check true r ∷ cs) ≡ cond (has (entryOf r .number) ns) (refused r) accepted
+      → orElse (orElse (cond b (refused r) accepted) accepted) (firstOf ns (check true r ∷ cs)) ≡ cond (cond b true (has (entryOf r .number) ns)) (refused r) accepted
   by-number true e = refl
   by-number false e = e
 

@@ -3,7 +3,7 @@ use Prim.Native.Nat.{ℕ}
 use mathlib.Core.Bool.{Bool, cond}
 use mathlib.Core.List.{List, [], _∷_}
 use lib.Dec.{eqb}
-use Rattle.refusal.specs.Refusal.{lineOf}
+use Rattle.refusal.specs.Refusal.{entryOf}
 use Rattle.refusal.specs.declared.Refusal.{Refusal}
 
 unfoldable pub order : List ℕ
@@ -28,7 +28,7 @@ orElse (refused r) v = refused r
 -- the checks of one number
 unfoldable pub numbered : ℕ → List Check → Verdict
 numbered n [] = accepted
-numbered n (c ∷ cs) = orElse (cond (eqb (lineOf (c .refusal) .number) n) (cond (c .fires) (refused (c .refusal)) accepted) accepted) (numbered n cs)
+numbered n (c ∷ cs) = orElse (cond (eqb (entryOf (c .refusal) .number) n) (cond (c .fires) (refused (c .refusal)) accepted) accepted) (numbered n cs)
 
 unfoldable pub firstOf : List ℕ → List Check → Verdict
 firstOf [] cs = accepted

@@ -1,6 +1,6 @@
 // Why a call is turned away, for every layer: document 01, "Turned away".
 ghost use mathlib.Core.Path.{_≡_};
-ghost use Rattle.refusal.specs.Refusal.{lineOf};
+ghost use Rattle.refusal.specs.Refusal.{entryOf};
 
 // 2^60: a counter at this value or above it is refused.
 pub const COUNT_LIMIT: u64 = 1_152_921_504_606_846_976;
@@ -23,6 +23,22 @@ pub enum Refusal {
     Roll,
 }
 
+// Answers that are a bool, a count, or nothing but that the call is done.
+pub enum TestAnswer {
+    Is(bool),
+    Refused(Refusal),
+}
+
+pub enum CountAnswer {
+    Count(usize),
+    Refused(Refusal),
+}
+
+pub enum DoneAnswer {
+    Done,
+    Refused(Refusal),
+}
+
 // A word of at most seven letters, with zeros after it.
 pub struct Word {
     pub len: usize,
@@ -39,7 +55,7 @@ pub struct Values {
 impl Refusal {
     // The number of the line.
     pub fn number(self) -> u8
-        ensures { λ r. ⌜ r ≡ lineOf self .number ⌝ }
+        ensures { λ r. ⌜ r ≡ entryOf self .number ⌝ }
     {
         match self {
             Refusal::Short(_) => 1,
@@ -61,7 +77,7 @@ impl Refusal {
 
     // The word of the line, in ASCII.
     pub fn word(self) -> Word
-        ensures { λ r. ⌜ r ≡ lineOf self .word ⌝ }
+        ensures { λ r. ⌜ r ≡ entryOf self .word ⌝ }
     {
         match self {
             Refusal::Short(_) => Word {
@@ -115,7 +131,7 @@ impl Refusal {
     }
 
     pub fn values(self) -> Values
-        ensures { λ r. ⌜ r ≡ lineOf self .values ⌝ }
+        ensures { λ r. ⌜ r ≡ entryOf self .values ⌝ }
     {
         match self {
             Refusal::Short(length) => Values {

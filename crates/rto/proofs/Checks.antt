@@ -18,7 +18,7 @@ use Rattle.rto.specs.Rto.{durationsInBounds, factorsInBounds, configInBo
 use Rattle.rto.specs.declared.RtoConfig.{RtoConfig}
 use Rattle.rto.specs.declared.RtoStats.{RtoStats}
 use Rattle.rto.specs.declared.RtoEstimator.{RtoEstimator}
-use Rattle.rto.specs.declared.Rtt.the-variants.{Is}
+use Rattle.rto.specs.declared.MaybeDuration.the-variants.{Set}
 
 pub state-counts-time : {A : Type 0} (s n t : Bool) (f : Refusal → A) (a : A) → decide (verdict (check s State ∷ check n Counts ∷ check t Time ∷ [])) f a ≡ cond s (f State) (cond n (f Counts) (cond t (f Time) a))
 unfolding decide verdict firstOf numbered orElse order
@@ -88,7 +88,7 @@ count-below s e =
     record { sample = leb-false _ _ (a .0); karn = leb-false _ _ (b .0); timeout = leb-false _ _ (d .0); backoff = leb-false _ _ (d .1) }
 
 -- ---- held estimates
-pub estimates-fit : (s v : ℕ) → estimateBroken (Is s) (Is v) ≡ false → (s ≤ maxEstimate) × (v ≤ maxEstimate)
+pub estimates-fit : (s v : ℕ) → estimateBroken (Set s) (Set v) ≡ false → (s ≤ maxEstimate) × (v ≤ maxEstimate)
 estimates-fit s v e = let h = or-false (ltb maxEstimate s) (ltb maxEstimate v) e in (ltb-false _ _ (h .0), ltb-false _ _ (h .1))
 
 -- ---- the tests, one after the other

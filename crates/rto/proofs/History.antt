@@ -13,19 +13,19 @@ use lib.Ieee.{Float, fin, binary64, div, ofInt}
 use borrow.Author.Tests.{le-ltb, lt-ltb}
 use Rattle.duration.specs.Bounds.{maxDuration}
 use Rattle.refusal.specs.Counts.{countFull}
-use Rattle.rto.specs.Rto.{configInBounds, countsFull, heldTooLong, sampleTooLong, noStats, fresh, leastRtt, greatestRtt, sampled, acceptSample, rejectSample, takeSample, nextConsecutive, backOff, resetBackoff, updated, timedOut, backoffReset, updateRttDef, onTimeoutDef, resetBackoffDef, retryLimitDef, meanMs, meanRttMsDef}
+use Rattle.rto.specs.Rto.{configInBounds, countsFull, heldTooLong, sampleTooLong, noStats, fresh, leastRtt, greatestRtt, sampled, acceptSample, rejectSample, updateRttUnchecked, nextConsecutive, onTimeoutUnchecked, resetBackoffUnchecked, updateResult, timeoutResult, resetResult, updateRtt, onTimeout, resetBackoff, hasExceededRetryLimit, meanRttMsUnchecked, meanRttMs}
 use Rattle.rto.specs.History.{Call, sample, timeout, reset, step, afterCalls, updateRefused, timeoutRefused, resetRefused, isRefused, accepted, samples, rejections, timeouts, timeoutsSince, consecutive, mostConsecutive, least, greatest, latest, sumMs, full, tooLong}
 use Rattle.rto.specs.declared.RtoConfig.{RtoConfig}
 use Rattle.rto.specs.declared.RtoEstimator.{RtoEstimator}
-use Rattle.rto.specs.declared.Rtt.{Rtt}
-use Rattle.rto.specs.declared.Rtt.the-variants.{Is}
-use Rattle.rto.specs.declared.Updated.{Updated}
-use Rattle.rto.specs.declared.TimedOut.{TimedOut}
-use Rattle.rto.specs.declared.BackoffReset.{BackoffReset}
+use Rattle.rto.specs.declared.MaybeDuration.{MaybeDuration}
+use Rattle.rto.specs.declared.MaybeDuration.the-variants.{Set}
+use Rattle.rto.specs.declared.UpdateResult.{UpdateResult}
+use Rattle.rto.specs.declared.TimeoutResult.{TimeoutResult}
+use Rattle.rto.specs.declared.ResetResult.{ResetResult}
 use Rattle.rto.specs.declared.UpdateAnswer.the-variants.{Accepted}
-use Rattle.rto.specs.declared.TimeoutAnswer.the-variants.{Rto}
-use Rattle.rto.specs.declared.ResetAnswer.the-variants.{Done}
-use Rattle.rto.specs.declared.LimitAnswer.the-variants.{Exceeded}
+use Rattle.rto.specs.declared.RtoAnswer.the-variants.{Rto}
+use Rattle.refusal.specs.declared.DoneAnswer.the-variants.{Done}
+use Rattle.refusal.specs.declared.TestAnswer.the-variants.{Is}
 use Rattle.rto.specs.declared.MeanAnswer.the-variants.{Millis}
 use Rattle.refusal.specs.Order.{check, verdict, decide, firstOf, numbered, orElse, order}
 use Rattle.refusal.specs.declared.Refusal.{Refusal}
@@ -34,20 +34,20 @@ use Rattle.rto.proofs.Checks.{accepted-call, sample-in-time}
 use Rattle.rto.proofs.Keeps.{Doubles, Good, fresh-good, accept-good, reject-good, backoff-good, reset-good}
 
 -- ---- an accepted call
-pub update-accepted : (e : RtoEstimator) (d : ℕ) (again : Bool) → Good e → countsFull (e .stats) ≡ false → d ≤ maxDuration → updateRttDef e d again ≡ updated (takeSample e d again) (Accepted (not again))
-unfolding updateRttDef
-update-accepted e d again g n h = sym (accepted-call _ _ _ _ _ (updated (takeSample e d again) (Accepted (not again))) (g .state) n (in-time (g .times)) refl)
+pub update-accepted : (e : RtoEstimator) (d : ℕ) (again : Bool) → Good e → countsFull (e .stats) ≡ false → d ≤ maxDuration → updateRtt e d again ≡ updateResult (updateRttUnchecked e d again) (Accepted (not again))
+unfolding updateRtt
+update-accepted e d again g n h = sym (accepted-call _ _ _ _ _ (updateResult (updateRttUnchecked e d again) (Accepted (not again))) (g .state) n (in-time (g .times)) refl)
   where
     in-time : heldTooLong e ≡ false → sampleTooLong e d ≡ false
     in-time p = simp (p, le-ltb maxDuration d h)
 
-pub timeout-accepted : (e : RtoEstimator) → Good e → countsFull (e .stats) ≡ false → onTimeoutDef e ≡ timedOut (backOff e) (Rto (backOff e .«current_rto»))
-unfolding onTimeoutDef
-timeout-accepted e g n = sym (accepted-call _ _ _ _ _ (timedOut (backOff e) (Rto (backOff e .«current_rto»))) (g .state) n (g .times) refl)
+pub timeout-accepted : (e : RtoEstimator) → Good e → countsFull (e .stats) ≡ false → onTimeout e ≡ timeoutResult (onTimeoutUnchecked e) (Rto (onTimeoutUnchecked e .«current_rto»))
+unfolding onTimeout
+timeout-accepted e g n = sym (accepted-call _ _ _ _ _ (timeoutResult (onTimeoutUnchecked e) (Rto (onTimeoutUnchecked e .«current_rto»))) (g .state) n (g .times) refl)
 
-pub reset-accepted : (e : RtoEstimator) → Good e → countsFull (e .stats) ≡ false → resetBackoffDef e ≡ backoffReset (resetBackoff e) Done
-unfolding resetBackoffDef
-reset-accepted e g n = sym (accepted-call _ _ _ _ _ (backoffReset (resetBackoff e) Done) (g .state) n (g .times) refl)
+pub reset-accepted : (e : RtoEstimator) → Good e → countsFull (e .stats) ≡ false → resetBackoff e ≡ resetResult (resetBackoffUnchecked e) Done
+unfolding resetBackoff
+reset-accepted e g n = sym (accepted-call _ _ _ _ _ (resetResult (resetBackoffUnchecked e) Done) (g .state) n (g .times) refl)
 
 -- ---- one call more
 -- a count that saturates at M
@@ -74,12 +74,12 @@ module _ (f : ℕ → ℕ → ℕ) (assoc : (x y z : ℕ) → f (f x y) z ≡ f 
 least-more : (d : ℕ) (ds : List ℕ) → leastRtt (least ds) d ≡ least (d ∷ ds)
 unfolding least
 least-more d [] = refl
-least-more d (a ∷ ds) = ap Is (start-last min (λ x y z. omega arith) (λ x y z. omega arith) a d ds)
+least-more d (a ∷ ds) = ap Set (start-last min (λ x y z. omega arith) (λ x y z. omega arith) a d ds)
 
 greatest-more : (d : ℕ) (ds : List ℕ) → greatestRtt (greatest ds) d ≡ greatest (d ∷ ds)
 unfolding greatest
 greatest-more d [] = refl
-greatest-more d (a ∷ ds) = ap Is (start-last max (λ x y z. omega arith) (λ x y z. omega arith) a d ds)
+greatest-more d (a ∷ ds) = ap Set (start-last max (λ x y z. omega arith) (λ x y z. omega arith) a d ds)
 
 -- ---- the theorem
 pub record Tallied (c : RtoConfig) (xs : List Call) (e : RtoEstimator) : Type 0 where
@@ -110,8 +110,8 @@ accept-tallied c d xs e f h t =
       backoffs-are = t .backoffs-are;
       consecutive-are = refl;
       most-are = t .most-are ∙ sym (no-more (mostConsecutive xs) 0 zero-le);
-      least-is = ap (λ (z : Rtt). leastRtt z d) (t .least-is) ∙ least-more d (samples xs);
-      greatest-is = ap (λ (z : Rtt). greatestRtt z d) (t .greatest-is) ∙ greatest-more d (samples xs);
+      least-is = ap (λ (z : MaybeDuration). leastRtt z d) (t .least-is) ∙ least-more d (samples xs);
+      greatest-is = ap (λ (z : MaybeDuration). greatestRtt z d) (t .greatest-is) ∙ greatest-more d (samples xs);
       latest-is = refl;
       sum-is = rw (t .sum-is);
     }
@@ -135,8 +135,8 @@ reject-tallied c d xs e t =
       sum-is = t .sum-is;
     }
 
-timeout-tallied : (c : RtoConfig) (xs : List Call) (e : RtoEstimator) → Tallied c xs e → Tallied c (timeout ∷ xs) (backOff e)
-unfolding backOff samples rejections timeouts timeoutsSince mostConsecutive
+timeout-tallied : (c : RtoConfig) (xs : List Call) (e : RtoEstimator) → Tallied c xs e → Tallied c (timeout ∷ xs) (onTimeoutUnchecked e)
+unfolding onTimeoutUnchecked samples rejections timeouts timeoutsSince mostConsecutive
 timeout-tallied c xs e t =
     let n : nextConsecutive (e .«consecutive_timeouts») ≡ consecutive (timeout ∷ xs) = ap nextConsecutive (t .consecutive-are) ∙ saturated (timeoutsSince xs) 4294967295 in
     record {
@@ -155,8 +155,8 @@ timeout-tallied c xs e t =
       sum-is = t .sum-is;
     }
 
-reset-tallied : (c : RtoConfig) (xs : List Call) (e : RtoEstimator) → Tallied c xs e → Tallied c (reset ∷ xs) (resetBackoff e)
-unfolding resetBackoff samples rejections timeouts timeoutsSince mostConsecutive
+reset-tallied : (c : RtoConfig) (xs : List Call) (e : RtoEstimator) → Tallied c xs e → Tallied c (reset ∷ xs) (resetBackoffUnchecked e)
+unfolding resetBackoffUnchecked samples rejections timeouts timeoutsSince mostConsecutive
 reset-tallied c xs e t =
     record {
       good = reset-good e (t .good);
@@ -202,19 +202,19 @@ abbrev Told : RtoConfig → Call → List Call → RtoEstimator → Bool → Typ
 Told c x xs e b = Tallied c (cond b xs (x ∷ xs)) (step e x) × (isRefused e x ≡ b)
 
 step-told : (c : RtoConfig) (x : Call) (xs : List Call) (e : RtoEstimator) → Doubles c → Tallied c xs e → Told c x xs e (full xs || tooLong x)
-unfolding step isRefused updateRttDef onTimeoutDef resetBackoffDef
+unfolding step isRefused updateRtt onTimeout resetBackoff
 step-told c (sample d true) xs e f t =
     subst (λ (b : Bool). Told c (sample d true) xs e b) (ap₂ _||_ (full-is c xs e t) (held-in-time e (ltb maxDuration d) (t .good .times)))
-    (by-tests (λ (z : Updated) (b : Bool). Tallied c (cond b xs (sample d true ∷ xs)) (z .estimator) × (updateRefused (z .answer) ≡ b)) _ _ _ _ _ (t .good .state) (λ r. (t, refl)) (λ l. (reject-tallied c d xs e t, refl)))
+    (by-tests (λ (z : UpdateResult) (b : Bool). Tallied c (cond b xs (sample d true ∷ xs)) (z .estimator) × (updateRefused (z .answer) ≡ b)) _ _ _ _ _ (t .good .state) (λ r. (t, refl)) (λ l. (reject-tallied c d xs e t, refl)))
 step-told c (sample d false) xs e f t =
     subst (λ (b : Bool). Told c (sample d false) xs e b) (ap₂ _||_ (full-is c xs e t) (held-in-time e (ltb maxDuration d) (t .good .times)))
-    (by-tests (λ (z : Updated) (b : Bool). Tallied c (cond b xs (sample d false ∷ xs)) (z .estimator) × (updateRefused (z .answer) ≡ b)) _ _ _ _ _ (t .good .state) (λ r. (t, refl)) (λ l. (accept-tallied c d xs e f (sample-in-time e d l) t, refl)))
+    (by-tests (λ (z : UpdateResult) (b : Bool). Tallied c (cond b xs (sample d false ∷ xs)) (z .estimator) × (updateRefused (z .answer) ≡ b)) _ _ _ _ _ (t .good .state) (λ r. (t, refl)) (λ l. (accept-tallied c d xs e f (sample-in-time e d l) t, refl)))
 step-told c timeout xs e f t =
     subst (λ (b : Bool). Told c timeout xs e b) (ap₂ _||_ (full-is c xs e t) (t .good .times))
-    (by-tests (λ (z : TimedOut) (b : Bool). Tallied c (cond b xs (timeout ∷ xs)) (z .estimator) × (timeoutRefused (z .answer) ≡ b)) _ _ _ _ _ (t .good .state) (λ r. (t, refl)) (λ l. (timeout-tallied c xs e t, refl)))
+    (by-tests (λ (z : TimeoutResult) (b : Bool). Tallied c (cond b xs (timeout ∷ xs)) (z .estimator) × (timeoutRefused (z .answer) ≡ b)) _ _ _ _ _ (t .good .state) (λ r. (t, refl)) (λ l. (timeout-tallied c xs e t, refl)))
 step-told c reset xs e f t =
     subst (λ (b : Bool). Told c reset xs e b) (ap₂ _||_ (full-is c xs e t) (t .good .times))
-    (by-tests (λ (z : BackoffReset) (b : Bool). Tallied c (cond b xs (reset ∷ xs)) (z .estimator) × (resetRefused (z .answer) ≡ b)) _ _ _ _ _ (t .good .state) (λ r. (t, refl)) (λ l. (reset-tallied c xs e t, refl)))
+    (by-tests (λ (z : ResetResult) (b : Bool). Tallied c (cond b xs (reset ∷ xs)) (z .estimator) × (resetRefused (z .answer) ≡ b)) _ _ _ _ _ (t .good .state) (λ r. (t, refl)) (λ l. (reset-tallied c xs e t, refl)))
 
 pub tallies : (c : RtoConfig) (xs : List Call) → configInBounds c ≡ true → Doubles c → Tallied c (accepted xs) (afterCalls c xs)
 unfolding afterCalls accepted fresh noStats samples rejections timeouts timeoutsSince mostConsecutive least greatest latest sumMs
@@ -252,11 +252,11 @@ module _ (c : RtoConfig) (xs : List Call) (h : configInBounds c ≡ true) (f : D
   below = full-is c (accepted xs) (afterCalls c xs) t ∙ n
 
   -- the limit is reached by as many timeouts since the last accepted sample or reset
-  pub limit-reached : (most : ℕ) → retryLimitDef (afterCalls c xs) most ≡ Exceeded (leb most (consecutive (accepted xs)))
-  unfolding retryLimitDef
-  limit-reached most = sym (accepted-call _ _ _ _ _ (Exceeded (leb most (consecutive (accepted xs)))) (t .good .state) below (t .good .times) (ap (λ (k : ℕ). Exceeded (leb most k)) (sym (t .consecutive-are))))
+  pub limit-reached : (most : ℕ) → hasExceededRetryLimit (afterCalls c xs) most ≡ Is (leb most (consecutive (accepted xs)))
+  unfolding hasExceededRetryLimit
+  limit-reached most = sym (accepted-call _ _ _ _ _ (Is (leb most (consecutive (accepted xs)))) (t .good .state) below (t .good .times) (ap (λ (k : ℕ). Is (leb most k)) (sym (t .consecutive-are))))
 
-  pub mean-is : meanRttMsDef (afterCalls c xs) ≡ Millis (mean (length (samples (accepted xs))) (sumMs (samples (accepted xs))))
-  unfolding meanRttMsDef meanMs
+  pub mean-is : meanRttMs (afterCalls c xs) ≡ Millis (mean (length (samples (accepted xs))) (sumMs (samples (accepted xs))))
+  unfolding meanRttMs meanRttMsUnchecked
   mean-is =
       sym (accepted-call _ _ _ _ _ (Millis (mean (length (samples (accepted xs))) (sumMs (samples (accepted xs))))) (t .good .state) below (t .good .times) (ap₂ (λ (k : ℕ) (s : Float). Millis (mean k s)) (sym (t .samples-are)) (sym (t .sum-is))))

@@ -10,12 +10,12 @@ use borrow.Author.Tests.{le-ltb, ltb-false}
 use Rattle.refusal.proofs.Laws.{or-false}
 use Rattle.duration.specs.Bounds.{maxDuration, maxEstimate}
 use Rattle.rtt.proofs.Range.{first-srtt-range, first-rttvar-range, next-srtt-range, next-rttvar-range}
-use Rattle.rto.specs.Rto.{configInBounds, estimateBroken, stateBroken, rttTooLong, heldTooLong, limited, noStats, fresh, estimateFor, leastRtt, greatestRtt, sampled, acceptSample, rejectSample, backOff, resetBackoff, estimatorOf}
+use Rattle.rto.specs.Rto.{configInBounds, estimateBroken, stateBroken, rttTooLong, heldTooLong, limited, noStats, fresh, estimateFor, leastRtt, greatestRtt, sampled, acceptSample, rejectSample, onTimeoutUnchecked, resetBackoffUnchecked, estimatorOf}
 use Rattle.rto.specs.declared.RtoConfig.{RtoConfig}
 use Rattle.rto.specs.declared.RtoStats.{RtoStats}
 use Rattle.rto.specs.declared.RtoEstimator.{RtoEstimator}
-use Rattle.rto.specs.declared.Rtt.{Rtt}
-use Rattle.rto.specs.declared.Rtt.the-variants.{Unset, Is}
+use Rattle.rto.specs.declared.MaybeDuration.{MaybeDuration}
+use Rattle.rto.specs.declared.MaybeDuration.the-variants.{Unset, Set}
 use Rattle.rto.proofs.Checks.{Config, config-of, estimates-fit, broken-config, broken-estimate}
 
 -- the doubles of a setup are doubles
@@ -30,32 +30,32 @@ pub record Good (e : RtoEstimator) : Type 0 where
   pub times : heldTooLong e ≡ false
 
 -- ---- line 9
-state-good : (c : RtoConfig) (s v : Rtt) (rto base : ℕ) (b : Bool) (n : ℕ) (st : RtoStats) → configInBounds c ≡ true → estimateBroken s v ≡ false → stateBroken (estimatorOf c s v rto base b n st) ≡ false
+state-good : (c : RtoConfig) (s v : MaybeDuration) (rto base : ℕ) (b : Bool) (n : ℕ) (st : RtoStats) → configInBounds c ≡ true → estimateBroken s v ≡ false → stateBroken (estimatorOf c s v rto base b n st) ≡ false
 unfolding stateBroken
 state-good c s v rto base b n st p q = simp (p, q)
 
 -- SRTT and RTTVAR stay within 86,401 s
-pub estimate-range : (c : RtoConfig) (s v : Rtt) (d : ℕ) → Config c → Doubles c → estimateBroken s v ≡ false → d ≤ maxDuration → (estimateFor c s v d .srtt ≤ maxEstimate) × (estimateFor c s v d .rttvar ≤ maxEstimate)
+pub estimate-range : (c : RtoConfig) (s v : MaybeDuration) (d : ℕ) → Config c → Doubles c → estimateBroken s v ≡ false → d ≤ maxDuration → (estimateFor c s v d .srtt ≤ maxEstimate) × (estimateFor c s v d .rttvar ≤ maxEstimate)
 unfolding estimateFor
 estimate-range c Unset Unset d g f e h =
     let l : d ≤ maxEstimate = le-trans h (lit≤ tt) in (
       first-srtt-range (c .k) (c .«rto_multiplier») (c .granularity) (f .k) (f .multiplier) (g .k) (g .multiplier) (g .granularity) d l,
       first-rttvar-range (c .k) (c .«rto_multiplier») (c .granularity) (f .k) (f .multiplier) (g .k) (g .multiplier) (g .granularity) d l,
     )
-estimate-range c Unset (Is v) d g f e h = absurd (true≢false e)
-estimate-range c (Is s) Unset d g f e h = absurd (true≢false e)
-estimate-range c (Is s) (Is v) d g f e h =
+estimate-range c Unset (Set v) d g f e h = absurd (true≢false e)
+estimate-range c (Set s) Unset d g f e h = absurd (true≢false e)
+estimate-range c (Set s) (Set v) d g f e h =
     let l : d ≤ maxEstimate = le-trans h (lit≤ tt) in
     let x = estimates-fit s v e in (
       next-srtt-range (c .k) (c .«rto_multiplier») (c .granularity) (f .k) (f .multiplier) (g .k) (g .multiplier) (g .granularity) (c .alpha) (c .beta) (f .alpha) (f .beta) (g .alpha) (g .beta) s v d (x .0) (x .1) l,
       next-rttvar-range (c .k) (c .«rto_multiplier») (c .granularity) (f .k) (f .multiplier) (g .k) (g .multiplier) (g .granularity) (c .alpha) (c .beta) (f .alpha) (f .beta) (g .alpha) (g .beta) s v d (x .0) (x .1) l,
     )
 
-fits-both : (s v : ℕ) → s ≤ maxEstimate → v ≤ maxEstimate → estimateBroken (Is s) (Is v) ≡ false
+fits-both : (s v : ℕ) → s ≤ maxEstimate → v ≤ maxEstimate → estimateBroken (Set s) (Set v) ≡ false
 fits-both s v p q = simp (le-ltb maxEstimate s p, le-ltb maxEstimate v q)
 
 -- ---- line 10
-times-good : (c : RtoConfig) (s v : Rtt) (rto base : ℕ) (b : Bool) (n : ℕ) (st : RtoStats) → rto ≤ maxDuration → base ≤ maxDuration → rttTooLong (st .«min_rtt») ≡ false → rttTooLong (st .«max_rtt») ≡ false → rttTooLong (st .«latest_rtt») ≡ false → heldTooLong (estimatorOf c s v rto base b n st) ≡ false
+times-good : (c : RtoConfig) (s v : MaybeDuration) (rto base : ℕ) (b : Bool) (n : ℕ) (st : RtoStats) → rto ≤ maxDuration → base ≤ maxDuration → rttTooLong (st .«min_rtt») ≡ false → rttTooLong (st .«max_rtt») ≡ false → rttTooLong (st .«latest_rtt») ≡ false → heldTooLong (estimatorOf c s v rto base b n st) ≡ false
 unfolding heldTooLong
 times-good c s v rto base b n st p q x y z = simp (le-ltb maxDuration rto p, le-ltb maxDuration base q, x, y, z)
 
@@ -78,16 +78,16 @@ times-of e h =
     let l = or-false y z (d .1) in
     record { current = ltb-false _ _ (a .0); base = ltb-false _ _ (b .0); least = d .0; most = l .0; latest = l .1 }
 
-least-in : (r : Rtt) (d : ℕ) → rttTooLong r ≡ false → d ≤ maxDuration → rttTooLong (leastRtt r d) ≡ false
+least-in : (r : MaybeDuration) (d : ℕ) → rttTooLong r ≡ false → d ≤ maxDuration → rttTooLong (leastRtt r d) ≡ false
 least-in Unset d p h = le-ltb _ _ h
-least-in (Is m) d p h = le-ltb maxDuration (min m d) (smaller m d h)
+least-in (Set m) d p h = le-ltb maxDuration (min m d) (smaller m d h)
   where
     smaller : (m d : ℕ) → d ≤ maxDuration → min m d ≤ maxDuration
     smaller m d h = omega arith
 
-greatest-in : (r : Rtt) (d : ℕ) → rttTooLong r ≡ false → d ≤ maxDuration → rttTooLong (greatestRtt r d) ≡ false
+greatest-in : (r : MaybeDuration) (d : ℕ) → rttTooLong r ≡ false → d ≤ maxDuration → rttTooLong (greatestRtt r d) ≡ false
 greatest-in Unset d p h = le-ltb _ _ h
-greatest-in (Is m) d p h = le-ltb maxDuration (max m d) (larger m d (ltb-false _ _ p) h)
+greatest-in (Set m) d p h = le-ltb maxDuration (max m d) (larger m d (ltb-false _ _ p) h)
   where
     larger : (m d : ℕ) → m ≤ maxDuration → d ≤ maxDuration → max m d ≤ maxDuration
     larger m d g h = omega arith
@@ -124,8 +124,8 @@ accept-good e d f g h =
     let r = estimate-range c (e .srtt) (e .rttvar) d cfg f (broken-estimate e (g .state)) h in
     let l : limited c (x .rto) ≤ maxDuration = le-trans (limited-most c (x .rto)) (cfg .most) in
     record {
-      state = state-good c (Is (x .srtt)) (Is (x .rttvar)) _ _ _ _ _ (broken-config e (g .state)) (fits-both (x .srtt) (x .rttvar) (r .0) (r .1));
-      times = times-good c (Is (x .srtt)) (Is (x .rttvar)) _ _ _ _ _ l l (least-in (e .stats .«min_rtt») d (t .least) h) (greatest-in (e .stats .«max_rtt») d (t .most) h) (le-ltb _ _ h);
+      state = state-good c (Set (x .srtt)) (Set (x .rttvar)) _ _ _ _ _ (broken-config e (g .state)) (fits-both (x .srtt) (x .rttvar) (r .0) (r .1));
+      times = times-good c (Set (x .srtt)) (Set (x .rttvar)) _ _ _ _ _ l l (least-in (e .stats .«min_rtt») d (t .least) h) (greatest-in (e .stats .«max_rtt») d (t .most) h) (le-ltb _ _ h);
     }
 
 pub reject-good : (e : RtoEstimator) → Good e → Good (rejectSample e)
@@ -137,8 +137,8 @@ reject-good e g =
       times = times-good (e .config) (e .srtt) (e .rttvar) _ _ _ _ _ (t .current) (t .base) (t .least) (t .most) (t .latest);
     }
 
-pub backoff-good : (e : RtoEstimator) → Good e → Good (backOff e)
-unfolding backOff
+pub backoff-good : (e : RtoEstimator) → Good e → Good (onTimeoutUnchecked e)
+unfolding onTimeoutUnchecked
 backoff-good e g =
     let t = times-of e (g .times) in
     let cfg = config-of (e .config) (broken-config e (g .state)) in
@@ -147,8 +147,8 @@ backoff-good e g =
       times = times-good (e .config) (e .srtt) (e .rttvar) _ _ _ _ _ (le-trans (limited-most (e .config) (e .«current_rto» * 2)) (cfg .most)) (t .base) (t .least) (t .most) (t .latest);
     }
 
-pub reset-good : (e : RtoEstimator) → Good e → Good (resetBackoff e)
-unfolding resetBackoff
+pub reset-good : (e : RtoEstimator) → Good e → Good (resetBackoffUnchecked e)
+unfolding resetBackoffUnchecked
 reset-good e g =
     let t = times-of e (g .times) in
     record {

@@ -8,10 +8,10 @@ use lib.Ieee.{Float, binary64, add, mul, div}
 use Rattle.duration.specs.Bounds.{maxDuration}
 use Rattle.rtt.proofs.FirstSample.{same-sample, half-sample}
 use Rattle.rtt.specs.Rtt.{toMs, fromMs, two64, larger, weighted, distance, firstEstimate, nextEstimate}
-use Rattle.rto.specs.Rto.{stateBroken, countsFull, limited, fresh, estimateFor, acceptSample, rejectSample, backOff, resetBackoff, updated, updateRttDef}
+use Rattle.rto.specs.Rto.{stateBroken, countsFull, limited, fresh, estimateFor, acceptSample, rejectSample, onTimeoutUnchecked, resetBackoffUnchecked, updateResult, updateRtt}
 use Rattle.rto.specs.declared.RtoConfig.{RtoConfig}
 use Rattle.rto.specs.declared.RtoEstimator.{RtoEstimator}
-use Rattle.rto.specs.declared.Rtt.the-variants.{Unset, Is}
+use Rattle.rto.specs.declared.MaybeDuration.the-variants.{Unset, Set}
 use Rattle.rto.specs.declared.UpdateAnswer.the-variants.{Accepted}
 use Rattle.rto.proofs.Checks.{config-of, broken-config}
 use Rattle.rto.proofs.Keeps.{Good, limited-most, limited-least}
@@ -49,15 +49,15 @@ module _ (c : RtoConfig) (s v r : ℕ) where
   abbrev newSrtt : Float
   newSrtt = weighted (c .alpha) (toMs s) (toMs r)
 
-  pub next-rttvar : estimateFor c (Is s) (Is v) r .rttvar ≡ fromMs newRttvar
+  pub next-rttvar : estimateFor c (Set s) (Set v) r .rttvar ≡ fromMs newRttvar
   unfolding estimateFor nextEstimate
   next-rttvar = refl
 
-  pub next-srtt : estimateFor c (Is s) (Is v) r .srtt ≡ fromMs newSrtt
+  pub next-srtt : estimateFor c (Set s) (Set v) r .srtt ≡ fromMs newSrtt
   unfolding estimateFor nextEstimate
   next-srtt = refl
 
-  pub next-rto : estimateFor c (Is s) (Is v) r .rto ≡ fromMs (mul binary64 (add binary64 newSrtt (larger (mul binary64 (c .k) newRttvar) (toMs (c .granularity)))) (c .«rto_multiplier»))
+  pub next-rto : estimateFor c (Set s) (Set v) r .rto ≡ fromMs (mul binary64 (add binary64 newSrtt (larger (mul binary64 (c .k) newRttvar) (toMs (c .granularity)))) (c .«rto_multiplier»))
   unfolding estimateFor nextEstimate
   next-rto = refl
 
@@ -74,12 +74,12 @@ module _ (e : RtoEstimator) (b : stateBroken e ≡ false) where
   unfolding acceptSample
   sample-least d = limited-least (e .config) _ ordered
 
-  pub timeout-most : backOff e .«current_rto» ≤ e .config .«max_rto»
-  unfolding backOff
+  pub timeout-most : onTimeoutUnchecked e .«current_rto» ≤ e .config .«max_rto»
+  unfolding onTimeoutUnchecked
   timeout-most = limited-most (e .config) (e .«current_rto» * 2)
 
-  pub timeout-least : e .config .«min_rto» ≤ backOff e .«current_rto»
-  unfolding backOff
+  pub timeout-least : e .config .«min_rto» ≤ onTimeoutUnchecked e .«current_rto»
+  unfolding onTimeoutUnchecked
   timeout-least = limited-least (e .config) (e .«current_rto» * 2) ordered
 
 -- e with another `karn_rejected_count`
@@ -112,20 +112,20 @@ pub rejections-alone : (e : RtoEstimator) → withRejections e (e .stats .«karn
 rejections-alone e = refl
 
 -- (3), Karn: a call with a retransmitted sample that no check refuses leaves all but that counter, which is one higher
-pub karn : (e : RtoEstimator) (d : ℕ) → Good e → countsFull (e .stats) ≡ false → d ≤ maxDuration → updateRttDef e d true ≡ updated (withRejections e (e .stats .«karn_rejected_count» + 1)) (Accepted false)
+pub karn : (e : RtoEstimator) (d : ℕ) → Good e → countsFull (e .stats) ≡ false → d ≤ maxDuration → updateRtt e d true ≡ updateResult (withRejections e (e .stats .«karn_rejected_count» + 1)) (Accepted false)
 unfolding rejectSample
 karn e d g n h = update-accepted e d true g n h
 
 -- (5.5): twice the RTO, then the limits
-pub doubled : (e : RtoEstimator) → backOff e .«current_rto» ≡ limited (e .config) (e .«current_rto» * 2)
-unfolding backOff
+pub doubled : (e : RtoEstimator) → onTimeoutUnchecked e .«current_rto» ≡ limited (e .config) (e .«current_rto» * 2)
+unfolding onTimeoutUnchecked
 doubled e = refl
 
 -- `reset_backoff` brings back the RTO before the timeouts: after `fresh` that is the initial one, outside the limits too
-pub reset-rto : (e : RtoEstimator) → resetBackoff e .«current_rto» ≡ e .«base_rto»
-unfolding resetBackoff
+pub reset-rto : (e : RtoEstimator) → resetBackoffUnchecked e .«current_rto» ≡ e .«base_rto»
+unfolding resetBackoffUnchecked
 reset-rto e = refl
 
-pub reset-to-initial : (c : RtoConfig) → resetBackoff (backOff (fresh c)) .«current_rto» ≡ c .«initial_rto»
-unfolding resetBackoff backOff fresh
+pub reset-to-initial : (c : RtoConfig) → resetBackoffUnchecked (onTimeoutUnchecked (fresh c)) .«current_rto» ≡ c .«initial_rto»
+unfolding resetBackoffUnchecked onTimeoutUnchecked fresh
 reset-to-initial c = refl

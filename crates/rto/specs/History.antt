@@ -11,12 +11,12 @@ use Rattle.duration.specs.Bounds.{maxDuration}
 use Rattle.rtt.specs.Rtt.{toMs}
 use Rattle.rto.specs.declared.RtoConfig.{RtoConfig}
 use Rattle.rto.specs.declared.RtoEstimator.{RtoEstimator}
-use Rattle.rto.specs.declared.Rtt.{Rtt}
-use Rattle.rto.specs.declared.Rtt.the-variants.{Unset, Is}
+use Rattle.rto.specs.declared.MaybeDuration.{MaybeDuration}
+use Rattle.rto.specs.declared.MaybeDuration.the-variants.{Unset, Set}
 use Rattle.rto.specs.declared.UpdateAnswer as Up
-use Rattle.rto.specs.declared.TimeoutAnswer as Ti
-use Rattle.rto.specs.declared.ResetAnswer as Re
-use Rattle.rto.specs.Rto.{fresh, updateRttDef, onTimeoutDef, resetBackoffDef}
+use Rattle.rto.specs.declared.RtoAnswer as Ti
+use Rattle.refusal.specs.declared.DoneAnswer as Re
+use Rattle.rto.specs.Rto.{fresh, updateRtt, onTimeout, resetBackoff}
 
 -- `update_rtt` with the sample and whether it was retransmitted, `on_timeout`, `reset_backoff`
 pub data Call : Type 0 where
@@ -25,9 +25,9 @@ pub data Call : Type 0 where
   reset : Call
 
 unfoldable pub step : RtoEstimator → Call → RtoEstimator
-step e (sample d again) = updateRttDef e d again .estimator
-step e timeout = onTimeoutDef e .estimator
-step e reset = resetBackoffDef e .estimator
+step e (sample d again) = updateRtt e d again .estimator
+step e timeout = onTimeout e .estimator
+step e reset = resetBackoff e .estimator
 
 unfoldable pub afterCalls : RtoConfig → List Call → RtoEstimator
 afterCalls c [] = fresh c
@@ -38,18 +38,18 @@ abbrev pub updateRefused : Up.UpdateAnswer → Bool
 updateRefused (Up.the-variants.Accepted b) = false
 updateRefused (Up.the-variants.Refused r) = true
 
-abbrev pub timeoutRefused : Ti.TimeoutAnswer → Bool
+abbrev pub timeoutRefused : Ti.RtoAnswer → Bool
 timeoutRefused (Ti.the-variants.Rto n) = false
 timeoutRefused (Ti.the-variants.Refused r) = true
 
-abbrev pub resetRefused : Re.ResetAnswer → Bool
+abbrev pub resetRefused : Re.DoneAnswer → Bool
 resetRefused Re.the-variants.Done = false
 resetRefused (Re.the-variants.Refused r) = true
 
 unfoldable pub isRefused : RtoEstimator → Call → Bool
-isRefused e (sample d again) = updateRefused (updateRttDef e d again .answer)
-isRefused e timeout = timeoutRefused (onTimeoutDef e .answer)
-isRefused e reset = resetRefused (resetBackoffDef e .answer)
+isRefused e (sample d again) = updateRefused (updateRtt e d again .answer)
+isRefused e timeout = timeoutRefused (onTimeout e .answer)
+isRefused e reset = resetRefused (resetBackoff e .answer)
 
 -- ---- the tallies of a list of accepted calls; nothing from here on looks at an estimator
 -- the samples but the retransmitted ones, the latest first
@@ -91,17 +91,17 @@ mostConsecutive [] = 0
 mostConsecutive (x ∷ xs) = max (mostConsecutive xs) (consecutive (x ∷ xs))
 
 -- ---- of the samples
-unfoldable pub least : List ℕ → Rtt
+unfoldable pub least : List ℕ → MaybeDuration
 least [] = Unset
-least (d ∷ ds) = Is (foldr min d ds)
+least (d ∷ ds) = Set (foldr min d ds)
 
-unfoldable pub greatest : List ℕ → Rtt
+unfoldable pub greatest : List ℕ → MaybeDuration
 greatest [] = Unset
-greatest (d ∷ ds) = Is (foldr max d ds)
+greatest (d ∷ ds) = Set (foldr max d ds)
 
-unfoldable pub latest : List ℕ → Rtt
+unfoldable pub latest : List ℕ → MaybeDuration
 latest [] = Unset
-latest (d ∷ ds) = Is d
+latest (d ∷ ds) = Set d
 
 -- the running sum in ms, from 0.0, first sample first
 unfoldable pub sumMs : List ℕ → Float

@@ -15,18 +15,18 @@ use Rattle.refusal.specs.declared.Refusal.the-variants.{State, Counts, Time, Se
 use Rattle.rto.specs.declared.RtoConfig.{RtoConfig}
 use Rattle.rto.specs.declared.RtoStats.{RtoStats}
 use Rattle.rto.specs.declared.RtoEstimator.{RtoEstimator}
-use Rattle.rto.specs.declared.Rtt.{Rtt}
-use Rattle.rto.specs.declared.Rtt.the-variants.{Unset, Is}
-use Rattle.rto.specs.declared.Making as Mk
-use Rattle.rto.specs.declared.Making.{Making}
+use Rattle.rto.specs.declared.MaybeDuration.{MaybeDuration}
+use Rattle.rto.specs.declared.MaybeDuration.the-variants.{Unset, Set}
+use Rattle.rto.specs.declared.EstimatorAnswer as Mk
+use Rattle.rto.specs.declared.EstimatorAnswer.{EstimatorAnswer}
 use Rattle.rto.specs.declared.UpdateAnswer as Up
-use Rattle.rto.specs.declared.Updated.{Updated}
-use Rattle.rto.specs.declared.TimeoutAnswer as Ti
-use Rattle.rto.specs.declared.TimedOut.{TimedOut}
-use Rattle.rto.specs.declared.ResetAnswer as Re
-use Rattle.rto.specs.declared.BackoffReset.{BackoffReset}
-use Rattle.rto.specs.declared.LimitAnswer as Li
-use Rattle.rto.specs.declared.LimitAnswer.{LimitAnswer}
+use Rattle.rto.specs.declared.UpdateResult.{UpdateResult}
+use Rattle.rto.specs.declared.RtoAnswer as Ti
+use Rattle.rto.specs.declared.TimeoutResult.{TimeoutResult}
+use Rattle.refusal.specs.declared.DoneAnswer as Re
+use Rattle.rto.specs.declared.ResetResult.{ResetResult}
+use Rattle.refusal.specs.declared.TestAnswer as Li
+use Rattle.refusal.specs.declared.TestAnswer.{TestAnswer}
 use Rattle.rto.specs.declared.MeanAnswer as Me
 use Rattle.rto.specs.declared.MeanAnswer.{MeanAnswer}
 
@@ -45,11 +45,11 @@ unfoldable pub configInBounds : RtoConfig → Bool
 configInBounds c = durationsInBounds c && factorsInBounds c
 
 -- ---- line 9: "a held setup out of bounds; SRTT or RTTVAR above 86,401 s or only one set"
-abbrev pub estimateBroken : Rtt → Rtt → Bool
+abbrev pub estimateBroken : MaybeDuration → MaybeDuration → Bool
 estimateBroken Unset Unset = false
-estimateBroken Unset (Is v) = true
-estimateBroken (Is s) Unset = true
-estimateBroken (Is s) (Is v) = ltb maxEstimate s || ltb maxEstimate v
+estimateBroken Unset (Set v) = true
+estimateBroken (Set s) Unset = true
+estimateBroken (Set s) (Set v) = ltb maxEstimate s || ltb maxEstimate v
 
 unfoldable pub stateBroken : RtoEstimator → Bool
 stateBroken e = not (configInBounds (e .config)) || estimateBroken (e .srtt) (e .rttvar)
@@ -59,9 +59,9 @@ unfoldable pub countsFull : RtoStats → Bool
 countsFull s = countFull (s .«sample_count») || (countFull (s .«karn_rejected_count») || (countFull (s .«timeout_count») || countFull (s .«backoff_count»)))
 
 -- ---- line 10
-abbrev pub rttTooLong : Rtt → Bool
+abbrev pub rttTooLong : MaybeDuration → Bool
 rttTooLong Unset = false
-rttTooLong (Is d) = ltb maxDuration d
+rttTooLong (Set d) = ltb maxDuration d
 
 unfoldable pub heldTooLong : RtoEstimator → Bool
 heldTooLong e =
@@ -78,11 +78,11 @@ configOf i lo hi g a b k m = record { «initial_rto» = i; «min_rto» = lo; «m
 unfoldable pub defaultConfig : RtoConfig
 defaultConfig = configOf 1000000000 200000000 60000000000 1000000 (fin false 1 (negsuc 2)) (fin false 1 (negsuc 1)) (fin false 1 (pos 2)) (fin false 1 (pos 0))
 
-abbrev pub statsOf : ℕ → ℕ → ℕ → ℕ → Rtt → Rtt → Float → Rtt → ℕ → RtoStats
+abbrev pub statsOf : ℕ → ℕ → ℕ → ℕ → MaybeDuration → MaybeDuration → Float → MaybeDuration → ℕ → RtoStats
 statsOf n k t b lo hi sum last m =
     record { «sample_count» = n; «karn_rejected_count» = k; «timeout_count» = t; «backoff_count» = b; «min_rtt» = lo; «max_rtt» = hi; «sum_rtt_millis» = sum; «latest_rtt» = last; «max_consecutive_timeouts» = m }
 
-abbrev pub estimatorOf : RtoConfig → Rtt → Rtt → ℕ → ℕ → Bool → ℕ → RtoStats → RtoEstimator
+abbrev pub estimatorOf : RtoConfig → MaybeDuration → MaybeDuration → ℕ → ℕ → Bool → ℕ → RtoStats → RtoEstimator
 estimatorOf c s v rto base b n st =
     record { config = c; srtt = s; rttvar = v; «current_rto» = rto; «base_rto» = base; «in_backoff» = b; «consecutive_timeouts» = n; stats = st }
 
@@ -98,28 +98,28 @@ fresh c = estimatorOf c Unset Unset (c .«initial_rto») (c .«initial_rto») fa
 abbrev pub limited : RtoConfig → ℕ → ℕ
 limited c rto = min (max rto (c .«min_rto»)) (c .«max_rto»)
 
-unfoldable pub estimateFor : RtoConfig → Rtt → Rtt → ℕ → Estimate
+unfoldable pub estimateFor : RtoConfig → MaybeDuration → MaybeDuration → ℕ → Estimate
 estimateFor c Unset v sample = firstEstimate (c .k) (c .«rto_multiplier») (c .granularity) sample
-estimateFor c (Is s) Unset sample = firstEstimate (c .k) (c .«rto_multiplier») (c .granularity) sample
-estimateFor c (Is s) (Is v) sample = nextEstimate (c .alpha) (c .beta) (c .k) (c .«rto_multiplier») (c .granularity) s v sample
+estimateFor c (Set s) Unset sample = firstEstimate (c .k) (c .«rto_multiplier») (c .granularity) sample
+estimateFor c (Set s) (Set v) sample = nextEstimate (c .alpha) (c .beta) (c .k) (c .«rto_multiplier») (c .granularity) s v sample
 
-abbrev pub leastRtt : Rtt → ℕ → Rtt
-leastRtt Unset d = Is d
-leastRtt (Is m) d = Is (min m d)
+abbrev pub leastRtt : MaybeDuration → ℕ → MaybeDuration
+leastRtt Unset d = Set d
+leastRtt (Set m) d = Set (min m d)
 
-abbrev pub greatestRtt : Rtt → ℕ → Rtt
-greatestRtt Unset d = Is d
-greatestRtt (Is m) d = Is (max m d)
+abbrev pub greatestRtt : MaybeDuration → ℕ → MaybeDuration
+greatestRtt Unset d = Set d
+greatestRtt (Set m) d = Set (max m d)
 
 unfoldable pub sampled : RtoStats → ℕ → RtoStats
 sampled s d =
     statsOf (s .«sample_count» + 1) (s .«karn_rejected_count») (s .«timeout_count») (s .«backoff_count») (leastRtt (s .«min_rtt») d) (greatestRtt (s .«max_rtt») d)
-    (add binary64 (s .«sum_rtt_millis») (toMs d)) (Is d) (s .«max_consecutive_timeouts»)
+    (add binary64 (s .«sum_rtt_millis») (toMs d)) (Set d) (s .«max_consecutive_timeouts»)
 
 unfoldable pub acceptSample : RtoEstimator → ℕ → RtoEstimator
 acceptSample e d =
     let x = estimateFor (e .config) (e .srtt) (e .rttvar) d in
-    estimatorOf (e .config) (Is (x .srtt)) (Is (x .rttvar)) (limited (e .config) (x .rto)) (limited (e .config) (x .rto)) false 0 (sampled (e .stats) d)
+    estimatorOf (e .config) (Set (x .srtt)) (Set (x .rttvar)) (limited (e .config) (x .rto)) (limited (e .config) (x .rto)) false 0 (sampled (e .stats) d)
 
 -- Karn's algorithm, RFC 6298 section 3: a retransmitted sample changes one counter only
 unfoldable pub rejectSample : RtoEstimator → RtoEstimator
@@ -128,60 +128,60 @@ rejectSample e =
     estimatorOf (e .config) (e .srtt) (e .rttvar) (e .«current_rto») (e .«base_rto») (e .«in_backoff») (e .«consecutive_timeouts»)
     (statsOf (s .«sample_count») (s .«karn_rejected_count» + 1) (s .«timeout_count») (s .«backoff_count») (s .«min_rtt») (s .«max_rtt») (s .«sum_rtt_millis») (s .«latest_rtt») (s .«max_consecutive_timeouts»))
 
-abbrev pub takeSample : RtoEstimator → ℕ → Bool → RtoEstimator
-takeSample e d again = cond again (rejectSample e) (acceptSample e d)
+abbrev pub updateRttUnchecked : RtoEstimator → ℕ → Bool → RtoEstimator
+updateRttUnchecked e d again = cond again (rejectSample e) (acceptSample e d)
 
 -- ---- a timeout: (5.5) doubles, then the limits
 abbrev pub nextConsecutive : ℕ → ℕ
 nextConsecutive n = min (n + 1) 4294967295
 
-unfoldable pub backOff : RtoEstimator → RtoEstimator
-backOff e =
+unfoldable pub onTimeoutUnchecked : RtoEstimator → RtoEstimator
+onTimeoutUnchecked e =
     let s = e .stats in
     let n = nextConsecutive (e .«consecutive_timeouts») in
     estimatorOf (e .config) (e .srtt) (e .rttvar) (limited (e .config) (e .«current_rto» * 2)) (e .«base_rto») true n
     (statsOf (s .«sample_count») (s .«karn_rejected_count») (s .«timeout_count» + 1) (s .«backoff_count» + 1) (s .«min_rtt») (s .«max_rtt») (s .«sum_rtt_millis») (s .«latest_rtt») (max (s .«max_consecutive_timeouts») n))
 
-unfoldable pub resetBackoff : RtoEstimator → RtoEstimator
-resetBackoff e = estimatorOf (e .config) (e .srtt) (e .rttvar) (e .«base_rto») (e .«base_rto») false 0 (e .stats)
+unfoldable pub resetBackoffUnchecked : RtoEstimator → RtoEstimator
+resetBackoffUnchecked e = estimatorOf (e .config) (e .srtt) (e .rttvar) (e .«base_rto») (e .«base_rto») false 0 (e .stats)
 
-unfoldable pub meanMs : RtoStats → Float
-meanMs s = cond (eqb (s .«sample_count») 0) (fin false 0 (pos 0)) (div binary64 (s .«sum_rtt_millis») (ofInt binary64 (pos (s .«sample_count»))))
+unfoldable pub meanRttMsUnchecked : RtoStats → Float
+meanRttMsUnchecked s = cond (eqb (s .«sample_count») 0) (fin false 0 (pos 0)) (div binary64 (s .«sum_rtt_millis») (ofInt binary64 (pos (s .«sample_count»))))
 
 -- ---- the entry points
-unfoldable pub withConfigDef : RtoConfig → Making
-withConfigDef c = decide (verdict (check (not (configInBounds c)) Setup ∷ [])) (λ r. Mk.the-variants.Refused r) (Mk.the-variants.Made (fresh c))
+unfoldable pub withConfig : RtoConfig → EstimatorAnswer
+withConfig c = decide (verdict (check (not (configInBounds c)) Setup ∷ [])) (λ r. Mk.the-variants.Refused r) (Mk.the-variants.Made (fresh c))
 
-abbrev pub updated : RtoEstimator → Up.UpdateAnswer → Updated
-updated e a = record { estimator = e; answer = a }
+abbrev pub updateResult : RtoEstimator → Up.UpdateAnswer → UpdateResult
+updateResult e a = record { estimator = e; answer = a }
 
-unfoldable pub updateRttDef : RtoEstimator → ℕ → Bool → Updated
-updateRttDef e sample again =
+unfoldable pub updateRtt : RtoEstimator → ℕ → Bool → UpdateResult
+updateRtt e sample again =
     decide (verdict (check (stateBroken e) State ∷ check (countsFull (e .stats)) Counts ∷ check (sampleTooLong e sample) Time ∷ []))
-    (λ r. updated e (Up.the-variants.Refused r)) (updated (takeSample e sample again) (Up.the-variants.Accepted (not again)))
+    (λ r. updateResult e (Up.the-variants.Refused r)) (updateResult (updateRttUnchecked e sample again) (Up.the-variants.Accepted (not again)))
 
-abbrev pub timedOut : RtoEstimator → Ti.TimeoutAnswer → TimedOut
-timedOut e a = record { estimator = e; answer = a }
+abbrev pub timeoutResult : RtoEstimator → Ti.RtoAnswer → TimeoutResult
+timeoutResult e a = record { estimator = e; answer = a }
 
-unfoldable pub onTimeoutDef : RtoEstimator → TimedOut
-onTimeoutDef e =
+unfoldable pub onTimeout : RtoEstimator → TimeoutResult
+onTimeout e =
     decide (verdict (check (stateBroken e) State ∷ check (countsFull (e .stats)) Counts ∷ check (heldTooLong e) Time ∷ []))
-    (λ r. timedOut e (Ti.the-variants.Refused r)) (timedOut (backOff e) (Ti.the-variants.Rto (backOff e .«current_rto»)))
+    (λ r. timeoutResult e (Ti.the-variants.Refused r)) (timeoutResult (onTimeoutUnchecked e) (Ti.the-variants.Rto (onTimeoutUnchecked e .«current_rto»)))
 
-abbrev pub backoffReset : RtoEstimator → Re.ResetAnswer → BackoffReset
-backoffReset e a = record { estimator = e; answer = a }
+abbrev pub resetResult : RtoEstimator → Re.DoneAnswer → ResetResult
+resetResult e a = record { estimator = e; answer = a }
 
-unfoldable pub resetBackoffDef : RtoEstimator → BackoffReset
-resetBackoffDef e =
+unfoldable pub resetBackoff : RtoEstimator → ResetResult
+resetBackoff e =
     decide (verdict (check (stateBroken e) State ∷ check (countsFull (e .stats)) Counts ∷ check (heldTooLong e) Time ∷ []))
-    (λ r. backoffReset e (Re.the-variants.Refused r)) (backoffReset (resetBackoff e) Re.the-variants.Done)
+    (λ r. resetResult e (Re.the-variants.Refused r)) (resetResult (resetBackoffUnchecked e) Re.the-variants.Done)
 
-unfoldable pub retryLimitDef : RtoEstimator → ℕ → LimitAnswer
-retryLimitDef e n =
+unfoldable pub hasExceededRetryLimit : RtoEstimator → ℕ → TestAnswer
+hasExceededRetryLimit e n =
     decide (verdict (check (stateBroken e) State ∷ check (countsFull (e .stats)) Counts ∷ check (heldTooLong e) Time ∷ []))
-    (λ r. Li.the-variants.Refused r) (Li.the-variants.Exceeded (leb n (e .«consecutive_timeouts»)))
+    (λ r. Li.the-variants.Refused r) (Li.the-variants.Is (leb n (e .«consecutive_timeouts»)))
 
-unfoldable pub meanRttMsDef : RtoEstimator → MeanAnswer
-meanRttMsDef e =
+unfoldable pub meanRttMs : RtoEstimator → MeanAnswer
+meanRttMs e =
     decide (verdict (check (stateBroken e) State ∷ check (countsFull (e .stats)) Counts ∷ check (heldTooLong e) Time ∷ []))
-    (λ r. Me.the-variants.Refused r) (Me.the-variants.Millis (meanMs (e .stats)))
+    (λ r. Me.the-variants.Refused r) (Me.the-variants.Millis (meanRttMsUnchecked (e .stats)))

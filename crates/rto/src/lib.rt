@@ -2,7 +2,9 @@
 use duration::MAX_DURATION;
 use duration::MAX_ESTIMATE;
 use refusal::COUNT_LIMIT;
+use refusal::DoneAnswer;
 use refusal::Refusal;
+use refusal::TestAnswer;
 use rtt::Estimate;
 ghost use mathlib.Core.Path.{_≡_};
 ghost use mathlib.Core.Bool.{true, false, _||_};
@@ -10,7 +12,7 @@ ghost use Prim.Native.Nat.{_≤_, min, max};
 ghost use lib.Dec.{ltb};
 ghost use Rattle.duration.specs.Bounds.{maxEstimate, maxDuration};
 ghost use Rattle.rtt.specs.Rtt.{firstEstimate, nextEstimate};
-ghost use Rattle.rto.specs.Rto.{durationsInBounds, factorsInBounds, configInBounds, estimateBroken, stateBroken, countsFull, rttTooLong, heldTooLong, sampleTooLong, defaultConfig, noStats, fresh, estimateFor, leastRtt, greatestRtt, sampled, acceptSample, rejectSample, takeSample, nextConsecutive, backOff, resetBackoff, meanMs, withConfigDef, updateRttDef, onTimeoutDef, resetBackoffDef, retryLimitDef, meanRttMsDef};
+ghost use Rattle.rto.specs.Rto.{durationsInBounds, factorsInBounds, configInBounds, estimateBroken, stateBroken, countsFull, rttTooLong, heldTooLong, sampleTooLong, defaultConfig, noStats, fresh, estimateFor, leastRtt, greatestRtt, sampled, acceptSample, rejectSample, updateRttUnchecked, nextConsecutive, onTimeoutUnchecked, resetBackoffUnchecked, meanRttMsUnchecked, withConfig, updateRtt, onTimeout, resetBackoff, hasExceededRetryLimit, meanRttMs};
 
 // 1 s in nanoseconds.
 const MAX_GRANULARITY: u64 = 1000000000;
@@ -27,9 +29,9 @@ pub struct RtoConfig {
 }
 
 // A duration that may be unset.
-pub enum Rtt {
+pub enum MaybeDuration {
     Unset,
-    Is(u64),
+    Set(u64),
 }
 
 pub struct RtoStats {
@@ -37,17 +39,17 @@ pub struct RtoStats {
     pub karn_rejected_count: u64,
     pub timeout_count: u64,
     pub backoff_count: u64,
-    pub min_rtt: Rtt,
-    pub max_rtt: Rtt,
+    pub min_rtt: MaybeDuration,
+    pub max_rtt: MaybeDuration,
     pub sum_rtt_millis: f64,
-    pub latest_rtt: Rtt,
+    pub latest_rtt: MaybeDuration,
     pub max_consecutive_timeouts: u32,
 }
 
 pub struct RtoEstimator {
     pub config: RtoConfig,
-    pub srtt: Rtt,
-    pub rttvar: Rtt,
+    pub srtt: MaybeDuration,
+    pub rttvar: MaybeDuration,
     pub current_rto: u64,
     pub base_rto: u64,
     pub in_backoff: bool,
@@ -55,7 +57,7 @@ pub struct RtoEstimator {
     pub stats: RtoStats,
 }
 
-pub enum Making {
+pub enum EstimatorAnswer {
     Made(RtoEstimator),
     Refused(Refusal),
 }
@@ -66,34 +68,24 @@ pub enum UpdateAnswer {
     Refused(Refusal),
 }
 
-pub struct Updated {
+pub struct UpdateResult {
     pub estimator: RtoEstimator,
     pub answer: UpdateAnswer,
 }
 
-pub enum TimeoutAnswer {
+pub enum RtoAnswer {
     Rto(u64),
     Refused(Refusal),
 }
 
-pub struct TimedOut {
+pub struct TimeoutResult {
     pub estimator: RtoEstimator,
-    pub answer: TimeoutAnswer,
+    pub answer: RtoAnswer,
 }
 
-pub enum ResetAnswer {
-    Done,
-    Refused(Refusal),
-}
-
-pub struct BackoffReset {
+pub struct ResetResult {
     pub estimator: RtoEstimator,
-    pub answer: ResetAnswer,
-}
-
-pub enum LimitAnswer {
-    Exceeded(bool),
-    Refused(Refusal),
+    pub answer: DoneAnswer,
 }
 
 pub enum MeanAnswer {
@@ -143,17 +135,17 @@ pub fn config_in_bounds(c: RtoConfig) -> bool
     factors_in_bounds(c)
 }
 
-fn estimate_broken(srtt: Rtt, rttvar: Rtt) -> bool
+fn estimate_broken(srtt: MaybeDuration, rttvar: MaybeDuration) -> bool
     ensures { λ r. ⌜ r ≡ estimateBroken srtt rttvar ⌝ }
 {
     match srtt {
-        Rtt::Unset => match rttvar {
-            Rtt::Unset => false,
-            Rtt::Is(_) => true,
+        MaybeDuration::Unset => match rttvar {
+            MaybeDuration::Unset => false,
+            MaybeDuration::Set(_) => true,
         },
-        Rtt::Is(s) => match rttvar {
-            Rtt::Unset => true,
-            Rtt::Is(v) => too_large(s, v),
+        MaybeDuration::Set(s) => match rttvar {
+            MaybeDuration::Unset => true,
+            MaybeDuration::Set(v) => too_large(s, v),
         },
     }
 }
@@ -194,12 +186,12 @@ fn counts_full(s: RtoStats) -> bool
     s.backoff_count >= COUNT_LIMIT
 }
 
-fn rtt_too_long(r: Rtt) -> bool
+fn rtt_too_long(r: MaybeDuration) -> bool
     ensures { λ b. ⌜ b ≡ rttTooLong r ⌝ }
 {
     match r {
-        Rtt::Unset => false,
-        Rtt::Is(d) => d > MAX_DURATION,
+        MaybeDuration::Unset => false,
+        MaybeDuration::Set(d) => d > MAX_DURATION,
     }
 }
 
@@ -234,21 +226,21 @@ fn sample_too_long(e: RtoEstimator, sample: u64) -> bool
     sample > MAX_DURATION
 }
 
-fn least_rtt(r: Rtt, d: u64) -> Rtt
+fn least_rtt(r: MaybeDuration, d: u64) -> MaybeDuration
     ensures { λ x. ⌜ x ≡ leastRtt r d ⌝ }
 {
     match r {
-        Rtt::Unset => Rtt::Is(d),
-        Rtt::Is(m) => Rtt::Is(least(m, d)),
+        MaybeDuration::Unset => MaybeDuration::Set(d),
+        MaybeDuration::Set(m) => MaybeDuration::Set(least(m, d)),
     }
 }
 
-fn greatest_rtt(r: Rtt, d: u64) -> Rtt
+fn greatest_rtt(r: MaybeDuration, d: u64) -> MaybeDuration
     ensures { λ x. ⌜ x ≡ greatestRtt r d ⌝ }
 {
     match r {
-        Rtt::Unset => Rtt::Is(d),
-        Rtt::Is(m) => Rtt::Is(greatest(m, d)),
+        MaybeDuration::Unset => MaybeDuration::Set(d),
+        MaybeDuration::Set(m) => MaybeDuration::Set(greatest(m, d)),
     }
 }
 
@@ -296,7 +288,7 @@ fn stats_with_sample(s: RtoStats, sample: u64) -> RtoStats
         min_rtt: least_rtt(min_rtt, sample),
         max_rtt: greatest_rtt(max_rtt, sample),
         sum_rtt_millis: s.sum_rtt_millis + rtt::to_ms(sample),
-        latest_rtt: Rtt::Is(sample),
+        latest_rtt: MaybeDuration::Set(sample),
         max_consecutive_timeouts: s.max_consecutive_timeouts,
     }
 }
@@ -324,15 +316,15 @@ fn next_estimate(c: RtoConfig, srtt: u64, rttvar: u64, sample: u64) -> Estimate
     )
 }
 
-fn estimate_for(c: RtoConfig, srtt: Rtt, rttvar: Rtt, sample: u64) -> Estimate
+fn estimate_for(c: RtoConfig, srtt: MaybeDuration, rttvar: MaybeDuration, sample: u64) -> Estimate
     requires { ⌜ (configInBounds c ≡ true) × (estimateBroken srtt rttvar ≡ false) × (sample ≤ maxDuration) ⌝ }
     ensures { λ r. ⌜ r ≡ estimateFor c srtt rttvar sample ⌝ }
 {
     match srtt {
-        Rtt::Unset => first_estimate(c, sample),
-        Rtt::Is(s) => match rttvar {
-            Rtt::Unset => first_estimate(c, sample),
-            Rtt::Is(v) => next_estimate(c, s, v, sample),
+        MaybeDuration::Unset => first_estimate(c, sample),
+        MaybeDuration::Set(s) => match rttvar {
+            MaybeDuration::Unset => first_estimate(c, sample),
+            MaybeDuration::Set(v) => next_estimate(c, s, v, sample),
         },
     }
 }
@@ -345,10 +337,10 @@ fn no_stats() -> RtoStats
         karn_rejected_count: 0,
         timeout_count: 0,
         backoff_count: 0,
-        min_rtt: Rtt::Unset,
-        max_rtt: Rtt::Unset,
+        min_rtt: MaybeDuration::Unset,
+        max_rtt: MaybeDuration::Unset,
         sum_rtt_millis: 0.0,
-        latest_rtt: Rtt::Unset,
+        latest_rtt: MaybeDuration::Unset,
         max_consecutive_timeouts: 0,
     }
 }
@@ -365,8 +357,8 @@ fn accept_sample(e: RtoEstimator, sample: u64) -> RtoEstimator
     let rto = limit(x.rto, config.min_rto, config.max_rto);
     RtoEstimator {
         config,
-        srtt: Rtt::Is(x.srtt),
-        rttvar: Rtt::Is(x.rttvar),
+        srtt: MaybeDuration::Set(x.srtt),
+        rttvar: MaybeDuration::Set(x.rttvar),
         current_rto: rto,
         base_rto: rto,
         in_backoff: false,
@@ -421,13 +413,13 @@ impl RtoEstimator {
         RtoEstimator::with_config_unchecked(RtoConfig::default())
     }
 
-    pub fn with_config(config: RtoConfig) -> Making
-        ensures { λ r. ⌜ r ≡ withConfigDef config ⌝ }
+    pub fn with_config(config: RtoConfig) -> EstimatorAnswer
+        ensures { λ r. ⌜ r ≡ withConfig config ⌝ }
     {
         if !config_in_bounds(config) {
-            return Making::Refused(Refusal::Setup);
+            return EstimatorAnswer::Refused(Refusal::Setup);
         }
-        Making::Made(RtoEstimator::with_config_unchecked(config))
+        EstimatorAnswer::Made(RtoEstimator::with_config_unchecked(config))
     }
 
     // The initial RTO is not clamped.
@@ -436,8 +428,8 @@ impl RtoEstimator {
     {
         RtoEstimator {
             config,
-            srtt: Rtt::Unset,
-            rttvar: Rtt::Unset,
+            srtt: MaybeDuration::Unset,
+            rttvar: MaybeDuration::Unset,
             current_rto: config.initial_rto,
             base_rto: config.initial_rto,
             in_backoff: false,
@@ -448,7 +440,7 @@ impl RtoEstimator {
 
     pub fn update_rtt_unchecked(self, sample: u64, is_retransmission: bool) -> RtoEstimator
         requires { ⌜ (stateBroken self ≡ false) × (countsFull (self .stats) ≡ false) × (sample ≤ maxDuration) ⌝ }
-        ensures { λ r. ⌜ r ≡ takeSample self sample «is_retransmission» ⌝ }
+        ensures { λ r. ⌜ r ≡ updateRttUnchecked self sample «is_retransmission» ⌝ }
     {
         if is_retransmission {
             return reject_sample(self);
@@ -458,7 +450,7 @@ impl RtoEstimator {
 
     pub fn on_timeout_unchecked(self) -> RtoEstimator
         requires { ⌜ (countsFull (self .stats) ≡ false) × (self .«current_rto» ≤ maxDuration) ⌝ }
-        ensures { λ r. ⌜ r ≡ backOff self ⌝ }
+        ensures { λ r. ⌜ r ≡ onTimeoutUnchecked self ⌝ }
     {
         let config = self.config;
         let srtt = self.srtt;
@@ -483,7 +475,7 @@ impl RtoEstimator {
 
     // Back to the RTO before any timeout, as it was made: an initial RTO is not clamped here.
     pub fn reset_backoff_unchecked(self) -> RtoEstimator
-        ensures { λ r. ⌜ r ≡ resetBackoff self ⌝ }
+        ensures { λ r. ⌜ r ≡ resetBackoffUnchecked self ⌝ }
     {
         let config = self.config;
         let srtt = self.srtt;
@@ -502,7 +494,7 @@ impl RtoEstimator {
     }
 
     pub fn mean_rtt_ms_unchecked(self) -> f64
-        ensures { λ r. ⌜ r ≡ meanMs (self .stats) ⌝ }
+        ensures { λ r. ⌜ r ≡ meanRttMsUnchecked (self .stats) ⌝ }
     {
         let stats = self.stats;
         if stats.sample_count == 0 {
@@ -512,111 +504,111 @@ impl RtoEstimator {
     }
 
     // Whether the sample was used: a retransmitted one is not.
-    pub fn update_rtt(self, sample: u64, is_retransmission: bool) -> Updated
-        ensures { λ r. ⌜ r ≡ updateRttDef self sample «is_retransmission» ⌝ }
+    pub fn update_rtt(self, sample: u64, is_retransmission: bool) -> UpdateResult
+        ensures { λ r. ⌜ r ≡ updateRtt self sample «is_retransmission» ⌝ }
     {
         let stats = self.stats;
         if state_broken(self) {
-            return Updated {
+            return UpdateResult {
                 estimator: self,
                 answer: UpdateAnswer::Refused(Refusal::State),
             };
         }
         if counts_full(stats) {
-            return Updated {
+            return UpdateResult {
                 estimator: self,
                 answer: UpdateAnswer::Refused(Refusal::Counts),
             };
         }
         if sample_too_long(self, sample) {
-            return Updated {
+            return UpdateResult {
                 estimator: self,
                 answer: UpdateAnswer::Refused(Refusal::Time),
             };
         }
         let e = self.update_rtt_unchecked(sample, is_retransmission);
-        Updated {
+        UpdateResult {
             estimator: e,
             answer: UpdateAnswer::Accepted(!is_retransmission),
         }
     }
 
     // Doubles the RTO, within its limits.
-    pub fn on_timeout(self) -> TimedOut
-        ensures { λ r. ⌜ r ≡ onTimeoutDef self ⌝ }
+    pub fn on_timeout(self) -> TimeoutResult
+        ensures { λ r. ⌜ r ≡ onTimeout self ⌝ }
     {
         let stats = self.stats;
         if state_broken(self) {
-            return TimedOut {
+            return TimeoutResult {
                 estimator: self,
-                answer: TimeoutAnswer::Refused(Refusal::State),
+                answer: RtoAnswer::Refused(Refusal::State),
             };
         }
         if counts_full(stats) {
-            return TimedOut {
+            return TimeoutResult {
                 estimator: self,
-                answer: TimeoutAnswer::Refused(Refusal::Counts),
+                answer: RtoAnswer::Refused(Refusal::Counts),
             };
         }
         if held_too_long(self) {
-            return TimedOut {
+            return TimeoutResult {
                 estimator: self,
-                answer: TimeoutAnswer::Refused(Refusal::Time),
+                answer: RtoAnswer::Refused(Refusal::Time),
             };
         }
         let e = self.on_timeout_unchecked();
-        TimedOut {
+        TimeoutResult {
             estimator: e,
-            answer: TimeoutAnswer::Rto(e.current_rto),
+            answer: RtoAnswer::Rto(e.current_rto),
         }
     }
 
-    pub fn reset_backoff(self) -> BackoffReset
-        ensures { λ r. ⌜ r ≡ resetBackoffDef self ⌝ }
+    pub fn reset_backoff(self) -> ResetResult
+        ensures { λ r. ⌜ r ≡ resetBackoff self ⌝ }
     {
         let stats = self.stats;
         if state_broken(self) {
-            return BackoffReset {
+            return ResetResult {
                 estimator: self,
-                answer: ResetAnswer::Refused(Refusal::State),
+                answer: DoneAnswer::Refused(Refusal::State),
             };
         }
         if counts_full(stats) {
-            return BackoffReset {
+            return ResetResult {
                 estimator: self,
-                answer: ResetAnswer::Refused(Refusal::Counts),
+                answer: DoneAnswer::Refused(Refusal::Counts),
             };
         }
         if held_too_long(self) {
-            return BackoffReset {
+            return ResetResult {
                 estimator: self,
-                answer: ResetAnswer::Refused(Refusal::Time),
+                answer: DoneAnswer::Refused(Refusal::Time),
             };
         }
-        BackoffReset {
+        ResetResult {
             estimator: self.reset_backoff_unchecked(),
-            answer: ResetAnswer::Done,
+            answer: DoneAnswer::Done,
         }
     }
 
-    pub fn has_exceeded_retry_limit(self, max_retries: u32) -> LimitAnswer
-        ensures { λ r. ⌜ r ≡ retryLimitDef self «max_retries» ⌝ }
+    pub fn has_exceeded_retry_limit(self, max_retries: u32) -> TestAnswer
+        ensures { λ r. ⌜ r ≡ hasExceededRetryLimit self «max_retries» ⌝ }
     {
         let stats = self.stats;
         if state_broken(self) {
-            return LimitAnswer::Refused(Refusal::State);
+            return TestAnswer::Refused(Refusal::State);
         }
         if counts_full(stats) {
-            return LimitAnswer::Refused(Refusal::Counts);
+            return TestAnswer::Refused(Refusal::Counts);
         }
         if held_too_long(self) {
-            return LimitAnswer::Refused(Refusal::Time);
+            return TestAnswer::Refused(Refusal::Time);
         }
-        LimitAnswer::Exceeded(self.consecutive_timeouts >= max_retries)
+        TestAnswer::Is(self.consecutive_timeouts >= max_retries)
     }
 
     pub fn mean_rtt_ms(self) -> MeanAnswer
-        ensures { λ r. ⌜ r ≡ meanRttMsDef self ⌝ }
+        ensures { λ r. ⌜ r ≡ meanRttMs self ⌝ }
     {
         let stats = self.stats;
         if state_broken(self) {

@@ -10,10 +10,10 @@ use lib.Seq.{length-take-le, take-at, drop-at, drop-drop, take-take, take-append
 use lib.Dec.{eqb, ltb}
 use borrow.Author.Tests.{eqb-false, ltb-true, ltb-false}
 use Rattle.refusal.proofs.Laws.{or-false}
-use Rattle.schedule.specs.Record.{timeOf, orderOf, lengthOf, placeOf, placeIn}
+use Rattle.schedule.specs.Record.{timeOf, orderOf, recordLength, placeOf, placeIn}
 use Rattle.schedule.specs.State.{brokenFrom}
-use Rattle.schedule.specs.Schedule.{placed, filled, bytesOf}
-use Rattle.schedule.specs.Waiting.{Copy, copyOf}
+use Rattle.schedule.specs.Schedule.{placed, placeBytes, bytesOf}
+use Rattle.schedule.specs.Waiting.{WaitingCopy, waitingCopy}
 use Rattle.schedule.proofs.Sound.{fine, place-cons}
 use Rattle.schedule.proofs.Memory.{length-filled, place-within}
 
@@ -67,18 +67,18 @@ module _ (ps : List ℕ) (p : ℕ) (bytes : List ℕ) (inside : p * 1410 + 1410 
       go false e = let l = ltb-false q p e in above q n (omega arith)
 
   -- the copies of records that have other places
-  pub other-copies : (next n : ℕ) (front : List ℕ) (rs : List (List ℕ)) → brokenFrom next n front rs ≡ false → placeIn p rs ≡ false → map (copyOf (placed ps p bytes)) rs ≡ map (copyOf ps) rs
+  pub other-copies : (next n : ℕ) (front : List ℕ) (rs : List (List ℕ)) → brokenFrom next n front rs ≡ false → placeIn p rs ≡ false → map (waitingCopy (placed ps p bytes)) rs ≡ map (waitingCopy ps) rs
   other-copies next n front [] h k = refl
   other-copies next n front (r ∷ rs) h k =
       let f = fine next n front r rs h in
       let apart = sym (place-cons p r rs) ∙ k in
-      let b : bytesOf (placed ps p bytes) r ≡ bytesOf ps r = other-place (placeOf r) (lengthOf r) (eqb-false p (placeOf r) (or-false (eqb p (placeOf r)) (placeIn p rs) apart .0)) (f .short) in
-      ap (λ (xs : List ℕ). record { time = timeOf r; order = orderOf r; bytes = xs } ∷ map (copyOf (placed ps p bytes)) rs) b
-      ∙ ap (λ (cs : List Copy). copyOf ps r ∷ cs) (other-copies next n r rs (f .rest) (or-false (eqb p (placeOf r)) (placeIn p rs) apart .1))
+      let b : bytesOf (placed ps p bytes) r ≡ bytesOf ps r = other-place (placeOf r) (recordLength r) (eqb-false p (placeOf r) (or-false (eqb p (placeOf r)) (placeIn p rs) apart .0)) (f .short) in
+      ap (λ (xs : List ℕ). record { time = timeOf r; order = orderOf r; bytes = xs } ∷ map (waitingCopy (placed ps p bytes)) rs) b
+      ∙ ap (λ (cs : List WaitingCopy). waitingCopy ps r ∷ cs) (other-copies next n r rs (f .rest) (or-false (eqb p (placeOf r)) (placeIn p rs) apart .1))
 
 -- the packet that a place was filled with
-pub filled-bytes : (ps : List ℕ) (p : ℕ) (packet : List ℕ) → p * 1410 + 1410 ≤ length ps → length packet ≤ 1410 → take (length packet) (drop (p * 1410) (placed ps p (filled packet))) ≡ packet
-filled-bytes ps p packet h k = same-place ps p (filled packet) h (length-filled packet k) (length packet) k ∙ take-at packet (replicate (1410 - length packet) 0) (length packet) refl
+pub filled-bytes : (ps : List ℕ) (p : ℕ) (packet : List ℕ) → p * 1410 + 1410 ≤ length ps → length packet ≤ 1410 → take (length packet) (drop (p * 1410) (placed ps p (placeBytes packet))) ≡ packet
+filled-bytes ps p packet h k = same-place ps p (placeBytes packet) h (length-filled packet k) (length packet) k ∙ take-at packet (replicate (1410 - length packet) 0) (length packet) refl
 
-pub bytes-length : (ps r : List ℕ) → lengthOf r ≤ 1410 → placeOf r < length ps / 1410 → length (bytesOf ps r) ≡ lengthOf r
-bytes-length ps r h k = let w = place-within (length ps) (placeOf r) k in length-take-le (lengthOf r) (drop (placeOf r * 1410) ps) (rw length-drop (omega arith))
+pub bytes-length : (ps r : List ℕ) → recordLength r ≤ 1410 → placeOf r < length ps / 1410 → length (bytesOf ps r) ≡ recordLength r
+bytes-length ps r h k = let w = place-within (length ps) (placeOf r) k in length-take-le (recordLength r) (drop (placeOf r * 1410) ps) (rw length-drop (omega arith))

@@ -12,15 +12,15 @@ use borrow.Author.Tests.{ltb-false, leb-false, lt-ltb, le-ltb, le-leb, lt-leb, n
 use Rattle.refusal.proofs.Laws.{or-false}
 use Rattle.duration.specs.Bounds.{maxTime}
 use Rattle.refusal.specs.Counts.{countLimit}
-use Rattle.schedule.specs.Record.{record4, timeOf, lengthOf, placeOf, vacant, after, inserted, lowestFree}
-use Rattle.schedule.specs.State.{Mem, mem, waitingRecords, brokenFrom, stateBroken, countsBroken, late, heldLate, leavesAt, delayLate, deliveriesLate, copies, unusedPlaces, unusedRecords, lacksRoom, CanPut, CanSchedule}
+use Rattle.schedule.specs.Record.{record4, timeOf, recordLength, placeOf, vacant, after, inserted, lowestFree}
+use Rattle.schedule.specs.State.{Schedule, schedule, waitingRecords, brokenFrom, stateBroken, countsBroken, late, heldLate, leavesAt, delayLate, deliveriesLate, copies, unusedPlaces, unusedRecords, lacksRoom, CanPut, CanSchedule}
 use Rattle.schedule.specs.Scans.{delayAt}
-use Rattle.schedule.specs.Schedule.{scheduler, newDef, placed, filled, putDef, putAllDef, roomOf, onSchedule, scheduleDef, firstRecord, bytesOf, takenDef, PopExit, popExit, onPop, outShort, takeDef, popDef, CanPop, reading}
+use Rattle.schedule.specs.Schedule.{scheduler, newSchedule, placed, placeBytes, putCopy, scheduleAtUnchecked, roomOf, onSchedule, scheduleAt, firstRecord, bytesOf, withoutFirst, PopExit, popExit, onPop, outShort, popUnchecked, popReadyAt, CanPop, reading}
 use Rattle.refusal.specs.Order.{Verdict, accepted, refused, check, verdict, firstOf, numbered, orElse, decide, order}
 use Rattle.refusal.specs.declared.Refusal.{Refusal}
 use Rattle.refusal.specs.declared.Refusal.the-variants.{State, Counts, Time, Long, Full}
-use Rattle.schedule.specs.declared.Queued.the-variants as queued
-use Rattle.schedule.specs.declared.Ready.the-variants as ready
+use Rattle.refusal.specs.declared.DoneAnswer.the-variants as queued
+use Rattle.schedule.specs.declared.ReadyAnswer.the-variants as ready
 use Rattle.schedule.specs.declared.Held.{Held}
 use Rattle.schedule.specs.declared.Held.the-variants as held
 use Rattle.schedule.specs.declared.ChannelScheduler.{ChannelScheduler}
@@ -28,48 +28,48 @@ use Rattle.schedule.specs.declared.Deliveries.{Deliveries}
 use Rattle.schedule.specs.declared.Deliveries.the-variants.{Lost, One, Two}
 use Rattle.schedule.proofs.Memory.{lacks-is, room-for, has-room, put-sound, put-next, put-room, first-inside, first-fine}
 
-pub new-law : (rs : List (List ℕ)) (ps : List ℕ) {rs′ : List (List ℕ)} {q : List ℕ} → rs′ ≡ replicate (length rs) vacant → q ≡ replicate (length (take (length ps / 1410 * 1410) ps)) 0 → mem rs′ (q ++ drop (length ps / 1410 * 1410) ps) (scheduler 0 0) ≡ newDef rs ps
+pub new-law : (rs : List (List ℕ)) (ps : List ℕ) {rs′ : List (List ℕ)} {q : List ℕ} → rs′ ≡ replicate (length rs) vacant → q ≡ replicate (length (take (length ps / 1410 * 1410) ps)) 0 → schedule rs′ (q ++ drop (length ps / 1410 * 1410) ps) (scheduler 0 0) ≡ newSchedule rs ps
 new-law rs ps p q = rw (p, q, length-take-le (length ps / 1410 * 1410) ps (whole (length ps)))
   where
     whole : (n : ℕ) → n / 1410 * 1410 ≤ n
     whole n = omega arith
 
 -- ---- line 9
-pub broken-by-count : (m : Mem) → length (m .records) < m .scheduler .count → true ≡ stateBroken m
+pub broken-by-count : (m : Schedule) → length (m .records) < m .scheduler .count → true ≡ stateBroken m
 unfolding stateBroken
 broken-by-count m h = sym (ap (λ (b : Bool). b || brokenFrom (m .scheduler .«next_order») (length (m .places) / 1410) vacant (waitingRecords m)) (lt-ltb (length (m .records)) (m .scheduler .count) h))
 
-pub broken-by-records : (m : Mem) {b : Bool} → m .scheduler .count ≤ length (m .records) → b ≡ brokenFrom (m .scheduler .«next_order») (length (m .places) / 1410) vacant (waitingRecords m) → b ≡ stateBroken m
+pub broken-by-records : (m : Schedule) {b : Bool} → m .scheduler .count ≤ length (m .records) → b ≡ brokenFrom (m .scheduler .«next_order») (length (m .places) / 1410) vacant (waitingRecords m) → b ≡ stateBroken m
 unfolding stateBroken
 broken-by-records m h e = e ∙ sym (ap (λ (b : Bool). b || brokenFrom (m .scheduler .«next_order») (length (m .places) / 1410) vacant (waitingRecords m)) (le-ltb (length (m .records)) (m .scheduler .count) h))
 
 -- ---- scheduling
 pub put-law : (rs : List (List ℕ)) (ps : List ℕ) (s : ChannelScheduler) (time : ℕ) (packet : List ℕ) {rs′ : List (List ℕ)} {ps′ : List ℕ} {place : ℕ}
     → place ≡ lowestFree (length ps / 1410) (take (s .count) rs)
-    → ps′ ≡ placed ps place (filled packet)
+    → ps′ ≡ placed ps place (placeBytes packet)
     → rs′ ≡ inserted after (record4 time (s .«next_order») (length packet) place) (take (s .count) rs) ++ drop (s .count + 1) rs
-    → mem rs′ ps′ (scheduler (s .count + 1) (s .«next_order» + 1)) ≡ putDef (mem rs ps s) time packet
-unfolding putDef
+    → schedule rs′ ps′ (scheduler (s .count + 1) (s .«next_order» + 1)) ≡ putCopy (schedule rs ps s) time packet
+unfolding putCopy
 put-law rs ps s time packet p q r = rw (r, q, p)
 
 -- the first k copies of an answer put in
-unfoldable pub putFirst : Mem → ℕ → List ℕ → Deliveries → ℕ → Mem
+unfoldable pub putFirst : Schedule → ℕ → List ℕ → Deliveries → ℕ → Schedule
 putFirst m now packet ds zero = m
-putFirst m now packet ds (suc k) = putDef (putFirst m now packet ds k) (now + delayAt ds k * 1000000) packet
+putFirst m now packet ds (suc k) = putCopy (putFirst m now packet ds k) (now + delayAt ds k * 1000000) packet
 
-pub put-none : (m : Mem) (now : ℕ) (packet : List ℕ) (ds : Deliveries) → m ≡ putFirst m now packet ds 0
+pub put-none : (m : Schedule) (now : ℕ) (packet : List ℕ) (ds : Deliveries) → m ≡ putFirst m now packet ds 0
 unfolding putFirst
 put-none m now packet ds = refl
 
-pub put-more : (m : Mem) (now : ℕ) (packet : List ℕ) (ds : Deliveries) (k : ℕ) {m′ m″ : Mem} {d : ℕ} → m′ ≡ putFirst m now packet ds k → d ≡ delayAt ds k → m″ ≡ putDef m′ (now + d * 1000000) packet → m″ ≡ putFirst m now packet ds (k + 1)
+pub put-more : (m : Schedule) (now : ℕ) (packet : List ℕ) (ds : Deliveries) (k : ℕ) {m′ m″ : Schedule} {d : ℕ} → m′ ≡ putFirst m now packet ds k → d ≡ delayAt ds k → m″ ≡ putCopy m′ (now + d * 1000000) packet → m″ ≡ putFirst m now packet ds (k + 1)
 unfolding putFirst
 put-more m now packet ds k p q r = rw (add-one, ← p, ← q) r
 
-pub put-all : (m : Mem) (now : ℕ) (packet : List ℕ) (ds : Deliveries) {m′ : Mem} {k : ℕ} → m′ ≡ putFirst m now packet ds k → k ≡ copies ds → m′ ≡ putAllDef m now packet ds
-unfolding putFirst putAllDef delayAt
+pub put-all : (m : Schedule) (now : ℕ) (packet : List ℕ) (ds : Deliveries) {m′ : Schedule} {k : ℕ} → m′ ≡ putFirst m now packet ds k → k ≡ copies ds → m′ ≡ scheduleAtUnchecked m now packet ds
+unfolding putFirst scheduleAtUnchecked delayAt
 put-all m now packet ds p q = p ∙ ap (putFirst m now packet ds) q ∙ whole ds
   where
-    whole : (ds : Deliveries) → putFirst m now packet ds (copies ds) ≡ putAllDef m now packet ds
+    whole : (ds : Deliveries) → putFirst m now packet ds (copies ds) ≡ scheduleAtUnchecked m now packet ds
     whole Lost = refl
     whole (One d) = refl
     whole (Two d e) = refl
@@ -78,7 +78,7 @@ put-all m now packet ds p q = p ∙ ap (putFirst m now packet ds) q ∙ whole ds
 pub delay-fits : (now d : ℕ) → delayLate now d ≡ false → (d ≤ 180000) × (now + d * 1000000 ≤ maxTime)
 delay-fits now d h = (ltb-false 180000 d (or-false (ltb 180000 d) (late (leavesAt now d)) h .0), ltb-false maxTime (leavesAt now d) (or-false (ltb 180000 d) (late (leavesAt now d)) h .1))
 
-module _ (m : Mem) (now : ℕ) (packet : List ℕ) {ds : Deliveries} (can : CanSchedule m now packet ds) where
+module _ (m : Schedule) (now : ℕ) (packet : List ℕ) {ds : Deliveries} (can : CanSchedule m now packet ds) where
   few : m .scheduler .«next_order» < countLimit
   few = leb-false countLimit (m .scheduler .«next_order») (can .counts)
 
@@ -91,12 +91,12 @@ module _ (m : Mem) (now : ℕ) (packet : List ℕ) {ds : Deliveries} (can : CanS
   pub can-first : (d e : ℕ) → ds ≡ Two d e → CanPut m packet
   can-first d e q = let r = room-for m 2 (room-two d e q) in record { sound = can .sound; counts = omega (arith, few); short = can .short; room = has-room m 1 (omega (arith, r .0)) (omega (arith, r .1)) }
 
-  pub can-second : (d e time : ℕ) {m′ : Mem} → ds ≡ Two d e → m′ ≡ putDef m time packet → CanPut m′ packet
+  pub can-second : (d e time : ℕ) {m′ : Schedule} → ds ≡ Two d e → m′ ≡ putCopy m time packet → CanPut m′ packet
   can-second d e time q p =
       let c = can-first d e q in
       rw p (record { sound = put-sound m packet c time; counts = rw (put-next m packet c time) (omega (arith, few)); short = can .short; room = put-room m packet c time 1 (room-two d e q) })
 
-pub next-fits : (m : Mem) (now : ℕ) (packet : List ℕ) (ds : Deliveries) (k : ℕ) → CanSchedule m now packet ds → {n d : ℕ} → n ≡ copies ds → k < n → d ≡ delayAt ds k → (d ≤ 180000) × (now + d * 1000000 ≤ maxTime)
+pub next-fits : (m : Schedule) (now : ℕ) (packet : List ℕ) (ds : Deliveries) (k : ℕ) → CanSchedule m now packet ds → {n d : ℕ} → n ≡ copies ds → k < n → d ≡ delayAt ds k → (d ≤ 180000) × (now + d * 1000000 ≤ maxTime)
 unfolding delayAt
 next-fits m now packet ds k can c h e = delay-fits now _ (ap (delayLate now) e ∙ within ds k (rw (← c) h) (can .times))
   where
@@ -106,7 +106,7 @@ next-fits m now packet ds k can c h e = delay-fits now _ (ap (delayLate now) e �
     within (Two d e) zero h t = or-false (delayLate now d) (delayLate now e) t .0
     within (Two d e) (suc k) h t = rw (ne-eqb (suc k) 0 (λ q. omega arith)) (or-false (delayLate now d) (delayLate now e) t .1)
 
-pub can-next : (m : Mem) (now : ℕ) (packet : List ℕ) (ds : Deliveries) (k : ℕ) → CanSchedule m now packet ds → {n : ℕ} {m′ : Mem} → n ≡ copies ds → k < n → m′ ≡ putFirst m now packet ds k → CanPut m′ packet
+pub can-next : (m : Schedule) (now : ℕ) (packet : List ℕ) (ds : Deliveries) (k : ℕ) → CanSchedule m now packet ds → {n : ℕ} {m′ : Schedule} → n ≡ copies ds → k < n → m′ ≡ putFirst m now packet ds k → CanPut m′ packet
 unfolding putFirst
 can-next m now packet ds k can c h e = rw e (go ds k can (rw (← c) h))
   where
@@ -119,40 +119,40 @@ can-next m now packet ds k can c h e = rw e (go ds k can (rw (← c) h))
     go (Two d e) (suc (suc k)) can h = absurd (omega arith)
 
 -- ---- room, as the code tests it
-pub lacks : (m : Mem) (k : ℕ) {r n : ℕ} → r ≡ roomOf m → n ≡ k → r < n → lacksRoom m k ≡ true
+pub lacks : (m : Schedule) (k : ℕ) {r n : ℕ} → r ≡ roomOf m → n ≡ k → r < n → lacksRoom m k ≡ true
 lacks m k p q h = sym (lacks-is (unusedPlaces m) (unusedRecords m) k) ∙ lt-ltb (roomOf m) k (rw (← p, ← q) h)
 
-pub lacks-not : (m : Mem) (k : ℕ) {r n : ℕ} → r ≡ roomOf m → n ≡ k → n ≤ r → lacksRoom m k ≡ false
+pub lacks-not : (m : Schedule) (k : ℕ) {r n : ℕ} → r ≡ roomOf m → n ≡ k → n ≤ r → lacksRoom m k ≡ false
 lacks-not m k p q h = sym (lacks-is (unusedPlaces m) (unusedRecords m) k) ∙ le-ltb (roomOf m) k (rw (← p, ← q) h)
 
 -- ---- the checks of `schedule_at`
-module _ (m : Mem) (now : ℕ) (packet : List ℕ) (ds : Deliveries) where
+module _ (m : Schedule) (now : ℕ) (packet : List ℕ) (ds : Deliveries) where
   abbrev pub timesLate : Bool
   timesLate = late now || (heldLate (waitingRecords m) || deliveriesLate now ds)
 
-  pub schedule-state : stateBroken m ≡ true → onSchedule m (queued.Refused State) ≡ scheduleDef m now packet ds
-  unfolding scheduleDef verdict firstOf numbered orElse decide order
+  pub schedule-state : stateBroken m ≡ true → onSchedule m (queued.Refused State) ≡ scheduleAt m now packet ds
+  unfolding scheduleAt verdict firstOf numbered orElse decide order
   schedule-state a = simp a
 
-  pub schedule-counts : stateBroken m ≡ false → countsBroken m ≡ true → onSchedule m (queued.Refused Counts) ≡ scheduleDef m now packet ds
-  unfolding scheduleDef verdict firstOf numbered orElse decide order
+  pub schedule-counts : stateBroken m ≡ false → countsBroken m ≡ true → onSchedule m (queued.Refused Counts) ≡ scheduleAt m now packet ds
+  unfolding scheduleAt verdict firstOf numbered orElse decide order
   schedule-counts a b = simp (a, b)
 
-  pub schedule-time : stateBroken m ≡ false → countsBroken m ≡ false → timesLate ≡ true → onSchedule m (queued.Refused Time) ≡ scheduleDef m now packet ds
-  unfolding scheduleDef verdict firstOf numbered orElse decide order
+  pub schedule-time : stateBroken m ≡ false → countsBroken m ≡ false → timesLate ≡ true → onSchedule m (queued.Refused Time) ≡ scheduleAt m now packet ds
+  unfolding scheduleAt verdict firstOf numbered orElse decide order
   schedule-time a b c = simp (a, b, c)
 
-  pub schedule-long : stateBroken m ≡ false → countsBroken m ≡ false → timesLate ≡ false → ltb 1410 (length packet) ≡ true → onSchedule m (queued.Refused Long) ≡ scheduleDef m now packet ds
-  unfolding scheduleDef verdict firstOf numbered orElse decide order
+  pub schedule-long : stateBroken m ≡ false → countsBroken m ≡ false → timesLate ≡ false → ltb 1410 (length packet) ≡ true → onSchedule m (queued.Refused Long) ≡ scheduleAt m now packet ds
+  unfolding scheduleAt verdict firstOf numbered orElse decide order
   schedule-long a b c d = simp (a, b, c, d)
 
-  pub schedule-full : stateBroken m ≡ false → countsBroken m ≡ false → timesLate ≡ false → ltb 1410 (length packet) ≡ false → lacksRoom m (copies ds) ≡ true → onSchedule m (queued.Refused Full) ≡ scheduleDef m now packet ds
-  unfolding scheduleDef verdict firstOf numbered orElse decide order
+  pub schedule-full : stateBroken m ≡ false → countsBroken m ≡ false → timesLate ≡ false → ltb 1410 (length packet) ≡ false → lacksRoom m (copies ds) ≡ true → onSchedule m (queued.Refused Full) ≡ scheduleAt m now packet ds
+  unfolding scheduleAt verdict firstOf numbered orElse decide order
   schedule-full a b c d e = simp (a, b, c, d, e)
 
-  pub schedule-done : {m′ : Mem} → stateBroken m ≡ false → countsBroken m ≡ false → timesLate ≡ false → ltb 1410 (length packet) ≡ false → lacksRoom m (copies ds) ≡ false → m′ ≡ putAllDef m now packet ds → onSchedule m′ queued.Accepted ≡ scheduleDef m now packet ds
-  unfolding scheduleDef verdict firstOf numbered orElse decide order
-  schedule-done a b c d e f = simp (a, b, c, d, e) (ap (λ (x : Mem). onSchedule x queued.Accepted) f)
+  pub schedule-done : {m′ : Schedule} → stateBroken m ≡ false → countsBroken m ≡ false → timesLate ≡ false → ltb 1410 (length packet) ≡ false → lacksRoom m (copies ds) ≡ false → m′ ≡ scheduleAtUnchecked m now packet ds → onSchedule m′ queued.Done ≡ scheduleAt m now packet ds
+  unfolding scheduleAt verdict firstOf numbered orElse decide order
+  schedule-done a b c d e f = simp (a, b, c, d, e) (ap (λ (x : Schedule). onSchedule x queued.Done) f)
 
   pub can-schedule : stateBroken m ≡ false → countsBroken m ≡ false → timesLate ≡ false → ltb 1410 (length packet) ≡ false → lacksRoom m (copies ds) ≡ false → CanSchedule m now packet ds
   can-schedule a b c d e =
@@ -165,7 +165,7 @@ module _ (m : Mem) (now : ℕ) (packet : List ℕ) (ds : Deliveries) where
       }
 
 -- ---- the checks of a call that only reads
-module _ {A : Type 0} (m : Mem) (f : Refusal → A) (a : A) where
+module _ {A : Type 0} (m : Schedule) (f : Refusal → A) (a : A) where
   pub reading-state : stateBroken m ≡ true → f State ≡ reading m f a
   unfolding reading verdict firstOf numbered orElse decide order
   reading-state p = simp p
@@ -201,7 +201,7 @@ module _ {A : Type 0} (m : Mem) (f : Refusal → A) (a : A) where
   unfolding reading
   reading-sound p q = decided-sound (verdict (check (stateBroken m) State ∷ check (countsBroken m) Counts ∷ check (heldLate (waitingRecords m)) Time ∷ [])) p q
 
-pub found-sound : (m : Mem) {h : Held} → h ≡ reading m held.Refused held.Sound → h ≡ held.Sound → stateBroken m ≡ false
+pub found-sound : (m : Schedule) {h : Held} → h ≡ reading m held.Refused held.Sound → h ≡ held.Sound → stateBroken m ≡ false
 found-sound m {h} p q = go (stateBroken m) refl
   where
     go : (t : Bool) → stateBroken m ≡ t → t ≡ false
@@ -212,54 +212,54 @@ found-sound m {h} p q = go (stateBroken m) refl
 pub positive : (n : ℕ) → (n ≡ 0 → ⊥) → 0 < n
 positive n h = omega arith
 
-module _ (m : Mem) (now : ℕ) (out : List ℕ) where
+module _ (m : Schedule) (now : ℕ) (out : List ℕ) where
   abbrev first : List ℕ
   first = firstRecord (m .records)
 
-  pub none-waits : m .scheduler .count ≡ 0 → onPop m out ready.Nothing ≡ takeDef m now out
-  unfolding takeDef
+  pub none-waits : m .scheduler .count ≡ 0 → onPop m out ready.Nothing ≡ popUnchecked m now out
+  unfolding popUnchecked
   none-waits h = simp (le-ltb 0 (m .scheduler .count) (omega arith))
 
-  pub first-not-due : (m .scheduler .count ≡ 0 → ⊥) → now < timeOf first → onPop m out ready.Nothing ≡ takeDef m now out
-  unfolding takeDef
+  pub first-not-due : (m .scheduler .count ≡ 0 → ⊥) → now < timeOf first → onPop m out ready.Nothing ≡ popUnchecked m now out
+  unfolding popUnchecked
   first-not-due h k = simp (lt-ltb 0 (m .scheduler .count) (omega arith), lt-leb (timeOf first) now k)
 
   pub taken-law : {rs : List (List ℕ)} {ps o : List ℕ} → (m .scheduler .count ≡ 0 → ⊥) → timeOf first ≤ now
       → rs ≡ drop 1 (waitingRecords m) ++ vacant ∷ drop (m .scheduler .count) (m .records)
       → ps ≡ placed (m .places) (placeOf first) (replicate 1410 0)
-      → o ≡ bytesOf (m .places) first ++ drop (lengthOf first) out
-      → popExit rs ps o (record { scheduler = scheduler (m .scheduler .count - 1) (m .scheduler .«next_order»); answer = ready.Packet (lengthOf first) }) ≡ takeDef m now out
-  unfolding takeDef takenDef
+      → o ≡ bytesOf (m .places) first ++ drop (recordLength first) out
+      → popExit rs ps o (record { scheduler = scheduler (m .scheduler .count - 1) (m .scheduler .«next_order»); answer = ready.Packet (recordLength first) }) ≡ popUnchecked m now out
+  unfolding popUnchecked withoutFirst
   taken-law h k p q r = simp (lt-ltb 0 (m .scheduler .count) (omega arith), le-leb (timeOf first) now k, p, q, r)
 
   -- what the packet that is due asks
-  pub can-take : CanPop m now out → (m .scheduler .count ≡ 0 → ⊥) → timeOf first ≤ now → (placeOf first * 1410 + 1410 ≤ length (m .places)) × (lengthOf first ≤ 1410) × (lengthOf first ≤ length out)
+  pub can-take : CanPop m now out → (m .scheduler .count ≡ 0 → ⊥) → timeOf first ≤ now → (placeOf first * 1410 + 1410 ≤ length (m .places)) × (recordLength first ≤ 1410) × (recordLength first ≤ length out)
   can-take c h k =
       let some : 0 < m .scheduler .count = omega arith in
-      (first-inside m (c .sound) some, first-fine m (c .sound) some .short, ltb-false (length out) (lengthOf first) (sym (simp (lt-ltb 0 (m .scheduler .count) some, le-leb (timeOf first) now k)) ∙ c .room))
+      (first-inside m (c .sound) some, first-fine m (c .sound) some .short, ltb-false (length out) (recordLength first) (sym (simp (lt-ltb 0 (m .scheduler .count) some, le-leb (timeOf first) now k)) ∙ c .room))
 
   -- ---- the checks of `pop_ready_at`
   abbrev pub popShort : Bool
   popShort = outShort (m .scheduler .count) (m .records) now (length out)
 
-  pub pop-state : stateBroken m ≡ true → onPop m out (ready.Refused State) ≡ popDef m now out
-  unfolding popDef verdict firstOf numbered orElse decide order
+  pub pop-state : stateBroken m ≡ true → onPop m out (ready.Refused State) ≡ popReadyAt m now out
+  unfolding popReadyAt verdict firstOf numbered orElse decide order
   pop-state a = simp a
 
-  pub pop-counts : stateBroken m ≡ false → countsBroken m ≡ true → onPop m out (ready.Refused Counts) ≡ popDef m now out
-  unfolding popDef verdict firstOf numbered orElse decide order
+  pub pop-counts : stateBroken m ≡ false → countsBroken m ≡ true → onPop m out (ready.Refused Counts) ≡ popReadyAt m now out
+  unfolding popReadyAt verdict firstOf numbered orElse decide order
   pop-counts a b = simp (a, b)
 
-  pub pop-time : stateBroken m ≡ false → countsBroken m ≡ false → (late now || heldLate (waitingRecords m)) ≡ true → onPop m out (ready.Refused Time) ≡ popDef m now out
-  unfolding popDef verdict firstOf numbered orElse decide order
+  pub pop-time : stateBroken m ≡ false → countsBroken m ≡ false → (late now || heldLate (waitingRecords m)) ≡ true → onPop m out (ready.Refused Time) ≡ popReadyAt m now out
+  unfolding popReadyAt verdict firstOf numbered orElse decide order
   pop-time a b c = simp (a, b, c)
 
-  pub pop-full : stateBroken m ≡ false → countsBroken m ≡ false → (late now || heldLate (waitingRecords m)) ≡ false → popShort ≡ true → onPop m out (ready.Refused Full) ≡ popDef m now out
-  unfolding popDef verdict firstOf numbered orElse decide order
+  pub pop-full : stateBroken m ≡ false → countsBroken m ≡ false → (late now || heldLate (waitingRecords m)) ≡ false → popShort ≡ true → onPop m out (ready.Refused Full) ≡ popReadyAt m now out
+  unfolding popReadyAt verdict firstOf numbered orElse decide order
   pop-full a b c d = simp (a, b, c, d)
 
-  pub pop-done : {x : PopExit} → stateBroken m ≡ false → countsBroken m ≡ false → (late now || heldLate (waitingRecords m)) ≡ false → popShort ≡ false → x ≡ takeDef m now out → x ≡ popDef m now out
-  unfolding popDef verdict firstOf numbered orElse decide order
+  pub pop-done : {x : PopExit} → stateBroken m ≡ false → countsBroken m ≡ false → (late now || heldLate (waitingRecords m)) ≡ false → popShort ≡ false → x ≡ popUnchecked m now out → x ≡ popReadyAt m now out
+  unfolding popReadyAt verdict firstOf numbered orElse decide order
   pop-done a b c d e = simp (a, b, c, d) e
 
 -- with no deliveries the times are these

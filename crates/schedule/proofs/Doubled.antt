@@ -8,8 +8,8 @@ use mathlib.Core.List.{List, [], _∷_, _++_}
 use lib.Dec.{ltb, leb, eqb}
 use borrow.Author.Tests.{lt-ltb, le-ltb, le-leb, lt-leb, ltb-false, leb-false, eq-eqb, ne-eqb, eqb-true, eqb-false}
 use Rattle.refusal.proofs.Laws.{or-false}
-use Rattle.schedule.specs.Record.{orderOf, lengthOf, placeOf, after, placeIn}
-use Rattle.schedule.specs.Scans.{blockSize, doubled, outside, doubledIn, brokenAlone}
+use Rattle.schedule.specs.Record.{orderOf, recordLength, placeOf, after, placeIn}
+use Rattle.schedule.specs.Scans.{blockSize, doubled, outside, doubledIn, anyRecordBroken}
 use Rattle.schedule.specs.State.{recordBroken, brokenFrom}
 use Rattle.schedule.proofs.Sound.{or-both, fine}
 
@@ -124,39 +124,39 @@ doubled-last (x ∷ rs) r =
 -- ---- line 9: a broken record, or else a doubled place
 pub record-inside : (next n : ℕ) (front r : List ℕ) → recordBroken next n front r ≡ false → placeOf r < n
 record-inside next n front r h =
-    let a = or-false (after front r) (ltb 1410 (lengthOf r) || (leb next (orderOf r) || leb n (placeOf r))) h .1 in
-    let b = or-false (ltb 1410 (lengthOf r)) (leb next (orderOf r) || leb n (placeOf r)) a .1 in
+    let a = or-false (after front r) (ltb 1410 (recordLength r) || (leb next (orderOf r) || leb n (placeOf r))) h .1 in
+    let b = or-false (ltb 1410 (recordLength r)) (leb next (orderOf r) || leb n (placeOf r)) a .1 in
     leb-false n (placeOf r) (or-false (leb next (orderOf r)) (leb n (placeOf r)) b .1)
 
-pub alone-none : (next n : ℕ) (front : List ℕ) {l : List (List ℕ)} → l ≡ [] → brokenAlone next n front l ≡ false
-unfolding brokenAlone
-alone-none next n front e = ap (brokenAlone next n front) e
+pub alone-none : (next n : ℕ) (front : List ℕ) {l : List (List ℕ)} → l ≡ [] → anyRecordBroken next n front l ≡ false
+unfolding anyRecordBroken
+alone-none next n front e = ap (anyRecordBroken next n front) e
 
-pub alone-first : (next n : ℕ) (front : List ℕ) {l rs : List (List ℕ)} {r : List ℕ} {t : Bool} → l ≡ r ∷ rs → recordBroken next n front r ≡ t → brokenAlone next n front l ≡ (t || brokenAlone next n r rs)
-unfolding brokenAlone
-alone-first next n front {rs = rs} {r = r} e h = ap (brokenAlone next n front) e ∙ ap (λ (b : Bool). b || brokenAlone next n r rs) h
+pub alone-first : (next n : ℕ) (front : List ℕ) {l rs : List (List ℕ)} {r : List ℕ} {t : Bool} → l ≡ r ∷ rs → recordBroken next n front r ≡ t → anyRecordBroken next n front l ≡ (t || anyRecordBroken next n r rs)
+unfolding anyRecordBroken
+alone-first next n front {rs = rs} {r = r} e h = ap (anyRecordBroken next n front) e ∙ ap (λ (b : Bool). b || anyRecordBroken next n r rs) h
 
-pub alone-outside : (next n : ℕ) (front : List ℕ) (l : List (List ℕ)) → brokenAlone next n front l ≡ false → outside n l ≡ false
-unfolding brokenAlone outside
+pub alone-outside : (next n : ℕ) (front : List ℕ) (l : List (List ℕ)) → anyRecordBroken next n front l ≡ false → outside n l ≡ false
+unfolding anyRecordBroken outside
 alone-outside next n front [] h = refl
 alone-outside next n front (r ∷ rs) h =
-    let a = or-false (recordBroken next n front r) (brokenAlone next n r rs) h in
+    let a = or-false (recordBroken next n front r) (anyRecordBroken next n r rs) h in
     or-both (leb n (placeOf r)) (outside n rs) (lt-leb n (placeOf r) (record-inside next n front r (a .0))) (alone-outside next n r rs (a .1))
 
-pub alone-broken : (next n : ℕ) (front : List ℕ) (l : List (List ℕ)) → brokenAlone next n front l ≡ true → brokenFrom next n front l ≡ true
-unfolding brokenAlone brokenFrom
-alone-broken next n front [] h = h
-alone-broken next n front (r ∷ rs) h = go (recordBroken next n front r) refl (alone-broken next n r rs) h
+pub any-record-broken : (next n : ℕ) (front : List ℕ) (l : List (List ℕ)) → anyRecordBroken next n front l ≡ true → brokenFrom next n front l ≡ true
+unfolding anyRecordBroken brokenFrom
+any-record-broken next n front [] h = h
+any-record-broken next n front (r ∷ rs) h = go (recordBroken next n front r) refl (any-record-broken next n r rs) h
   where
-    go : (t : Bool) → recordBroken next n front r ≡ t → (brokenAlone next n r rs ≡ true → brokenFrom next n r rs ≡ true) → (recordBroken next n front r || brokenAlone next n r rs) ≡ true → (recordBroken next n front r || (placeIn (placeOf r) rs || brokenFrom next n r rs)) ≡ true
+    go : (t : Bool) → recordBroken next n front r ≡ t → (anyRecordBroken next n r rs ≡ true → brokenFrom next n r rs ≡ true) → (recordBroken next n front r || anyRecordBroken next n r rs) ≡ true → (recordBroken next n front r || (placeIn (placeOf r) rs || brokenFrom next n r rs)) ≡ true
     go true e ih h = ap (λ (b : Bool). b || (placeIn (placeOf r) rs || brokenFrom next n r rs)) e
     go false e ih h =
         ap (λ (b : Bool). b || (placeIn (placeOf r) rs || brokenFrom next n r rs)) e
-        ∙ ap (λ (b : Bool). placeIn (placeOf r) rs || b) (ih (sym (ap (λ (b : Bool). b || brokenAlone next n r rs) e) ∙ h)) ∙ or-true (placeIn (placeOf r) rs)
+        ∙ ap (λ (b : Bool). placeIn (placeOf r) rs || b) (ih (sym (ap (λ (b : Bool). b || anyRecordBroken next n r rs) e) ∙ h)) ∙ or-true (placeIn (placeOf r) rs)
 
-pub alone-doubled : (next n : ℕ) (front : List ℕ) (l : List (List ℕ)) → brokenAlone next n front l ≡ false → brokenFrom next n front l ≡ doubled l
-unfolding brokenAlone brokenFrom doubled
+pub alone-doubled : (next n : ℕ) (front : List ℕ) (l : List (List ℕ)) → anyRecordBroken next n front l ≡ false → brokenFrom next n front l ≡ doubled l
+unfolding anyRecordBroken brokenFrom doubled
 alone-doubled next n front [] h = refl
 alone-doubled next n front (r ∷ rs) h =
-    ap (λ (b : Bool). b || (placeIn (placeOf r) rs || brokenFrom next n r rs)) (or-false (recordBroken next n front r) (brokenAlone next n r rs) h .0)
-    ∙ ap (λ (b : Bool). placeIn (placeOf r) rs || b) (alone-doubled next n r rs (or-false (recordBroken next n front r) (brokenAlone next n r rs) h .1))
+    ap (λ (b : Bool). b || (placeIn (placeOf r) rs || brokenFrom next n r rs)) (or-false (recordBroken next n front r) (anyRecordBroken next n r rs) h .0)
+    ∙ ap (λ (b : Bool). placeIn (placeOf r) rs || b) (alone-doubled next n r rs (or-false (recordBroken next n front r) (anyRecordBroken next n r rs) h .1))

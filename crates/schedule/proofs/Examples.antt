@@ -6,30 +6,30 @@ use native.Mathlib.Omega.{arith}
 use lib.ListN.{replicate, length-replicate}
 use Rattle.refusal.specs.Counts.{countFull}
 use Rattle.schedule.specs.Record.{vacant, inserted, placeIn, freeFrom}
-use Rattle.schedule.specs.State.{Mem, CanSchedule}
-use Rattle.schedule.specs.Schedule.{newDef, putAllDef, CanPop, deadlineDef}
-use Rattle.schedule.specs.Waiting.{copy, waiting, putCopies, nextDeadline}
+use Rattle.schedule.specs.State.{Schedule, CanSchedule}
+use Rattle.schedule.specs.Schedule.{newSchedule, scheduleAtUnchecked, CanPop, nextDeadline}
+use Rattle.schedule.specs.Waiting.{copy, waiting, putCopies, firstDeadline}
 use Rattle.schedule.specs.declared.Deliveries.the-variants.{One}
-use Rattle.schedule.specs.declared.Deadline.the-variants.{At}
+use Rattle.schedule.specs.declared.DeadlineAnswer.the-variants.{At}
 use Rattle.schedule.proofs.Laws.{new-waits, new-sound, new-times, schedule-waits, can-pop, deadline-is, Leaves, schedule-leaves}
 
-abbrev made : Mem
-made = newDef (vacant ∷ []) (replicate 1410 7)
+abbrev made : Schedule
+made = newSchedule (vacant ∷ []) (replicate 1410 7)
 
 can : CanSchedule made 0 (65 ∷ []) (One 5)
 unfolding freeFrom placeIn
 can = record { sound = new-sound (vacant ∷ []) (replicate 1410 7); counts = refl; times = refl; short = refl; room = refl }
 
-pub one-waits : waiting (putAllDef made 0 (65 ∷ []) (One 5)) ≡ copy 5000000 0 (65 ∷ []) ∷ []
+pub one-waits : waiting (scheduleAtUnchecked made 0 (65 ∷ []) (One 5)) ≡ copy 5000000 0 (65 ∷ []) ∷ []
 unfolding putCopies inserted
 one-waits = schedule-waits made 0 (65 ∷ []) (One 5) can ∙ ap (putCopies 0 0 (65 ∷ []) (One 5)) (new-waits (vacant ∷ []) (replicate 1410 7))
 
-pub one-leaves : Leaves made (putAllDef made 0 (65 ∷ []) (One 5)) 1
+pub one-leaves : Leaves made (scheduleAtUnchecked made 0 (65 ∷ []) (One 5)) 1
 one-leaves = schedule-leaves made 0 (65 ∷ []) (One 5) can (new-times (vacant ∷ []) (replicate 1410 7))
 
-pub one-deadline : deadlineDef (putAllDef made 0 (65 ∷ []) (One 5)) ≡ At 5000000
-unfolding nextDeadline
-one-deadline = deadline-is (putAllDef made 0 (65 ∷ []) (One 5)) (one-leaves .sound) (ap countFull (one-leaves .next)) (one-leaves .times) ∙ ap nextDeadline one-waits
+pub one-deadline : nextDeadline (scheduleAtUnchecked made 0 (65 ∷ []) (One 5)) ≡ At 5000000
+unfolding firstDeadline
+one-deadline = deadline-is (scheduleAtUnchecked made 0 (65 ∷ []) (One 5)) (one-leaves .sound) (ap countFull (one-leaves .next)) (one-leaves .times) ∙ ap firstDeadline one-waits
 
-pub one-pops : CanPop (putAllDef made 0 (65 ∷ []) (One 5)) 5000000 (replicate 1410 7)
-one-pops = can-pop (putAllDef made 0 (65 ∷ []) (One 5)) 5000000 (replicate 1410 7) (one-leaves .sound) (omega (arith, length-replicate {A = ℕ} 1410 7))
+pub one-pops : CanPop (scheduleAtUnchecked made 0 (65 ∷ []) (One 5)) 5000000 (replicate 1410 7)
+one-pops = can-pop (scheduleAtUnchecked made 0 (65 ∷ []) (One 5)) 5000000 (replicate 1410 7) (one-leaves .sound) (omega (arith, length-replicate {A = ℕ} 1410 7))

@@ -10,14 +10,14 @@ use lib.Dec.{ltb, leb, eqb}
 use native.Mathlib.Numerals.{add-one}
 use native.Mathlib.Nat.{add-zero, add-assoc}
 use borrow.Author.Tests.{ltb-true, ltb-false, leb-true, leb-false, le-ltb, eq-eqb}
-use Rattle.schedule.specs.Record.{record4, timeOf, orderOf, lengthOf, placeOf, vacant, after, inserted, orderedFrom, placeIn, lowestFree}
-use Rattle.schedule.specs.State.{Mem, waitingRecords, placeCount, brokenFrom, stateBroken, countsBroken, late, heldLate, delayLate, copies, leavesAt, lacksRoom, CanPut, CanSchedule}
-use Rattle.schedule.specs.Schedule.{newDef, placed, filled, putDef, putAllDef, firstRecord, bytesOf, takenDef, due, outShort, takeDef, onPop, CanPop, firstTime, deadlineDef, roomOf}
-use Rattle.schedule.specs.Waiting.{Copy, copy, copyAfter, copyOf, waiting, putCopies, nothing, leaves, popCopies, nextDeadline}
+use Rattle.schedule.specs.Record.{record4, timeOf, orderOf, recordLength, placeOf, vacant, after, inserted, orderedFrom, placeIn, lowestFree}
+use Rattle.schedule.specs.State.{Schedule, waitingRecords, placeCount, brokenFrom, stateBroken, countsBroken, late, heldLate, delayLate, copies, leavesAt, lacksRoom, CanPut, CanSchedule}
+use Rattle.schedule.specs.Schedule.{newSchedule, placed, placeBytes, putCopy, scheduleAtUnchecked, firstRecord, bytesOf, withoutFirst, due, outShort, popUnchecked, onPop, CanPop, firstTime, nextDeadline, roomOf}
+use Rattle.schedule.specs.Waiting.{WaitingCopy, copy, copyAfter, waitingCopy, waiting, putCopies, nothing, leaves, popCopies, firstDeadline}
 use Rattle.schedule.specs.declared.Deliveries.{Deliveries}
 use Rattle.schedule.specs.declared.Deliveries.the-variants.{Lost, One, Two}
-use Rattle.schedule.specs.declared.Ready.the-variants as ready
-use Rattle.schedule.specs.declared.Deadline.the-variants as deadline
+use Rattle.schedule.specs.declared.ReadyAnswer.the-variants as ready
+use Rattle.schedule.specs.declared.DeadlineAnswer.the-variants as deadline
 use Rattle.schedule.proofs.Ordering.{up-to, Order, by-key, first-of, insert-none, insert-here, insert-later, inserted-length}
 use Rattle.refusal.proofs.Laws.{or-false}
 use Rattle.schedule.proofs.Sound.{fine, none-broken, place-cons}
@@ -28,69 +28,69 @@ use Rattle.schedule.proofs.Bytes.{other-copies, filled-bytes, bytes-len
 pub use Rattle.schedule.proofs.Sound.{or-both, told}
 
 -- ---- making
-pub new-waits : (rs : List (List ℕ)) (ps : List ℕ) → waiting (newDef rs ps) ≡ []
+pub new-waits : (rs : List (List ℕ)) (ps : List ℕ) → waiting (newSchedule rs ps) ≡ []
 unfolding waiting
 new-waits rs ps = refl
 
-pub new-sound : (rs : List (List ℕ)) (ps : List ℕ) → stateBroken (newDef rs ps) ≡ false
-new-sound rs ps = makes-sound (newDef rs ps) (omega arith) (none-broken 0 (placeCount (newDef rs ps)) vacant)
+pub new-sound : (rs : List (List ℕ)) (ps : List ℕ) → stateBroken (newSchedule rs ps) ≡ false
+new-sound rs ps = makes-sound (newSchedule rs ps) (omega arith) (none-broken 0 (placeCount (newSchedule rs ps)) vacant)
 
-pub new-times : (rs : List (List ℕ)) (ps : List ℕ) → heldLate (waitingRecords (newDef rs ps)) ≡ false
+pub new-times : (rs : List (List ℕ)) (ps : List ℕ) → heldLate (waitingRecords (newSchedule rs ps)) ≡ false
 unfolding heldLate
 new-times rs ps = refl
 
 -- ---- scheduling
-map-inserted : (ps : List ℕ) (r : List ℕ) (rs : List (List ℕ)) → map (copyOf ps) (inserted after r rs) ≡ inserted copyAfter (copyOf ps r) (map (copyOf ps) rs)
-map-inserted ps r [] = ap (map (copyOf ps)) (insert-none after r) ∙ sym (insert-none copyAfter (copyOf ps r))
+map-inserted : (ps : List ℕ) (r : List ℕ) (rs : List (List ℕ)) → map (waitingCopy ps) (inserted after r rs) ≡ inserted copyAfter (waitingCopy ps r) (map (waitingCopy ps) rs)
+map-inserted ps r [] = ap (map (waitingCopy ps)) (insert-none after r) ∙ sym (insert-none copyAfter (waitingCopy ps r))
 map-inserted ps r (x ∷ xs) = go (after x r) refl (map-inserted ps r xs)
   where
-    go : (t : Bool) → after x r ≡ t → map (copyOf ps) (inserted after r xs) ≡ inserted copyAfter (copyOf ps r) (map (copyOf ps) xs) → map (copyOf ps) (inserted after r (x ∷ xs)) ≡ inserted copyAfter (copyOf ps r) (copyOf ps x ∷ map (copyOf ps) xs)
-    go true e ih = ap (map (copyOf ps)) (insert-here after r x xs e) ∙ sym (insert-here copyAfter (copyOf ps r) (copyOf ps x) (map (copyOf ps) xs) e)
-    go false e ih = ap (map (copyOf ps)) (insert-later after r x xs e) ∙ ap (λ (cs : List Copy). copyOf ps x ∷ cs) ih ∙ sym (insert-later copyAfter (copyOf ps r) (copyOf ps x) (map (copyOf ps) xs) e)
+    go : (t : Bool) → after x r ≡ t → map (waitingCopy ps) (inserted after r xs) ≡ inserted copyAfter (waitingCopy ps r) (map (waitingCopy ps) xs) → map (waitingCopy ps) (inserted after r (x ∷ xs)) ≡ inserted copyAfter (waitingCopy ps r) (waitingCopy ps x ∷ map (waitingCopy ps) xs)
+    go true e ih = ap (map (waitingCopy ps)) (insert-here after r x xs e) ∙ sym (insert-here copyAfter (waitingCopy ps r) (waitingCopy ps x) (map (waitingCopy ps) xs) e)
+    go false e ih = ap (map (waitingCopy ps)) (insert-later after r x xs e) ∙ ap (λ (cs : List WaitingCopy). waitingCopy ps x ∷ cs) ih ∙ sym (insert-later copyAfter (waitingCopy ps r) (waitingCopy ps x) (map (waitingCopy ps) xs) e)
 
-module _ (m : Mem) (packet : List ℕ) (can : CanPut m packet) (time : ℕ) where
+module _ (m : Schedule) (packet : List ℕ) (can : CanPut m packet) (time : ℕ) where
   -- one copy more, with its bytes; the bytes of the others are as they were
-  pub put-waits : waiting (putDef m time packet) ≡ inserted copyAfter (copy time (m .scheduler .«next_order») packet) (waiting m)
-  unfolding waiting putDef
+  pub put-waits : waiting (putCopy m time packet) ≡ inserted copyAfter (copy time (m .scheduler .«next_order») packet) (waiting m)
+  unfolding waiting putCopy
   put-waits =
       let p = lowestFree (placeCount m) (waitingRecords m) in
-      let ps = placed (m .places) p (filled packet) in
+      let ps = placed (m .places) p (placeBytes packet) in
       let r = record4 time (m .scheduler .«next_order») (length packet) p in
-      ap (map (copyOf ps)) (put-records m packet can time)
+      ap (map (waitingCopy ps)) (put-records m packet can time)
       ∙ map-inserted ps r (waitingRecords m)
-      ∙ ap (λ (cs : List Copy). inserted copyAfter (copyOf ps r) cs) (other-copies (m .places) p (filled packet) (place-inside m packet can) (length-filled packet (short m packet can)) (m .scheduler .«next_order») (placeCount m) vacant (waitingRecords m) (unbroken m (can .sound)) (place-free m packet can .1))
-      ∙ ap (λ (xs : List ℕ). inserted copyAfter (copy time (m .scheduler .«next_order») xs) (map (copyOf (m .places)) (waitingRecords m))) (filled-bytes (m .places) p packet (place-inside m packet can) (short m packet can))
+      ∙ ap (λ (cs : List WaitingCopy). inserted copyAfter (waitingCopy ps r) cs) (other-copies (m .places) p (placeBytes packet) (place-inside m packet can) (length-filled packet (short m packet can)) (m .scheduler .«next_order») (placeCount m) vacant (waitingRecords m) (unbroken m (can .sound)) (place-free m packet can .1))
+      ∙ ap (λ (xs : List ℕ). inserted copyAfter (copy time (m .scheduler .«next_order») xs) (map (waitingCopy (m .places)) (waitingRecords m))) (filled-bytes (m .places) p packet (place-inside m packet can) (short m packet can))
 
-pub schedule-waits : (m : Mem) (now : ℕ) (packet : List ℕ) (ds : Deliveries) → CanSchedule m now packet ds → waiting (putAllDef m now packet ds) ≡ putCopies (m .scheduler .«next_order») now packet ds (waiting m)
-unfolding putAllDef putCopies
+pub schedule-waits : (m : Schedule) (now : ℕ) (packet : List ℕ) (ds : Deliveries) → CanSchedule m now packet ds → waiting (scheduleAtUnchecked m now packet ds) ≡ putCopies (m .scheduler .«next_order») now packet ds (waiting m)
+unfolding scheduleAtUnchecked putCopies
 schedule-waits m now packet Lost can = refl
 schedule-waits m now packet (One d) can = put-waits m packet (can-one m now packet can d refl) (leavesAt now d)
 schedule-waits m now packet (Two d e) can =
     let a = can-first m now packet can d e refl in
     let b = can-second m now packet can d e (leavesAt now d) refl refl in
-    put-waits (putDef m (leavesAt now d) packet) packet b (leavesAt now e)
-    ∙ ap (λ (n : ℕ). inserted copyAfter (copy (leavesAt now e) n packet) (waiting (putDef m (leavesAt now d) packet))) (put-next m packet a (leavesAt now d))
+    put-waits (putCopy m (leavesAt now d) packet) packet b (leavesAt now e)
+    ∙ ap (λ (n : ℕ). inserted copyAfter (copy (leavesAt now e) n packet) (waiting (putCopy m (leavesAt now d) packet))) (put-next m packet a (leavesAt now d))
     ∙ ap (inserted copyAfter (copy (leavesAt now e) (m .scheduler .«next_order» + 1) packet)) (put-waits m packet a (leavesAt now d))
 
 -- ---- what waits: as many as the count says, in leaving order, numbered below the next order, each in a place of its own
-module _ (m : Mem) (sound : stateBroken m ≡ false) where
+module _ (m : Schedule) (sound : stateBroken m ≡ false) where
   pub waits-count : length (waiting m) ≡ m .scheduler .count
   unfolding waiting
-  waits-count = length-map (waitingRecords m) (copyOf (m .places)) ∙ waiting-count m sound
+  waits-count = length-map (waitingRecords m) (waitingCopy (m .places)) ∙ waiting-count m sound
 
   pub waits-ordered : orderedFrom copyAfter (copy 0 0 []) (waiting m) ≡ true
   unfolding waiting orderedFrom
   waits-ordered = same-order (copy 0 0 []) vacant (waitingRecords m) refl refl ∙ in-order m sound
     where
-      same-order : (c : Copy) (r : List ℕ) (rs : List (List ℕ)) → c .time ≡ timeOf r → c .order ≡ orderOf r → orderedFrom copyAfter c (map (copyOf (m .places)) rs) ≡ orderedFrom after r rs
+      same-order : (c : WaitingCopy) (r : List ℕ) (rs : List (List ℕ)) → c .time ≡ timeOf r → c .order ≡ orderOf r → orderedFrom copyAfter c (map (waitingCopy (m .places)) rs) ≡ orderedFrom after r rs
       same-order c r [] p q = refl
-      same-order c r (x ∷ xs) p q = rw (p, q, same-order (copyOf (m .places) x) x xs refl refl)
+      same-order c r (x ∷ xs) p q = rw (p, q, same-order (waitingCopy (m .places) x) x xs refl refl)
 
   pub waits-numbered : (i : ℕ) → i < length (waiting m) → getD (waiting m) i (copy 0 0 []) .order < m .scheduler .«next_order»
   unfolding waiting
   waits-numbered i h = numbered vacant (waitingRecords m) i (unbroken m sound) h
     where
-      numbered : (front : List ℕ) (rs : List (List ℕ)) (i : ℕ) → brokenFrom (m .scheduler .«next_order») (placeCount m) front rs ≡ false → i < length (map (copyOf (m .places)) rs) → getD (map (copyOf (m .places)) rs) i (copy 0 0 []) .order < m .scheduler .«next_order»
+      numbered : (front : List ℕ) (rs : List (List ℕ)) (i : ℕ) → brokenFrom (m .scheduler .«next_order») (placeCount m) front rs ≡ false → i < length (map (waitingCopy (m .places)) rs) → getD (map (waitingCopy (m .places)) rs) i (copy 0 0 []) .order < m .scheduler .«next_order»
       numbered front [] i b h = absurd (omega arith)
       numbered front (r ∷ rs) zero b h = fine (m .scheduler .«next_order») (placeCount m) front r rs b .below
       numbered front (r ∷ rs) (suc i) b h = numbered r rs i (fine (m .scheduler .«next_order») (placeCount m) front r rs b .rest) (omega arith)
@@ -104,59 +104,59 @@ module _ (m : Mem) (sound : stateBroken m ≡ false) where
   room-left = room-is m sound ∙ ap (λ (n : ℕ). min (placeCount m - n) (length (m .records) - n)) (sym waits-count)
 
 -- line 5 is false of as many copies as there is room for
-pub room-enough : (m : Mem) (k : ℕ) → k ≤ roomOf m → lacksRoom m k ≡ false
+pub room-enough : (m : Schedule) (k : ℕ) → k ≤ roomOf m → lacksRoom m k ≡ false
 room-enough m k h = lacks-not m k refl refl h
 
 -- ---- taking out
-module _ (m : Mem) (sound : stateBroken m ≡ false) (some : 0 < m .scheduler .count) where
+module _ (m : Schedule) (sound : stateBroken m ≡ false) (some : 0 < m .scheduler .count) where
   -- the first leaves, with its bytes; the others wait as before
-  pub taken-waits : waiting m ≡ copyOf (m .places) (firstRecord (m .records)) ∷ waiting (takenDef m)
-  unfolding waiting takenDef
+  pub taken-waits : waiting m ≡ waitingCopy (m .places) (firstRecord (m .records)) ∷ waiting (withoutFirst m)
+  unfolding waiting withoutFirst
   taken-waits =
       let r = firstRecord (m .records) in
       let f = first-fine m sound some in
-      ap (map (copyOf (m .places))) (first-waits m sound some)
-      ∙ ap (λ (cs : List Copy). copyOf (m .places) r ∷ cs)
+      ap (map (waitingCopy (m .places))) (first-waits m sound some)
+      ∙ ap (λ (cs : List WaitingCopy). waitingCopy (m .places) r ∷ cs)
       (sym (other-copies (m .places) (placeOf r) (replicate 1410 0) (first-inside m sound some) (length-replicate {A = ℕ} 1410 0) (m .scheduler .«next_order») (placeCount m) r (drop 1 (waitingRecords m)) (f .rest) (f .single))
-      ∙ ap (map (copyOf (placed (m .places) (placeOf r) (replicate 1410 0)))) (sym (taken-records m sound some)))
+      ∙ ap (map (waitingCopy (placed (m .places) (placeOf r) (replicate 1410 0)))) (sym (taken-records m sound some)))
 
-  pub first-length : length (bytesOf (m .places) (firstRecord (m .records))) ≡ lengthOf (firstRecord (m .records))
+  pub first-length : length (bytesOf (m .places) (firstRecord (m .records))) ≡ recordLength (firstRecord (m .records))
   first-length = let f = first-fine m sound some in bytes-length (m .places) (firstRecord (m .records)) (f .short) (f .inside)
 
-none-waiting : (m : Mem) → m .scheduler .count ≡ 0 → waiting m ≡ []
+none-waiting : (m : Schedule) → m .scheduler .count ≡ 0 → waiting m ≡ []
 unfolding waiting
-none-waiting m e = ap (λ (n : ℕ). map (copyOf (m .places)) (take n (m .records))) e
+none-waiting m e = ap (λ (n : ℕ). map (waitingCopy (m .places)) (take n (m .records))) e
 
 -- a buffer of 1,410 bytes takes any packet
-pub can-pop : (m : Mem) (now : ℕ) (out : List ℕ) → stateBroken m ≡ false → 1410 ≤ length out → CanPop m now out
+pub can-pop : (m : Schedule) (now : ℕ) (out : List ℕ) → stateBroken m ≡ false → 1410 ≤ length out → CanPop m now out
 can-pop m now out sound h = record { sound = sound; room = go (ltb 0 (m .scheduler .count)) refl }
   where
     go : (t : Bool) → ltb 0 (m .scheduler .count) ≡ t → outShort (m .scheduler .count) (m .records) now (length out) ≡ false
     go false e = simp e
     go true e =
         let f = first-fine m sound (ltb-true 0 (m .scheduler .count) e) in
-        rw (le-ltb (length out) (lengthOf (firstRecord (m .records))) (omega (arith, f .short))) (and-false (due (m .scheduler .count) (m .records) now))
+        rw (le-ltb (length out) (recordLength (firstRecord (m .records))) (omega (arith, f .short))) (and-false (due (m .scheduler .count) (m .records) now))
 
 -- ---- when the next leaves: below the entry point, and as it answers
-pub first-time-is : (m : Mem) → stateBroken m ≡ false → firstTime (m .scheduler .count) (m .records) ≡ nextDeadline (waiting m)
-unfolding nextDeadline
+pub first-time-is : (m : Schedule) → stateBroken m ≡ false → firstTime (m .scheduler .count) (m .records) ≡ firstDeadline (waiting m)
+unfolding firstDeadline
 first-time-is m sound = go (ltb 0 (m .scheduler .count)) refl
   where
-    go : (t : Bool) → ltb 0 (m .scheduler .count) ≡ t → cond t (deadline.At (timeOf (firstRecord (m .records)))) deadline.Nothing ≡ nextDeadline (waiting m)
-    go true e = sym (ap nextDeadline (taken-waits m sound (ltb-true 0 (m .scheduler .count) e)))
-    go false e = let l = ltb-false 0 (m .scheduler .count) e in sym (ap nextDeadline (none-waiting m (omega arith)))
+    go : (t : Bool) → ltb 0 (m .scheduler .count) ≡ t → cond t (deadline.At (timeOf (firstRecord (m .records)))) deadline.Nothing ≡ firstDeadline (waiting m)
+    go true e = sym (ap firstDeadline (taken-waits m sound (ltb-true 0 (m .scheduler .count) e)))
+    go false e = let l = ltb-false 0 (m .scheduler .count) e in sym (ap firstDeadline (none-waiting m (omega arith)))
 
-pub deadline-is : (m : Mem) → stateBroken m ≡ false → countsBroken m ≡ false → heldLate (waitingRecords m) ≡ false → deadlineDef m ≡ nextDeadline (waiting m)
-unfolding deadlineDef
+pub deadline-is : (m : Schedule) → stateBroken m ≡ false → countsBroken m ≡ false → heldLate (waitingRecords m) ≡ false → nextDeadline m ≡ firstDeadline (waiting m)
+unfolding nextDeadline
 deadline-is m sound counts times = sym (reading-done m deadline.Refused (firstTime (m .scheduler .count) (m .records)) sound counts times) ∙ first-time-is m sound
 
 -- what `pop_ready_at` answers and leaves, by the list of what waits
-pub record Pops (m : Mem) (now : ℕ) (out : List ℕ) (c : Copy) (cs : List Copy) : Type 0 where
-  pub answer : takeDef m now out ≡ onPop (takenDef m) (c .bytes ++ drop (length (c .bytes)) out) (ready.Packet (length (c .bytes)))
-  pub rest : waiting (takenDef m) ≡ cs
-  pub sound : stateBroken (takenDef m) ≡ false
+pub record Pops (m : Schedule) (now : ℕ) (out : List ℕ) (c : WaitingCopy) (cs : List WaitingCopy) : Type 0 where
+  pub answer : popUnchecked m now out ≡ onPop (withoutFirst m) (c .bytes ++ drop (length (c .bytes)) out) (ready.Packet (length (c .bytes)))
+  pub rest : waiting (withoutFirst m) ≡ cs
+  pub sound : stateBroken (withoutFirst m) ≡ false
 
-first-is : (now : ℕ) (x : Copy) (xs : List Copy) (c : Copy) (cs : List Copy) → popCopies now (x ∷ xs) ≡ leaves c cs → (leb (x .time) now ≡ true) × (x ≡ c) × (xs ≡ cs)
+first-is : (now : ℕ) (x : WaitingCopy) (xs : List WaitingCopy) (c : WaitingCopy) (cs : List WaitingCopy) → popCopies now (x ∷ xs) ≡ leaves c cs → (leb (x .time) now ≡ true) × (x ≡ c) × (xs ≡ cs)
 unfolding popCopies
 first-is now x xs c cs h = go (leb (x .time) now) refl h
   where
@@ -164,7 +164,7 @@ first-is now x xs c cs h = go (leb (x .time) now) refl h
     go true e h = (e, cc, cc)
     go false e h = let z : _≡_ {A = ℕ} 0 1 = cc in absurd (omega arith)
 
-not-first : (now : ℕ) (x : Copy) (xs : List Copy) → popCopies now (x ∷ xs) ≡ nothing → leb (x .time) now ≡ false
+not-first : (now : ℕ) (x : WaitingCopy) (xs : List WaitingCopy) → popCopies now (x ∷ xs) ≡ nothing → leb (x .time) now ≡ false
 unfolding popCopies
 not-first now x xs h = go (leb (x .time) now) refl h
   where
@@ -172,41 +172,41 @@ not-first now x xs h = go (leb (x .time) now) refl h
     go true e h = let z : _≡_ {A = ℕ} 0 1 = cc in absurd (omega arith)
     go false e h = e
 
-none-pops : (now : ℕ) (c : Copy) (cs : List Copy) → popCopies now [] ≡ leaves c cs → ⊥
+none-pops : (now : ℕ) (c : WaitingCopy) (cs : List WaitingCopy) → popCopies now [] ≡ leaves c cs → ⊥
 unfolding popCopies
 none-pops now c cs h = let z : _≡_ {A = ℕ} 0 1 = cc in omega arith
 
-pub pop-packet : (m : Mem) (now : ℕ) (out : List ℕ) (c : Copy) (cs : List Copy) → stateBroken m ≡ false → popCopies now (waiting m) ≡ leaves c cs → Pops m now out c cs
-unfolding takeDef
+pub pop-packet : (m : Schedule) (now : ℕ) (out : List ℕ) (c : WaitingCopy) (cs : List WaitingCopy) → stateBroken m ≡ false → popCopies now (waiting m) ≡ leaves c cs → Pops m now out c cs
+unfolding popUnchecked
 pop-packet m now out c cs sound h = go (ltb 0 (m .scheduler .count)) refl
   where
-    same : (x : List ℕ) (k : ℕ) → x ≡ c .bytes → k ≡ length (c .bytes) → onPop (takenDef m) (x ++ drop k out) (ready.Packet k) ≡ onPop (takenDef m) (c .bytes ++ drop (length (c .bytes)) out) (ready.Packet (length (c .bytes)))
+    same : (x : List ℕ) (k : ℕ) → x ≡ c .bytes → k ≡ length (c .bytes) → onPop (withoutFirst m) (x ++ drop k out) (ready.Packet k) ≡ onPop (withoutFirst m) (c .bytes ++ drop (length (c .bytes)) out) (ready.Packet (length (c .bytes)))
     same x k p q = rw (p, q)
 
     go : (t : Bool) → ltb 0 (m .scheduler .count) ≡ t → Pops m now out c cs
     go false e = let l = ltb-false 0 (m .scheduler .count) e in absurd (none-pops now c cs (ap (popCopies now) (sym (none-waiting m (omega arith))) ∙ h))
     go true e =
         let some = ltb-true 0 (m .scheduler .count) e in
-        let x = copyOf (m .places) (firstRecord (m .records)) in
-        let f = first-is now x (waiting (takenDef m)) c cs (ap (popCopies now) (sym (taken-waits m sound some)) ∙ h) in
-        let b : bytesOf (m .places) (firstRecord (m .records)) ≡ c .bytes = ap (λ (y : Copy). y .bytes) (f .1) in
-        let n : lengthOf (firstRecord (m .records)) ≡ length (c .bytes) = sym (first-length m sound some) ∙ ap length b in
-        record { answer = simp (e, f .0) (same (bytesOf (m .places) (firstRecord (m .records))) (lengthOf (firstRecord (m .records))) b n); rest = f .2; sound = taken-sound m sound some }
+        let x = waitingCopy (m .places) (firstRecord (m .records)) in
+        let f = first-is now x (waiting (withoutFirst m)) c cs (ap (popCopies now) (sym (taken-waits m sound some)) ∙ h) in
+        let b : bytesOf (m .places) (firstRecord (m .records)) ≡ c .bytes = ap (λ (y : WaitingCopy). y .bytes) (f .1) in
+        let n : recordLength (firstRecord (m .records)) ≡ length (c .bytes) = sym (first-length m sound some) ∙ ap length b in
+        record { answer = simp (e, f .0) (same (bytesOf (m .places) (firstRecord (m .records))) (recordLength (firstRecord (m .records))) b n); rest = f .2; sound = taken-sound m sound some }
 
-pub pop-nothing : (m : Mem) (now : ℕ) (out : List ℕ) → stateBroken m ≡ false → popCopies now (waiting m) ≡ nothing → takeDef m now out ≡ onPop m out ready.Nothing
-unfolding takeDef
+pub pop-nothing : (m : Schedule) (now : ℕ) (out : List ℕ) → stateBroken m ≡ false → popCopies now (waiting m) ≡ nothing → popUnchecked m now out ≡ onPop m out ready.Nothing
+unfolding popUnchecked
 pop-nothing m now out sound h = go (ltb 0 (m .scheduler .count)) refl
   where
-    go : (t : Bool) → ltb 0 (m .scheduler .count) ≡ t → takeDef m now out ≡ onPop m out ready.Nothing
+    go : (t : Bool) → ltb 0 (m .scheduler .count) ≡ t → popUnchecked m now out ≡ onPop m out ready.Nothing
     go false e = simp e
     go true e =
         let some = ltb-true 0 (m .scheduler .count) e in
-        let x = copyOf (m .places) (firstRecord (m .records)) in
-        let f = not-first now x (waiting (takenDef m)) (ap (popCopies now) (sym (taken-waits m sound some)) ∙ h) in
+        let x = waitingCopy (m .places) (firstRecord (m .records)) in
+        let f = not-first now x (waiting (withoutFirst m)) (ap (popCopies now) (sym (taken-waits m sound some)) ∙ h) in
         simp (e, f)
 
 -- ---- what a call that isn't refused leaves beside the list: slices of the same lengths, and a state that the next call accepts
-pub record Leaves (m m′ : Mem) (orders : ℕ) : Type 0 where
+pub record Leaves (m m′ : Schedule) (orders : ℕ) : Type 0 where
   pub records : length (m′ .records) ≡ length (m .records)
   pub places : length (m′ .places) ≡ length (m .places)
   pub next : m′ .scheduler .«next_order» ≡ m .scheduler .«next_order» + orders
@@ -225,7 +225,7 @@ held-inserted r (x ∷ xs) h k = go (after x r) refl (or-false (late (timeOf x))
     go true e f ih = ap heldLate (insert-here after r x xs e) ∙ held-first r (x ∷ xs) ∙ or-both (late (timeOf r)) (heldLate (x ∷ xs)) h k
     go false e f ih = ap heldLate (insert-later after r x xs e) ∙ held-first x (inserted after r xs) ∙ or-both (late (timeOf x)) (heldLate (inserted after r xs)) (f .0) (ih (f .1))
 
-put-leaves : (m : Mem) (packet : List ℕ) → CanPut m packet → (time : ℕ) → late time ≡ false → heldLate (waitingRecords m) ≡ false → Leaves m (putDef m time packet) 1
+put-leaves : (m : Schedule) (packet : List ℕ) → CanPut m packet → (time : ℕ) → late time ≡ false → heldLate (waitingRecords m) ≡ false → Leaves m (putCopy m time packet) 1
 put-leaves m packet can time h k =
     record {
       records = put-length m packet can time;
@@ -235,19 +235,19 @@ put-leaves m packet can time h k =
       times = ap heldLate (put-records m packet can time) ∙ held-inserted (record4 time (m .scheduler .«next_order») (length packet) (lowestFree (placeCount m) (waitingRecords m))) (waitingRecords m) h k;
     }
 
-then : {m m′ m″ : Mem} {j k : ℕ} → Leaves m m′ j → Leaves m′ m″ k → Leaves m m″ (j + k)
+then : {m m′ m″ : Schedule} {j k : ℕ} → Leaves m m′ j → Leaves m′ m″ k → Leaves m m″ (j + k)
 then {m} {j = j} {k = k} f g = record { records = g .records ∙ f .records; places = g .places ∙ f .places; next = g .next ∙ ap (λ (n : ℕ). n + k) (f .next) ∙ add-assoc (m .scheduler .«next_order») j k; sound = g .sound; times = g .times }
 
-pub schedule-leaves : (m : Mem) (now : ℕ) (packet : List ℕ) (ds : Deliveries) → CanSchedule m now packet ds → heldLate (waitingRecords m) ≡ false → Leaves m (putAllDef m now packet ds) (copies ds)
-unfolding putAllDef
+pub schedule-leaves : (m : Schedule) (now : ℕ) (packet : List ℕ) (ds : Deliveries) → CanSchedule m now packet ds → heldLate (waitingRecords m) ≡ false → Leaves m (scheduleAtUnchecked m now packet ds) (copies ds)
+unfolding scheduleAtUnchecked
 schedule-leaves m now packet Lost can h = record { records = refl; places = refl; next = sym (add-zero (m .scheduler .«next_order»)); sound = can .sound; times = h }
 schedule-leaves m now packet (One d) can h = put-leaves m packet (can-one m now packet can d refl) (leavesAt now d) (or-false (ltb 180000 d) (late (leavesAt now d)) (can .times) .1) h
 schedule-leaves m now packet (Two d e) can h =
     let t = or-false (delayLate now d) (delayLate now e) (can .times) in
     let f = put-leaves m packet (can-first m now packet can d e refl) (leavesAt now d) (or-false (ltb 180000 d) (late (leavesAt now d)) (t .0) .1) h in
-    then f (put-leaves (putDef m (leavesAt now d) packet) packet (can-second m now packet can d e (leavesAt now d) refl refl) (leavesAt now e) (or-false (ltb 180000 e) (late (leavesAt now e)) (t .1) .1) (f .times))
+    then f (put-leaves (putCopy m (leavesAt now d) packet) packet (can-second m now packet can d e (leavesAt now d) refl refl) (leavesAt now e) (or-false (ltb 180000 e) (late (leavesAt now e)) (t .1) .1) (f .times))
 
-pub taken-leaves : (m : Mem) → stateBroken m ≡ false → 0 < m .scheduler .count → heldLate (waitingRecords m) ≡ false → Leaves m (takenDef m) 0
+pub taken-leaves : (m : Schedule) → stateBroken m ≡ false → 0 < m .scheduler .count → heldLate (waitingRecords m) ≡ false → Leaves m (withoutFirst m) 0
 taken-leaves m sound some h =
     record {
       records = taken-length m sound some;
@@ -265,10 +265,10 @@ never-before aft o d p (x ∷ xs) zero h l = first-of aft p x xs h .0
 never-before aft o d p (x ∷ xs) (suc i) h l = let f = first-of aft p x xs h in o .chain p x (getD xs i d) (f .0) (never-before aft o d x xs i (f .1) (omega arith))
 
 pub copies-order : Order copyAfter
-copies-order = by-key (λ (c : Copy). c .time) (λ (c : Copy). c .order)
+copies-order = by-key (λ (c : WaitingCopy). c .time) (λ (c : WaitingCopy). c .order)
 
 -- the first that waits has a time below that of each other, or the same time and an order at most as great
-pub first-least : (m : Mem) (c : Copy) (cs : List Copy) (i : ℕ) → stateBroken m ≡ false → waiting m ≡ c ∷ cs → i < length cs → (c .time < getD cs i c .time) ⊎ ((c .time ≡ getD cs i c .time) × (c .order ≤ getD cs i c .order))
+pub first-least : (m : Schedule) (c : WaitingCopy) (cs : List WaitingCopy) (i : ℕ) → stateBroken m ≡ false → waiting m ≡ c ∷ cs → i < length cs → (c .time < getD cs i c .time) ⊎ ((c .time ≡ getD cs i c .time) × (c .order ≤ getD cs i c .order))
 first-least m c cs i sound e l =
     up-to (c .time) (c .order) (getD cs i c .time) (getD cs i c .order)
     (never-before copyAfter copies-order c c cs i (first-of copyAfter (copy 0 0 []) c cs (ap (orderedFrom copyAfter (copy 0 0 [])) (sym e) ∙ waits-ordered m sound) .1) l)
@@ -285,11 +285,11 @@ apart-in next n front (r ∷ rs) zero (suc j) h a b e = true≢false (sym (found
     found p (x ∷ xs) (suc j) l e = place-cons p x xs ∙ ap (λ (b : Bool). eqb p (placeOf x) || b) (found p xs j (omega arith) e) ∙ or-true (eqb p (placeOf x))
 apart-in next n front (r ∷ rs) (suc i) (suc j) h a b e = apart-in next n r rs i j (fine next n front r rs h .rest) (omega arith) (omega arith) e
 
-pub places-apart : (m : Mem) (i j : ℕ) → stateBroken m ≡ false → i < j → j < m .scheduler .count → placeOf (getD (waitingRecords m) i []) ≡ placeOf (getD (waitingRecords m) j []) → ⊥
+pub places-apart : (m : Schedule) (i j : ℕ) → stateBroken m ≡ false → i < j → j < m .scheduler .count → placeOf (getD (waitingRecords m) i []) ≡ placeOf (getD (waitingRecords m) j []) → ⊥
 places-apart m i j sound a b e = apart-in (m .scheduler .«next_order») (placeCount m) vacant (waitingRecords m) i j (unbroken m sound) a (rw (waiting-count m sound) b) e
 
 -- ---- nothing is lost and nothing is added: as many wait as before and were granted; one that leaves was the first
-pub put-count : (next now : ℕ) (packet : List ℕ) (ds : Deliveries) (cs : List Copy) → length (putCopies next now packet ds cs) ≡ length cs + copies ds
+pub put-count : (next now : ℕ) (packet : List ℕ) (ds : Deliveries) (cs : List WaitingCopy) → length (putCopies next now packet ds cs) ≡ length cs + copies ds
 unfolding putCopies
 put-count next now packet Lost cs = sym (add-zero (length cs))
 put-count next now packet (One d) cs = inserted-length copyAfter (copy (leavesAt now d) next packet) cs ∙ sym (add-one (length cs))
@@ -300,11 +300,11 @@ put-count next now packet (Two d e) cs =
     two : (n : ℕ) → suc (suc n) ≡ n + 2
     two n = omega arith
 
-pub pop-first : (now : ℕ) (ws : List Copy) (c : Copy) (cs : List Copy) → popCopies now ws ≡ leaves c cs → (ws ≡ c ∷ cs) × (c .time ≤ now)
+pub pop-first : (now : ℕ) (ws : List WaitingCopy) (c : WaitingCopy) (cs : List WaitingCopy) → popCopies now ws ≡ leaves c cs → (ws ≡ c ∷ cs) × (c .time ≤ now)
 pop-first now [] c cs h = absurd (none-pops now c cs h)
 pop-first now (x ∷ xs) c cs h =
     let f = first-is now x xs c cs h in
-    (ap (λ (y : Copy). y ∷ xs) (f .1) ∙ ap (λ (l : List Copy). c ∷ l) (f .2), rw (← f .1) (leb-true (x .time) now (f .0)))
+    (ap (λ (y : WaitingCopy). y ∷ xs) (f .1) ∙ ap (λ (l : List WaitingCopy). c ∷ l) (f .2), rw (← f .1) (leb-true (x .time) now (f .0)))
 
-pub none-due : (now : ℕ) (x : Copy) (xs : List Copy) → popCopies now (x ∷ xs) ≡ nothing → now < x .time
+pub none-due : (now : ℕ) (x : WaitingCopy) (xs : List WaitingCopy) → popCopies now (x ∷ xs) ≡ nothing → now < x .time
 none-due now x xs h = leb-false (x .time) now (not-first now x xs h)

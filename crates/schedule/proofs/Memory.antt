@@ -11,9 +11,9 @@ use lib.Dec.{ltb}
 use borrow.Author.Tests.{ltb-true, ltb-false, lt-ltb, le-ltb}
 use Rattle.refusal.proofs.Laws.{or-false}
 use Rattle.schedule.specs.Record.{record4, placeOf, vacant, after, inserted, ordered, placeIn, freePlaces, lowestFree}
-use Rattle.schedule.specs.State.{Mem, waitingRecords, placeCount, brokenFrom, stateBroken, unusedRecords, unusedPlaces, lacksRoom, CanPut}
+use Rattle.schedule.specs.State.{Schedule, waitingRecords, placeCount, brokenFrom, stateBroken, unusedRecords, unusedPlaces, lacksRoom, CanPut}
 use Rattle.schedule.specs.Scans.{doubled, outside}
-use Rattle.schedule.specs.Schedule.{placed, filled, putDef, firstRecord, takenDef, roomOf}
+use Rattle.schedule.specs.Schedule.{placed, placeBytes, putCopy, firstRecord, withoutFirst, roomOf}
 use Rattle.schedule.proofs.Ordering.{inserted-length, least}
 use Rattle.schedule.proofs.Sound.{or-both, Fine, fine, sound-ordered, inserted-sound, rest-sound}
 use Rattle.schedule.proofs.Doubled.{sound-inside, sound-single}
@@ -21,7 +21,7 @@ use Rattle.schedule.proofs.FreePlaces.{free-count, free-head}
 use Rattle.schedule.proofs.Lists.{rest-cons}
 
 -- ---- what line 9 says, false
-module _ (m : Mem) (sound : stateBroken m ≡ false) where
+module _ (m : Schedule) (sound : stateBroken m ≡ false) where
   pub within : m .scheduler .count ≤ length (m .records)
   unfolding stateBroken
   within = ltb-false (length (m .records)) (m .scheduler .count) (or-false (ltb (length (m .records)) (m .scheduler .count)) (brokenFrom (m .scheduler .«next_order») (placeCount m) vacant (waitingRecords m)) sound .0)
@@ -45,15 +45,15 @@ module _ (m : Mem) (sound : stateBroken m ≡ false) where
   pub places-count : unusedPlaces m + m .scheduler .count ≡ placeCount m
   places-count = ap (λ (n : ℕ). unusedPlaces m + n) (sym waiting-count) ∙ free-count (placeCount m) (waitingRecords m) inside single
 
-pub makes-sound : (m : Mem) → m .scheduler .count ≤ length (m .records) → brokenFrom (m .scheduler .«next_order») (placeCount m) vacant (waitingRecords m) ≡ false → stateBroken m ≡ false
+pub makes-sound : (m : Schedule) → m .scheduler .count ≤ length (m .records) → brokenFrom (m .scheduler .«next_order») (placeCount m) vacant (waitingRecords m) ≡ false → stateBroken m ≡ false
 unfolding stateBroken
 makes-sound m h k = or-both (ltb (length (m .records)) (m .scheduler .count)) (brokenFrom (m .scheduler .«next_order») (placeCount m) vacant (waitingRecords m)) (le-ltb (length (m .records)) (m .scheduler .count) h) k
 
 -- ---- room
-pub room-for : (m : Mem) (k : ℕ) → lacksRoom m k ≡ false → (k ≤ unusedPlaces m) × (k ≤ unusedRecords m)
+pub room-for : (m : Schedule) (k : ℕ) → lacksRoom m k ≡ false → (k ≤ unusedPlaces m) × (k ≤ unusedRecords m)
 room-for m k h = (ltb-false (unusedPlaces m) k (or-false (ltb (unusedPlaces m) k) (ltb (unusedRecords m) k) h .0), ltb-false (unusedRecords m) k (or-false (ltb (unusedPlaces m) k) (ltb (unusedRecords m) k) h .1))
 
-pub has-room : (m : Mem) (k : ℕ) → k ≤ unusedPlaces m → k ≤ unusedRecords m → lacksRoom m k ≡ false
+pub has-room : (m : Schedule) (k : ℕ) → k ≤ unusedPlaces m → k ≤ unusedRecords m → lacksRoom m k ≡ false
 has-room m k a b = or-both (ltb (unusedPlaces m) k) (ltb (unusedRecords m) k) (le-ltb (unusedPlaces m) k a) (le-ltb (unusedRecords m) k b)
 
 pub lacks-is : (a b k : ℕ) → ltb (min a b) k ≡ (ltb a k || ltb b k)
@@ -65,7 +65,7 @@ lacks-is a b k = go (ltb a k) refl (ltb b k) refl
     go false p false q = let l = ltb-false a k p in let j = ltb-false b k q in le-ltb (min a b) k (omega arith) ∙ sym (ap (λ (x : Bool). x || ltb b k) p ∙ q)
 
 -- ---- places
-pub length-filled : (p : List ℕ) → length p ≤ 1410 → length (filled p) ≡ 1410
+pub length-filled : (p : List ℕ) → length p ≤ 1410 → length (placeBytes p) ≡ 1410
 length-filled p h = length-append p (replicate (1410 - length p) 0) ∙ rw length-replicate (omega arith)
 
 pub length-placed : (ps : List ℕ) (p : ℕ) (bytes : List ℕ) → p * 1410 + 1410 ≤ length ps → length bytes ≡ 1410 → length (placed ps p bytes) ≡ length ps
@@ -79,7 +79,7 @@ pub place-within : (n p : ℕ) → p < n / 1410 → p * 1410 + 1410 ≤ n
 place-within n p h = omega arith
 
 -- ---- a copy put in
-module _ (m : Mem) (packet : List ℕ) (can : CanPut m packet) where
+module _ (m : Schedule) (packet : List ℕ) (can : CanPut m packet) where
   pub short : length packet ≤ 1410
   short = ltb-false 1410 (length packet) (can .short)
 
@@ -96,18 +96,18 @@ module _ (m : Mem) (packet : List ℕ) (can : CanPut m packet) where
   place-inside = place-within (length (m .places)) (lowestFree (placeCount m) (waitingRecords m)) (place-free .0)
 
   module _ (time : ℕ) where
-    pub put-records : waitingRecords (putDef m time packet) ≡ inserted after (record4 time (m .scheduler .«next_order») (length packet) (lowestFree (placeCount m) (waitingRecords m))) (waitingRecords m)
-    unfolding putDef
+    pub put-records : waitingRecords (putCopy m time packet) ≡ inserted after (record4 time (m .scheduler .«next_order») (length packet) (lowestFree (placeCount m) (waitingRecords m))) (waitingRecords m)
+    unfolding putCopy
     put-records =
         let r = record4 time (m .scheduler .«next_order») (length packet) (lowestFree (placeCount m) (waitingRecords m)) in
         take-at (inserted after r (waitingRecords m)) (drop (m .scheduler .count + 1) (m .records)) (m .scheduler .count + 1) (inserted-length after r (waitingRecords m) ∙ ap suc (waiting-count m (can .sound)) ∙ sym (add-one (m .scheduler .count)))
 
-    pub put-places : length (putDef m time packet .places) ≡ length (m .places)
-    unfolding putDef
-    put-places = length-placed (m .places) (lowestFree (placeCount m) (waitingRecords m)) (filled packet) place-inside (length-filled packet short)
+    pub put-places : length (putCopy m time packet .places) ≡ length (m .places)
+    unfolding putCopy
+    put-places = length-placed (m .places) (lowestFree (placeCount m) (waitingRecords m)) (placeBytes packet) place-inside (length-filled packet short)
 
-    pub put-length : length (putDef m time packet .records) ≡ length (m .records)
-    unfolding putDef
+    pub put-length : length (putCopy m time packet .records) ≡ length (m .records)
+    unfolding putCopy
     put-length =
         let r = record4 time (m .scheduler .«next_order») (length packet) (lowestFree (placeCount m) (waitingRecords m)) in
         let a = inserted-length after r (waitingRecords m) in
@@ -115,33 +115,33 @@ module _ (m : Mem) (packet : List ℕ) (can : CanPut m packet) where
         let s = slot in
         length-append (inserted after r (waitingRecords m)) (drop (m .scheduler .count + 1) (m .records)) ∙ rw length-drop (omega arith)
 
-    pub put-count : putDef m time packet .scheduler .count ≡ m .scheduler .count + 1
-    unfolding putDef
+    pub put-count : putCopy m time packet .scheduler .count ≡ m .scheduler .count + 1
+    unfolding putCopy
     put-count = refl
 
-    pub put-next : putDef m time packet .scheduler .«next_order» ≡ m .scheduler .«next_order» + 1
-    unfolding putDef
+    pub put-next : putCopy m time packet .scheduler .«next_order» ≡ m .scheduler .«next_order» + 1
+    unfolding putCopy
     put-next = refl
 
-    pub put-sound : stateBroken (putDef m time packet) ≡ false
+    pub put-sound : stateBroken (putCopy m time packet) ≡ false
     put-sound =
         let p = place-free in
-        makes-sound (putDef m time packet) (rw (put-count, put-length) (omega (arith, slot)))
-        (ap (λ (n : ℕ). brokenFrom (putDef m time packet .scheduler .«next_order») (n / 1410) vacant (waitingRecords (putDef m time packet))) put-places
-        ∙ ap (brokenFrom (putDef m time packet .scheduler .«next_order») (placeCount m) vacant) put-records
+        makes-sound (putCopy m time packet) (rw (put-count, put-length) (omega (arith, slot)))
+        (ap (λ (n : ℕ). brokenFrom (putCopy m time packet .scheduler .«next_order») (n / 1410) vacant (waitingRecords (putCopy m time packet))) put-places
+        ∙ ap (brokenFrom (putCopy m time packet .scheduler .«next_order») (placeCount m) vacant) put-records
         ∙ ap (λ (n : ℕ). brokenFrom n (placeCount m) vacant (inserted after (record4 time (m .scheduler .«next_order») (length packet) (lowestFree (placeCount m) (waitingRecords m))) (waitingRecords m))) put-next
         ∙ inserted-sound (m .scheduler .«next_order») (placeCount m) vacant (record4 time (m .scheduler .«next_order») (length packet) (lowestFree (placeCount m) (waitingRecords m))) (waitingRecords m) (least time (m .scheduler .«next_order»)) short refl (p .0) (p .1) (unbroken m (can .sound)))
 
     -- there is room for one less
-    pub put-room : (k : ℕ) → lacksRoom m (k + 1) ≡ false → lacksRoom (putDef m time packet) k ≡ false
+    pub put-room : (k : ℕ) → lacksRoom m (k + 1) ≡ false → lacksRoom (putCopy m time packet) k ≡ false
     put-room k h =
         let r = room-for m (k + 1) h in
         let a = places-count m (can .sound) in
-        let b = places-count (putDef m time packet) put-sound in
-        let e : placeCount (putDef m time packet) ≡ placeCount m = ap (λ (n : ℕ). n / 1410) put-places in
+        let b = places-count (putCopy m time packet) put-sound in
+        let e : placeCount (putCopy m time packet) ≡ placeCount m = ap (λ (n : ℕ). n / 1410) put-places in
         let n = put-count in
         let l = put-length in
-        has-room (putDef m time packet) k (left (unusedPlaces m) (m .scheduler .count) (unusedPlaces (putDef m time packet)) (putDef m time packet .scheduler .count) k (b ∙ e ∙ sym a) n (r .0)) (rw (n, l) (less (length (m .records)) (m .scheduler .count) k (r .1)))
+        has-room (putCopy m time packet) k (left (unusedPlaces m) (m .scheduler .count) (unusedPlaces (putCopy m time packet)) (putCopy m time packet .scheduler .count) k (b ∙ e ∙ sym a) n (r .0)) (rw (n, l) (less (length (m .records)) (m .scheduler .count) k (r .1)))
       where
         left : (a c b d k : ℕ) → b + d ≡ a + c → d ≡ c + 1 → k + 1 ≤ a → k ≤ b
         left a c b d k e f g = omega arith
@@ -150,14 +150,14 @@ module _ (m : Mem) (packet : List ℕ) (can : CanPut m packet) where
         less l c k h = omega arith
 
 -- ---- how many copies more there is room for
-pub room-is : (m : Mem) → stateBroken m ≡ false → roomOf m ≡ min (placeCount m - m .scheduler .count) (length (m .records) - m .scheduler .count)
+pub room-is : (m : Schedule) → stateBroken m ≡ false → roomOf m ≡ min (placeCount m - m .scheduler .count) (length (m .records) - m .scheduler .count)
 room-is m sound = let a = places-count m sound in ap (λ (n : ℕ). min n (unusedRecords m)) (less (unusedPlaces m) (m .scheduler .count) (placeCount m) a)
   where
     less : (a c n : ℕ) → a + c ≡ n → a ≡ n - c
     less a c n e = omega arith
 
 -- ---- the first taken out
-module _ (m : Mem) (sound : stateBroken m ≡ false) (some : 0 < m .scheduler .count) where
+module _ (m : Schedule) (sound : stateBroken m ≡ false) (some : 0 < m .scheduler .count) where
   pub first-waits : waitingRecords m ≡ firstRecord (m .records) ∷ drop 1 (waitingRecords m)
   first-waits = rest-cons [] (m .scheduler .count) 0 (m .records) some (within m sound)
 
@@ -167,34 +167,34 @@ module _ (m : Mem) (sound : stateBroken m ≡ false) (some : 0 < m .scheduler .c
   pub first-inside : placeOf (firstRecord (m .records)) * 1410 + 1410 ≤ length (m .places)
   first-inside = place-within (length (m .places)) (placeOf (firstRecord (m .records))) (first-fine .inside)
 
-  pub taken-records : waitingRecords (takenDef m) ≡ drop 1 (waitingRecords m)
-  unfolding takenDef
+  pub taken-records : waitingRecords (withoutFirst m) ≡ drop 1 (waitingRecords m)
+  unfolding withoutFirst
   taken-records = take-at (drop 1 (waitingRecords m)) (vacant ∷ drop (m .scheduler .count) (m .records)) (m .scheduler .count - 1) (length-drop 1 (waitingRecords m) ∙ ap (λ (n : ℕ). n - 1) (waiting-count m sound))
 
-  pub taken-places : length (takenDef m .places) ≡ length (m .places)
-  unfolding takenDef
+  pub taken-places : length (withoutFirst m .places) ≡ length (m .places)
+  unfolding withoutFirst
   taken-places = length-placed (m .places) (placeOf (firstRecord (m .records))) (replicate 1410 0) first-inside (length-replicate {A = ℕ} 1410 0)
 
-  pub taken-length : length (takenDef m .records) ≡ length (m .records)
-  unfolding takenDef
+  pub taken-length : length (withoutFirst m .records) ≡ length (m .records)
+  unfolding withoutFirst
   taken-length =
       let w = within m sound in
       let n = waiting-count m sound in
       length-append (drop 1 (waitingRecords m)) (vacant ∷ drop (m .scheduler .count) (m .records)) ∙ rw (length-drop 1 (waitingRecords m), length-drop (m .scheduler .count) (m .records)) (omega arith)
 
-  pub taken-count : takenDef m .scheduler .count ≡ m .scheduler .count - 1
-  unfolding takenDef
+  pub taken-count : withoutFirst m .scheduler .count ≡ m .scheduler .count - 1
+  unfolding withoutFirst
   taken-count = refl
 
-  pub taken-next : takenDef m .scheduler .«next_order» ≡ m .scheduler .«next_order»
-  unfolding takenDef
+  pub taken-next : withoutFirst m .scheduler .«next_order» ≡ m .scheduler .«next_order»
+  unfolding withoutFirst
   taken-next = refl
 
-  pub taken-sound : stateBroken (takenDef m) ≡ false
+  pub taken-sound : stateBroken (withoutFirst m) ≡ false
   taken-sound =
       let w = within m sound in
-      makes-sound (takenDef m) (rw (taken-count, taken-length) (omega arith))
-      (ap (λ (n : ℕ). brokenFrom (takenDef m .scheduler .«next_order») (n / 1410) vacant (waitingRecords (takenDef m))) taken-places
-      ∙ ap (brokenFrom (takenDef m .scheduler .«next_order») (placeCount m) vacant) taken-records
+      makes-sound (withoutFirst m) (rw (taken-count, taken-length) (omega arith))
+      (ap (λ (n : ℕ). brokenFrom (withoutFirst m .scheduler .«next_order») (n / 1410) vacant (waitingRecords (withoutFirst m))) taken-places
+      ∙ ap (brokenFrom (withoutFirst m .scheduler .«next_order») (placeCount m) vacant) taken-records
       ∙ ap (λ (n : ℕ). brokenFrom n (placeCount m) vacant (drop 1 (waitingRecords m))) taken-next
       ∙ rest-sound (m .scheduler .«next_order») (placeCount m) (firstRecord (m .records)) (drop 1 (waitingRecords m)) (ap (brokenFrom (m .scheduler .«next_order») (placeCount m) vacant) (sym first-waits) ∙ unbroken m sound))

@@ -7,7 +7,7 @@ use mathlib.Core.List.{List, [], _∷_}
 use lib.Dec.{ltb, leb, eqb}
 use borrow.Author.Tests.{ltb-false, leb-false, le-ltb, lt-leb, eqb-false, ne-eqb}
 use Rattle.refusal.proofs.Laws.{or-false}
-use Rattle.schedule.specs.Record.{timeOf, orderOf, lengthOf, placeOf, vacant, after, inserted, orderedFrom, placeIn}
+use Rattle.schedule.specs.Record.{timeOf, orderOf, recordLength, placeOf, vacant, after, inserted, orderedFrom, placeIn}
 use Rattle.schedule.specs.State.{recordBroken, brokenFrom}
 use Rattle.schedule.proofs.Ordering.{records, least, none, put-first, insert-none, insert-here, insert-later}
 
@@ -22,7 +22,7 @@ told p q = sym p ∙ q
 -- ---- line 9, false of a record and those behind it
 pub record Fine (next n : ℕ) (front r : List ℕ) (rs : List (List ℕ)) : Type 0 where
   pub behind : after front r ≡ false
-  pub short : lengthOf r ≤ 1410
+  pub short : recordLength r ≤ 1410
   pub below : orderOf r < next
   pub inside : placeOf r < n
   pub single : placeIn (placeOf r) rs ≡ false
@@ -33,11 +33,11 @@ unfolding brokenFrom
 fine next n front r rs h =
     let a = or-false (recordBroken next n front r) (placeIn (placeOf r) rs || brokenFrom next n r rs) h .0 in
     let b = or-false (recordBroken next n front r) (placeIn (placeOf r) rs || brokenFrom next n r rs) h .1 in
-    let a2 = or-false (after front r) (ltb 1410 (lengthOf r) || (leb next (orderOf r) || leb n (placeOf r))) a .1 in
-    let a3 = or-false (ltb 1410 (lengthOf r)) (leb next (orderOf r) || leb n (placeOf r)) a2 .1 in
+    let a2 = or-false (after front r) (ltb 1410 (recordLength r) || (leb next (orderOf r) || leb n (placeOf r))) a .1 in
+    let a3 = or-false (ltb 1410 (recordLength r)) (leb next (orderOf r) || leb n (placeOf r)) a2 .1 in
     record {
-      behind = or-false (after front r) (ltb 1410 (lengthOf r) || (leb next (orderOf r) || leb n (placeOf r))) a .0;
-      short = ltb-false 1410 (lengthOf r) (or-false (ltb 1410 (lengthOf r)) (leb next (orderOf r) || leb n (placeOf r)) a2 .0);
+      behind = or-false (after front r) (ltb 1410 (recordLength r) || (leb next (orderOf r) || leb n (placeOf r))) a .0;
+      short = ltb-false 1410 (recordLength r) (or-false (ltb 1410 (recordLength r)) (leb next (orderOf r) || leb n (placeOf r)) a2 .0);
       below = leb-false next (orderOf r) (or-false (leb next (orderOf r)) (leb n (placeOf r)) a3 .0);
       inside = leb-false n (placeOf r) (or-false (leb next (orderOf r)) (leb n (placeOf r)) a3 .1);
       single = or-false (placeIn (placeOf r) rs) (brokenFrom next n r rs) b .0;
@@ -48,8 +48,8 @@ pub not-broken : (next n : ℕ) (front r : List ℕ) (rs : List (List ℕ)) → 
 unfolding brokenFrom
 not-broken next n front r rs f =
     or-both (recordBroken next n front r) (placeIn (placeOf r) rs || brokenFrom next n r rs)
-    (or-both (after front r) (ltb 1410 (lengthOf r) || (leb next (orderOf r) || leb n (placeOf r))) (f .behind)
-    (or-both (ltb 1410 (lengthOf r)) (leb next (orderOf r) || leb n (placeOf r)) (le-ltb 1410 (lengthOf r) (f .short))
+    (or-both (after front r) (ltb 1410 (recordLength r) || (leb next (orderOf r) || leb n (placeOf r))) (f .behind)
+    (or-both (ltb 1410 (recordLength r)) (leb next (orderOf r) || leb n (placeOf r)) (le-ltb 1410 (recordLength r) (f .short))
     (or-both (leb next (orderOf r)) (leb n (placeOf r)) (lt-leb next (orderOf r) (f .below)) (lt-leb n (placeOf r) (f .inside)))))
     (or-both (placeIn (placeOf r) rs) (brokenFrom next n r rs) (f .single) (f .rest))
 
@@ -93,7 +93,7 @@ other-front next n front other (r ∷ rs) g h =
     let f = fine next n front r rs h in
     not-broken next n other r rs (record { behind = g r (f .behind); short = f .short; below = f .below; inside = f .inside; single = f .single; rest = f .rest })
 
-pub inserted-sound : (next n : ℕ) (front r : List ℕ) (rs : List (List ℕ)) → after front r ≡ false → lengthOf r ≤ 1410 → orderOf r ≡ next → placeOf r < n → placeIn (placeOf r) rs ≡ false
+pub inserted-sound : (next n : ℕ) (front r : List ℕ) (rs : List (List ℕ)) → after front r ≡ false → recordLength r ≤ 1410 → orderOf r ≡ next → placeOf r < n → placeIn (placeOf r) rs ≡ false
     → brokenFrom next n front rs ≡ false → brokenFrom (next + 1) n front (inserted after r rs) ≡ false
 inserted-sound next n front r [] b s o i p h =
     ap (brokenFrom (next + 1) n front) (insert-none after r)

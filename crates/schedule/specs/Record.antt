@@ -15,8 +15,8 @@ timeOf r = getD r 0 0
 abbrev pub orderOf : List ℕ → ℕ
 orderOf r = getD r 1 0
 
-abbrev pub lengthOf : List ℕ → ℕ
-lengthOf r = getD r 2 0
+abbrev pub recordLength : List ℕ → ℕ
+recordLength r = getD r 2 0
 
 abbrev pub placeOf : List ℕ → ℕ
 placeOf r = getD r 3 0

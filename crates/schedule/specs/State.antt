@@ -7,31 +7,31 @@ use lib.ListN.{length, take}
 use lib.Dec.{ltb, leb}
 use Rattle.refusal.specs.Counts.{countLimit, countFull}
 use Rattle.duration.specs.Bounds.{maxTime}
-use Rattle.schedule.specs.Record.{timeOf, orderOf, lengthOf, placeOf, vacant, after, placeIn, freePlaces}
+use Rattle.schedule.specs.Record.{timeOf, orderOf, recordLength, placeOf, vacant, after, placeIn, freePlaces}
 use Rattle.schedule.specs.declared.ChannelScheduler.{ChannelScheduler}
 use Rattle.schedule.specs.declared.Deliveries.{Deliveries}
 use Rattle.schedule.specs.declared.Deliveries.the-variants.{Lost, One, Two}
 
 -- a schedule: its records, the bytes of its places, and the scheduler
-pub record Mem : Type 0 where
+pub record Schedule : Type 0 where
   pub records : List (List ℕ)
   pub places : List ℕ
   pub scheduler : ChannelScheduler
 
-abbrev pub mem : List (List ℕ) → List ℕ → ChannelScheduler → Mem
-mem r p s = record { records = r; places = p; scheduler = s }
+abbrev pub schedule : List (List ℕ) → List ℕ → ChannelScheduler → Schedule
+schedule r p s = record { records = r; places = p; scheduler = s }
 
 -- the records that wait
-abbrev pub waitingRecords : Mem → List (List ℕ)
+abbrev pub waitingRecords : Schedule → List (List ℕ)
 waitingRecords m = take (m .scheduler .count) (m .records)
 
 -- how many places the store has; a remainder belongs to none
-abbrev pub placeCount : Mem → ℕ
+abbrev pub placeCount : Schedule → ℕ
 placeCount m = length (m .places) / 1410
 
 -- line 9 of a waiting record: it leaves before the one in front of it, is longer than 1,410, has an order not below the next one or a place outside the store
 abbrev pub recordBroken : ℕ → ℕ → List ℕ → List ℕ → Bool
-recordBroken next n front r = after front r || (ltb 1410 (lengthOf r) || (leb next (orderOf r) || leb n (placeOf r)))
+recordBroken next n front r = after front r || (ltb 1410 (recordLength r) || (leb next (orderOf r) || leb n (placeOf r)))
 
 -- one of these records is such a record, or a place is doubled; `front` stands in front of them
 unfoldable pub brokenFrom : ℕ → ℕ → List ℕ → List (List ℕ) → Bool
@@ -39,11 +39,11 @@ brokenFrom next n front [] = false
 brokenFrom next n front (r ∷ rs) = recordBroken next n front r || (placeIn (placeOf r) rs || brokenFrom next n r rs)
 
 -- line 9: a count above its slice, or such records
-unfoldable pub stateBroken : Mem → Bool
+unfoldable pub stateBroken : Schedule → Bool
 stateBroken m = ltb (length (m .records)) (m .scheduler .count) || brokenFrom (m .scheduler .«next_order») (placeCount m) vacant (waitingRecords m)
 
 -- line 8
-abbrev pub countsBroken : Mem → Bool
+abbrev pub countsBroken : Schedule → Bool
 countsBroken m = countFull (m .scheduler .«next_order»)
 
 -- "other times 172,800 s", in nanoseconds
@@ -74,24 +74,24 @@ copies (One d) = 1
 copies (Two d e) = 2
 
 -- unused records and free places
-abbrev pub unusedRecords : Mem → ℕ
+abbrev pub unusedRecords : Schedule → ℕ
 unusedRecords m = length (m .records) - m .scheduler .count
 
-abbrev pub unusedPlaces : Mem → ℕ
+abbrev pub unusedPlaces : Schedule → ℕ
 unusedPlaces m = length (freePlaces (placeCount m) (waitingRecords m))
 
 -- line 5: "fewer free places or unused records than copies"
-abbrev pub lacksRoom : Mem → ℕ → Bool
+abbrev pub lacksRoom : Schedule → ℕ → Bool
 lacksRoom m k = ltb (unusedPlaces m) k || ltb (unusedRecords m) k
 
 -- what the calls below the entry points take for granted: the checks before them are false
-pub record CanPut (m : Mem) (packet : List ℕ) : Type 0 where
+pub record CanPut (m : Schedule) (packet : List ℕ) : Type 0 where
   pub sound : stateBroken m ≡ false
   pub counts : m .scheduler .«next_order» ≤ countLimit
   pub short : ltb 1410 (length packet) ≡ false
   pub room : lacksRoom m 1 ≡ false
 
-pub record CanSchedule (m : Mem) (now : ℕ) (packet : List ℕ) (ds : Deliveries) : Type 0 where
+pub record CanSchedule (m : Schedule) (now : ℕ) (packet : List ℕ) (ds : Deliveries) : Type 0 where
   pub sound : stateBroken m ≡ false
   pub counts : countsBroken m ≡ false
   pub times : deliveriesLate now ds ≡ false

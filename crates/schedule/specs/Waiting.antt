@@ -4,33 +4,33 @@ use mathlib.Core.Bool.{Bool, cond}
 use mathlib.Core.List.{List, [], _∷_, map}
 use lib.Dec.{leb}
 use Rattle.schedule.specs.Record.{timeOf, orderOf, later, inserted}
-use Rattle.schedule.specs.State.{Mem, waitingRecords, leavesAt}
+use Rattle.schedule.specs.State.{Schedule, waitingRecords, leavesAt}
 use Rattle.schedule.specs.declared.Deliveries.{Deliveries}
 use Rattle.schedule.specs.declared.Deliveries.the-variants.{Lost, One, Two}
-use Rattle.schedule.specs.declared.Deadline.{Deadline}
-use Rattle.schedule.specs.declared.Deadline.the-variants as deadline
+use Rattle.schedule.specs.declared.DeadlineAnswer.{DeadlineAnswer}
+use Rattle.schedule.specs.declared.DeadlineAnswer.the-variants as deadline
 use Rattle.schedule.specs.Schedule.{bytesOf}
 
 -- a copy that waits: when it leaves, how many were scheduled before it, and its bytes
-pub record Copy : Type 0 where
+pub record WaitingCopy : Type 0 where
   pub time : ℕ
   pub order : ℕ
   pub bytes : List ℕ
 
-abbrev pub copy : ℕ → ℕ → List ℕ → Copy
+abbrev pub copy : ℕ → ℕ → List ℕ → WaitingCopy
 copy t o b = record { time = t; order = o; bytes = b }
 
-abbrev pub copyAfter : Copy → Copy → Bool
+abbrev pub copyAfter : WaitingCopy → WaitingCopy → Bool
 copyAfter a b = later (a .time) (a .order) (b .time) (b .order)
 
-abbrev pub copyOf : List ℕ → List ℕ → Copy
-copyOf ps r = copy (timeOf r) (orderOf r) (bytesOf ps r)
+abbrev pub waitingCopy : List ℕ → List ℕ → WaitingCopy
+waitingCopy ps r = copy (timeOf r) (orderOf r) (bytesOf ps r)
 
-unfoldable pub waiting : Mem → List Copy
-waiting m = map (copyOf (m .places)) (waitingRecords m)
+unfoldable pub waiting : Schedule → List WaitingCopy
+waiting m = map (waitingCopy (m .places)) (waitingRecords m)
 
 -- the copies of one answer of the channel put among those that wait, numbered from `next` on
-unfoldable pub putCopies : ℕ → ℕ → List ℕ → Deliveries → List Copy → List Copy
+unfoldable pub putCopies : ℕ → ℕ → List ℕ → Deliveries → List WaitingCopy → List WaitingCopy
 putCopies next now packet Lost cs = cs
 putCopies next now packet (One d) cs = inserted copyAfter (copy (leavesAt now d) next packet) cs
 putCopies next now packet (Two d e) cs = inserted copyAfter (copy (leavesAt now e) (next + 1) packet) (inserted copyAfter (copy (leavesAt now d) next packet) cs)
@@ -38,13 +38,13 @@ putCopies next now packet (Two d e) cs = inserted copyAfter (copy (leavesAt now 
 -- what leaves at `now`: the first, if it is due; and what goes on waiting
 pub data Popped : Type 0 where
   nothing : Popped
-  leaves : Copy → List Copy → Popped
+  leaves : WaitingCopy → List WaitingCopy → Popped
 
-unfoldable pub popCopies : ℕ → List Copy → Popped
+unfoldable pub popCopies : ℕ → List WaitingCopy → Popped
 popCopies now [] = nothing
 popCopies now (c ∷ cs) = cond (leb (c .time) now) (leaves c cs) nothing
 
 -- when the next copy leaves
-unfoldable pub nextDeadline : List Copy → Deadline
-nextDeadline [] = deadline.Nothing
-nextDeadline (c ∷ cs) = deadline.At (c .time)
+unfoldable pub firstDeadline : List WaitingCopy → DeadlineAnswer
+firstDeadline [] = deadline.Nothing
+firstDeadline (c ∷ cs) = deadline.At (c .time)

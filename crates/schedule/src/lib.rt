@@ -6,12 +6,15 @@ ghost use Prim.Native.Nat.{_+_, _-_, _*_, _/_, _≤_, _<_};
 ghost use lib.ListN.{length, getD, take, drop, replicate};
 ghost use Rattle.duration.specs.Bounds.{maxTime};
 ghost use Rattle.schedule.specs.Record.{vacant, after, ordered, inserted, placeOf, freePlaces, lowestFree};
-ghost use Rattle.schedule.specs.State.{mem, recordBroken, brokenFrom, stateBroken, heldLate, late, delayLate, deliveriesLate, copies, CanPut, CanSchedule};
-ghost use Rattle.schedule.specs.Scans.{placeFor, raised, blockSize, boundsBroken, brokenAlone, doubled, outside, doubledIn, placeMarks, firstFree, firstUnset, sumFrom, delayAt};
-ghost use Rattle.schedule.specs.Schedule.{newDef, placed, filled, putDef, putAllDef, scheduleExit, scheduleDef, outShort, popExit, takeDef, popDef, CanPop, reading, firstTime, deadlineDef, lenDef, emptyDef, roomOf, roomDef};
+ghost use Rattle.schedule.specs.State.{schedule, recordBroken, brokenFrom, stateBroken, heldLate, late, delayLate, deliveriesLate, copies, CanPut, CanSchedule};
+ghost use Rattle.schedule.specs.Scans.{placeFor, raised, blockSize, boundsBroken, anyRecordBroken, doubled, outside, doubledIn, placeMarks, firstFree, firstUnset, sumFrom, delayAt};
+ghost use Rattle.schedule.specs.Schedule.{newSchedule, placed, placeBytes, putCopy, scheduleAtUnchecked, scheduleExit, scheduleAt, outShort, popExit, popUnchecked, popReadyAt, CanPop, reading, firstTime, nextDeadline, len, isEmpty, roomOf, room};
 use duration::MAX_TIME;
 use refusal::COUNT_LIMIT;
+use refusal::CountAnswer;
+use refusal::DoneAnswer;
 use refusal::Refusal;
+use refusal::TestAnswer;
 
 // A record: time in nanoseconds, order, length, place.
 pub type Scheduled = [u64; 4];
@@ -32,41 +35,26 @@ pub enum Deliveries {
     Two(u64, u64),
 }
 
-pub enum Queued {
-    Accepted,
-    Refused(Refusal),
-}
-
-pub struct Scheduling {
+pub struct ScheduleResult {
     pub scheduler: ChannelScheduler,
-    pub answer: Queued,
+    pub answer: DoneAnswer,
 }
 
-pub enum Ready {
+pub enum ReadyAnswer {
     // The length of the packet that was written to the lent buffer.
     Packet(usize),
     Nothing,
     Refused(Refusal),
 }
 
-pub struct Popping {
+pub struct PopResult {
     pub scheduler: ChannelScheduler,
-    pub answer: Ready,
+    pub answer: ReadyAnswer,
 }
 
-pub enum Deadline {
+pub enum DeadlineAnswer {
     At(u64),
     Nothing,
-    Refused(Refusal),
-}
-
-pub enum Amount {
-    Copies(usize),
-    Refused(Refusal),
-}
-
-pub enum Emptiness {
-    Empty(bool),
     Refused(Refusal),
 }
 
@@ -110,7 +98,7 @@ pub fn leaves_after(p: Scheduled, r: Scheduled) -> bool
 }
 
 // How many of the first `count` records don't leave after `r`.
-fn place_for(s: &[Scheduled], count: usize, r: Scheduled) -> usize
+fn index_for(s: &[Scheduled], count: usize, r: Scheduled) -> usize
     requires { ⌜ (count ≤ length (now s)) × (ordered (take count (now s)) ≡ true) ⌝ }
     ensures { λ n. ⌜ n ≡ placeFor after r (take count (now (s .entry))) ⌝ }
 {
@@ -157,7 +145,7 @@ fn insert(s: &mut [Scheduled], count: usize, r: Scheduled)
     requires { ⌜ (count < length (now s)) × (ordered (take count (now s)) ≡ true) ⌝ }
     ensures { λ _. ⌜ now (s .exit) ≡ inserted after r (take count (now (s .entry))) ++ drop (count + 1) (now (s .entry)) ⌝ }
 {
-    let at = place_for(s, count, r);
+    let at = index_for(s, count, r);
     insert_first(&mut s[at..], count - at, r);
 }
 
@@ -347,9 +335,9 @@ fn place_doubled(s: &[Scheduled], count: usize, places: usize) -> bool
 }
 
 // Whether one of the first `count` records breaks line 9, doubled places apart.
-fn alone_broken(s: &[Scheduled], count: usize, next: u64, places: usize) -> bool
+fn any_record_broken(s: &[Scheduled], count: usize, next: u64, places: usize) -> bool
     requires { ⌜ count ≤ length (now s) ⌝ }
-    ensures { λ b. ⌜ b ≡ brokenAlone next places vacant (take count (now (s .entry))) ⌝ }
+    ensures { λ b. ⌜ b ≡ anyRecordBroken next places vacant (take count (now (s .entry))) ⌝ }
 {
     let mut front = [0u64, 0, 0, 0];
     let mut i: usize = 0;
@@ -365,7 +353,7 @@ fn alone_broken(s: &[Scheduled], count: usize, next: u64, places: usize) -> bool
 }
 
 // Whether one of the first `count` records breaks line 9, in one pass, where the store has at most 256 places.
-fn few_broken(s: &[Scheduled], count: usize, next: u64, places: usize) -> bool
+fn records_broken_small(s: &[Scheduled], count: usize, next: u64, places: usize) -> bool
     requires { ⌜ (count ≤ length (now s)) × (places ≤ blockSize) ⌝ }
     ensures { λ b. ⌜ b ≡ brokenFrom next places vacant (take count (now (s .entry))) ⌝ }
 {
@@ -393,9 +381,9 @@ fn records_broken(s: &[Scheduled], count: usize, next: u64, places: usize) -> bo
     ensures { λ b. ⌜ b ≡ brokenFrom next places vacant (take count (now (s .entry))) ⌝ }
 {
     if places <= 256 {
-        return few_broken(s, count, next, places);
+        return records_broken_small(s, count, next, places);
     }
-    if alone_broken(s, count, next, places) {
+    if any_record_broken(s, count, next, places) {
         return true;
     }
     place_doubled(s, count, places)
@@ -499,7 +487,7 @@ fn delay_of(deliveries: Deliveries, k: usize) -> u64
 // Fills a place: the packet, and zeros after it.
 fn fill_place(places: &mut [u8], place: usize, packet: &[u8])
     requires { ⌜ (place * 1410 + 1410 ≤ length (now places)) × (length (now packet) ≤ 1410) ⌝ }
-    ensures { λ _. ⌜ now (places .exit) ≡ placed (now (places .entry)) place (filled (now (packet .entry))) ⌝ }
+    ensures { λ _. ⌜ now (places .exit) ≡ placed (now (places .entry)) place (placeBytes (now (packet .entry))) ⌝ }
 {
     let from = place * PLACE_SIZE;
     let end = from + packet.len();
@@ -523,7 +511,7 @@ fn take_packet(places: &mut [u8], place: usize, len: usize, out: &mut [u8])
 impl ChannelScheduler {
     // An empty schedule; all records and places become zeros.
     pub fn new(records: &mut [Scheduled], places: &mut [u8]) -> Self
-        ensures { λ r. ⌜ mem (now (records .exit)) (now (places .exit)) r ≡ newDef (now (records .entry)) (now (places .entry)) ⌝ }
+        ensures { λ r. ⌜ schedule (now (records .exit)) (now (places .exit)) r ≡ newSchedule (now (records .entry)) (now (places .entry)) ⌝ }
     {
         clear_records(records);
         let end = places.len() / PLACE_SIZE * PLACE_SIZE;
@@ -536,7 +524,7 @@ impl ChannelScheduler {
 
     // Line 9.
     fn state_broken(self, records: &[Scheduled], places: &[u8]) -> bool
-        ensures { λ b. ⌜ b ≡ stateBroken (mem (now (records .entry)) (now (places .entry)) self) ⌝ }
+        ensures { λ b. ⌜ b ≡ stateBroken (schedule (now (records .entry)) (now (places .entry)) self) ⌝ }
     {
         let count = self.count;
         if records.len() < count {
@@ -561,8 +549,8 @@ impl ChannelScheduler {
 
     // How many copies more there is room for.
     pub fn room_unchecked(self, records: &[Scheduled], places: &[u8]) -> usize
-        requires { ⌜ stateBroken (mem (now records) (now places) self) ≡ false ⌝ }
-        ensures { λ n. ⌜ n ≡ roomOf (mem (now (records .entry)) (now (places .entry)) self) ⌝ }
+        requires { ⌜ stateBroken (schedule (now records) (now places) self) ≡ false ⌝ }
+        ensures { λ n. ⌜ n ≡ roomOf (schedule (now (records .entry)) (now (places .entry)) self) ⌝ }
     {
         let free_places = places.len() / PLACE_SIZE - self.count;
         let free_records = records.len() - self.count;
@@ -574,8 +562,8 @@ impl ChannelScheduler {
 
     // One copy more, to leave at `time`.
     fn put(self, records: &mut [Scheduled], places: &mut [u8], time: u64, packet: &[u8]) -> Self
-        requires { ⌜ CanPut (mem (now records) (now places) self) (now packet) ⌝ }
-        ensures { λ r. ⌜ mem (now (records .exit)) (now (places .exit)) r ≡ putDef (mem (now (records .entry)) (now (places .entry)) self) time (now (packet .entry)) ⌝ }
+        requires { ⌜ CanPut (schedule (now records) (now places) self) (now packet) ⌝ }
+        ensures { λ r. ⌜ schedule (now (records .exit)) (now (places .exit)) r ≡ putCopy (schedule (now (records .entry)) (now (places .entry)) self) time (now (packet .entry)) ⌝ }
     {
         let count = self.count;
         let order = self.next_order;
@@ -601,8 +589,8 @@ impl ChannelScheduler {
         packet: &[u8],
         deliveries: Deliveries,
     ) -> Self
-        requires { ⌜ CanSchedule (mem (records .now) (places .now) self) now (packet .now) deliveries ⌝ }
-        ensures { λ r. ⌜ mem (records .exit .now) (places .exit .now) r ≡ putAllDef (mem (records .entry .now) (places .entry .now) self) now (packet .entry .now) deliveries ⌝ }
+        requires { ⌜ CanSchedule (schedule (records .now) (places .now) self) now (packet .now) deliveries ⌝ }
+        ensures { λ r. ⌜ schedule (records .exit .now) (places .exit .now) r ≡ scheduleAtUnchecked (schedule (records .entry .now) (places .entry .now) self) now (packet .entry .now) deliveries ⌝ }
     {
         let copies = copies_of(deliveries);
         let mut scheduler = self;
@@ -623,43 +611,43 @@ impl ChannelScheduler {
         now: u64,
         packet: &[u8],
         deliveries: Deliveries,
-    ) -> Scheduling
-        ensures { λ r. ⌜ scheduleExit (records .exit .now) (places .exit .now) r ≡ scheduleDef (mem (records .entry .now) (places .entry .now) self) now (packet .entry .now) deliveries ⌝ }
+    ) -> ScheduleResult
+        ensures { λ r. ⌜ scheduleExit (records .exit .now) (places .exit .now) r ≡ scheduleAt (schedule (records .entry .now) (places .entry .now) self) now (packet .entry .now) deliveries ⌝ }
     {
         if self.state_broken(records, places) {
-            return Scheduling {
+            return ScheduleResult {
                 scheduler: self,
-                answer: Queued::Refused(Refusal::State),
+                answer: DoneAnswer::Refused(Refusal::State),
             };
         }
         if COUNT_LIMIT <= self.next_order {
-            return Scheduling {
+            return ScheduleResult {
                 scheduler: self,
-                answer: Queued::Refused(Refusal::Counts),
+                answer: DoneAnswer::Refused(Refusal::Counts),
             };
         }
         if self.time_late(records, now, deliveries) {
-            return Scheduling {
+            return ScheduleResult {
                 scheduler: self,
-                answer: Queued::Refused(Refusal::Time),
+                answer: DoneAnswer::Refused(Refusal::Time),
             };
         }
         if PLACE_SIZE < packet.len() {
-            return Scheduling {
+            return ScheduleResult {
                 scheduler: self,
-                answer: Queued::Refused(Refusal::Long),
+                answer: DoneAnswer::Refused(Refusal::Long),
             };
         }
         if self.room_unchecked(records, places) < copies_of(deliveries) {
-            return Scheduling {
+            return ScheduleResult {
                 scheduler: self,
-                answer: Queued::Refused(Refusal::Full),
+                answer: DoneAnswer::Refused(Refusal::Full),
             };
         }
         let next = self.schedule_at_unchecked(records, places, now, packet, deliveries);
-        Scheduling {
+        ScheduleResult {
             scheduler: next,
-            answer: Queued::Accepted,
+            answer: DoneAnswer::Done,
         }
     }
 
@@ -686,33 +674,33 @@ impl ChannelScheduler {
         places: &mut [u8],
         now: u64,
         out: &mut [u8],
-    ) -> Popping
-        requires { ⌜ CanPop (mem (records .now) (places .now) self) now (out .now) ⌝ }
-        ensures { λ r. ⌜ popExit (records .exit .now) (places .exit .now) (out .exit .now) r ≡ takeDef (mem (records .entry .now) (places .entry .now) self) now (out .entry .now) ⌝ }
+    ) -> PopResult
+        requires { ⌜ CanPop (schedule (records .now) (places .now) self) now (out .now) ⌝ }
+        ensures { λ r. ⌜ popExit (records .exit .now) (places .exit .now) (out .exit .now) r ≡ popUnchecked (schedule (records .entry .now) (places .entry .now) self) now (out .entry .now) ⌝ }
     {
         let count = self.count;
         if count == 0 {
-            return Popping {
+            return PopResult {
                 scheduler: self,
-                answer: Ready::Nothing,
+                answer: ReadyAnswer::Nothing,
             };
         }
         let first = records[0];
         if now < first[0] {
-            return Popping {
+            return PopResult {
                 scheduler: self,
-                answer: Ready::Nothing,
+                answer: ReadyAnswer::Nothing,
             };
         }
         let len = first[2] as usize;
         take_packet(places, first[3] as usize, len, out);
         remove_first(records, count);
-        Popping {
+        PopResult {
             scheduler: ChannelScheduler {
                 count: count - 1,
                 next_order: self.next_order,
             },
-            answer: Ready::Packet(len),
+            answer: ReadyAnswer::Packet(len),
         }
     }
 
@@ -723,31 +711,31 @@ impl ChannelScheduler {
         places: &mut [u8],
         now: u64,
         out: &mut [u8],
-    ) -> Popping
-        ensures { λ r. ⌜ popExit (records .exit .now) (places .exit .now) (out .exit .now) r ≡ popDef (mem (records .entry .now) (places .entry .now) self) now (out .entry .now) ⌝ }
+    ) -> PopResult
+        ensures { λ r. ⌜ popExit (records .exit .now) (places .exit .now) (out .exit .now) r ≡ popReadyAt (schedule (records .entry .now) (places .entry .now) self) now (out .entry .now) ⌝ }
     {
         if self.state_broken(records, places) {
-            return Popping {
+            return PopResult {
                 scheduler: self,
-                answer: Ready::Refused(Refusal::State),
+                answer: ReadyAnswer::Refused(Refusal::State),
             };
         }
         if COUNT_LIMIT <= self.next_order {
-            return Popping {
+            return PopResult {
                 scheduler: self,
-                answer: Ready::Refused(Refusal::Counts),
+                answer: ReadyAnswer::Refused(Refusal::Counts),
             };
         }
         if self.time_late(records, now, Deliveries::Lost) {
-            return Popping {
+            return PopResult {
                 scheduler: self,
-                answer: Ready::Refused(Refusal::Time),
+                answer: ReadyAnswer::Refused(Refusal::Time),
             };
         }
         if self.out_short(records, now, out.len()) {
-            return Popping {
+            return PopResult {
                 scheduler: self,
-                answer: Ready::Refused(Refusal::Full),
+                answer: ReadyAnswer::Refused(Refusal::Full),
             };
         }
         self.pop_ready_at_unchecked(records, places, now, out)
@@ -755,7 +743,7 @@ impl ChannelScheduler {
 
     // The lines that a call checks which only reads.
     fn held(self, records: &[Scheduled], places: &[u8]) -> Held
-        ensures { λ r. ⌜ r ≡ reading (mem (now (records .entry)) (now (places .entry)) self) Held.Refused Held.Sound ⌝ }
+        ensures { λ r. ⌜ r ≡ reading (schedule (now (records .entry)) (now (places .entry)) self) Held.Refused Held.Sound ⌝ }
     {
         if self.state_broken(records, places) {
             return Held::Refused(Refusal::State);
@@ -769,54 +757,54 @@ impl ChannelScheduler {
         Held::Sound
     }
 
-    pub fn next_deadline_unchecked(self, records: &[Scheduled]) -> Deadline
+    pub fn next_deadline_unchecked(self, records: &[Scheduled]) -> DeadlineAnswer
         requires { ⌜ self .count ≤ length (now records) ⌝ }
         ensures { λ r. ⌜ r ≡ firstTime (self .count) (now (records .entry)) ⌝ }
     {
         let count = self.count;
         if count == 0 {
-            return Deadline::Nothing;
+            return DeadlineAnswer::Nothing;
         }
         let first = records[0];
-        Deadline::At(first[0])
+        DeadlineAnswer::At(first[0])
     }
 
     // When the next packet may leave.
-    pub fn next_deadline(self, records: &[Scheduled], places: &[u8]) -> Deadline
-        ensures { λ r. ⌜ r ≡ deadlineDef (mem (now (records .entry)) (now (places .entry)) self) ⌝ }
+    pub fn next_deadline(self, records: &[Scheduled], places: &[u8]) -> DeadlineAnswer
+        ensures { λ r. ⌜ r ≡ nextDeadline (schedule (now (records .entry)) (now (places .entry)) self) ⌝ }
     {
         match self.held(records, places) {
-            Held::Refused(r) => Deadline::Refused(r),
+            Held::Refused(r) => DeadlineAnswer::Refused(r),
             Held::Sound => self.next_deadline_unchecked(records),
         }
     }
 
     // How many copies wait.
-    pub fn len(self, records: &[Scheduled], places: &[u8]) -> Amount
-        ensures { λ r. ⌜ r ≡ lenDef (mem (now (records .entry)) (now (places .entry)) self) ⌝ }
+    pub fn len(self, records: &[Scheduled], places: &[u8]) -> CountAnswer
+        ensures { λ r. ⌜ r ≡ len (schedule (now (records .entry)) (now (places .entry)) self) ⌝ }
     {
         match self.held(records, places) {
-            Held::Refused(r) => Amount::Refused(r),
-            Held::Sound => Amount::Copies(self.count),
+            Held::Refused(r) => CountAnswer::Refused(r),
+            Held::Sound => CountAnswer::Count(self.count),
         }
     }
 
-    pub fn is_empty(self, records: &[Scheduled], places: &[u8]) -> Emptiness
-        ensures { λ r. ⌜ r ≡ emptyDef (mem (now (records .entry)) (now (places .entry)) self) ⌝ }
+    pub fn is_empty(self, records: &[Scheduled], places: &[u8]) -> TestAnswer
+        ensures { λ r. ⌜ r ≡ isEmpty (schedule (now (records .entry)) (now (places .entry)) self) ⌝ }
     {
         match self.held(records, places) {
-            Held::Refused(r) => Emptiness::Refused(r),
-            Held::Sound => Emptiness::Empty(self.count == 0),
+            Held::Refused(r) => TestAnswer::Refused(r),
+            Held::Sound => TestAnswer::Is(self.count == 0),
         }
     }
 
     // How many copies more there is room for.
-    pub fn room(self, records: &[Scheduled], places: &[u8]) -> Amount
-        ensures { λ r. ⌜ r ≡ roomDef (mem (now (records .entry)) (now (places .entry)) self) ⌝ }
+    pub fn room(self, records: &[Scheduled], places: &[u8]) -> CountAnswer
+        ensures { λ r. ⌜ r ≡ room (schedule (now (records .entry)) (now (places .entry)) self) ⌝ }
     {
         match self.held(records, places) {
-            Held::Refused(r) => Amount::Refused(r),
-            Held::Sound => Amount::Copies(self.room_unchecked(records, places)),
+            Held::Refused(r) => CountAnswer::Refused(r),
+            Held::Sound => CountAnswer::Count(self.room_unchecked(records, places)),
         }
     }
 }

@@ -9,8 +9,8 @@ use lib.Dec.{ltb, eqb}
 use lib.ListN.{length, set}
 use lib.Seq.{getD-set-same, take-set-le, drop-set-lt}
 use Rattle.refusal.proofs.Laws.{or-false}
-use Rattle.store.specs.Slot.{markOf, putSlot, emptySlot, setMark}
-use Rattle.store.specs.Sound.{filled, outOfBounds, senderTest, senderSlotBroken, senderSlotsBroken, slotOf}
+use Rattle.store.specs.Slot.{slotMark, putSlot, emptySlot, setMark}
+use Rattle.store.specs.Sound.{isFilled, outOfBounds, senderTest, senderSlotBroken, senderSlotsBroken, slotOf}
 use Rattle.store.specs.Numbers.{marked, markedRun}
 use Rattle.store.proofs.Laws.{slot-in, slot-length, none-found, run-within}
 use Rattle.store.proofs.Numbers.{run-stop}
@@ -42,7 +42,7 @@ and-true true e = e
 two-broken : (outstanding : Bool) (length mark : ℕ) → senderSlotBroken outstanding false length mark ≡ false → eqb mark 2 ≡ false
 unfolding senderSlotBroken
 two-broken outstanding length mark e =
-    and-true (eqb mark 2) (or-false (outOfBounds length mark || cond outstanding (not (filled mark)) (filled mark)) (eqb mark 2 && true) e .1)
+    and-true (eqb mark 2) (or-false (outOfBounds length mark || cond outstanding (not (isFilled mark)) (isFilled mark)) (eqb mark 2 && true) e .1)
 
 -- nothing released
 release-none : (v : Sender) (k : ℕ) → k ≡ 0 → release v (v .window .«send_base» + k) ≡ v
@@ -76,7 +76,7 @@ module _ (v : Sender) (n : ℕ) (s : Sound true (v .window) (v .store)) (from : 
   other-mark : (i : ℕ) → i < v .window .«window_size» → (i ≡ n - v .window .«send_base» → ⊥)
       → marked 2 (markAcknowledged v n .store) (v .window .«window_size») (v .window .«send_base» + i) ≡ marked 2 (v .store) (v .window .«window_size») (v .window .«send_base» + i)
   other-mark i h ne =
-      ap (λ (slot : List ℕ). eqb (markOf slot) 2)
+      ap (λ (slot : List ℕ). eqb (slotMark slot) 2)
       (set-number-other (v .store) (v .window .«window_size») (v .window .«send_base») n (s .positive) (s .room) from in-window 2 2 (omega arith) i h ne)
 
   base-plain : marked 2 (v .store) (v .window .«window_size») (v .window .«send_base» + 0) ≡ false
@@ -101,7 +101,7 @@ module _ (v : Sender) (n : ℕ) (s : Sound true (v .window) (v .store)) (from : 
       let size : length slot ≡ 1404 = slot-length (v .store) _ (slot-in (v .store) (v .window .«send_base» + 0) (v .window .«window_size») (s .positive) (s .room)) in
       let read : slotOf (markAcknowledged v n .store) (v .window .«window_size») (v .window .«send_base») 0 ≡ set slot 2 2 =
       rw zeroth at (set-number (v .store) (v .window .«window_size») (v .window .«send_base») n (s .positive) (s .room) from in-window 2 2 (omega arith)) in
-      let mark : markOf (slotOf (markAcknowledged v n .store) (v .window .«window_size») (v .window .«send_base») 0) ≡ 2 = ap markOf read ∙ getD-set-same slot 2 2 0 (rw size (omega arith)) in
+      let mark : slotMark (slotOf (markAcknowledged v n .store) (v .window .«window_size») (v .window .«send_base») 0) ≡ 2 = ap slotMark read ∙ getD-set-same slot 2 2 0 (rw size (omega arith)) in
       rw here at (eq-eqb _ 2 mark)
 
   run-more : (k : ℕ) → 0 < k → k ≤ v .window .«window_size» → n ≡ v .window .«send_base»

@@ -7,7 +7,7 @@ use native.Mathlib.Omega.{arith}
 use lib.ListN.{length, length-append}
 use Rattle.store.specs.Numbers.{payloadsFrom, writtenAt}
 use Rattle.store.proofs.Laws.{payloads-none}
-use Rattle.receiver.specs.Reply.{Replied, replied, carriedOut, RoomFor}
+use Rattle.receiver.specs.Reply.{ApplyExit, applyExit, applied, RoomFor}
 use Rattle.receiver.specs.declared.Decision.{Decision}
 use Rattle.receiver.proofs.Laws.{room-less, carried-room, carried-on}
 use Rattle.selective_repeat.specs.Receiver.{Receiver, released, deliveredBytes}
@@ -26,20 +26,20 @@ module _ (v : Receiver) (d : Decision) (change : SlotChange) (payload output ack
   none-held e = ap (heldBytes v) (none e) ∙ payloads-none (v .store) (v .state .«window_size») (v .state .«recv_base» + 1)
 
   -- after the payload there is room for the held ones
-  pub held-room : (k filled : ℕ) (written acked : List ℕ) → k ≡ released change → replied filled written acked ≡ carriedOut d payload (v .state .filled) output ack
+  pub held-room : (k filled : ℕ) (written acked : List ℕ) → k ≡ released change → applyExit filled written acked ≡ applied d payload (v .state .filled) output ack
       → filled + length (heldBytes v k) ≤ length written
   unfolding deliveredBytes
   held-room k filled written acked e done =
       let all = carried-room d payload (heldBytes v (released change)) (v .state .filled) output ack room none-held in
-      let a = ap (λ (w : Replied). w .filled) done in
-      let b = ap (λ (w : Replied). length (w .output)) done in
+      let a = ap (λ (w : ApplyExit). w .filled) done in
+      let b = ap (λ (w : ApplyExit). length (w .output)) done in
       rw e (omega arith)
 
-  pub held-carried : (k filled : ℕ) (written acked last : List ℕ) (end : ℕ) → k ≡ released change → replied filled written acked ≡ carriedOut d payload (v .state .filled) output ack
+  pub held-carried : (k filled : ℕ) (written acked last : List ℕ) (end : ℕ) → k ≡ released change → applyExit filled written acked ≡ applied d payload (v .state .filled) output ack
       → end ≡ filled + length (heldBytes v k) → last ≡ writtenAt written filled (heldBytes v k)
-      → replied end last acked ≡ carriedOut d (deliveredBytes v payload change) (v .state .filled) output ack
+      → applyExit end last acked ≡ applied d (deliveredBytes v payload change) (v .state .filled) output ack
   unfolding deliveredBytes
   held-carried k filled written acked last end e done at-end over =
       rw (at-end, over, e)
-      (ap (λ (w : Replied). replied (w .filled + length (heldBytes v (released change))) (writtenAt (w .output) (w .filled) (heldBytes v (released change))) (w .ack)) done
+      (ap (λ (w : ApplyExit). applyExit (w .filled + length (heldBytes v (released change))) (writtenAt (w .output) (w .filled) (heldBytes v (released change))) (w .ack)) done
       ∙ carried-on d payload (heldBytes v (released change)) (v .state .filled) output ack room none-held)

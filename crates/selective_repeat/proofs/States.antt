@@ -11,8 +11,8 @@ use Rattle.refusal.proofs.Laws.{none-of, any-of-none}
 use Rattle.store.specs.Numbers.{PayloadsIn}
 use Rattle.store.proofs.Laws.{receiver-slot-short, run-within}
 use Rattle.window.specs.State.{windowBroken, storeShort}
-use Rattle.receiver.specs.declared.Handed.{Handed}
-use Rattle.receiver.specs.declared.Handed.the-variants as handed
+use Rattle.receiver.specs.declared.PacketReading.{PacketReading}
+use Rattle.receiver.specs.declared.PacketReading.the-variants as handed
 use Rattle.selective_repeat.specs.Receiver.{Receiver, Ready, stateBroken, receivingBroken, held, inOrder, outOfOrder, duplicate, unanswered, dataDecision, decision, counted, released}
 use Rattle.selective_repeat.specs.declared.SelectiveRepeatReceiver.{SelectiveRepeatReceiver}
 use Rattle.selective_repeat.specs.declared.SelectiveRepeatDecision.{SelectiveRepeatDecision}
@@ -75,7 +75,7 @@ data-releases v n h =
       by-number false false true t = still (duplicate v n) refl
       by-number false false false t = still (unanswered (v .state)) refl
 
-pub releases : (v : Receiver) (h : Handed) → 0 < v .state .«window_size» → Releases (v .state .«window_size») (decision v h)
+pub releases : (v : Receiver) (h : PacketReading) → 0 < v .state .«window_size» → Releases (v .state .«window_size») (decision v h)
 unfolding decision
 releases v (handed.Data n) p = data-releases (counted v) n p
 releases v (handed.Fin n) p = record { few = p; none = λ f. refl }

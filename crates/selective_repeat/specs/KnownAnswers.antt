@@ -16,13 +16,13 @@ use Rattle.store.specs.Numbers.{markedRun}
 use Rattle.window.specs.State.{windowBroken, storeShort}
 use Rattle.receiver.specs.State.{countsBroken}
 use Rattle.receiver.specs.Handed.{readPacket}
-use Rattle.receiver.specs.Reply.{ackAfter, roomMissing, carriedOut}
-use Rattle.receiver.specs.Receive.{Receiving, receive}
+use Rattle.receiver.specs.Reply.{ackAfter, roomMissing, applied}
+use Rattle.receiver.specs.Receive.{ReceiveExit, receive}
 use Rattle.receiver.specs.declared.ReceiveAnswer.the-variants as answer
 use Rattle.selective_repeat.specs.Receiver.{Receiver, receiver, state, stateBroken, receivingBroken, held, dataDecision, decision, deliveredBytes, handlePacket}
 
 -- a receiver with window 4 that holds nothing, handed Data n with one byte, and a buffer for the ACK
-abbrev pub handData : ℕ → ℕ → Receiving Receiver
+abbrev pub handData : ℕ → ℕ → ReceiveExit Receiver
 handData base n = handlePacket (receiver (state 4 base 0 0 0 0) (replicate (4 * 1404) 0)) (made (newPacket n Data) (0x41 ∷ [])) [] (replicate 10 0)
 
 pub record SelectiveRepeatRows : Type 0 where
@@ -33,5 +33,5 @@ pub record SelectiveRepeatRows : Type 0 where
   pub s2-unanswered : handData 6 1 .answer ≡ answer.Silent
 
 pub selective-repeat-rows : SelectiveRepeatRows
-unfolding words onesAdd onesSum checksum anyOf order orElse numbered firstOf verdict decide headerBytes datagram checksumOf matches readChecks headerOf payloadPart payloadOf slotAt slotBytes putSlot anyBelow receiverSlotBroken receiverSlotsBroken markedRun windowBroken storeShort countsBroken readPacket ackAfter roomMissing carriedOut receive stateBroken receivingBroken dataDecision decision deliveredBytes
+unfolding words onesAdd onesSum checksum anyOf order orElse numbered firstOf verdict decide headerBytes datagram checksumOf matches readChecks headerOf payloadPart payloadOf slotAt slotBytes putSlot anyBelow receiverSlotBroken receiverSlotsBroken markedRun windowBroken storeShort countsBroken readPacket ackAfter roomMissing applied receive stateBroken receivingBroken dataDecision decision deliveredBytes
 selective-repeat-rows = record { s1-ack = refl; s1-held = refl; s1-unanswered = refl; s2-ack = refl; s2-unanswered = refl }

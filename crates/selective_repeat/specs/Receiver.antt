@@ -14,21 +14,21 @@ use Rattle.store.specs.Slot.{fillSlot}
 use Rattle.store.specs.Sound.{receiverSlotsBroken}
 use Rattle.store.specs.Numbers.{marked, markedRun, markedCount, payloadsFrom}
 use Rattle.window.specs.State.{windowBroken, storeShort}
-use Rattle.window.specs.declared.WindowCount.{WindowCount}
-use Rattle.window.specs.declared.WindowCount.the-variants as count
+use Rattle.refusal.specs.declared.CountAnswer.{CountAnswer}
+use Rattle.refusal.specs.declared.CountAnswer.the-variants as count
 use Rattle.window.specs.Slots.{emptyFrom}
-use Rattle.window.specs.Sending.{Making, making}
+use Rattle.window.specs.Sending.{MakeExit, makeExit}
 use Rattle.receiver.specs.State.{countsBroken}
 use Rattle.receiver.specs.Handed.{readPacket}
-use Rattle.receiver.specs.Receive.{Receiving, receive}
-use Rattle.receiver.specs.declared.Handed.{Handed}
-use Rattle.receiver.specs.declared.Handed.the-variants as handed
+use Rattle.receiver.specs.Receive.{ReceiveExit, receive}
+use Rattle.receiver.specs.declared.PacketReading.{PacketReading}
+use Rattle.receiver.specs.declared.PacketReading.the-variants as handed
 use Rattle.receiver.specs.declared.Reply.{Reply}
 use Rattle.receiver.specs.declared.Reply.the-variants as reply
 use Rattle.selective_repeat.specs.declared.SelectiveRepeatReceiver.{SelectiveRepeatReceiver}
 use Rattle.selective_repeat.specs.declared.SelectiveRepeatDecision.{SelectiveRepeatDecision}
-use Rattle.selective_repeat.specs.declared.SelectiveRepeatReceiverMade.{SelectiveRepeatReceiverMade}
-use Rattle.selective_repeat.specs.declared.SelectiveRepeatReceiverMade.the-variants as made
+use Rattle.selective_repeat.specs.declared.SelectiveRepeatReceiverAnswer.{SelectiveRepeatReceiverAnswer}
+use Rattle.selective_repeat.specs.declared.SelectiveRepeatReceiverAnswer.the-variants as made
 use Rattle.selective_repeat.specs.declared.SlotChange.{SlotChange}
 use Rattle.selective_repeat.specs.declared.SlotChange.the-variants as slotChange
 
@@ -52,11 +52,11 @@ abbrev pub receiver : SelectiveRepeatReceiver → List ℕ → Receiver
 receiver r store = record { state = r; store = store }
 
 -- making: nothing received, all slots empty
-unfoldable pub makeReceiver : ℕ → List ℕ → Making SelectiveRepeatReceiverMade
+unfoldable pub makeReceiver : ℕ → List ℕ → MakeExit SelectiveRepeatReceiverAnswer
 makeReceiver w store =
     decide (verdict (check (storeShort store w) State ∷ check (windowBroken w) Setup ∷ []))
-    (λ r. making (made.Refused r) store)
-    (making (made.Receiver (state w 0 0 0 0 0)) (replicate (w * 1404) 0 ++ drop (w * 1404) store))
+    (λ r. makeExit (made.Refused r) store)
+    (makeExit (made.Receiver (state w 0 0 0 0 0)) (replicate (w * 1404) 0 ++ drop (w * 1404) store))
 
 -- 9, but for the fill mark
 unfoldable pub stateBroken : SelectiveRepeatReceiver → List ℕ → Bool
@@ -84,7 +84,7 @@ abbrev pub heldRun : Receiver → ℕ
 heldRun v = markedRun 1 (v .store) (v .state .«window_size») (v .state .«recv_base» + 1) (v .state .«window_size» - 1)
 
 -- how many payloads are held
-unfoldable pub bufferedCount : Receiver → WindowCount
+unfoldable pub bufferedCount : Receiver → CountAnswer
 bufferedCount v =
     decide (verdict (check (stateBroken (v .state) (v .store)) State ∷ check (countersBroken (v .state)) Counts ∷ []))
     count.Refused
@@ -132,7 +132,7 @@ dataDecision v n =
     (cond (leb (v .state .«recv_base» - v .state .«window_size») n && ltb n (v .state .«recv_base»)) (duplicate v n) (unanswered (v .state))))
 
 -- Fin is acknowledged by its own number; an ACK and a corrupted packet are not answered
-abbrev pub byKind : Receiver → Handed → SelectiveRepeatDecision
+abbrev pub byKind : Receiver → PacketReading → SelectiveRepeatDecision
 byKind v (handed.Data n) = dataDecision v n
 byKind v (handed.Fin n) = decided (v .state) false (reply.Ack n) slotChange.Unchanged
 byKind v handed.Ack = unanswered (v .state)
@@ -146,7 +146,7 @@ counted v =
     (state (v .state .«window_size») (v .state .«recv_base») (v .state .filled) (v .state .«total_received» + 1) (v .state .«buffered_out_of_order») (v .state .«duplicates_count»))
     (v .store)
 
-unfoldable pub decision : Receiver → Handed → SelectiveRepeatDecision
+unfoldable pub decision : Receiver → PacketReading → SelectiveRepeatDecision
 decision v h = byKind (counted v) h
 
 -- how many held payloads are delivered
@@ -173,7 +173,7 @@ afterPacket v payload d filled =
     (changedSlots v payload (d .change))
 
 -- a datagram, the output and the buffer for the ACK
-abbrev pub handlePacket : Receiver → List ℕ → List ℕ → List ℕ → Receiving Receiver
+abbrev pub handlePacket : Receiver → List ℕ → List ℕ → List ℕ → ReceiveExit Receiver
 handlePacket v raw output ack =
     receive (receivingBroken (v .state) (v .store) output) (countersBroken (v .state)) v (v .state .filled) (decision v (readPacket raw) .decision) (deliveredBytes v (payloadOf raw) (decision v (readPacket raw) .change)) (afterPacket v (payloadOf raw) (decision v (readPacket raw))) raw output ack
 

@@ -9,17 +9,17 @@ use Rattle.store.specs.Slot.{setMark}
 use Rattle.store.specs.Numbers.{marked, markedRun, markedCount}
 use Rattle.window.specs.State.{outstanding, stateBroken, countsBroken}
 use Rattle.window.specs.Slots.{Sender, sender, slotFor, release}
-use Rattle.window.specs.Acknowledgement.{inWindow, ackDecision, Acknowledging, byDecision}
-use Rattle.window.specs.Resending.{Resending, resend, timeoutDecision}
+use Rattle.window.specs.Acknowledgement.{inWindow, ackDecision, AckExit, byDecision}
+use Rattle.window.specs.Resending.{TimeoutExit, resend, timeoutDecision}
 use Rattle.window.specs.declared.TimeoutDecision.{TimeoutDecision}
-use Rattle.window.specs.declared.WindowCount.{WindowCount}
-use Rattle.window.specs.declared.WindowCount.the-variants as windowCount
-use Rattle.window.specs.declared.MakeAnswer.{MakeAnswer}
-use Rattle.window.specs.declared.MakeAnswer.the-variants as makeAnswer
-use Rattle.selective_repeat.specs.declared.SelectiveRepeatMade.{SelectiveRepeatMade}
-use Rattle.selective_repeat.specs.declared.SelectiveRepeatMade.the-variants as made
+use Rattle.refusal.specs.declared.CountAnswer.{CountAnswer}
+use Rattle.refusal.specs.declared.CountAnswer.the-variants as windowCount
+use Rattle.window.specs.declared.SendWindowAnswer.{SendWindowAnswer}
+use Rattle.window.specs.declared.SendWindowAnswer.the-variants as makeAnswer
+use Rattle.selective_repeat.specs.declared.SelectiveRepeatSenderAnswer.{SelectiveRepeatSenderAnswer}
+use Rattle.selective_repeat.specs.declared.SelectiveRepeatSenderAnswer.the-variants as made
 
-abbrev pub madeWindow : SelectiveRepeatMade → MakeAnswer
+abbrev pub madeWindow : SelectiveRepeatSenderAnswer → SendWindowAnswer
 madeWindow (made.Sender s) = makeAnswer.Window (s .window)
 madeWindow (made.Refused r) = makeAnswer.Refused r
 
@@ -44,7 +44,7 @@ advance v n =
     cond (eqb n (v .window .«send_base»)) (1 + markedRun 2 (v .store) (v .window .«window_size») (v .window .«send_base» + 1) (outstanding (v .window) - 1)) 0
 
 -- an accepted ACK acknowledges its number alone
-abbrev pub handleAck : Sender → List ℕ → Acknowledging Sender
+abbrev pub handleAck : Sender → List ℕ → AckExit Sender
 handleAck v raw = byDecision (ackDecision true (v .window) (v .store) raw) v (acknowledgeOne v)
 
 -- a number is outstanding and not acknowledged
@@ -52,7 +52,7 @@ abbrev pub due : Sender → ℕ → Bool
 due v n = inWindow (v .window) n && not (marked 2 (v .store) (v .window .«window_size») n)
 
 -- a timeout sends such a number again
-abbrev pub handleTimeout : Sender → ℕ → List ℕ → Resending Sender
+abbrev pub handleTimeout : Sender → ℕ → List ℕ → TimeoutExit Sender
 handleTimeout v n out = resend (stateBroken true (v .window) (v .store)) (countsBroken (v .window)) v n (cond (due v n) 1 0) out
 
 -- decided before anything is written
@@ -60,7 +60,7 @@ abbrev pub decideTimeout : Sender → ℕ → TimeoutDecision
 decideTimeout v n = timeoutDecision (stateBroken true (v .window) (v .store)) (countsBroken (v .window)) n (cond (due v n) 1 0)
 
 -- how many numbers are outstanding and not acknowledged
-unfoldable pub inFlightCount : Sender → WindowCount
+unfoldable pub inFlightCount : Sender → CountAnswer
 inFlightCount v =
     decide (verdict (check (stateBroken true (v .window) (v .store)) State ∷ check (countsBroken (v .window)) Counts ∷ []))
     windowCount.Refused

@@ -6,99 +6,104 @@ ghost use lib.ListN.{length};
 ghost use Rattle.refusal.specs.Counts.{countLimit};
 ghost use Rattle.window.specs.State as windowState;
 ghost use Rattle.window.specs.Slots.{sender};
-ghost use Rattle.window.specs.Sending.{making, makeWindow, sending, sendChunk};
-ghost use Rattle.window.specs.Acknowledgement.{inWindow, acknowledging};
-ghost use Rattle.window.specs.Resending.{resending};
+ghost use Rattle.window.specs.Sending.{makeExit, makeWindow, sendExit, sendChunk};
+ghost use Rattle.window.specs.Acknowledgement.{inWindow, ackExit};
+ghost use Rattle.window.specs.Resending.{timeoutExit};
 ghost use Rattle.window.specs.Outstanding.{canSend};
-ghost use Rattle.receiver.specs.Reply.{replied, carriedOut, RoomFor};
-ghost use Rattle.receiver.specs.Receive.{receiving};
+ghost use Rattle.receiver.specs.Reply.{applyExit, applied, RoomFor};
+ghost use Rattle.receiver.specs.Receive.{receiveExit};
 ghost use Rattle.selective_repeat.specs.Sender.{madeWindow, advance, acknowledgeOne, handleAck, due, decideTimeout, handleTimeout, inFlightCount};
 ghost use Rattle.selective_repeat.specs.Receiver.{receiver, makeReceiver, stateBroken, receivingBroken, countersBroken, released, decided, dataDecision, decision, deliveredBytes, changedSlots, Ready, bufferedCount, handlePacket};
 use packet::Packet;
 use receiver::Decision;
-use receiver::Handed;
+use receiver::PacketReading;
 use receiver::ReceiveAnswer;
 use receiver::Reply;
+use refusal::CountAnswer;
 use refusal::Refusal;
+use refusal::TestAnswer;
 use window::AckAnswer;
 use window::AckDecision;
-use window::MakeAnswer;
 use window::SendAnswer;
 use window::SendWindow;
+use window::SendWindowAnswer;
 use window::TimeoutAnswer;
 use window::TimeoutDecision;
-use window::WindowCount;
-use window::WindowTest;
 
 pub struct SelectiveRepeatSender {
     pub window: SendWindow,
 }
 
-pub enum SelectiveRepeatMade {
+pub enum SelectiveRepeatSenderAnswer {
     Sender(SelectiveRepeatSender),
     Refused(Refusal),
 }
 
-pub struct SelectiveRepeatSent {
+pub struct SelectiveRepeatSendResult {
     pub sender: SelectiveRepeatSender,
     pub answer: SendAnswer,
 }
 
-pub struct SelectiveRepeatAcknowledged {
+pub struct SelectiveRepeatAckResult {
     pub sender: SelectiveRepeatSender,
     pub answer: AckAnswer,
 }
 
-pub struct SelectiveRepeatTimedOut {
+pub struct SelectiveRepeatTimeoutResult {
     pub sender: SelectiveRepeatSender,
     pub answer: TimeoutAnswer,
 }
 
 impl SelectiveRepeatSender {
-    pub fn new(window_size: usize, store: &mut [u8]) -> SelectiveRepeatMade
-        ensures { λ r. ⌜ making (madeWindow r) (now (store .exit)) ≡ makeWindow «window_size» (now (store .entry)) ⌝ }
+    pub fn new(window_size: usize, store: &mut [u8]) -> SelectiveRepeatSenderAnswer
+        ensures { λ r. ⌜ makeExit (madeWindow r) (now (store .exit)) ≡ makeWindow «window_size» (now (store .entry)) ⌝ }
     {
         match SendWindow::new(window_size, store) {
-            MakeAnswer::Window(window) => {
-                SelectiveRepeatMade::Sender(SelectiveRepeatSender { window })
+            SendWindowAnswer::Window(window) => {
+                SelectiveRepeatSenderAnswer::Sender(SelectiveRepeatSender { window })
             }
-            MakeAnswer::Refused(r) => SelectiveRepeatMade::Refused(r),
+            SendWindowAnswer::Refused(r) => SelectiveRepeatSenderAnswer::Refused(r),
         }
     }
 
     // A chunk into its slot and as a datagram to the start of out.
-    pub fn send_chunk(self, store: &mut [u8], payload: &[u8], out: &mut [u8]) -> SelectiveRepeatSent
-        ensures { λ r. ⌜ sending (r .answer) (sender (r .sender .window) (now (store .exit))) (now (out .exit)) ≡ sendChunk true (sender (self .window) (now (store .entry))) (now (payload .entry)) (now (out .entry)) ⌝ }
+    pub fn send_chunk(
+        self,
+        store: &mut [u8],
+        payload: &[u8],
+        out: &mut [u8],
+    ) -> SelectiveRepeatSendResult
+        ensures { λ r. ⌜ sendExit (r .answer) (sender (r .sender .window) (now (store .exit))) (now (out .exit)) ≡ sendChunk true (sender (self .window) (now (store .entry))) (now (payload .entry)) (now (out .entry)) ⌝ }
     {
         let window = self.window;
         let sent = window.send_chunk(true, store, payload, out);
         let window = sent.window;
         let answer = sent.answer;
-        SelectiveRepeatSent {
+        SelectiveRepeatSendResult {
             sender: SelectiveRepeatSender { window },
             answer,
         }
     }
 
     // A datagram as an ACK.
-    pub fn handle_ack(self, store: &mut [u8], raw: &[u8]) -> SelectiveRepeatAcknowledged
-        ensures { λ r. ⌜ acknowledging (r .answer) (sender (r .sender .window) (now (store .exit))) ≡ handleAck (sender (self .window) (now (store .entry))) (now (raw .entry)) ⌝ }
+    pub fn handle_ack(self, store: &mut [u8], raw: &[u8]) -> SelectiveRepeatAckResult
+        ensures { λ r. ⌜ ackExit (r .answer) (sender (r .sender .window) (now (store .exit))) ≡ handleAck (sender (self .window) (now (store .entry))) (now (raw .entry)) ⌝ }
     {
         let window = self.window;
         match window.decide_ack(store, true, raw) {
             AckDecision::Accept(n) => {
                 let moved = advance_unchecked(window, store, n);
                 let window = acknowledge_one_unchecked(window, store, n, moved);
-                SelectiveRepeatAcknowledged {
+                SelectiveRepeatAckResult {
                     sender: SelectiveRepeatSender { window },
                     answer: AckAnswer::Accepted,
                 }
             }
-            AckDecision::NotAccepted => SelectiveRepeatAcknowledged {
+            AckDecision::NotAccepted => SelectiveRepeatAckResult {
                 sender: self,
                 answer: AckAnswer::NotAccepted,
             },
-            AckDecision::Refused(r) => SelectiveRepeatAcknowledged {
+            AckDecision::Refused(r) => SelectiveRepeatAckResult {
                 sender: self,
                 answer: AckAnswer::Refused(r),
             },
@@ -111,8 +116,8 @@ impl SelectiveRepeatSender {
         store: &mut [u8],
         seq_num: u32,
         out: &mut [u8],
-    ) -> SelectiveRepeatTimedOut
-        ensures { λ r. ⌜ resending (r .answer) (sender (r .sender .window) (now (store .exit))) (now (out .exit)) ≡ handleTimeout (sender (self .window) (now (store .entry))) «seq_num» (now (out .entry)) ⌝ }
+    ) -> SelectiveRepeatTimeoutResult
+        ensures { λ r. ⌜ timeoutExit (r .answer) (sender (r .sender .window) (now (store .exit))) (now (out .exit)) ≡ handleTimeout (sender (self .window) (now (store .entry))) «seq_num» (now (out .entry)) ⌝ }
     {
         let window = self.window;
         match self.decide_timeout(store, seq_num) {
@@ -120,16 +125,16 @@ impl SelectiveRepeatSender {
                 let result = window.resend_unchecked(store, first, count, out);
                 let window = result.window;
                 let answer = result.answer;
-                SelectiveRepeatTimedOut {
+                SelectiveRepeatTimeoutResult {
                     sender: SelectiveRepeatSender { window },
                     answer,
                 }
             }
-            TimeoutDecision::Nothing => SelectiveRepeatTimedOut {
+            TimeoutDecision::Nothing => SelectiveRepeatTimeoutResult {
                 sender: self,
                 answer: TimeoutAnswer::Nothing,
             },
-            TimeoutDecision::Refused(r) => SelectiveRepeatTimedOut {
+            TimeoutDecision::Refused(r) => SelectiveRepeatTimeoutResult {
                 sender: self,
                 answer: TimeoutAnswer::Refused(r),
             },
@@ -156,7 +161,7 @@ impl SelectiveRepeatSender {
         }
     }
 
-    pub fn can_send(self) -> WindowTest
+    pub fn can_send(self) -> TestAnswer
         ensures { λ r. ⌜ r ≡ canSend (self .window) ⌝ }
     {
         let window = self.window;
@@ -164,18 +169,18 @@ impl SelectiveRepeatSender {
     }
 
     // How many numbers are outstanding and not acknowledged.
-    pub fn in_flight_count(self, store: &[u8]) -> WindowCount
+    pub fn in_flight_count(self, store: &[u8]) -> CountAnswer
         ensures { λ r. ⌜ r ≡ inFlightCount (sender (self .window) (now (store .entry))) ⌝ }
     {
         let window = self.window;
         if window.state_broken(store, true) {
-            return WindowCount::Refused(Refusal::State);
+            return CountAnswer::Refused(Refusal::State);
         }
         if window.counts_broken() {
-            return WindowCount::Refused(Refusal::Counts);
+            return CountAnswer::Refused(Refusal::Counts);
         }
         let base = window.send_base;
-        WindowCount::Count(store::marked_count_unchecked(
+        CountAnswer::Count(store::marked_count_unchecked(
             store,
             window.window_size,
             base,
@@ -237,7 +242,7 @@ pub struct SelectiveRepeatReceiver {
     pub duplicates_count: u64,
 }
 
-pub enum SelectiveRepeatReceiverMade {
+pub enum SelectiveRepeatReceiverAnswer {
     Receiver(SelectiveRepeatReceiver),
     Refused(Refusal),
 }
@@ -258,7 +263,7 @@ pub struct SelectiveRepeatDecision {
     pub change: SlotChange,
 }
 
-pub struct SelectiveRepeatReceived {
+pub struct SelectiveRepeatReceiveResult {
     pub receiver: SelectiveRepeatReceiver,
     pub answer: ReceiveAnswer,
 }
@@ -276,17 +281,17 @@ impl SlotChange {
 }
 
 impl SelectiveRepeatReceiver {
-    pub fn new(window_size: usize, store: &mut [u8]) -> SelectiveRepeatReceiverMade
-        ensures { λ r. ⌜ making r (now (store .exit)) ≡ makeReceiver «window_size» (now (store .entry)) ⌝ }
+    pub fn new(window_size: usize, store: &mut [u8]) -> SelectiveRepeatReceiverAnswer
+        ensures { λ r. ⌜ makeExit r (now (store .exit)) ≡ makeReceiver «window_size» (now (store .entry)) ⌝ }
     {
         if window::store_short(store, window_size) {
-            return SelectiveRepeatReceiverMade::Refused(Refusal::State);
+            return SelectiveRepeatReceiverAnswer::Refused(Refusal::State);
         }
         if window::window_broken(window_size) {
-            return SelectiveRepeatReceiverMade::Refused(Refusal::Setup);
+            return SelectiveRepeatReceiverAnswer::Refused(Refusal::Setup);
         }
         store::empty_all_unchecked(store, window_size);
-        SelectiveRepeatReceiverMade::Receiver(SelectiveRepeatReceiver {
+        SelectiveRepeatReceiverAnswer::Receiver(SelectiveRepeatReceiver {
             window_size,
             recv_base: 0,
             filled: 0,
@@ -303,8 +308,8 @@ impl SelectiveRepeatReceiver {
         raw: &[u8],
         output: &mut [u8],
         ack: &mut [u8],
-    ) -> SelectiveRepeatReceived
-        ensures { λ r. ⌜ receiving (r .answer) (receiver (r .receiver) (now (store .exit))) (now (output .exit)) (now (ack .exit)) ≡ handlePacket (receiver self (now (store .entry))) (now (raw .entry)) (now (output .entry)) (now (ack .entry)) ⌝ }
+    ) -> SelectiveRepeatReceiveResult
+        ensures { λ r. ⌜ receiveExit (r .answer) (receiver (r .receiver) (now (store .exit))) (now (output .exit)) (now (ack .exit)) ≡ handlePacket (receiver self (now (store .entry))) (now (raw .entry)) (now (output .entry)) (now (ack .entry)) ⌝ }
     {
         let handed = receiver::read_checked(
             self.receiving_broken(store, output),
@@ -313,8 +318,8 @@ impl SelectiveRepeatReceiver {
             self.duplicates_count,
             raw,
         );
-        if let Handed::Refused(r) = handed {
-            return SelectiveRepeatReceived {
+        if let PacketReading::Refused(r) = handed {
+            return SelectiveRepeatReceiveResult {
                 receiver: self,
                 answer: ReceiveAnswer::Refused(r),
             };
@@ -325,7 +330,7 @@ impl SelectiveRepeatReceiver {
         let change = after.change;
         let size = self.delivered_length_unchecked(store, payload, change);
         if receiver::room_missing_unchecked(decision, size, self.filled, output, ack) {
-            return SelectiveRepeatReceived {
+            return SelectiveRepeatReceiveResult {
                 receiver: self,
                 answer: ReceiveAnswer::Refused(Refusal::Full),
             };
@@ -334,43 +339,47 @@ impl SelectiveRepeatReceiver {
         let reply = decision.reply;
         let mut receiver = after.receiver;
         receiver.filled = filled;
-        SelectiveRepeatReceived {
+        SelectiveRepeatReceiveResult {
             receiver,
             answer: reply.answer(),
         }
     }
 
     // How many payloads are held.
-    pub fn buffered_count(self, store: &[u8]) -> WindowCount
+    pub fn buffered_count(self, store: &[u8]) -> CountAnswer
         ensures { λ r. ⌜ r ≡ bufferedCount (receiver self (now (store .entry))) ⌝ }
     {
         if self.state_broken(store) {
-            return WindowCount::Refused(Refusal::State);
+            return CountAnswer::Refused(Refusal::State);
         }
         if receiver::counts_broken(
             self.total_received,
             self.buffered_out_of_order,
             self.duplicates_count,
         ) {
-            return WindowCount::Refused(Refusal::Counts);
+            return CountAnswer::Refused(Refusal::Counts);
         }
         let window = self.window_size;
-        WindowCount::Count(store::marked_count_unchecked(store, window, self.recv_base, window, 1))
+        CountAnswer::Count(store::marked_count_unchecked(store, window, self.recv_base, window, 1))
     }
 
     // What a packet that isn't refused does to the state, and what is to be written.
-    pub fn decide_unchecked(mut self, store: &[u8], handed: Handed) -> SelectiveRepeatDecision
+    pub fn decide_unchecked(
+        mut self,
+        store: &[u8],
+        handed: PacketReading,
+    ) -> SelectiveRepeatDecision
         requires { ⌜ stateBroken self (now store) ≡ false ⌝ }
         requires { ⌜ countersBroken self ≡ false ⌝ }
         ensures { λ r. ⌜ r ≡ decision (receiver self (now (store .entry))) handed ⌝ }
     {
         self.total_received = self.total_received + 1;
         match handed {
-            Handed::Data(n) => self.decide_data(store, n),
-            Handed::Fin(n) => self.decided(false, Reply::Ack(n), SlotChange::Unchanged),
-            Handed::Ack => self.decided(false, Reply::Silent, SlotChange::Unchanged),
-            Handed::Corrupted => self.decided(false, Reply::Silent, SlotChange::Unchanged),
-            Handed::Refused(_) => self.decided(false, Reply::Silent, SlotChange::Unchanged),
+            PacketReading::Data(n) => self.decide_data(store, n),
+            PacketReading::Fin(n) => self.decided(false, Reply::Ack(n), SlotChange::Unchanged),
+            PacketReading::Ack => self.decided(false, Reply::Silent, SlotChange::Unchanged),
+            PacketReading::Corrupted => self.decided(false, Reply::Silent, SlotChange::Unchanged),
+            PacketReading::Refused(_) => self.decided(false, Reply::Silent, SlotChange::Unchanged),
         }
     }
 
@@ -439,7 +448,7 @@ impl SelectiveRepeatReceiver {
         requires { ⌜ Ready self (now store) × (released change < self .«window_size») ⌝ }
         requires { ⌜ (decision .deliver ≡ false → released change ≡ 0) × (length (now payload) ≤ 1400) ⌝ }
         requires { ⌜ RoomFor decision (length (deliveredBytes (receiver self (now store)) (now payload) change)) (self .filled) (now output) (now ack) ⌝ }
-        ensures { λ r. ⌜ replied r (now (output .exit)) (now (ack .exit)) ≡ carriedOut decision (deliveredBytes (receiver self (now (store .entry))) (now (payload .entry)) change) (self .filled) (now (output .entry)) (now (ack .entry)) ⌝ }
+        ensures { λ r. ⌜ applyExit r (now (output .exit)) (now (ack .exit)) ≡ applied decision (deliveredBytes (receiver self (now (store .entry))) (now (payload .entry)) change) (self .filled) (now (output .entry)) (now (ack .entry)) ⌝ }
         ensures { λ _. ⌜ now (store .exit) ≡ changedSlots (receiver self (now (store .entry))) (now (payload .entry)) change ⌝ }
     {
         let filled = receiver::carry_out_unchecked(decision, payload, self.filled, output, ack);

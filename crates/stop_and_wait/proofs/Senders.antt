@@ -9,8 +9,8 @@ use lib.Dec.{ltb, leb}
 use Rattle.refusal.specs.Clauses.{anyOf}
 use Rattle.window.specs.State.{windowBroken, numbersBroken}
 use Rattle.window.specs.Slots.{Sender, sender, release}
-use Rattle.window.specs.Sending.{Sending, sending}
-use Rattle.window.specs.Resending.{Resending, resending}
+use Rattle.window.specs.Sending.{SendExit, sendExit}
+use Rattle.window.specs.Resending.{TimeoutExit, timeoutExit}
 use Rattle.window.specs.declared.SendWindow.{SendWindow}
 use Rattle.window.specs.declared.SendAnswer.{SendAnswer}
 use Rattle.window.specs.declared.TimeoutAnswer.{TimeoutAnswer}
@@ -43,13 +43,13 @@ pub broken-idle : (s : StopAndWaitSender) → s .«in_flight» ≡ false → ltb
 broken-idle s e = numbers-of-one s (s .«current_seq») (omega arith) (omega arith) ∙ ap numbersBroken (window-is s false e)
 
 -- the answers, by what the window did
-pub sent-is : (s : StopAndWaitSender) (a : SendAnswer) (w : SendWindow) (store out : List ℕ) {r : StopAndWaitSender} {t : Sending Sender} → r ≡ bySend s a w → sending a (sender w store) out ≡ t
-    → sending a (endOf r store) out ≡ sent s t
-sent-is s a w store out e f = ap (λ (u : StopAndWaitSender). sending a (endOf u store) out) e ∙ ap (sent s) f
+pub sent-is : (s : StopAndWaitSender) (a : SendAnswer) (w : SendWindow) (store out : List ℕ) {r : StopAndWaitSender} {t : SendExit Sender} → r ≡ bySend s a w → sendExit a (sender w store) out ≡ t
+    → sendExit a (endOf r store) out ≡ sent s t
+sent-is s a w store out e f = ap (λ (u : StopAndWaitSender). sendExit a (endOf u store) out) e ∙ ap (sent s) f
 
-pub timed-out-is : (s : StopAndWaitSender) (a : TimeoutAnswer) (w : SendWindow) (store out : List ℕ) {r : StopAndWaitSender} {t : Resending Sender} → r ≡ byTimeout s a w → resending a (sender w store) out ≡ t
-    → resending a (endOf r store) out ≡ timedOut s t
-timed-out-is s a w store out e f = ap (λ (u : StopAndWaitSender). resending a (endOf u store) out) e ∙ ap (timedOut s) f
+pub timed-out-is : (s : StopAndWaitSender) (a : TimeoutAnswer) (w : SendWindow) (store out : List ℕ) {r : StopAndWaitSender} {t : TimeoutExit Sender} → r ≡ byTimeout s a w → timeoutExit a (sender w store) out ≡ t
+    → timeoutExit a (endOf r store) out ≡ timedOut s t
+timed-out-is s a w store out e f = ap (λ (u : StopAndWaitSender). timeoutExit a (endOf u store) out) e ∙ ap (timedOut s) f
 
 pub acknowledged-is : (v : End) (n : ℕ) (w : SendWindow) (store : List ℕ) → sender w store ≡ release (windowEnd v) (n + 1)
     → endOf (state (v .sender .«current_seq» + 1) false (v .sender .«max_retries») 0 (v .sender .«total_sent») (v .sender .retransmissions)) store ≡ acknowledged v n

@@ -6,9 +6,9 @@ use lib.Dec.{ltb, eqb}
 use Rattle.packet.specs.Reading.{payloadOf}
 use Rattle.receiver.specs.State.{marksBroken, countsBroken}
 use Rattle.receiver.specs.Handed.{readPacket}
-use Rattle.receiver.specs.Receive.{Receiving, receive}
-use Rattle.receiver.specs.declared.Handed.{Handed}
-use Rattle.receiver.specs.declared.Handed.the-variants as handed
+use Rattle.receiver.specs.Receive.{ReceiveExit, receive}
+use Rattle.receiver.specs.declared.PacketReading.{PacketReading}
+use Rattle.receiver.specs.declared.PacketReading.the-variants as handed
 use Rattle.receiver.specs.declared.Reply.{Reply}
 use Rattle.receiver.specs.declared.Reply.the-variants as reply
 use Rattle.stop_and_wait.specs.declared.StopAndWaitReceiver.{StopAndWaitReceiver}
@@ -35,20 +35,20 @@ dataDecision r n =
     (decided r false (reply.Ack (r .«expected_seq» - 1))))
 
 -- every packet is counted; Fin is acknowledged by its own number; an ACK and a corrupted packet, which is counted apart, are not answered
-abbrev pub byKind : StopAndWaitReceiver → Handed → StopAndWaitDecision
+abbrev pub byKind : StopAndWaitReceiver → PacketReading → StopAndWaitDecision
 byKind r (handed.Data n) = dataDecision r n
 byKind r (handed.Fin n) = decided r false (reply.Ack n)
 byKind r handed.Ack = decided r false reply.Silent
 byKind r handed.Corrupted = decided (state (r .«expected_seq») (r .filled) (r .«total_received») (r .«duplicates_count») (r .«corrupted_count» + 1)) false reply.Silent
 byKind r (handed.Refused s) = decided r false reply.Silent
 
-unfoldable pub decision : StopAndWaitReceiver → Handed → StopAndWaitDecision
+unfoldable pub decision : StopAndWaitReceiver → PacketReading → StopAndWaitDecision
 decision r h = byKind (state (r .«expected_seq») (r .filled) (r .«total_received» + 1) (r .«duplicates_count») (r .«corrupted_count»)) h
 
 -- the state with its fill mark
 abbrev pub withMark : StopAndWaitReceiver → ℕ → StopAndWaitReceiver
 withMark r filled = state (r .«expected_seq») filled (r .«total_received») (r .«duplicates_count») (r .«corrupted_count»)
 
-abbrev pub handlePacket : StopAndWaitReceiver → List ℕ → List ℕ → List ℕ → Receiving StopAndWaitReceiver
+abbrev pub handlePacket : StopAndWaitReceiver → List ℕ → List ℕ → List ℕ → ReceiveExit StopAndWaitReceiver
 handlePacket r raw output ack =
     receive (marksBroken (r .«expected_seq») (r .filled) output) (countsBroken (r .«total_received») (r .«duplicates_count») (r .«corrupted_count»)) r (r .filled) (decision r (readPacket raw) .decision) (payloadOf raw) (withMark (decision r (readPacket raw) .receiver)) raw output ack

@@ -9,19 +9,19 @@ use Rattle.window.specs.State.{storeShort}
 use Rattle.window.specs.Slots.{Sender, sender, fresh, release}
 use Rattle.window.specs.Outstanding.{unlessBroken}
 use Rattle.window.specs.Sending as window
-use Rattle.window.specs.Acknowledgement.{ackDecision, Acknowledging, byDecision}
-use Rattle.window.specs.Resending.{Resending, resending, resendOutstanding, outstandingDecision}
+use Rattle.window.specs.Acknowledgement.{ackDecision, AckExit, byDecision}
+use Rattle.window.specs.Resending.{TimeoutExit, timeoutExit, resendOutstanding, outstandingDecision}
 use Rattle.window.specs.declared.SendWindow.{SendWindow}
 use Rattle.window.specs.declared.SendAnswer.{SendAnswer}
 use Rattle.window.specs.declared.SendAnswer.the-variants as sendAnswer
 use Rattle.window.specs.declared.TimeoutAnswer.{TimeoutAnswer}
 use Rattle.window.specs.declared.TimeoutAnswer.the-variants as timeoutAnswer
 use Rattle.window.specs.declared.TimeoutDecision.{TimeoutDecision}
-use Rattle.window.specs.declared.WindowTest.{WindowTest}
-use Rattle.window.specs.declared.WindowTest.the-variants as windowTest
+use Rattle.refusal.specs.declared.TestAnswer.{TestAnswer}
+use Rattle.refusal.specs.declared.TestAnswer.the-variants as windowTest
 use Rattle.stop_and_wait.specs.declared.StopAndWaitSender.{StopAndWaitSender}
-use Rattle.stop_and_wait.specs.declared.StopAndWaitMade.{StopAndWaitMade}
-use Rattle.stop_and_wait.specs.declared.StopAndWaitMade.the-variants as made
+use Rattle.stop_and_wait.specs.declared.StopAndWaitSenderAnswer.{StopAndWaitSenderAnswer}
+use Rattle.stop_and_wait.specs.declared.StopAndWaitSenderAnswer.the-variants as made
 
 abbrev pub state : ℕ → Bool → ℕ → ℕ → ℕ → ℕ → StopAndWaitSender
 state current inFlight limit retries sent again =
@@ -48,15 +48,15 @@ endOf s store = record { sender = s; store = store }
 abbrev pub windowEnd : End → Sender
 windowEnd v = sender (windowOf (v .sender)) (v .store)
 
-unfoldable pub newSender : ℕ → List ℕ → window.Making StopAndWaitMade
+unfoldable pub newSender : ℕ → List ℕ → window.MakeExit StopAndWaitSenderAnswer
 newSender limit store =
-    decide (verdict (check (storeShort store 1) State ∷ [])) (λ r. window.making (made.Refused r) store)
-    (window.making (made.Sender (state 0 false limit 0 0 0)) (fresh 1 store .store))
+    decide (verdict (check (storeShort store 1) State ∷ [])) (λ r. window.makeExit (made.Refused r) store)
+    (window.makeExit (made.Sender (state 0 false limit 0 0 0)) (fresh 1 store .store))
 
-abbrev pub canSend : StopAndWaitSender → WindowTest
+abbrev pub canSend : StopAndWaitSender → TestAnswer
 canSend s = unlessBroken (windowOf s) windowTest.Refused (windowTest.Is (not (s .«in_flight»)))
 
-abbrev pub isWaitingForAck : StopAndWaitSender → WindowTest
+abbrev pub isWaitingForAck : StopAndWaitSender → TestAnswer
 isWaitingForAck s = unlessBroken (windowOf s) windowTest.Refused (windowTest.Is (s .«in_flight»))
 
 -- the state by what its window w of 1 has counted
@@ -69,10 +69,10 @@ bySend s (sendAnswer.Sent n) w = counted s true 0 w
 bySend s sendAnswer.WindowFull w = s
 bySend s (sendAnswer.Refused r) w = s
 
-abbrev pub sent : StopAndWaitSender → window.Sending Sender → window.Sending End
-sent s t = window.sending (t .answer) (endOf (bySend s (t .answer) (t .after .window)) (t .after .store)) (t .out)
+abbrev pub sent : StopAndWaitSender → window.SendExit Sender → window.SendExit End
+sent s t = window.sendExit (t .answer) (endOf (bySend s (t .answer) (t .after .window)) (t .after .store)) (t .out)
 
-abbrev pub sendChunk : End → List ℕ → List ℕ → window.Sending End
+abbrev pub sendChunk : End → List ℕ → List ℕ → window.SendExit End
 sendChunk v payload out = sent (v .sender) (window.sendChunk false (windowEnd v) payload out)
 
 -- an accepted ACK: the next number, nothing in flight, the slot emptied
@@ -81,7 +81,7 @@ acknowledged v n =
     endOf (state (v .sender .«current_seq» + 1) false (v .sender .«max_retries») 0 (v .sender .«total_sent») (v .sender .retransmissions))
     (release (windowEnd v) (n + 1) .store)
 
-abbrev pub handleAck : End → List ℕ → Acknowledging End
+abbrev pub handleAck : End → List ℕ → AckExit End
 handleAck v raw = byDecision (ackDecision false (windowOf (v .sender)) (v .store) raw) v (acknowledged v)
 
 -- a timeout: the packet in flight again, one retry more, unless the retry limit is met
@@ -93,10 +93,10 @@ byTimeout s (timeoutAnswer.Resent n) w = counted s (s .«in_flight») (s .«curr
 byTimeout s timeoutAnswer.Nothing w = s
 byTimeout s (timeoutAnswer.Refused r) w = s
 
-abbrev pub timedOut : StopAndWaitSender → Resending Sender → Resending End
-timedOut s t = resending (t .answer) (endOf (byTimeout s (t .answer) (t .after .window)) (t .after .store)) (t .out)
+abbrev pub timedOut : StopAndWaitSender → TimeoutExit Sender → TimeoutExit End
+timedOut s t = timeoutExit (t .answer) (endOf (byTimeout s (t .answer) (t .after .window)) (t .after .store)) (t .out)
 
-abbrev pub handleTimeout : End → List ℕ → Resending End
+abbrev pub handleTimeout : End → List ℕ → TimeoutExit End
 handleTimeout v out = timedOut (v .sender) (resendOutstanding false (windowEnd v) (retriesLeft (v .sender)) out)
 
 -- decided before anything is written

@@ -5,27 +5,27 @@ ghost use mathlib.Core.Bool.{false};
 ghost use Rattle.refusal.specs.Counts.{countLimit};
 ghost use Rattle.window.specs.State.{numbersBroken};
 ghost use Rattle.window.specs.Outstanding.{unlessBroken};
-ghost use Rattle.window.specs.Sending.{making, sending};
-ghost use Rattle.window.specs.Acknowledgement.{acknowledging};
-ghost use Rattle.window.specs.Resending.{resending};
+ghost use Rattle.window.specs.Sending.{makeExit, sendExit};
+ghost use Rattle.window.specs.Acknowledgement.{ackExit};
+ghost use Rattle.window.specs.Resending.{timeoutExit};
 ghost use Rattle.window.specs.declared.TimeoutAnswer.the-variants as timeoutAnswer;
-ghost use Rattle.window.specs.declared.WindowTest.the-variants as windowTest;
+ghost use Rattle.refusal.specs.declared.TestAnswer.the-variants as windowTest;
 ghost use Rattle.stop_and_wait.specs.Sender.{windowOf, endOf, newSender, canSend, isWaitingForAck, bySend, sendChunk, handleAck, retriesLeft, byTimeout, decideTimeout, handleTimeout};
 ghost use Rattle.stop_and_wait.specs.Receiver.{newReceiver, decided, dataDecision, decision, handlePacket};
-ghost use Rattle.receiver.specs.Receive.{receiving};
+ghost use Rattle.receiver.specs.Receive.{receiveExit};
 ghost use Rattle.receiver.specs.State.{countsBroken};
 use receiver::Decision;
-use receiver::Handed;
+use receiver::PacketReading;
 use receiver::ReceiveAnswer;
 use receiver::Reply;
 use refusal::Refusal;
+use refusal::TestAnswer;
 use window::AckAnswer;
 use window::AckDecision;
 use window::SendAnswer;
 use window::SendWindow;
 use window::TimeoutAnswer;
 use window::TimeoutDecision;
-use window::WindowTest;
 
 pub struct StopAndWaitSender {
     pub current_seq: u32,
@@ -36,35 +36,35 @@ pub struct StopAndWaitSender {
     pub retransmissions: u64,
 }
 
-pub enum StopAndWaitMade {
+pub enum StopAndWaitSenderAnswer {
     Sender(StopAndWaitSender),
     Refused(Refusal),
 }
 
-pub struct StopAndWaitSent {
+pub struct StopAndWaitSendResult {
     pub sender: StopAndWaitSender,
     pub answer: SendAnswer,
 }
 
-pub struct StopAndWaitAcknowledged {
+pub struct StopAndWaitAckResult {
     pub sender: StopAndWaitSender,
     pub answer: AckAnswer,
 }
 
-pub struct StopAndWaitTimedOut {
+pub struct StopAndWaitTimeoutResult {
     pub sender: StopAndWaitSender,
     pub answer: TimeoutAnswer,
 }
 
 impl StopAndWaitSender {
-    pub fn new(max_retries: u32, store: &mut [u8]) -> StopAndWaitMade
-        ensures { λ r. ⌜ making r (now (store .exit)) ≡ newSender «max_retries» (now (store .entry)) ⌝ }
+    pub fn new(max_retries: u32, store: &mut [u8]) -> StopAndWaitSenderAnswer
+        ensures { λ r. ⌜ makeExit r (now (store .exit)) ≡ newSender «max_retries» (now (store .entry)) ⌝ }
     {
         if window::store_short(store, 1) {
-            return StopAndWaitMade::Refused(Refusal::State);
+            return StopAndWaitSenderAnswer::Refused(Refusal::State);
         }
         store::empty_all_unchecked(store, 1);
-        StopAndWaitMade::Sender(StopAndWaitSender {
+        StopAndWaitSenderAnswer::Sender(StopAndWaitSender {
             current_seq: 0,
             in_flight: false,
             max_retries,
@@ -74,24 +74,29 @@ impl StopAndWaitSender {
         })
     }
 
-    pub fn can_send(self) -> WindowTest
+    pub fn can_send(self) -> TestAnswer
         ensures { λ r. ⌜ r ≡ canSend self ⌝ }
     {
         self.unless_broken(!self.in_flight)
     }
 
-    pub fn is_waiting_for_ack(self) -> WindowTest
+    pub fn is_waiting_for_ack(self) -> TestAnswer
         ensures { λ r. ⌜ r ≡ isWaitingForAck self ⌝ }
     {
         self.unless_broken(self.in_flight)
     }
 
     // A chunk into the slot and as a datagram to the start of out.
-    pub fn send_chunk(self, store: &mut [u8], payload: &[u8], out: &mut [u8]) -> StopAndWaitSent
-        ensures { λ r. ⌜ sending (r .answer) (endOf (r .sender) (now (store .exit))) (now (out .exit)) ≡ sendChunk (endOf self (now (store .entry))) (now (payload .entry)) (now (out .entry)) ⌝ }
+    pub fn send_chunk(
+        self,
+        store: &mut [u8],
+        payload: &[u8],
+        out: &mut [u8],
+    ) -> StopAndWaitSendResult
+        ensures { λ r. ⌜ sendExit (r .answer) (endOf (r .sender) (now (store .exit))) (now (out .exit)) ≡ sendChunk (endOf self (now (store .entry))) (now (payload .entry)) (now (out .entry)) ⌝ }
     {
         if self.numbers_broken() {
-            return StopAndWaitSent {
+            return StopAndWaitSendResult {
                 sender: self,
                 answer: SendAnswer::Refused(Refusal::State),
             };
@@ -100,18 +105,18 @@ impl StopAndWaitSender {
         let result = window.send_chunk(false, store, payload, out);
         let answer = result.answer;
         let window = result.window;
-        StopAndWaitSent {
+        StopAndWaitSendResult {
             sender: self.after_send(answer, window),
             answer,
         }
     }
 
     // A datagram as an ACK.
-    pub fn handle_ack(self, store: &mut [u8], raw: &[u8]) -> StopAndWaitAcknowledged
-        ensures { λ r. ⌜ acknowledging (r .answer) (endOf (r .sender) (now (store .exit))) ≡ handleAck (endOf self (now (store .entry))) (now (raw .entry)) ⌝ }
+    pub fn handle_ack(self, store: &mut [u8], raw: &[u8]) -> StopAndWaitAckResult
+        ensures { λ r. ⌜ ackExit (r .answer) (endOf (r .sender) (now (store .exit))) ≡ handleAck (endOf self (now (store .entry))) (now (raw .entry)) ⌝ }
     {
         if self.numbers_broken() {
-            return StopAndWaitAcknowledged {
+            return StopAndWaitAckResult {
                 sender: self,
                 answer: AckAnswer::Refused(Refusal::State),
             };
@@ -120,7 +125,7 @@ impl StopAndWaitSender {
         match window.decide_ack(store, false, raw) {
             AckDecision::Accept(n) => {
                 window.release_unchecked(store, n + 1);
-                StopAndWaitAcknowledged {
+                StopAndWaitAckResult {
                     sender: StopAndWaitSender {
                         current_seq: self.current_seq + 1,
                         in_flight: false,
@@ -132,11 +137,11 @@ impl StopAndWaitSender {
                     answer: AckAnswer::Accepted,
                 }
             }
-            AckDecision::NotAccepted => StopAndWaitAcknowledged {
+            AckDecision::NotAccepted => StopAndWaitAckResult {
                 sender: self,
                 answer: AckAnswer::NotAccepted,
             },
-            AckDecision::Refused(r) => StopAndWaitAcknowledged {
+            AckDecision::Refused(r) => StopAndWaitAckResult {
                 sender: self,
                 answer: AckAnswer::Refused(r),
             },
@@ -144,8 +149,8 @@ impl StopAndWaitSender {
     }
 
     // The packet in flight again, unless the retry limit is met.
-    pub fn handle_timeout(self, store: &mut [u8], out: &mut [u8]) -> StopAndWaitTimedOut
-        ensures { λ r. ⌜ resending (r .answer) (endOf (r .sender) (now (store .exit))) (now (out .exit)) ≡ handleTimeout (endOf self (now (store .entry))) (now (out .entry)) ⌝ }
+    pub fn handle_timeout(self, store: &mut [u8], out: &mut [u8]) -> StopAndWaitTimeoutResult
+        ensures { λ r. ⌜ timeoutExit (r .answer) (endOf (r .sender) (now (store .exit))) (now (out .exit)) ≡ handleTimeout (endOf self (now (store .entry))) (now (out .entry)) ⌝ }
     {
         match self.decide_timeout(store) {
             TimeoutDecision::Resend { first, count } => {
@@ -153,16 +158,16 @@ impl StopAndWaitSender {
                 let result = window.resend_unchecked(store, first, count, out);
                 let answer = result.answer;
                 let window = result.window;
-                StopAndWaitTimedOut {
+                StopAndWaitTimeoutResult {
                     sender: self.after_timeout_unchecked(answer, window),
                     answer,
                 }
             }
-            TimeoutDecision::Nothing => StopAndWaitTimedOut {
+            TimeoutDecision::Nothing => StopAndWaitTimeoutResult {
                 sender: self,
                 answer: TimeoutAnswer::Nothing,
             },
-            TimeoutDecision::Refused(r) => StopAndWaitTimedOut {
+            TimeoutDecision::Refused(r) => StopAndWaitTimeoutResult {
                 sender: self,
                 answer: TimeoutAnswer::Refused(r),
             },
@@ -180,17 +185,17 @@ impl StopAndWaitSender {
         window.decide_timeout(store, false, self.retries_left())
     }
 
-    fn unless_broken(self, answer: bool) -> WindowTest
+    fn unless_broken(self, answer: bool) -> TestAnswer
         ensures { λ r. ⌜ r ≡ unlessBroken (windowOf self) windowTest.Refused (windowTest.Is answer) ⌝ }
     {
         if self.numbers_broken() {
-            return WindowTest::Refused(Refusal::State);
+            return TestAnswer::Refused(Refusal::State);
         }
         let window = self.window_unchecked();
         if window.counts_broken() {
-            return WindowTest::Refused(Refusal::Counts);
+            return TestAnswer::Refused(Refusal::Counts);
         }
-        WindowTest::Is(answer)
+        TestAnswer::Is(answer)
     }
 
     // Whether its window breaks the clauses of line 9 that don't speak of the store.
@@ -283,7 +288,7 @@ pub struct StopAndWaitDecision {
     pub decision: Decision,
 }
 
-pub struct StopAndWaitReceived {
+pub struct StopAndWaitReceiveResult {
     pub receiver: StopAndWaitReceiver,
     pub answer: ReceiveAnswer,
 }
@@ -302,8 +307,13 @@ impl StopAndWaitReceiver {
     }
 
     // A datagram, with the lent output and a buffer for the ACK.
-    pub fn handle_packet(self, raw: &[u8], output: &mut [u8], ack: &mut [u8]) -> StopAndWaitReceived
-        ensures { λ r. ⌜ receiving (r .answer) (r .receiver) (now (output .exit)) (now (ack .exit)) ≡ handlePacket self (now (raw .entry)) (now (output .entry)) (now (ack .entry)) ⌝ }
+    pub fn handle_packet(
+        self,
+        raw: &[u8],
+        output: &mut [u8],
+        ack: &mut [u8],
+    ) -> StopAndWaitReceiveResult
+        ensures { λ r. ⌜ receiveExit (r .answer) (r .receiver) (now (output .exit)) (now (ack .exit)) ≡ handlePacket self (now (raw .entry)) (now (output .entry)) (now (ack .entry)) ⌝ }
     {
         let handed = receiver::read_checked(
             receiver::marks_broken(self.expected_seq, self.filled, output),
@@ -312,8 +322,8 @@ impl StopAndWaitReceiver {
             self.corrupted_count,
             raw,
         );
-        if let Handed::Refused(r) = handed {
-            return StopAndWaitReceived {
+        if let PacketReading::Refused(r) = handed {
+            return StopAndWaitReceiveResult {
                 receiver: self,
                 answer: ReceiveAnswer::Refused(r),
             };
@@ -323,32 +333,32 @@ impl StopAndWaitReceiver {
         let result = receiver::finish_unchecked(decision, raw, self.filled, output, ack);
         let answer = result.answer;
         if let ReceiveAnswer::Refused(_) = answer {
-            return StopAndWaitReceived {
+            return StopAndWaitReceiveResult {
                 receiver: self,
                 answer,
             };
         }
         let mut receiver = after.receiver;
         receiver.filled = result.filled;
-        StopAndWaitReceived { receiver, answer }
+        StopAndWaitReceiveResult { receiver, answer }
     }
 
     // What a packet that isn't refused does to the state, and what is to be written.
-    pub fn decide_unchecked(mut self, handed: Handed) -> StopAndWaitDecision
+    pub fn decide_unchecked(mut self, handed: PacketReading) -> StopAndWaitDecision
         requires { ⌜ countsBroken (self .«total_received») (self .«duplicates_count») (self .«corrupted_count») ≡ false ⌝ }
         requires { ⌜ self .«expected_seq» ≤ 4294901760 ⌝ }
         ensures { λ r. ⌜ r ≡ decision self handed ⌝ }
     {
         self.total_received = self.total_received + 1;
         match handed {
-            Handed::Data(n) => self.decide_data(n),
-            Handed::Fin(n) => self.decided(false, Reply::Ack(n)),
-            Handed::Ack => self.decided(false, Reply::Silent),
-            Handed::Corrupted => {
+            PacketReading::Data(n) => self.decide_data(n),
+            PacketReading::Fin(n) => self.decided(false, Reply::Ack(n)),
+            PacketReading::Ack => self.decided(false, Reply::Silent),
+            PacketReading::Corrupted => {
                 self.corrupted_count = self.corrupted_count + 1;
                 self.decided(false, Reply::Silent)
             }
-            Handed::Refused(_) => self.decided(false, Reply::Silent),
+            PacketReading::Refused(_) => self.decided(false, Reply::Silent),
         }
     }
 

@@ -6,7 +6,7 @@ use mathlib.Core.Logic.{_⊎_, inl, inr, ⊎-elim}
 use native.Mathlib.Omega.{arith}
 use lib.ListN.{length, getD, set, take, drop, replicate, length-append, length-take, length-drop, length-set, length-replicate, List·getD-append}
 use lib.Seq.{getD-take, getD-drop, getD-append-add, getD-set-other, length-take-le, take-at, drop-at, take-append-seam, drop-drop, take-take, ext-getD, take-set-lt, drop-set-add}
-use Rattle.store.specs.Slot.{SlotIn, slotAt, lengthOf, markOf, payloadOf, slotBytes, putSlot}
+use Rattle.store.specs.Slot.{SlotIn, slotAt, slotLength, slotMark, slotPayload, slotBytes, putSlot}
 pub use Rattle.store.proofs.Tests.{slot-in, none-found, receiver-slot-short}
 pub use Rattle.store.proofs.Numbers.{run-within, count-within, written-on, written-none, written-length, payloads-none}
 
@@ -27,16 +27,16 @@ behind-head (a ∷ b ∷ []) = refl
 behind-head (a ∷ b ∷ c ∷ []) = refl
 behind-head (a ∷ b ∷ c ∷ d ∷ l) = refl
 
-pub slot-payload : (store : List ℕ) (j : ℕ) (n : ℕ) → n ≡ lengthOf (slotAt store j) → n ≤ 1400 → payloadOf (slotAt store j) ≡ take n (drop (j * 1404 + 4) store)
-unfolding payloadOf slotAt
+pub slot-payload : (store : List ℕ) (j : ℕ) (n : ℕ) → n ≡ slotLength (slotAt store j) → n ≤ 1400 → slotPayload (slotAt store j) ≡ take n (drop (j * 1404 + 4) store)
+unfolding slotPayload slotAt
 slot-payload store j n e h =
     ap (λ (k : ℕ). take k (drop 4 (take 1404 (drop (j * 1404) store)))) (sym e)
     ∙ ap (take n) (behind-head (drop (j * 1404) store)) ∙ take-take n 1400 (drop 4 (drop (j * 1404) store)) h
     ∙ ap (take n) (drop-drop 4 (j * 1404) store)
 
 -- a slot's payload is as long as its length says
-pub slot-payload-length : (store : List ℕ) (j : ℕ) → SlotIn store j → lengthOf (slotAt store j) ≤ 1400 → length (payloadOf (slotAt store j)) ≡ lengthOf (slotAt store j)
-unfolding payloadOf
+pub slot-payload-length : (store : List ℕ) (j : ℕ) → SlotIn store j → slotLength (slotAt store j) ≤ 1400 → length (slotPayload (slotAt store j)) ≡ slotLength (slotAt store j)
+unfolding slotPayload
 slot-payload-length store j h k = simp (length-take, length-drop) (omega (arith, slot-length store j h))
 
 -- the fields of what filling writes
@@ -44,16 +44,16 @@ pub slot-bytes-length : (payload : List ℕ) (mark flags : ℕ) → length paylo
 unfolding slotBytes
 slot-bytes-length payload mark flags h = simp (length-append, length-replicate) (omega arith)
 
-pub filled-length : (payload : List ℕ) (mark flags : ℕ) → lengthOf (slotBytes payload mark flags) ≡ length payload
+pub filled-length : (payload : List ℕ) (mark flags : ℕ) → slotLength (slotBytes payload mark flags) ≡ length payload
 unfolding slotBytes
 filled-length payload mark flags = omega arith
 
-pub filled-mark : (payload : List ℕ) (mark flags : ℕ) → markOf (slotBytes payload mark flags) ≡ mark
+pub filled-mark : (payload : List ℕ) (mark flags : ℕ) → slotMark (slotBytes payload mark flags) ≡ mark
 unfolding slotBytes
 filled-mark payload mark flags = refl
 
-pub filled-payload : (payload : List ℕ) (mark flags : ℕ) → payloadOf (slotBytes payload mark flags) ≡ payload
-unfolding payloadOf slotBytes
+pub filled-payload : (payload : List ℕ) (mark flags : ℕ) → slotPayload (slotBytes payload mark flags) ≡ payload
+unfolding slotPayload slotBytes
 filled-payload payload mark flags =
     let n : length payload / 256 * 256 + length payload % 256 ≡ length payload = omega arith in
     rw n (take-append-seam payload (replicate (1400 - length payload) 0))

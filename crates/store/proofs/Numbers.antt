@@ -7,7 +7,7 @@ use native.Mathlib.Omega.{arith}
 use native.Mathlib.Nat.{add-zero}
 use lib.ListN.{length, take, drop, length-append, length-drop, take-append-drop}
 use lib.Seq.{take-at, drop-append-add, drop-drop, length-take-le}
-use Rattle.store.specs.Slot.{slotAt, payloadOf}
+use Rattle.store.specs.Slot.{slotAt, slotPayload}
 use Rattle.store.specs.Numbers.{marked, markedRun, markedCount, payloadsFrom, writtenAt}
 
 -- number n + i, of k from n on
@@ -28,12 +28,12 @@ module _ (store : List ℕ) (w n i k : ℕ) (within : i < k) where
   unfolding markedCount
   count-turn mark = rw (rest, next)
 
-  pub payloads-turn : payloadOf (slotAt store ((n + i) % w)) ++ payloadsFrom store w (n + (i + 1)) (k - (i + 1)) ≡ payloadsFrom store w (n + i) (k - i)
+  pub payloads-turn : slotPayload (slotAt store ((n + i) % w)) ++ payloadsFrom store w (n + (i + 1)) (k - (i + 1)) ≡ payloadsFrom store w (n + i) (k - i)
   unfolding payloadsFrom
   payloads-turn = rw (rest, next)
 
-  pub payloads-turn-length : length (payloadOf (slotAt store ((n + i) % w))) + length (payloadsFrom store w (n + (i + 1)) (k - (i + 1))) ≡ length (payloadsFrom store w (n + i) (k - i))
-  payloads-turn-length = sym (length-append (payloadOf (slotAt store ((n + i) % w))) _) ∙ ap length payloads-turn
+  pub payloads-turn-length : length (slotPayload (slotAt store ((n + i) % w))) + length (payloadsFrom store w (n + (i + 1)) (k - (i + 1))) ≡ length (payloadsFrom store w (n + i) (k - i))
+  payloads-turn-length = sym (length-append (slotPayload (slotAt store ((n + i) % w))) _) ∙ ap length payloads-turn
 
 pub run-stop : (mark : ℕ) (store : List ℕ) (w n k : ℕ) → marked mark store w n ≡ false → markedRun mark store w n k ≡ 0
 unfolding markedRun

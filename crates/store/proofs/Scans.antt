@@ -7,8 +7,8 @@ use native.Mathlib.Omega.{arith}
 use native.Mathlib.Nat.{mod-lt, mod-eq-of-lt, mod-add-mod, add-mod-right}
 use borrow.Author.Tests.{ltb-true, ltb-false, lt-ltb, le-ltb, ne-eqb}
 use lib.Dec.{ltb, eqb}
-use Rattle.store.specs.Slot.{slotAt, lengthOf, markOf}
-use Rattle.store.specs.Sound.{anyBelow, filled, outOfBounds, senderSlotBroken, receiverSlotBroken, slotOf, senderTest, receiverTest, senderSlotsBroken, receiverSlotsBroken}
+use Rattle.store.specs.Slot.{slotAt, slotLength, slotMark}
+use Rattle.store.specs.Sound.{anyBelow, isFilled, outOfBounds, senderSlotBroken, receiverSlotBroken, slotOf, senderTest, receiverTest, senderSlotsBroken, receiverSlotsBroken}
 use Rattle.store.specs.Scans.{slotOutside, slotsOutside, partBroken}
 
 or-false-right : (a : Bool) → (a || false) ≡ a
@@ -68,7 +68,7 @@ module _ (store : List ℕ) (w base : ℕ) (positive : 0 < w) where
       )
 
 -- a slot that is outstanding, empty, or a receiver's
-held-outside : (x may : Bool) (m : ℕ) → (x || ltb 2 m || not (filled m) || (eqb m 2 && not may)) ≡ (x || ltb m 1 || ltb (cond may 2 1) m)
+held-outside : (x may : Bool) (m : ℕ) → (x || ltb 2 m || not (isFilled m) || (eqb m 2 && not may)) ≡ (x || ltb m 1 || ltb (cond may 2 1) m)
 held-outside true may m = refl
 held-outside false may zero = refl
 held-outside false true (suc zero) = refl
@@ -78,22 +78,22 @@ held-outside false false (suc (suc zero)) = refl
 held-outside false true (suc (suc (suc m))) = rw (lt-ltb 2 (suc (suc (suc m))) (omega arith), or-true)
 held-outside false false (suc (suc (suc m))) = rw (lt-ltb 2 (suc (suc (suc m))) (omega arith), lt-ltb 1 (suc (suc (suc m))) (omega arith), or-true)
 
-empty-outside : (x may : Bool) (m : ℕ) → (x || ltb 2 m || filled m || (eqb m 2 && not may)) ≡ (x || ltb m 0 || ltb 0 m)
+empty-outside : (x may : Bool) (m : ℕ) → (x || ltb 2 m || isFilled m || (eqb m 2 && not may)) ≡ (x || ltb m 0 || ltb 0 m)
 empty-outside true may m = refl
 empty-outside false may zero = refl
 empty-outside false may (suc zero) = refl
 empty-outside false may (suc (suc zero)) = refl
 empty-outside false may (suc (suc (suc m))) = rw (lt-ltb 2 (suc (suc (suc m))) (omega arith), lt-ltb 0 (suc (suc (suc m))) (omega arith), or-true)
 
-receiver-outside : (x : Bool) (m : ℕ) → (x || ltb 2 m || (false && filled m) || eqb m 2) ≡ (x || ltb m 0 || ltb 1 m)
+receiver-outside : (x : Bool) (m : ℕ) → (x || ltb 2 m || (false && isFilled m) || eqb m 2) ≡ (x || ltb m 0 || ltb 1 m)
 receiver-outside true m = refl
 receiver-outside false zero = refl
 receiver-outside false (suc zero) = refl
 receiver-outside false (suc (suc zero)) = refl
 receiver-outside false (suc (suc (suc m))) = rw (lt-ltb 2 (suc (suc (suc m))) (omega arith), lt-ltb 1 (suc (suc (suc m))) (omega arith), or-true)
 
-base-outside : (x : Bool) (m : ℕ) → (x || ltb 2 m || (true && filled m) || eqb m 2) ≡ (filled m || (x || ltb m 0 || ltb 1 m))
-base-outside true m = sym (or-true (filled m))
+base-outside : (x : Bool) (m : ℕ) → (x || ltb 2 m || (true && isFilled m) || eqb m 2) ≡ (isFilled m || (x || ltb m 0 || ltb 1 m))
+base-outside true m = sym (or-true (isFilled m))
 base-outside false zero = refl
 base-outside false (suc zero) = refl
 base-outside false (suc (suc zero)) = refl
@@ -106,13 +106,13 @@ unfolding slotsOutside slotOutside partBroken senderSlotBroken
 part-broken may store from n count =
     let e : min count n + (n - min count n) ≡ n = omega arith in
     sym (ap (λ (k : ℕ). partBroken may store from k count) (sym e)
-    ∙ any-split (min count n) (n - min count n) (λ i. senderSlotBroken (ltb i count) may (lengthOf (slotAt store (from + i))) (markOf (slotAt store (from + i))))
+    ∙ any-split (min count n) (n - min count n) (λ i. senderSlotBroken (ltb i count) may (slotLength (slotAt store (from + i))) (slotMark (slotAt store (from + i))))
     ∙ rw (
-      any-same (min count n) (λ i. senderSlotBroken (ltb i count) may (lengthOf (slotAt store (from + i))) (markOf (slotAt store (from + i)))) (λ i. slotOutside 1 (cond may 2 1) (slotAt store (from + i)))
-          (λ i h. rw (lt-ltb i count (omega arith)) (held-outside (ltb 1400 (lengthOf (slotAt store (from + i)))) may (markOf (slotAt store (from + i))))),
-      any-same (n - min count n) (λ i. senderSlotBroken (ltb (min count n + i) count) may (lengthOf (slotAt store (from + (min count n + i)))) (markOf (slotAt store (from + (min count n + i))))) (λ i. slotOutside 0 0 (slotAt store (from + min count n + i)))
+      any-same (min count n) (λ i. senderSlotBroken (ltb i count) may (slotLength (slotAt store (from + i))) (slotMark (slotAt store (from + i)))) (λ i. slotOutside 1 (cond may 2 1) (slotAt store (from + i)))
+          (λ i h. rw (lt-ltb i count (omega arith)) (held-outside (ltb 1400 (slotLength (slotAt store (from + i)))) may (slotMark (slotAt store (from + i))))),
+      any-same (n - min count n) (λ i. senderSlotBroken (ltb (min count n + i) count) may (slotLength (slotAt store (from + (min count n + i)))) (slotMark (slotAt store (from + (min count n + i))))) (λ i. slotOutside 0 0 (slotAt store (from + min count n + i)))
           (λ i h. let f : from + (min count n + i) ≡ from + min count n + i = omega arith in
-          rw (le-ltb (min count n + i) count (omega arith), f) (empty-outside (ltb 1400 (lengthOf (slotAt store (from + min count n + i)))) may (markOf (slotAt store (from + min count n + i))))),
+          rw (le-ltb (min count n + i) count (omega arith), f) (empty-outside (ltb 1400 (slotLength (slotAt store (from + min count n + i)))) may (slotMark (slotAt store (from + min count n + i))))),
     ))
 
 -- all of a sender's slots
@@ -131,45 +131,45 @@ two-first false false c = refl
 -- base's own mark must not be 2
 base-two : (outstanding selective : Bool) (length mark : ℕ) → senderSlotBroken outstanding (selective && false) length mark ≡ (eqb mark 2 || senderSlotBroken outstanding selective length mark)
 unfolding senderSlotBroken
-base-two outstanding true length mark = two-first (outOfBounds length mark || cond outstanding (not (filled mark)) (filled mark)) (eqb mark 2) false
-base-two outstanding false length mark = two-first (outOfBounds length mark || cond outstanding (not (filled mark)) (filled mark)) (eqb mark 2) true
+base-two outstanding true length mark = two-first (outOfBounds length mark || cond outstanding (not (isFilled mark)) (isFilled mark)) (eqb mark 2) false
+base-two outstanding false length mark = two-first (outOfBounds length mark || cond outstanding (not (isFilled mark)) (isFilled mark)) (eqb mark 2) true
 
 and-true : (a : Bool) → (a && true) ≡ a
 and-true true = refl
 and-true false = refl
 
 pub sender-scan : (selective : Bool) (store : List ℕ) (w base count : ℕ) → 0 < w
-    → (eqb (markOf (slotAt store (base % w))) 2 || partBroken selective store (base % w) (w - base % w) count || partBroken selective store 0 (base % w) (count - min count (w - base % w)))
+    → (eqb (slotMark (slotAt store (base % w))) 2 || partBroken selective store (base % w) (w - base % w) count || partBroken selective store 0 (base % w) (count - min count (w - base % w)))
     ≡ senderSlotsBroken selective store w base count
 unfolding senderSlotsBroken partBroken
 sender-scan selective store w base count positive =
-    let test : ℕ → List ℕ → Bool = λ k slot. senderSlotBroken (ltb k count) selective (lengthOf slot) (markOf slot) in
+    let test : ℕ → List ℕ → Bool = λ k slot. senderSlotBroken (ltb k count) selective (slotLength slot) (slotMark slot) in
     let behind = count - min count (w - base % w) in
     let here : base + 0 ≡ base = omega arith in
-    sym (any-base w (senderTest selective store w base count) (λ k. test k (slotOf store w base k)) (eqb (markOf (slotOf store w base 0)) 2) positive
-    (base-two (ltb 0 count) selective (lengthOf (slotOf store w base 0)) (markOf (slotOf store w base 0)))
+    sym (any-base w (senderTest selective store w base count) (λ k. test k (slotOf store w base k)) (eqb (slotMark (slotOf store w base 0)) 2) positive
+    (base-two (ltb 0 count) selective (slotLength (slotOf store w base 0)) (slotMark (slotOf store w base 0)))
     (λ i h. rw (lt-ltb 0 i h, and-true selective))
-    ∙ ap (λ (b : Bool). eqb (markOf (slotOf store w base 0)) 2 || b) (ring-split store w base positive test
+    ∙ ap (λ (b : Bool). eqb (slotMark (slotOf store w base 0)) 2 || b) (ring-split store w base positive test
     ∙ ap (λ (b : Bool). anyBelow (w - base % w) (λ i. test i (slotAt store (base % w + i))) || b)
-    (any-same (base % w) (λ i. test (w - base % w + i) (slotAt store i)) (λ i. senderSlotBroken (ltb i behind) selective (lengthOf (slotAt store (0 + i))) (markOf (slotAt store (0 + i))))
+    (any-same (base % w) (λ i. test (w - base % w + i) (slotAt store i)) (λ i. senderSlotBroken (ltb i behind) selective (slotLength (slotAt store (0 + i))) (slotMark (slotAt store (0 + i))))
     (λ i h. let e : 0 + i ≡ i = omega arith in rw (shifted (w - base % w) i count, e))))
-    ∙ or-assoc (eqb (markOf (slotOf store w base 0)) 2) (partBroken selective store (base % w) (w - base % w) count) (partBroken selective store 0 (base % w) behind)
-    ∙ ap (λ (n : ℕ). eqb (markOf (slotAt store (n % w))) 2 || partBroken selective store (base % w) (w - base % w) count || partBroken selective store 0 (base % w) behind) here)
+    ∙ or-assoc (eqb (slotMark (slotOf store w base 0)) 2) (partBroken selective store (base % w) (w - base % w) count) (partBroken selective store 0 (base % w) behind)
+    ∙ ap (λ (n : ℕ). eqb (slotMark (slotAt store (n % w))) 2 || partBroken selective store (base % w) (w - base % w) count || partBroken selective store 0 (base % w) behind) here)
 
 pub receiver-scan : (store : List ℕ) (w base : ℕ) → 0 < w
-    → (filled (markOf (slotAt store (base % w))) || slotsOutside 0 1 store (base % w) (w - base % w) || slotsOutside 0 1 store 0 (base % w)) ≡ receiverSlotsBroken store w base
+    → (isFilled (slotMark (slotAt store (base % w))) || slotsOutside 0 1 store (base % w) (w - base % w) || slotsOutside 0 1 store 0 (base % w)) ≡ receiverSlotsBroken store w base
 unfolding receiverSlotsBroken receiverSlotBroken slotsOutside slotOutside
 receiver-scan store w base positive =
     let test : ℕ → List ℕ → Bool = λ k slot. slotOutside 0 1 slot in
     let here : base + 0 ≡ base = omega arith in
-    sym (any-base w (receiverTest store w base) (λ k. test k (slotOf store w base k)) (filled (markOf (slotOf store w base 0))) positive
-    (base-outside (ltb 1400 (lengthOf (slotOf store w base 0))) (markOf (slotOf store w base 0)))
-    (λ i h. rw (ne-eqb i 0 (λ e. omega arith)) (receiver-outside (ltb 1400 (lengthOf (slotOf store w base i))) (markOf (slotOf store w base i))))
-    ∙ ap (λ (b : Bool). filled (markOf (slotOf store w base 0)) || b) (ring-split store w base positive test
+    sym (any-base w (receiverTest store w base) (λ k. test k (slotOf store w base k)) (isFilled (slotMark (slotOf store w base 0))) positive
+    (base-outside (ltb 1400 (slotLength (slotOf store w base 0))) (slotMark (slotOf store w base 0)))
+    (λ i h. rw (ne-eqb i 0 (λ e. omega arith)) (receiver-outside (ltb 1400 (slotLength (slotOf store w base i))) (slotMark (slotOf store w base i))))
+    ∙ ap (λ (b : Bool). isFilled (slotMark (slotOf store w base 0)) || b) (ring-split store w base positive test
     ∙ ap (λ (b : Bool). anyBelow (w - base % w) (λ i. test i (slotAt store (base % w + i))) || b)
     (any-same (base % w) (λ i. slotOutside 0 1 (slotAt store i)) (λ i. slotOutside 0 1 (slotAt store (0 + i))) (λ i h. let e : 0 + i ≡ i = omega arith in rw e)))
-    ∙ or-assoc (filled (markOf (slotOf store w base 0))) (slotsOutside 0 1 store (base % w) (w - base % w)) (slotsOutside 0 1 store 0 (base % w))
-    ∙ ap (λ (n : ℕ). filled (markOf (slotAt store (n % w))) || slotsOutside 0 1 store (base % w) (w - base % w) || slotsOutside 0 1 store 0 (base % w)) here)
+    ∙ or-assoc (isFilled (slotMark (slotOf store w base 0))) (slotsOutside 0 1 store (base % w) (w - base % w)) (slotsOutside 0 1 store 0 (base % w))
+    ∙ ap (λ (n : ℕ). isFilled (slotMark (slotAt store (n % w))) || slotsOutside 0 1 store (base % w) (w - base % w) || slotsOutside 0 1 store 0 (base % w)) here)
 
 -- the slots one by one
 pub outside-none : (low high : ℕ) (store : List ℕ) (from : ℕ) → false ≡ slotsOutside low high store from (from - from)

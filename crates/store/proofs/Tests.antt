@@ -8,7 +8,7 @@ use native.Mathlib.Nat.{mod-lt, mod-add-mod}
 use lib.ListN.{length}
 use borrow.Author.Tests.{eqb-true, eqb-false, ltb-false}
 use lib.Dec.{eqb}
-use Rattle.store.specs.Slot.{SlotIn, lengthOf}
+use Rattle.store.specs.Slot.{SlotIn, slotLength}
 use Rattle.store.specs.Sound.{anyBelow, slotOf, receiverSlotBroken, receiverTest, receiverSlotsBroken}
 
 -- a test that is true of some number below n, or of none
@@ -28,10 +28,10 @@ none-found n k test h e = by-test (test k) refl where
   by-test true q = q ∙ sym (some-found n k test h q) ∙ e
 
 -- a receiver's slot that isn't broken
-pub receiver-slot-short : (store : List ℕ) (window base k : ℕ) → k < window → receiverSlotsBroken store window base ≡ false → lengthOf (slotOf store window base k) ≤ 1400
+pub receiver-slot-short : (store : List ℕ) (window base k : ℕ) → k < window → receiverSlotsBroken store window base ≡ false → slotLength (slotOf store window base k) ≤ 1400
 unfolding receiverSlotsBroken receiverSlotBroken
 receiver-slot-short store window base k h e =
-    ltb-false 1400 (lengthOf (slotOf store window base k))
+    ltb-false 1400 (slotLength (slotOf store window base k))
     (first-false _ _ (first-false _ _ (first-false _ _ (none-found window k (receiverTest store window base) h e)))) where
       first-false : (a b : Bool) → (a || b) ≡ false → a ≡ false
       first-false false b q = refl

@@ -4,11 +4,11 @@ use mathlib.Core.List.{List, [], _++_}
 use mathlib.Core.Bool.{Bool, cond}
 use lib.ListN.{length, take, drop}
 use lib.Dec.{eqb}
-use Rattle.store.specs.Slot.{slotAt, lengthOf, markOf, payloadOf}
+use Rattle.store.specs.Slot.{slotAt, slotLength, slotMark, slotPayload}
 
 -- number n's slot has this mark
 abbrev pub marked : ℕ → List ℕ → ℕ → ℕ → Bool
-marked mark store w n = eqb (markOf (slotAt store (n % w))) mark
+marked mark store w n = eqb (slotMark (slotAt store (n % w))) mark
 
 -- how many of k numbers from n on have this mark, up to the first that has another
 unfoldable pub markedRun : ℕ → List ℕ → ℕ → ℕ → ℕ → ℕ
@@ -23,7 +23,7 @@ markedCount mark store w n (suc k) = cond (marked mark store w n) 1 0 + markedCo
 -- the payloads of k numbers from n on, joined
 unfoldable pub payloadsFrom : List ℕ → ℕ → ℕ → ℕ → List ℕ
 payloadsFrom store w n zero = []
-payloadsFrom store w n (suc k) = payloadOf (slotAt store (n % w)) ++ payloadsFrom store w (n + 1) k
+payloadsFrom store w n (suc k) = slotPayload (slotAt store (n % w)) ++ payloadsFrom store w (n + 1) k
 
 -- a buffer with bytes written over it from a place on
 abbrev pub writtenAt : List ℕ → ℕ → List ℕ → List ℕ
@@ -33,4 +33,4 @@ writtenAt buffer place bytes = take place buffer ++ bytes ++ drop (place + lengt
 pub record PayloadsIn (store : List ℕ) (w n k : ℕ) : Type 0 where
   pub positive : 0 < w
   pub room : w * 1404 ≤ length store
-  pub short : (i : ℕ) → i < k → lengthOf (slotAt store ((n + i) % w)) ≤ 1400
+  pub short : (i : ℕ) → i < k → slotLength (slotAt store ((n + i) % w)) ≤ 1400

@@ -3,12 +3,12 @@ use Prim.Native.Nat.{ℕ, _+_}
 use mathlib.Core.List.{List}
 use mathlib.Core.Bool.{Bool, _||_}
 use lib.Dec.{ltb}
-use Rattle.store.specs.Slot.{slotAt, lengthOf, markOf}
+use Rattle.store.specs.Slot.{slotAt, slotLength, slotMark}
 use Rattle.store.specs.Sound.{anyBelow, senderSlotBroken}
 
 -- a slot's length is out of bounds, or its mark isn't from low to high
 unfoldable pub slotOutside : ℕ → ℕ → List ℕ → Bool
-slotOutside low high slot = ltb 1400 (lengthOf slot) || ltb (markOf slot) low || ltb high (markOf slot)
+slotOutside low high slot = ltb 1400 (slotLength slot) || ltb (slotMark slot) low || ltb high (slotMark slot)
 
 -- so of one of n slots
 unfoldable pub slotsOutside : ℕ → ℕ → List ℕ → ℕ → ℕ → Bool
@@ -17,4 +17,4 @@ slotsOutside low high store from n = anyBelow n (λ i. slotOutside low high (slo
 -- one of n slots, the first count of them outstanding, is broken; whether an outstanding one may be acknowledged is the same for all
 unfoldable pub partBroken : Bool → List ℕ → ℕ → ℕ → ℕ → Bool
 partBroken may store from n count =
-    anyBelow n (λ i. senderSlotBroken (ltb i count) may (lengthOf (slotAt store (from + i))) (markOf (slotAt store (from + i))))
+    anyBelow n (λ i. senderSlotBroken (ltb i count) may (slotLength (slotAt store (from + i))) (slotMark (slotAt store (from + i))))

@@ -12,17 +12,17 @@ unfoldable pub slotAt : List ℕ → ℕ → List ℕ
 slotAt store j = take 1404 (drop (j * 1404) store)
 
 -- the fields of a slot
-abbrev pub lengthOf : List ℕ → ℕ
-lengthOf slot = getD slot 0 0 * 256 + getD slot 1 0
+abbrev pub slotLength : List ℕ → ℕ
+slotLength slot = getD slot 0 0 * 256 + getD slot 1 0
 
-abbrev pub markOf : List ℕ → ℕ
-markOf slot = getD slot 2 0
+abbrev pub slotMark : List ℕ → ℕ
+slotMark slot = getD slot 2 0
 
-abbrev pub flagsOf : List ℕ → ℕ
-flagsOf slot = getD slot 3 0
+abbrev pub slotFlags : List ℕ → ℕ
+slotFlags slot = getD slot 3 0
 
-unfoldable pub payloadOf : List ℕ → List ℕ
-payloadOf slot = take (lengthOf slot) (drop 4 slot)
+unfoldable pub slotPayload : List ℕ → List ℕ
+slotPayload slot = take (slotLength slot) (drop 4 slot)
 
 abbrev pub headBytes : ℕ → ℕ → ℕ → List ℕ
 headBytes n mark flags = (n / 256) ∷ (n % 256) ∷ mark ∷ flags ∷ []

@@ -4,15 +4,15 @@ use Prim.Native.Nat.{ℕ, zero, suc, _+_, _%_}
 use mathlib.Core.List.{List}
 use mathlib.Core.Bool.{Bool, false, cond, not, _||_, _&&_}
 use lib.Dec.{ltb, eqb}
-use Rattle.store.specs.Slot.{slotAt, lengthOf, markOf}
+use Rattle.store.specs.Slot.{slotAt, slotLength, slotMark}
 
 -- the test is true of some number below n
 unfoldable pub anyBelow : ℕ → (ℕ → Bool) → Bool
 anyBelow zero test = false
 anyBelow (suc n) test = test n || anyBelow n test
 
-abbrev pub filled : ℕ → Bool
-filled mark = not (eqb mark 0)
+abbrev pub isFilled : ℕ → Bool
+isFilled mark = not (eqb mark 0)
 
 abbrev pub outOfBounds : ℕ → ℕ → Bool
 outOfBounds length mark = ltb 1400 length || ltb 2 mark
@@ -20,11 +20,11 @@ outOfBounds length mark = ltb 1400 length || ltb 2 mark
 -- a sender's slot, by whether its number is outstanding and may be acknowledged
 unfoldable pub senderSlotBroken : Bool → Bool → ℕ → ℕ → Bool
 senderSlotBroken outstanding may length mark =
-    outOfBounds length mark || cond outstanding (not (filled mark)) (filled mark) || (eqb mark 2 && not may)
+    outOfBounds length mark || cond outstanding (not (isFilled mark)) (isFilled mark) || (eqb mark 2 && not may)
 
 -- a receiver's slot, by whether it is base's
 unfoldable pub receiverSlotBroken : Bool → ℕ → ℕ → Bool
-receiverSlotBroken isBase length mark = outOfBounds length mark || (isBase && filled mark) || eqb mark 2
+receiverSlotBroken isBase length mark = outOfBounds length mark || (isBase && isFilled mark) || eqb mark 2
 
 -- the slot of the number base + k
 abbrev pub slotOf : List ℕ → ℕ → ℕ → ℕ → List ℕ
@@ -33,10 +33,10 @@ slotOf store window base k = slotAt store ((base + k) % window)
 -- whether that slot is broken, with count numbers from base on outstanding
 abbrev pub senderTest : Bool → List ℕ → ℕ → ℕ → ℕ → ℕ → Bool
 senderTest selective store window base count k =
-    senderSlotBroken (ltb k count) (selective && ltb 0 k) (lengthOf (slotOf store window base k)) (markOf (slotOf store window base k))
+    senderSlotBroken (ltb k count) (selective && ltb 0 k) (slotLength (slotOf store window base k)) (slotMark (slotOf store window base k))
 
 abbrev pub receiverTest : List ℕ → ℕ → ℕ → ℕ → Bool
-receiverTest store window base k = receiverSlotBroken (eqb k 0) (lengthOf (slotOf store window base k)) (markOf (slotOf store window base k))
+receiverTest store window base k = receiverSlotBroken (eqb k 0) (slotLength (slotOf store window base k)) (slotMark (slotOf store window base k))
 
 unfoldable pub senderSlotsBroken : Bool → List ℕ → ℕ → ℕ → ℕ → Bool
 senderSlotsBroken selective store window base count = anyBelow window (senderTest selective store window base count)

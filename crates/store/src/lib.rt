@@ -7,14 +7,14 @@ ghost use mathlib.Core.List.{_++_};
 ghost use Rattle.store.specs.Sound.{senderSlotsBroken, receiverSlotsBroken};
 ghost use Rattle.store.specs.Scans.{slotOutside, slotsOutside, partBroken};
 ghost use Rattle.store.specs.Numbers.{markedRun, markedCount, payloadsFrom, writtenAt, PayloadsIn};
-ghost use Rattle.store.specs.Slot.{SlotIn, headBytes, slotBytes, slotAt, lengthOf, markOf, flagsOf, payloadOf, fillSlot, emptySlot, setMark, setFlags};
+ghost use Rattle.store.specs.Slot.{SlotIn, headBytes, slotBytes, slotAt, slotLength, slotMark, slotFlags, slotPayload, fillSlot, emptySlot, setMark, setFlags};
 
 // Length (2 bytes, big-endian), mark, flags, payload.
 pub const SLOT_SIZE: usize = 1404;
 
 pub fn length_unchecked(store: &[u8], slot: usize) -> u16
     requires { ⌜ SlotIn (now store) slot ⌝ }
-    ensures { λ r. ⌜ r ≡ lengthOf (slotAt (now (store .entry)) slot) ⌝ }
+    ensures { λ r. ⌜ r ≡ slotLength (slotAt (now (store .entry)) slot) ⌝ }
 {
     let at = slot * SLOT_SIZE;
     octets::be16(store[at], store[at + 1])
@@ -22,21 +22,21 @@ pub fn length_unchecked(store: &[u8], slot: usize) -> u16
 
 pub fn mark_unchecked(store: &[u8], slot: usize) -> u8
     requires { ⌜ SlotIn (now store) slot ⌝ }
-    ensures { λ r. ⌜ r ≡ markOf (slotAt (now (store .entry)) slot) ⌝ }
+    ensures { λ r. ⌜ r ≡ slotMark (slotAt (now (store .entry)) slot) ⌝ }
 {
     store[slot * SLOT_SIZE + 2]
 }
 
 pub fn flags_unchecked(store: &[u8], slot: usize) -> u8
     requires { ⌜ SlotIn (now store) slot ⌝ }
-    ensures { λ r. ⌜ r ≡ flagsOf (slotAt (now (store .entry)) slot) ⌝ }
+    ensures { λ r. ⌜ r ≡ slotFlags (slotAt (now (store .entry)) slot) ⌝ }
 {
     store[slot * SLOT_SIZE + 3]
 }
 
 pub fn payload_unchecked(store: &[u8], slot: usize) -> &[u8]
-    requires { ⌜ SlotIn (now store) slot × (lengthOf (slotAt (now store) slot) ≤ 1400) ⌝ }
-    ensures { λ r. ⌜ now r ≡ payloadOf (slotAt (now (store .entry)) slot) ⌝ }
+    requires { ⌜ SlotIn (now store) slot × (slotLength (slotAt (now store) slot) ≤ 1400) ⌝ }
+    ensures { λ r. ⌜ now r ≡ slotPayload (slotAt (now (store .entry)) slot) ⌝ }
 {
     let start = slot * SLOT_SIZE + 4;
     let end = start + length_unchecked(store, slot) as usize;

@@ -9,7 +9,7 @@ use Rattle.refusal.specs.Clauses.{anyOf}
 use Rattle.refusal.specs.Order.{order, orElse, numbered, firstOf, verdict, decide}
 use Rattle.refusal.specs.declared.Refusal.the-variants.{Full}
 use Rattle.packet.specs.Format.{headerBytes, datagram}
-use Rattle.store.specs.Slot.{slotAt, slotBytes, putSlot, payloadOf}
+use Rattle.store.specs.Slot.{slotAt, slotBytes, putSlot, slotPayload}
 use Rattle.store.specs.Sound.{anyBelow, senderSlotBroken, senderSlotsBroken}
 use Rattle.window.specs.State.{windowBroken, storeShort, numbersBroken, stateBroken, countsBroken}
 use Rattle.window.specs.Slots.{fresh, hold, markRetransmitted, datagramFor}
@@ -19,15 +19,15 @@ use Rattle.window.specs.declared.AckAnswer.the-variants as ackAnswer
 use Rattle.window.specs.declared.SendAnswer.the-variants as sendAnswer
 use Rattle.window.specs.declared.TimeoutAnswer.the-variants as timeoutAnswer
 use Rattle.receiver.specs.State as receiver
-use Rattle.receiver.specs.Receive.{receiving}
-use Rattle.receiver.specs.declared.Handed.{Handed}
-use Rattle.receiver.specs.declared.Handed.the-variants.{Data, Fin, Corrupted}
+use Rattle.receiver.specs.Receive.{receiveExit}
+use Rattle.receiver.specs.declared.PacketReading.{PacketReading}
+use Rattle.receiver.specs.declared.PacketReading.the-variants.{Data, Fin, Corrupted}
 use Rattle.receiver.specs.declared.ReceiveAnswer.the-variants as receiveAnswer
 use Rattle.stop_and_wait.specs.Receiver as stopAndWait
 use Rattle.go_back_n.specs.Receiver as goBackN
 use Rattle.selective_repeat.specs.Receiver as selectiveRepeat
 use Rattle.delivery.specs.Calls.{datagrams}
-use Rattle.delivery.specs.Ends.{Which, all}
+use Rattle.delivery.specs.Ends.{GoBackNTimeout, all}
 use Rattle.tallies.specs.Readings.{count, expected, noted}
 use Rattle.tallies.specs.Receivers as receivers
 use Rattle.tallies.specs.Receivers.{readingsWith, stopAndWaitAfter, goBackNAfter, selectiveRepeatAfter}
@@ -71,7 +71,7 @@ unfolding retries datagrams
 since-the-send = refl
 
 -- a refused call leaves no reading
-pub refused-none : (raw : List ℕ) (hs : List Handed) → readingsWith (receiving (receiveAnswer.Refused Full) stopAndWait.newReceiver [] []) raw hs ≡ hs
+pub refused-none : (raw : List ℕ) (hs : List PacketReading) → readingsWith (receiveExit (receiveAnswer.Refused Full) stopAndWait.newReceiver [] []) raw hs ≡ hs
 refused-none raw hs = refl
 
 -- Stop-and-Wait: 0 in order, 0 again, 5 too new, one corrupted, 1 in order, a Fin
@@ -94,11 +94,11 @@ abbrev store : List ℕ
 store = replicate 1404 7
 
 -- Go-Back-N: a chunk, and all outstanding sent again
-abbrev sendings : List (senders.Call Which)
+abbrev sendings : List (senders.Call GoBackNTimeout)
 sendings = timeout all (replicate 11 0) ∷ send (65 ∷ []) (replicate 11 0) ∷ []
 
 two-written : total sentBy (senders.answers goBackNSender (fresh 1 store) sendings) ≡ 2
-unfolding total senders.answers senders.afterCalls datagrams anyOf order orElse numbered firstOf verdict decide headerBytes datagram slotAt slotBytes putSlot payloadOf anyBelow senderSlotBroken senderSlotsBroken windowBroken storeShort numbersBroken stateBroken countsBroken fresh hold markRetransmitted datagramFor sendChecks sendChunk datagramsFrom markFrom resend
+unfolding total senders.answers senders.afterCalls datagrams anyOf order orElse numbered firstOf verdict decide headerBytes datagram slotAt slotBytes putSlot slotPayload anyBelow senderSlotBroken senderSlotsBroken windowBroken storeShort numbersBroken stateBroken countsBroken fresh hold markRetransmitted datagramFor sendChecks sendChunk datagramsFrom markFrom resend
 two-written = refl
 
 pub sendings-no-8 : countsBroken (senders.afterCalls goBackNSender (fresh 1 store) sendings .window) ≡ false

@@ -10,8 +10,8 @@ use lib.Dec.{ltb, eqb}
 use Rattle.packet.specs.Reading.{payloadOf}
 use Rattle.receiver.specs.Handed.{readPacket}
 use Rattle.receiver.specs.State.{marksBroken, countsBroken}
-use Rattle.receiver.specs.declared.Handed.{Handed}
-use Rattle.receiver.specs.declared.Handed.the-variants as handed
+use Rattle.receiver.specs.declared.PacketReading.{PacketReading}
+use Rattle.receiver.specs.declared.PacketReading.the-variants as handed
 use Rattle.receiver.specs.declared.Reply.{Reply}
 use Rattle.stop_and_wait.specs.Receiver as stopAndWait
 use Rattle.stop_and_wait.specs.declared.StopAndWaitReceiver.{StopAndWaitReceiver}
@@ -38,7 +38,7 @@ stop-and-wait-data e f l d k mark x y z true older h = rw (h refl, plus-one l)
 stop-and-wait-data e f l d k mark x y z false true h = rw (plus-one l, plus-one d)
 stop-and-wait-data e f l d k mark x y z false false h = rw (plus-one l)
 
-stop-and-wait-one : (hs : List Handed) (filled mark : ℕ) (h : Handed) → stopAndWait.withMark (stopAndWait.decision (stopAndWaitAfter hs filled) h .receiver) mark ≡ stopAndWaitAfter (h ∷ hs) mark
+stop-and-wait-one : (hs : List PacketReading) (filled mark : ℕ) (h : PacketReading) → stopAndWait.withMark (stopAndWait.decision (stopAndWaitAfter hs filled) h .receiver) mark ≡ stopAndWaitAfter (h ∷ hs) mark
 unfolding expected count stopAndWait.decision stopAndWait.dataDecision
 stop-and-wait-one hs filled mark (handed.Data n) =
     stop-and-wait-data (expected hs) filled (length hs) (count isOlder hs) (count (λ earlier. isCorrupted) hs) mark _ _ _ (eqb n (expected hs)) (ltb n (expected hs)) (not-older n (expected hs))
@@ -68,7 +68,7 @@ go-back-n-data e f l d k mark x y z true first = rw (plus-one l)
 go-back-n-data e f l d k mark x y z false true = rw (plus-one l, plus-one d)
 go-back-n-data e f l d k mark x y z false false = rw (plus-one l, plus-one d, plus-one k)
 
-go-back-n-one : (hs : List Handed) (filled mark : ℕ) (h : Handed) → goBackN.withMark (goBackN.decision (goBackNAfter hs filled) h .receiver) mark ≡ goBackNAfter (h ∷ hs) mark
+go-back-n-one : (hs : List PacketReading) (filled mark : ℕ) (h : PacketReading) → goBackN.withMark (goBackN.decision (goBackNAfter hs filled) h .receiver) mark ≡ goBackNAfter (h ∷ hs) mark
 unfolding expected count goBackN.decision goBackN.dataDecision
 go-back-n-one hs filled mark (handed.Data n) =
     go-back-n-data (expected hs) filled (length hs) (count isOutOfOrder hs) (count isAnsweredAgain hs) mark _ _ _ (eqb n (expected hs)) (eqb (expected hs) 0)

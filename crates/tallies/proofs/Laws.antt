@@ -3,7 +3,7 @@ use Prim.Native.Nat.{ℕ}
 use mathlib.Core.Path.{_≡_, refl}
 use mathlib.Core.List.{List}
 use Rattle.window.specs.Slots.{fresh}
-use Rattle.delivery.specs.Ends.{Which}
+use Rattle.delivery.specs.Ends.{GoBackNTimeout}
 use Rattle.tallies.specs.Senders.{Call, afterCalls, answers, SenderCounted, retries, stopAndWaitSender, goBackNSender, selectiveRepeatSender, newStopAndWait}
 use Rattle.tallies.proofs.Senders.{from-zero, go-back-n-counted, selective-repeat-counted}
 use Rattle.tallies.proofs.StopAndWait.{stop-and-wait-counted, current-retries}
@@ -23,7 +23,7 @@ pub stop-and-wait-retries : (limit : ℕ) (store : List ℕ) (cs : List (Call (U
     → afterCalls stopAndWaitSender (newStopAndWait limit store) cs .sender .«current_retries» ≡ retries (answers stopAndWaitSender (newStopAndWait limit store) cs)
 stop-and-wait-retries limit store cs = current-retries (newStopAndWait limit store) refl cs
 
-pub go-back-n-sender : (w : ℕ) (store : List ℕ) (cs : List (Call Which)) → SenderCounted goBackNSender (answers goBackNSender (fresh w store) cs) (afterCalls goBackNSender (fresh w store) cs)
+pub go-back-n-sender : (w : ℕ) (store : List ℕ) (cs : List (Call GoBackNTimeout)) → SenderCounted goBackNSender (answers goBackNSender (fresh w store) cs) (afterCalls goBackNSender (fresh w store) cs)
 unfolding fresh
 go-back-n-sender w store cs = from-zero goBackNSender go-back-n-counted (fresh w store) refl refl cs
 

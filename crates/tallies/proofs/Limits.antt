@@ -13,7 +13,7 @@ use Rattle.window.specs.State as window
 use Rattle.window.specs.Slots.{fresh}
 use Rattle.receiver.specs.State as receiver
 use Rattle.receiver.specs.Handed.{readPacket}
-use Rattle.receiver.specs.declared.Handed.{Handed}
+use Rattle.receiver.specs.declared.PacketReading.{PacketReading}
 use Rattle.stop_and_wait.specs.Sender.{windowOf}
 use Rattle.stop_and_wait.specs.Receiver as stopAndWait
 use Rattle.stop_and_wait.specs.declared.StopAndWaitReceiver.{StopAndWaitReceiver}
@@ -21,7 +21,7 @@ use Rattle.go_back_n.specs.Receiver as goBackN
 use Rattle.go_back_n.specs.declared.GoBackNReceiver.{GoBackNReceiver}
 use Rattle.selective_repeat.specs.Receiver as selectiveRepeat
 use Rattle.selective_repeat.specs.declared.SelectiveRepeatReceiver.{SelectiveRepeatReceiver}
-use Rattle.delivery.specs.Ends.{Which, isReceived}
+use Rattle.delivery.specs.Ends.{GoBackNTimeout, isReceived}
 use Rattle.tallies.specs.Readings.{count, isCorrupted, isOlder, isOutOfOrder, isAnsweredAgain, isBuffered, isDuplicate}
 use Rattle.tallies.specs.Senders as senders
 use Rattle.tallies.specs.Senders.{Answered, sent, resent, acknowledged, sentBy, resentBy, total, SenderCounted, stopAndWaitSender, goBackNSender, selectiveRepeatSender, newStopAndWait}
@@ -63,7 +63,7 @@ module _ (store : List ℕ) where
       let v = newStopAndWait retries store in
       sender-sound stopAndWaitSender _ _ (from-zero stopAndWaitSender stop-and-wait-counted v refl refl cs) h
 
-  pub go-back-n-sender-no-8 : (w : ℕ) (cs : List (senders.Call Which)) → total sentBy (senders.answers goBackNSender (fresh w store) cs) < countLimit
+  pub go-back-n-sender-no-8 : (w : ℕ) (cs : List (senders.Call GoBackNTimeout)) → total sentBy (senders.answers goBackNSender (fresh w store) cs) < countLimit
       → window.countsBroken (senders.afterCalls goBackNSender (fresh w store) cs .window) ≡ false
   unfolding window.countsBroken fresh
   go-back-n-sender-no-8 w cs h = sender-sound goBackNSender _ _ (from-zero goBackNSender go-back-n-counted (fresh w store) refl refl cs) h
@@ -78,12 +78,12 @@ one-more : (b : Bool) (m n : ℕ) → m ≤ n → cond b (suc m) m ≤ suc n
 one-more true m n h = omega arith
 one-more false m n h = omega arith
 
-count-within : (test : List Handed → Handed → Bool) (hs : List Handed) → count test hs ≤ length hs
+count-within : (test : List PacketReading → PacketReading → Bool) (hs : List PacketReading) → count test hs ≤ length hs
 unfolding count
 count-within test [] = omega arith
 count-within test (h ∷ hs) = one-more (test hs h) (count test hs) (length hs) (count-within test hs)
 
-length-cond : (b : Bool) (h : Handed) (hs : List Handed) → length (cond b (h ∷ hs) hs) ≡ cond b (suc (length hs)) (length hs)
+length-cond : (b : Bool) (h : PacketReading) (hs : List PacketReading) → length (cond b (h ∷ hs) hs) ≡ cond b (suc (length hs)) (length hs)
 length-cond true h hs = refl
 length-cond false h hs = refl
 
@@ -95,7 +95,7 @@ readings-within handle r (c ∷ cs) =
     let hs = readings handle r cs in
     rw (length-cond (isReceived (x .answer)) (readPacket (c .raw)) hs) (one-more (isReceived (x .answer)) (length hs) (length cs) (readings-within handle r cs))
 
-receiver-sound : (hs : List Handed) (f g : List Handed → Handed → Bool) → length hs < countLimit → receiver.countsBroken (length hs) (count f hs) (count g hs) ≡ false
+receiver-sound : (hs : List PacketReading) (f g : List PacketReading → PacketReading → Bool) → length hs < countLimit → receiver.countsBroken (length hs) (count f hs) (count g hs) ≡ false
 unfolding receiver.countsBroken anyOf
 receiver-sound hs f g h =
     let a = count-within f hs in

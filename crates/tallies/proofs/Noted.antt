@@ -12,15 +12,15 @@ use lib.Dec.{eqb}
 use Rattle.protocol.specs.Runs.{lead}
 use Rattle.protocol.specs.PlainMachine.{note}
 use Rattle.protocol.proofs.Marks.{On, lead-below, lead-stop, lead-least, lead-reaches, lead-mono, note-same, note-other, on-note}
-use Rattle.store.specs.Slot.{slotAt, markOf, slotBytes, fillSlot}
+use Rattle.store.specs.Slot.{slotAt, slotMark, slotBytes, fillSlot}
 use Rattle.store.specs.Sound.{slotOf}
 use Rattle.store.specs.Numbers.{marked, markedRun}
 use Rattle.store.proofs.Laws.{slot-byte, filled-mark, run-within}
 use Rattle.window.specs.Slots.{emptyFrom}
-use Rattle.arq.proofs.Writes.{filled-same, filled-other, released-kept, released-empty}
-use Rattle.arq.proofs.Good.{zeros-mark}
-use Rattle.arq.proofs.MarkedRuns.{run-at, run-stops}
-use Rattle.arq.proofs.Held.{slotBroken, base-mark, wrapped}
+use Rattle.refinement.proofs.Writes.{filled-same, filled-other, released-kept, released-empty}
+use Rattle.refinement.proofs.Good.{zeros-mark}
+use Rattle.refinement.proofs.MarkedRuns.{run-at, run-stops}
+use Rattle.refinement.proofs.Held.{slotBroken, base-mark, wrapped}
 
 -- above the lowest number not noted, a slot's number is held exactly when it is noted; none is noted from there on
 pub record Slots (w : ℕ) (marks : List Bool) (store : List ℕ) : Type 0 where
@@ -28,17 +28,17 @@ pub record Slots (w : ℕ) (marks : List Bool) (store : List ℕ) : Type 0 where
   pub none-above : (n : ℕ) → lead marks + w ≤ n → getD marks n false ≡ false
 
 -- a number as base and a distance
-at-distance : (store : List ℕ) (w base n : ℕ) → base ≤ n → eqb (markOf (slotOf store w base (n - base))) 1 ≡ marked 1 store w n
+at-distance : (store : List ℕ) (w base n : ℕ) → base ≤ n → eqb (slotMark (slotOf store w base (n - base))) 1 ≡ marked 1 store w n
 at-distance store w base n h = let e : base + (n - base) ≡ n = omega arith in ap (λ (m : ℕ). marked 1 store w m) e
 
-is-mark : (slot : List ℕ) (m : ℕ) → markOf slot ≡ m → eqb (markOf slot) 1 ≡ eqb m 1
+is-mark : (slot : List ℕ) (m : ℕ) → slotMark slot ≡ m → eqb (slotMark slot) 1 ≡ eqb m 1
 is-mark slot m e = ap (λ (x : ℕ). eqb x 1) e
 
 -- all slots empty
 pub fresh-slots : (w : ℕ) (store : List ℕ) → Slots w [] (replicate (w * 1404) 0 ++ drop (w * 1404) store)
 fresh-slots w store = record { held = λ n l h. is-mark (slotAt (replicate (w * 1404) 0 ++ drop (w * 1404) store) (n % w)) 0 (zero-mark n (omega arith)); none-above = λ n h. refl }
   where
-    zero-mark : (n : ℕ) → 0 < w → markOf (slotAt (replicate (w * 1404) 0 ++ drop (w * 1404) store) (n % w)) ≡ 0
+    zero-mark : (n : ℕ) → 0 < w → slotMark (slotAt (replicate (w * 1404) 0 ++ drop (w * 1404) store) (n % w)) ≡ 0
     zero-mark n p =
         let few = mod-lt n p in
         let size = length-replicate {A = ℕ} (w * 1404) 0 in
@@ -64,7 +64,7 @@ module _ (w : ℕ) (marks : List Bool) (store : List ℕ) (positive : 0 < w) (ro
   run-noted i h =
       let f = few in
       sym (slots .held (b + 1 + i) (omega arith) (omega arith))
-      ∙ eq-eqb (markOf (slotOf store w (b + 1) i)) 1 (run-at 1 store w (b + 1) (w - 1) i h)
+      ∙ eq-eqb (slotMark (slotOf store w (b + 1) i)) 1 (run-at 1 store w (b + 1) (w - 1) i h)
 
   next-not-noted : getD marks (b + 1 + k) false ≡ false
   next-not-noted = elim (decLt k (w - 1)) [
@@ -89,21 +89,21 @@ module _ (w : ℕ) (marks : List Bool) (store : List ℕ) (positive : 0 < w) (ro
       ]
 
   -- a slot of the window after it: one after base, base's, or one that was emptied
-  later-slot : (i : ℕ) → i < w → eqb (markOf (slotOf (emptyFrom store w (b + 1) k) w (b + 1 + k) i)) 1
+  later-slot : (i : ℕ) → i < w → eqb (slotMark (slotOf (emptyFrom store w (b + 1) k) w (b + 1 + k) i)) 1
       ≡ getD marks (b + 1 + k + i) false
   later-slot i h =
       let f = few in
       elim (decLt (k + i) w) [
-        | yes l ↦ ap (λ (s : List ℕ). eqb (markOf s) 1) (released-kept w positive store (b + 1) k i room l) ∙ kept i l
-        | no l ↦ is-mark (slotOf (emptyFrom store w (b + 1) k) w (b + 1 + k) i) 0 (ap markOf (released-empty w positive store (b + 1) k i room (omega arith) h (omega arith)) ∙ zeros-mark) ∙ sym (slots .none-above (b + 1 + k + i) (omega arith))
+        | yes l ↦ ap (λ (s : List ℕ). eqb (slotMark s) 1) (released-kept w positive store (b + 1) k i room l) ∙ kept i l
+        | no l ↦ is-mark (slotOf (emptyFrom store w (b + 1) k) w (b + 1 + k) i) 0 (ap slotMark (released-empty w positive store (b + 1) k i room (omega arith) h (omega arith)) ∙ zeros-mark) ∙ sym (slots .none-above (b + 1 + k + i) (omega arith))
       ]
     where
-      kept : (i : ℕ) → k + i < w → eqb (markOf (slotOf store w (b + 1) (k + i))) 1 ≡ getD marks (b + 1 + k + i) false
+      kept : (i : ℕ) → k + i < w → eqb (slotMark (slotOf store w (b + 1) (k + i))) 1 ≡ getD marks (b + 1 + k + i) false
       kept i l = elim (decLt (1 + (k + i)) w) [
         | yes m ↦ let e : b + 1 + (k + i) ≡ b + 1 + k + i = omega arith in
             ap (λ (n : ℕ). marked 1 store w n) e ∙ slots .held (b + 1 + k + i) (omega arith) (omega arith)
         | no m ↦ let e : k + i ≡ w - 1 = omega arith in
-            is-mark (slotOf store w (b + 1) (k + i)) 0 (ap markOf (ap (slotOf store w (b + 1)) e ∙ wrapped store w b positive room sound) ∙ base-mark store w b positive room sound)
+            is-mark (slotOf store w (b + 1) (k + i)) 0 (ap slotMark (ap (slotOf store w (b + 1)) e ∙ wrapped store w b positive room sound) ∙ base-mark store w b positive room sound)
             ∙ sym (slots .none-above (b + 1 + k + i) (omega arith))
       ]
 
@@ -130,12 +130,12 @@ module _ (w : ℕ) (marks : List Bool) (store : List ℕ) (positive : 0 < w) (ro
     held-at m l h (yes f) =
         let e : b + (n - b) ≡ n = omega arith in
         let same : slotAt (fillSlot store (n % w) payload 1 0) (n % w) ≡ slotBytes payload 1 0 = rw e at (filled-same store w b (n - b) payload 1 positive room short) in
-        rw f (is-mark (slotAt (fillSlot store (n % w) payload 1 0) (n % w)) 1 (ap markOf same ∙ filled-mark payload 1 0) ∙ sym (note-same marks n))
+        rw f (is-mark (slotAt (fillSlot store (n % w) payload 1 0) (n % w)) 1 (ap slotMark same ∙ filled-mark payload 1 0) ∙ sym (note-same marks n))
     held-at m l h (no f) =
         let e : b + (n - b) ≡ n = omega arith in
         let g : b + (m - b) ≡ m = omega arith in
         let other : slotAt (fillSlot store (n % w) payload 1 0) (m % w) ≡ slotAt store (m % w) = rw (e, g) at (filled-other store w b (n - b) payload 1 positive room short (m - b) (omega arith) (omega arith) (λ q. omega arith)) in
-        ap (λ (s : List ℕ). eqb (markOf s) 1) other ∙ slots .held m l h ∙ sym (note-other marks n m f)
+        ap (λ (s : List ℕ). eqb (slotMark s) 1) other ∙ slots .held m l h ∙ sym (note-other marks n m f)
 
     pub held-slots : Slots w (note marks n) (fillSlot store (n % w) payload 1 0)
     held-slots =

@@ -10,9 +10,9 @@ use Rattle.refusal.specs.Order.{check}
 use Rattle.refusal.proofs.Laws.{decided}
 use Rattle.packet.specs.Reading.{payloadOf}
 use Rattle.receiver.specs.Handed.{packetChecks, readPacket}
-use Rattle.receiver.specs.Reply.{answerOf, roomMissing, carriedOut}
-use Rattle.receiver.specs.Receive.{Receiving, receive}
-use Rattle.receiver.specs.declared.Handed.{Handed}
+use Rattle.receiver.specs.Reply.{answerOf, roomMissing, applied}
+use Rattle.receiver.specs.Receive.{ReceiveExit, receive}
+use Rattle.receiver.specs.declared.PacketReading.{PacketReading}
 use Rattle.receiver.specs.declared.Reply.{Reply}
 use Rattle.receiver.specs.declared.Reply.the-variants as reply
 use Rattle.receiver.specs.declared.Decision.{Decision}
@@ -20,11 +20,11 @@ use Rattle.delivery.specs.Ends.{isReceived}
 use Rattle.tallies.specs.Receivers.{Call, Handling, afterCalls, readingsWith, readings}
 
 -- what is counted stays right with each call
-abbrev pub EachReadingCounted : {R : Type 0} → Handling R → (List Handed → R → Type 0) → Type 0
+abbrev pub EachReadingCounted : {R : Type 0} → Handling R → (List PacketReading → R → Type 0) → Type 0
 EachReadingCounted {R} handle Counted =
-    (hs : List Handed) (r : R) → Counted hs r → (raw output ack : List ℕ) → Counted (readingsWith (handle r raw output ack) raw hs) (handle r raw output ack .receiver)
+    (hs : List PacketReading) (r : R) → Counted hs r → (raw output ack : List ℕ) → Counted (readingsWith (handle r raw output ack) raw hs) (handle r raw output ack .receiver)
 
-pub every-list : {R : Type 0} (handle : Handling R) (Counted : List Handed → R → Type 0) → EachReadingCounted handle Counted → (r : R) → Counted [] r
+pub every-list : {R : Type 0} (handle : Handling R) (Counted : List PacketReading → R → Type 0) → EachReadingCounted handle Counted → (r : R) → Counted [] r
     → (cs : List Call) → Counted (readings handle r cs) (afterCalls handle r cs)
 unfolding afterCalls readings
 every-list handle Counted each r start [] = start
@@ -35,11 +35,11 @@ reply-received : (r : Reply) → isReceived (answerOf r) ≡ true
 reply-received (reply.Ack n) = refl
 reply-received reply.Silent = refl
 
-pub one-call : {R : Type 0} (Counted : List Handed → R → Type 0) (hs : List Handed) (broken counts : Bool) (r : R) (filled : ℕ) (d : Decision) (delivered : List ℕ) (after : ℕ → R) (raw output ack : List ℕ)
+pub one-call : {R : Type 0} (Counted : List PacketReading → R → Type 0) (hs : List PacketReading) (broken counts : Bool) (r : R) (filled : ℕ) (d : Decision) (delivered : List ℕ) (after : ℕ → R) (raw output ack : List ℕ)
     → Counted hs r → (broken ≡ false → length (payloadOf raw) ≤ 1400 → (n : ℕ) → Counted (readPacket raw ∷ hs) (after n))
     → Counted (readingsWith (receive broken counts r filled d delivered after raw output ack) raw hs) (receive broken counts r filled d delivered after raw output ack .receiver)
 unfolding receive
 one-call {R} Counted hs broken counts r filled d delivered after raw output ack same more =
-    decided (λ (x : Receiving R). Counted (readingsWith x raw hs) (x .receiver)) (check broken State ∷ check counts Counts ∷ check (roomMissing d (length delivered) filled output ack) Full ∷ packetChecks raw) _ _
+    decided (λ (x : ReceiveExit R). Counted (readingsWith x raw hs) (x .receiver)) (check broken State ∷ check counts Counts ∷ check (roomMissing d (length delivered) filled output ack) Full ∷ packetChecks raw) _ _
     (λ s. same)
-    (λ none. rw (reply-received (d .reply)) (more (none .0) (ltb-false 1400 (length (payloadOf raw)) (none .1 .1 .1 .1 .0)) (carriedOut d delivered filled output ack .filled)))
+    (λ none. rw (reply-received (d .reply)) (more (none .0) (ltb-false 1400 (length (payloadOf raw)) (none .1 .1 .1 .1 .0)) (applied d delivered filled output ack .filled)))

@@ -11,11 +11,11 @@ use Rattle.packet.specs.Reading.{payloadOf}
 use Rattle.protocol.specs.Runs.{lead}
 use Rattle.protocol.specs.PlainMachine.{note}
 use Rattle.protocol.proofs.Marks.{lead-stop, note-on}
-use Rattle.store.specs.Slot.{slotAt, markOf}
+use Rattle.store.specs.Slot.{slotAt, slotMark}
 use Rattle.store.specs.Sound.{slotOf}
 use Rattle.receiver.specs.Handed.{readPacket}
-use Rattle.receiver.specs.declared.Handed.{Handed}
-use Rattle.receiver.specs.declared.Handed.the-variants as handed
+use Rattle.receiver.specs.declared.PacketReading.{PacketReading}
+use Rattle.receiver.specs.declared.PacketReading.the-variants as handed
 use Rattle.receiver.specs.declared.Reply.{Reply}
 use Rattle.receiver.specs.declared.Reply.the-variants as reply
 use Rattle.selective_repeat.specs.Receiver.{Receiver, receiver, state, stateBroken, receivingBroken, countersBroken, heldRun, decided, decision, deliveredBytes, changedSlots, afterPacket, handlePacket, Ready}
@@ -23,15 +23,15 @@ use Rattle.selective_repeat.specs.declared.SelectiveRepeatReceiver.{SelectiveRe
 use Rattle.selective_repeat.specs.declared.SlotChange.{SlotChange}
 use Rattle.selective_repeat.specs.declared.SlotChange.the-variants as slotChange
 use Rattle.selective_repeat.proofs.States.{ready, receiving-sound}
-use Rattle.arq.proofs.Held.{slotBroken}
-use Rattle.arq.proofs.SelectiveReceiver.{each-slot, DataCase, in-order, held-already, to-be-held, delivered-already, old, high, data-case}
+use Rattle.refinement.proofs.Held.{slotBroken}
+use Rattle.refinement.proofs.SelectiveReceiver.{each-slot, DataCase, in-order, held-already, to-be-held, delivered-already, old, high, data-case}
 use Rattle.tallies.specs.Readings.{count, noted, isNoted, base, isBuffered, isDuplicate}
 use Rattle.tallies.specs.Receivers.{Call, afterCalls, readings, selectiveRepeatAfter, newSelectiveRepeat}
 use Rattle.tallies.proofs.Receivers.{every-list, one-call}
 use Rattle.tallies.proofs.InOrder.{plus-one}
 use Rattle.tallies.proofs.Noted.{Slots, fresh-slots, base-delivered, delivered-slots, base-kept, held-slots}
 
-pub record Kept (w : ℕ) (hs : List Handed) (v : Receiver) : Type 0 where
+pub record Kept (w : ℕ) (hs : List PacketReading) (v : Receiver) : Type 0 where
   pub filled : ℕ
   pub store : List ℕ
   pub is : v ≡ receiver (selectiveRepeatAfter w hs filled) store
@@ -40,7 +40,7 @@ pub record Kept (w : ℕ) (hs : List Handed) (v : Receiver) : Type 0 where
 end-is : (w filled : ℕ) (store : List ℕ) {b b′ r r′ x x′ y y′ : ℕ} → b ≡ b′ → r ≡ r′ → x ≡ x′ → y ≡ y′ → receiver (state w b filled r x y) store ≡ receiver (state w b′ filled r′ x′ y′) store
 end-is w filled store e f g h = rw (e, f, g, h)
 
-counted-as : (test : List Handed → Handed → Bool) (hs : List Handed) (h : Handed) (t : Bool) → test hs h ≡ t → cond t (suc (count test hs)) (count test hs) ≡ count test (h ∷ hs)
+counted-as : (test : List PacketReading → PacketReading → Bool) (hs : List PacketReading) (h : PacketReading) (t : Bool) → test hs h ≡ t → cond t (suc (count test hs)) (count test hs) ≡ count test (h ∷ hs)
 unfolding count
 counted-as test hs h t e = rw e
 
@@ -48,7 +48,7 @@ not-and : (b : Bool) → (not b && false) ≡ false
 not-and true = refl
 not-and false = refl
 
-module _ (w : ℕ) (hs : List Handed) (filled : ℕ) (store payload : List ℕ) (mark : ℕ) (slots : Slots w (noted w hs) store) (ok : Ready (selectiveRepeatAfter w hs filled) store) (short : length payload ≤ 1400) where
+module _ (w : ℕ) (hs : List PacketReading) (filled : ℕ) (store payload : List ℕ) (mark : ℕ) (slots : Slots w (noted w hs) store) (ok : Ready (selectiveRepeatAfter w hs filled) store) (short : length payload ≤ 1400) where
   abbrev before : Receiver
   before = receiver (selectiveRepeatAfter w hs filled) store
 
@@ -62,11 +62,11 @@ module _ (w : ℕ) (hs : List Handed) (filled : ℕ) (store payload : List ℕ) 
   duplicates = count (isDuplicate w) hs
 
   -- the receiver after a reading is counted
-  abbrev After : Handed → Type 0
+  abbrev After : PacketReading → Type 0
   After h = Kept w (h ∷ hs) (afterPacket before payload (decision before h) mark)
 
   -- by what was decided
-  kept-by : (h : Handed) (c x y : ℕ) (deliver : Bool) (r : Reply) (change : SlotChange)
+  kept-by : (h : PacketReading) (c x y : ℕ) (deliver : Bool) (r : Reply) (change : SlotChange)
       → decision before h ≡ decided (state w c filled (length hs + 1) x y) deliver r change
       → c ≡ base w (h ∷ hs) → x ≡ count (isBuffered w) (h ∷ hs) → y ≡ count (isDuplicate w) (h ∷ hs) → Slots w (noted w (h ∷ hs)) (changedSlots before payload change)
       → After h
@@ -79,7 +79,7 @@ module _ (w : ℕ) (hs : List Handed) (filled : ℕ) (store payload : List ℕ) 
       }
 
   -- nothing noted, nothing held
-  unchanged : (h : Handed) (y : Bool) (r : Reply) → noted w (h ∷ hs) ≡ noted w hs
+  unchanged : (h : PacketReading) (y : Bool) (r : Reply) → noted w (h ∷ hs) ≡ noted w hs
       → decision before h ≡ decided (state w b filled (length hs + 1) buffered (cond y (suc duplicates) duplicates)) false r slotChange.Unchanged
       → isBuffered w hs h ≡ false → isDuplicate w hs h ≡ y
       → After h
@@ -113,7 +113,7 @@ module _ (w : ℕ) (hs : List Handed) (filled : ℕ) (store payload : List ℕ) 
       (counted-as (isDuplicate w) hs (handed.Data n) false (rw (low, below, new, older, not-below)))
       (rw all (delivered-slots w (noted w hs) store p (ok .room) sound slots))
   data-kept n (held-already h k m d) =
-      let noted-before : isNoted w hs n ≡ true = sym (slots .held n h k) ∙ eq-eqb (markOf (slotAt store (n % w))) 1 m in
+      let noted-before : isNoted w hs n ≡ true = sym (slots .held n h k) ∙ eq-eqb (slotMark (slotAt store (n % w))) 1 m in
       let low : leb b n ≡ true = le-leb b n (omega arith) in
       let below : ltb n (b + w) ≡ true = lt-ltb n (b + w) k in
       let all : noted w (handed.Data n ∷ hs) ≡ noted w hs = rw (low, below) (note-on (noted w hs) n noted-before) in
@@ -121,7 +121,7 @@ module _ (w : ℕ) (hs : List Handed) (filled : ℕ) (store payload : List ℕ) 
       unchanged (handed.Data n) true (reply.Ack n) all (d ∙ again) (rw (low, below, noted-before) (not-and (eqb n b))) (rw (low, below, noted-before))
   data-kept n (to-be-held h k m d) =
       let p = ok .positive in
-      let new : isNoted w hs n ≡ false = sym (slots .held n h k) ∙ ne-eqb (markOf (slotAt store (n % w))) 1 m in
+      let new : isNoted w hs n ≡ false = sym (slots .held n h k) ∙ ne-eqb (slotMark (slotAt store (n % w))) 1 m in
       let low : leb b n ≡ true = le-leb b n (omega arith) in
       let below : ltb n (b + w) ≡ true = lt-ltb n (b + w) k in
       let other : eqb n b ≡ false = ne-eqb n b (λ e. omega arith) in
@@ -149,7 +149,7 @@ module _ (w : ℕ) (hs : List Handed) (filled : ℕ) (store payload : List ℕ) 
       let not-below : ltb n b ≡ false = le-ltb n b (omega arith) in
       unchanged (handed.Data n) false reply.Silent (rw (low, above)) d (rw (low, above)) (rw (low, above, older, not-below))
 
-  reading-kept : (h : Handed) → After h
+  reading-kept : (h : PacketReading) → After h
   unfolding noted decision
   reading-kept (handed.Data n) = data-kept n (data-case before n (ok .positive))
   reading-kept (handed.Fin n) = unchanged (handed.Fin n) false (reply.Ack n) refl refl refl refl
@@ -158,7 +158,7 @@ module _ (w : ℕ) (hs : List Handed) (filled : ℕ) (store payload : List ℕ) 
   reading-kept (handed.Refused r) = unchanged (handed.Refused r) false reply.Silent refl refl refl refl
 
 -- from any state that the readings say
-kept-after : (w : ℕ) (hs : List Handed) (v : Receiver) (payload : List ℕ) (mark : ℕ) → Kept w hs v → stateBroken (v .state) (v .store) ≡ false → length payload ≤ 1400 → (h : Handed)
+kept-after : (w : ℕ) (hs : List PacketReading) (v : Receiver) (payload : List ℕ) (mark : ℕ) → Kept w hs v → stateBroken (v .state) (v .store) ≡ false → length payload ≤ 1400 → (h : PacketReading)
     → Kept w (h ∷ hs) (afterPacket v payload (decision v h) mark)
 kept-after w hs v payload mark s sound short h =
     let ok : Ready (selectiveRepeatAfter w hs (s .filled)) (s .store) = ready _ _ (rw (s .is) at sound) in
@@ -169,7 +169,7 @@ unfolding noted count
 fresh-kept w store = record { filled = 0; store = newSelectiveRepeat w store .store; is = refl; slots = fresh-slots w store }
 
 -- after any list, the state but for its fill mark
-kept-state : (w : ℕ) (hs : List Handed) (v : Receiver) → Kept w hs v → v .state ≡ selectiveRepeatAfter w hs (v .state .filled)
+kept-state : (w : ℕ) (hs : List PacketReading) (v : Receiver) → Kept w hs v → v .state ≡ selectiveRepeatAfter w hs (v .state .filled)
 kept-state w hs v s =
     let e = ap (λ (u : Receiver). u .state) (s .is) in
     e ∙ ap (selectiveRepeatAfter w hs) (sym (ap (λ (r : SelectiveRepeatReceiver). r .filled) e))

@@ -17,9 +17,9 @@ use Rattle.packet.specs.Format.{made}
 use Rattle.packet.specs.declared.Packet.{Packet}
 use Rattle.packet.proofs.Laws.{made-length}
 use Rattle.window.specs.Slots.{Sender, hold, firstDatagram, markRetransmitted, datagramFor, packetFor, release}
-use Rattle.window.specs.Sending.{Sending, sending, windowFree, sendChecks, sendChunk}
-use Rattle.window.specs.Acknowledgement.{ackDecision, Acknowledging, acknowledging, byDecision}
-use Rattle.window.specs.Resending.{markFrom, sentAgain, Resending, resending, resend}
+use Rattle.window.specs.Sending.{SendExit, sendExit, windowFree, sendChecks, sendChunk}
+use Rattle.window.specs.Acknowledgement.{ackDecision, AckExit, ackExit, byDecision}
+use Rattle.window.specs.Resending.{markFrom, sentAgain, TimeoutExit, timeoutExit, resend}
 use Rattle.window.specs.declared.AckAnswer.{AckAnswer}
 use Rattle.window.specs.declared.AckAnswer.the-variants as ackAnswer
 use Rattle.window.specs.declared.AckDecision.{AckDecision}
@@ -27,7 +27,7 @@ use Rattle.window.specs.declared.AckDecision.the-variants as decision
 use Rattle.window.specs.declared.SendAnswer.the-variants as sendAnswer
 use Rattle.window.specs.declared.TimeoutAnswer.the-variants as timeoutAnswer
 use Rattle.selective_repeat.specs.Sender.{acknowledgeOne}
-use Rattle.arq.proofs.Resending.{datagrams-are}
+use Rattle.refinement.proofs.Resending.{datagrams-are}
 use Rattle.delivery.specs.Calls.{datagrams}
 use Rattle.delivery.specs.Ends.{isResent, all, earliest}
 use Rattle.delivery.proofs.Datagrams.{AllFramed, made-framed, datagrams-flatten}
@@ -95,7 +95,7 @@ all-written v n k rest =
 abbrev pub WindowCounted : Sender → Sender → Answered → Type 0
 WindowCounted v w a = Counted (λ (u : Sender). u .window .«total_sent») (λ (u : Sender). u .window .retransmissions) v w a
 
-abbrev SendCounted : Sender → Sending Sender → Type 0
+abbrev SendCounted : Sender → SendExit Sender → Type 0
 SendCounted v r = WindowCounted v (r .after) (sent (r .answer) (r .out))
 
 pub send-counted : (selective : Bool) (v : Sender) (payload out : List ℕ) → SendCounted v (sendChunk selective v payload out)
@@ -104,7 +104,7 @@ send-counted selective v payload out =
     decided (SendCounted v) (sendChecks selective v payload out) _ _ (λ r. record { sent-count = rw none-written (omega arith); resent-count = omega arith }) (λ none. by-window (windowFree (v .window)))
   where
     by-window : (free : Bool)
-        → SendCounted v (cond free (sending (sendAnswer.Sent (10 + length payload)) (hold v payload) (firstDatagram v payload ++ drop (10 + length payload) out)) (sending sendAnswer.WindowFull v out))
+        → SendCounted v (cond free (sendExit (sendAnswer.Sent (10 + length payload)) (hold v payload) (firstDatagram v payload ++ drop (10 + length payload) out)) (sendExit sendAnswer.WindowFull v out))
     by-window false = record { sent-count = rw none-written (omega arith); resent-count = omega arith }
     by-window true = record { sent-count = rw (one-written _ payload (drop (10 + length payload) out)) (omega arith); resent-count = omega arith }
 
@@ -118,12 +118,12 @@ unfolding markFrom markRetransmitted
 marked-resent v n zero = omega arith
 marked-resent v n (suc k) = let more = marked-resent (markRetransmitted v n) (n + 1) k in omega arith
 
-abbrev ResendCounted : Sender → Resending Sender → Type 0
+abbrev ResendCounted : Sender → TimeoutExit Sender → Type 0
 ResendCounted v r = WindowCounted v (r .after) (resent (r .answer) (r .out))
 
 module _ (broken counts : Bool) (v : Sender) (n k : ℕ) (out : List ℕ) where
-  abbrev some : Resending Sender
-  some = resending (timeoutAnswer.Resent (length (sentAgain v n k))) (markFrom v n k) (sentAgain v n k ++ drop (length (sentAgain v n k)) out)
+  abbrev some : TimeoutExit Sender
+  some = timeoutExit (timeoutAnswer.Resent (length (sentAgain v n k))) (markFrom v n k) (sentAgain v n k ++ drop (length (sentAgain v n k)) out)
 
   pub resend-counted : ResendCounted v (resend broken counts v n k out)
   unfolding resend
@@ -131,14 +131,14 @@ module _ (broken counts : Bool) (v : Sender) (n k : ℕ) (out : List ℕ) where
       decided (ResendCounted v) (check broken State ∷ check counts Counts ∷ check (ltb (length out) (length (sentAgain v n k))) Full ∷ []) _ _
       (λ r. record { sent-count = rw none-written (omega arith); resent-count = rw none-written (omega arith) }) (λ none. by-count (eqb k 0))
     where
-      by-count : (zero : Bool) → ResendCounted v (cond zero (resending timeoutAnswer.Nothing v out) some)
+      by-count : (zero : Bool) → ResendCounted v (cond zero (timeoutExit timeoutAnswer.Nothing v out) some)
       by-count true = record { sent-count = rw none-written (omega arith); resent-count = rw none-written (omega arith) }
       by-count false =
           let all = all-written v n k (drop (length (sentAgain v n k)) out) in
           record { sent-count = rw all (marked-sent v n k); resent-count = rw all (marked-resent v n k) }
 
   -- at most one number: a timeout that is done writes one datagram
-  abbrev OneResent : Resending Sender → Type 0
+  abbrev OneResent : TimeoutExit Sender → Type 0
   OneResent r = resentBy (resent (r .answer) (r .out)) ≡ cond (isResent (r .answer)) 1 0
 
   pub resend-one : k ≤ 1 → OneResent (resend broken counts v n k out)
@@ -146,19 +146,19 @@ module _ (broken counts : Bool) (v : Sender) (n k : ℕ) (out : List ℕ) where
   resend-one few =
       decided OneResent (check broken State ∷ check counts Counts ∷ check (ltb (length out) (length (sentAgain v n k))) Full ∷ []) _ _ (λ r. none-written) (λ none. by-count (eqb k 0) refl)
     where
-      by-count : (zero : Bool) → eqb k 0 ≡ zero → OneResent (cond zero (resending timeoutAnswer.Nothing v out) some)
+      by-count : (zero : Bool) → eqb k 0 ≡ zero → OneResent (cond zero (timeoutExit timeoutAnswer.Nothing v out) some)
       by-count true e = none-written
       by-count false e = let ne = eqb-false k 0 e in all-written v n k (drop (length (sentAgain v n k)) out) ∙ omega arith
 
 -- what holds of the state as it was, and of what an accepted ACK makes of it
-pub by-ack : {S : Type 0} (P : Acknowledging S → Type 0) (d : AckDecision) (v : S) (accept : ℕ → S) → ((a : AckAnswer) → isAccepted a ≡ false → P (acknowledging a v)) → ((n : ℕ) → P (acknowledging ackAnswer.Accepted (accept n)))
+pub by-ack : {S : Type 0} (P : AckExit S → Type 0) (d : AckDecision) (v : S) (accept : ℕ → S) → ((a : AckAnswer) → isAccepted a ≡ false → P (ackExit a v)) → ((n : ℕ) → P (ackExit ackAnswer.Accepted (accept n)))
     → P (byDecision d v accept)
 unfolding byDecision
 by-ack P (decision.Accept n) v accept h k = k n
 by-ack P decision.NotAccepted v accept h k = h ackAnswer.NotAccepted refl
 by-ack P (decision.Refused r) v accept h k = h (ackAnswer.Refused r) refl
 
-abbrev AckCounted : Sender → Acknowledging Sender → Type 0
+abbrev AckCounted : Sender → AckExit Sender → Type 0
 AckCounted v r = WindowCounted v (r .after) (acknowledged (r .answer))
 
 same-counts : (v : Sender) (a : AckAnswer) → WindowCounted v v (acknowledged a)

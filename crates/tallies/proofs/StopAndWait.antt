@@ -7,8 +7,8 @@ use native.Mathlib.Omega.{arith}
 use lib.Dec.{ltb}
 use Rattle.window.specs.Slots.{Sender}
 use Rattle.window.specs.State.{outstanding}
-use Rattle.window.specs.Acknowledgement.{ackDecision, Acknowledging}
-use Rattle.window.specs.Resending.{Resending, resendOutstanding}
+use Rattle.window.specs.Acknowledgement.{ackDecision, AckExit}
+use Rattle.window.specs.Resending.{TimeoutExit, resendOutstanding}
 use Rattle.window.specs.Sending as window
 use Rattle.window.specs.declared.SendAnswer.{SendAnswer}
 use Rattle.window.specs.declared.SendAnswer.the-variants as sendAnswer
@@ -35,17 +35,17 @@ by-timeout v w out timeoutAnswer.Nothing h = record { sent-count = rw none-writt
 by-timeout v w out (timeoutAnswer.Refused r) h = record { sent-count = rw none-written (omega arith); resent-count = rw none-written (omega arith) }
 
 -- what the window does
-abbrev sends : End → List ℕ → List ℕ → window.Sending Sender
+abbrev sends : End → List ℕ → List ℕ → window.SendExit Sender
 sends v payload out = window.sendChunk false (windowEnd v) payload out
 
-abbrev resends : End → List ℕ → Resending Sender
+abbrev resends : End → List ℕ → TimeoutExit Sender
 resends v out = resendOutstanding false (windowEnd v) (retriesLeft (v .sender)) out
 
 pub stop-and-wait-counted : EachCallCounted stopAndWaitSender
 stop-and-wait-counted v (send payload out) = let r = sends v payload out in by-send v (r .after) (r .out) (r .answer) (send-counted false (windowEnd v) payload out)
 stop-and-wait-counted v (timeout u out) = let r = resends v out in by-timeout v (r .after) (r .out) (r .answer) (resend-counted _ _ (windowEnd v) _ _ out)
 stop-and-wait-counted v (ack raw) =
-    by-ack (λ (r : Acknowledging End). EndCounted v (r .after) (senders.acknowledged (r .answer))) (ackDecision false (windowOf (v .sender)) (v .store) raw) v (acknowledged v)
+    by-ack (λ (r : AckExit End). EndCounted v (r .after) (senders.acknowledged (r .answer))) (ackDecision false (windowOf (v .sender)) (v .store) raw) v (acknowledged v)
     (λ a e. record { sent-count = omega arith; resent-count = omega arith })
     (λ n. record { sent-count = omega arith; resent-count = omega arith })
 
@@ -75,7 +75,7 @@ call-retries v (timeout u out) =
     let s = v .sender in
     timeout-retries v (r .after) (r .out) (r .answer) (resend-one _ _ (windowEnd v) _ _ out (one-at-most (ltb (s .«current_retries») (s .«max_retries»)) (outstanding (windowOf s))))
 call-retries v (ack raw) =
-    by-ack (λ (r : Acknowledging End). RetriesCounted v (r .after) (senders.acknowledged (r .answer))) (ackDecision false (windowOf (v .sender)) (v .store) raw) v (acknowledged v) (λ a e. rw e (omega arith)) (λ n. refl)
+    by-ack (λ (r : AckExit End). RetriesCounted v (r .after) (senders.acknowledged (r .answer))) (ackDecision false (windowOf (v .sender)) (v .store) raw) v (acknowledged v) (λ a e. rw e (omega arith)) (λ n. refl)
 
 pub current-retries : (v : End) → v .sender .«current_retries» ≡ 0 → (cs : List (Call (Unit {0}))) → afterCalls stopAndWaitSender v cs .sender .«current_retries» ≡ retries (answers stopAndWaitSender v cs)
 unfolding afterCalls answers retries

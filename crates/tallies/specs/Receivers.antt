@@ -4,8 +4,8 @@ use mathlib.Core.List.{List, [], _∷_, _++_}
 use mathlib.Core.Bool.{cond}
 use lib.ListN.{length, drop, replicate}
 use Rattle.receiver.specs.Handed.{readPacket}
-use Rattle.receiver.specs.Receive.{Receiving}
-use Rattle.receiver.specs.declared.Handed.{Handed}
+use Rattle.receiver.specs.Receive.{ReceiveExit}
+use Rattle.receiver.specs.declared.PacketReading.{PacketReading}
 use Rattle.stop_and_wait.specs.declared.StopAndWaitReceiver.{StopAndWaitReceiver}
 use Rattle.go_back_n.specs.declared.GoBackNReceiver.{GoBackNReceiver}
 use Rattle.selective_repeat.specs.Receiver.{Receiver, receiver, state}
@@ -21,7 +21,7 @@ pub record Call : Type 0 where
 
 -- `handle_packet` of a receiver with a state R
 abbrev pub Handling : Type 0 → Type 0
-Handling R = R → List ℕ → List ℕ → List ℕ → Receiving R
+Handling R = R → List ℕ → List ℕ → List ℕ → ReceiveExit R
 
 -- the receiver after a list of calls
 unfoldable pub afterCalls : {R : Type 0} → Handling R → R → List Call → R
@@ -29,16 +29,16 @@ afterCalls handle r [] = r
 afterCalls handle r (c ∷ cs) = handle (afterCalls handle r cs) (c .raw) (c .output) (c .ack) .receiver
 
 -- with one reading more, unless the call was refused
-abbrev pub readingsWith : {R : Type 0} → Receiving R → List ℕ → List Handed → List Handed
+abbrev pub readingsWith : {R : Type 0} → ReceiveExit R → List ℕ → List PacketReading → List PacketReading
 readingsWith x raw hs = cond (isReceived (x .answer)) (readPacket raw ∷ hs) hs
 
 -- what the datagrams that were not refused read as
-unfoldable pub readings : {R : Type 0} → Handling R → R → List Call → List Handed
+unfoldable pub readings : {R : Type 0} → Handling R → R → List Call → List PacketReading
 readings handle r [] = []
 readings handle r (c ∷ cs) = readingsWith (handle (afterCalls handle r cs) (c .raw) (c .output) (c .ack)) (c .raw) (readings handle r cs)
 
 -- the receivers that the readings tell, but for the fill mark
-abbrev pub stopAndWaitAfter : List Handed → ℕ → StopAndWaitReceiver
+abbrev pub stopAndWaitAfter : List PacketReading → ℕ → StopAndWaitReceiver
 stopAndWaitAfter hs filled = record {
   «expected_seq» = expected hs;
   filled = filled;
@@ -47,7 +47,7 @@ stopAndWaitAfter hs filled = record {
   «corrupted_count» = count (λ earlier. isCorrupted) hs;
 }
 
-abbrev pub goBackNAfter : List Handed → ℕ → GoBackNReceiver
+abbrev pub goBackNAfter : List PacketReading → ℕ → GoBackNReceiver
 goBackNAfter hs filled = record {
   «expected_seq» = expected hs;
   filled = filled;
@@ -56,7 +56,7 @@ goBackNAfter hs filled = record {
   «duplicate_acks_sent» = count isAnsweredAgain hs;
 }
 
-abbrev pub selectiveRepeatAfter : ℕ → List Handed → ℕ → SelectiveRepeatReceiver
+abbrev pub selectiveRepeatAfter : ℕ → List PacketReading → ℕ → SelectiveRepeatReceiver
 selectiveRepeatAfter w hs filled = record {
   «window_size» = w;
   «recv_base» = base w hs;

@@ -5,9 +5,9 @@ use mathlib.Core.List.{List, [], _∷_}
 use mathlib.Core.Bool.{Bool, true, false, cond}
 use lib.ListN.{length}
 use Rattle.window.specs.Slots as slots
-use Rattle.window.specs.Sending.{Sending, sendChunk}
-use Rattle.window.specs.Acknowledgement.{Acknowledging}
-use Rattle.window.specs.Resending.{Resending}
+use Rattle.window.specs.Sending.{SendExit, sendChunk}
+use Rattle.window.specs.Acknowledgement.{AckExit}
+use Rattle.window.specs.Resending.{TimeoutExit}
 use Rattle.window.specs.declared.SendAnswer.{SendAnswer}
 use Rattle.window.specs.declared.AckAnswer.{AckAnswer}
 use Rattle.window.specs.declared.AckAnswer.the-variants as ackAnswer
@@ -16,7 +16,7 @@ use Rattle.stop_and_wait.specs.Sender as stopAndWait
 use Rattle.go_back_n.specs.Sender as goBackN
 use Rattle.selective_repeat.specs.Sender as selectiveRepeat
 use Rattle.delivery.specs.Calls.{datagrams}
-use Rattle.delivery.specs.Ends.{bytesSent, isSent, bytesResent, Which, goBackNTimeout}
+use Rattle.delivery.specs.Ends.{bytesSent, isSent, bytesResent, GoBackNTimeout, goBackNTimeout}
 
 -- a call with any bytes: a payload and the datagram's buffer; a timeout and the datagrams' buffer; a datagram handed over as an ACK
 pub data Call (Timeout : Type 0) : Type 0 where
@@ -34,9 +34,9 @@ pub data Answered : Type 0 where
 pub record SenderCalls : Type 1 where
   pub Sender : Type 0
   pub Timeout : Type 0
-  pub sendChunk : Sender → List ℕ → List ℕ → Sending Sender
-  pub handleTimeout : Sender → Timeout → List ℕ → Resending Sender
-  pub handleAck : Sender → List ℕ → Acknowledging Sender
+  pub sendChunk : Sender → List ℕ → List ℕ → SendExit Sender
+  pub handleTimeout : Sender → Timeout → List ℕ → TimeoutExit Sender
+  pub handleAck : Sender → List ℕ → AckExit Sender
   pub totalSent : Sender → ℕ
   pub retransmissions : Sender → ℕ
 
@@ -109,7 +109,7 @@ stopAndWaitSender = record {
 abbrev pub goBackNSender : SenderCalls
 goBackNSender = record {
   Sender = slots.Sender;
-  Timeout = Which;
+  Timeout = GoBackNTimeout;
   sendChunk = sendChunk false;
   handleTimeout = goBackNTimeout;
   handleAck = goBackN.handleAck;

@@ -11,9 +11,9 @@ use Rattle.timer.specs.declared.Deadline.the-variants.{Unset, At}
 use Rattle.timer.specs.declared.RetransmissionTimer.{RetransmissionTimer}
 use Rattle.timer.specs.declared.TimerAnswer.{TimerAnswer}
 use Rattle.timer.specs.declared.TimerAnswer.the-variants.{Id, Refused}
-use Rattle.timer.specs.declared.TimerChange.{TimerChange}
-use Rattle.timer.specs.declared.TimerTest as Test
-use Rattle.timer.specs.declared.TimerTest.{TimerTest}
+use Rattle.timer.specs.declared.TimerResult.{TimerResult}
+use Rattle.refusal.specs.declared.TestAnswer as Test
+use Rattle.refusal.specs.declared.TestAnswer.{TestAnswer}
 use Rattle.timer.specs.declared.Remaining as Rem
 use Rattle.timer.specs.declared.Remaining.{Remaining}
 
@@ -37,14 +37,14 @@ nextGeneration g = (g + 1) % 2 ^ 64
 abbrev pub timer : Deadline → ℕ → RetransmissionTimer
 timer d g = record { deadline = d; generation = g }
 
-abbrev pub change : RetransmissionTimer → TimerAnswer → TimerChange
-change t a = record { timer = t; answer = a }
+abbrev pub timerResult : RetransmissionTimer → TimerAnswer → TimerResult
+timerResult t a = record { timer = t; answer = a }
 
-unfoldable pub start : RetransmissionTimer → ℕ → ℕ → RetransmissionTimer
-start t now duration = timer (At (now + duration)) (nextGeneration (t .generation))
+unfoldable pub startedAtUnchecked : RetransmissionTimer → ℕ → ℕ → RetransmissionTimer
+startedAtUnchecked t now duration = timer (At (now + duration)) (nextGeneration (t .generation))
 
-unfoldable pub cancel : RetransmissionTimer → RetransmissionTimer
-cancel t = timer Unset (nextGeneration (t .generation))
+unfoldable pub cancelledUnchecked : RetransmissionTimer → RetransmissionTimer
+cancelledUnchecked t = timer Unset (nextGeneration (t .generation))
 
 abbrev pub active : Deadline → Bool
 active Unset = false
@@ -55,31 +55,31 @@ abbrev pub expiredAt : Deadline → ℕ → Bool
 expiredAt Unset now = false
 expiredAt (At d) now = leb d now
 
-abbrev pub remainingAt : Deadline → ℕ → Remaining
-remainingAt Unset now = Rem.the-variants.Inactive
-remainingAt (At d) now = Rem.the-variants.For (d - now)
+abbrev pub deadlineRemaining : Deadline → ℕ → Remaining
+deadlineRemaining Unset now = Rem.the-variants.Inactive
+deadlineRemaining (At d) now = Rem.the-variants.For (d - now)
 
 -- ---- the entry points
-unfoldable pub newDef : RetransmissionTimer
-newDef = timer Unset 0
+unfoldable pub newTimer : RetransmissionTimer
+newTimer = timer Unset 0
 
-unfoldable pub startedAtDef : RetransmissionTimer → ℕ → ℕ → TimerChange
-startedAtDef t now duration =
-    decide (verdict (check (startTooLate t now duration) Time ∷ [])) (λ r. change t (Refused r)) (change (start t now duration) (Id (nextGeneration (t .generation))))
+unfoldable pub startedAt : RetransmissionTimer → ℕ → ℕ → TimerResult
+startedAt t now duration =
+    decide (verdict (check (startTooLate t now duration) Time ∷ [])) (λ r. timerResult t (Refused r)) (timerResult (startedAtUnchecked t now duration) (Id (nextGeneration (t .generation))))
 
-unfoldable pub cancelledDef : RetransmissionTimer → TimerChange
-cancelledDef t = decide (verdict (check (deadlineTooLate (t .deadline)) Time ∷ [])) (λ r. change t (Refused r)) (change (cancel t) (Id (nextGeneration (t .generation))))
+unfoldable pub cancelled : RetransmissionTimer → TimerResult
+cancelled t = decide (verdict (check (deadlineTooLate (t .deadline)) Time ∷ [])) (λ r. timerResult t (Refused r)) (timerResult (cancelledUnchecked t) (Id (nextGeneration (t .generation))))
 
-unfoldable pub isActiveDef : RetransmissionTimer → TimerTest
-isActiveDef t = decide (verdict (check (deadlineTooLate (t .deadline)) Time ∷ [])) (λ r. Test.the-variants.Refused r) (Test.the-variants.Is (active (t .deadline)))
+unfoldable pub isActive : RetransmissionTimer → TestAnswer
+isActive t = decide (verdict (check (deadlineTooLate (t .deadline)) Time ∷ [])) (λ r. Test.the-variants.Refused r) (Test.the-variants.Is (active (t .deadline)))
 
-unfoldable pub remainingAtDef : RetransmissionTimer → ℕ → Remaining
-remainingAtDef t now = decide (verdict (check (readTooLate t now) Time ∷ [])) (λ r. Rem.the-variants.Refused r) (remainingAt (t .deadline) now)
+unfoldable pub remainingAt : RetransmissionTimer → ℕ → Remaining
+remainingAt t now = decide (verdict (check (readTooLate t now) Time ∷ [])) (λ r. Rem.the-variants.Refused r) (deadlineRemaining (t .deadline) now)
 
-unfoldable pub isExpiredAtDef : RetransmissionTimer → ℕ → TimerTest
-isExpiredAtDef t now = decide (verdict (check (readTooLate t now) Time ∷ [])) (λ r. Test.the-variants.Refused r) (Test.the-variants.Is (expiredAt (t .deadline) now))
+unfoldable pub isExpiredAt : RetransmissionTimer → ℕ → TestAnswer
+isExpiredAt t now = decide (verdict (check (readTooLate t now) Time ∷ [])) (λ r. Test.the-variants.Refused r) (Test.the-variants.Is (expiredAt (t .deadline) now))
 
 -- an event of an older generation is stale
-unfoldable pub isExpiredForAtDef : RetransmissionTimer → ℕ → ℕ → TimerTest
-isExpiredForAtDef t expected now =
+unfoldable pub isExpiredForAt : RetransmissionTimer → ℕ → ℕ → TestAnswer
+isExpiredForAt t expected now =
     decide (verdict (check (readTooLate t now) Time ∷ [])) (λ r. Test.the-variants.Refused r) (Test.the-variants.Is (eqb (t .generation) expected && expiredAt (t .deadline) now))

@@ -1,10 +1,11 @@
 // The retransmission timer, by value: the reference's timing/timer.rs on nanoseconds.
 use duration::MAX_TIME;
 use refusal::Refusal;
+use refusal::TestAnswer;
 ghost use mathlib.Core.Path.{_≡_};
 ghost use mathlib.Core.Bool.{false};
 ghost use Prim.Native.Nat.{_-_};
-ghost use Rattle.timer.specs.Timer.{deadlineTooLate, startTooLate, readTooLate, start, cancel, active, expiredAt, remainingAt, newDef, startedAtDef, cancelledDef, isActiveDef, remainingAtDef, isExpiredAtDef, isExpiredForAtDef};
+ghost use Rattle.timer.specs.Timer.{deadlineTooLate, startTooLate, readTooLate, startedAtUnchecked, cancelledUnchecked, active, expiredAt, deadlineRemaining, newTimer, startedAt, cancelled, isActive, remainingAt, isExpiredAt, isExpiredForAt};
 
 pub enum Deadline {
     Unset,
@@ -22,14 +23,9 @@ pub enum TimerAnswer {
     Refused(Refusal),
 }
 
-pub struct TimerChange {
+pub struct TimerResult {
     pub timer: RetransmissionTimer,
     pub answer: TimerAnswer,
-}
-
-pub enum TimerTest {
-    Is(bool),
-    Refused(Refusal),
 }
 
 pub enum Remaining {
@@ -72,7 +68,7 @@ fn time_left(deadline: u64, now: u64) -> u64
 }
 
 fn deadline_remaining(d: Deadline, now: u64) -> Remaining
-    ensures { λ r. ⌜ r ≡ remainingAt d now ⌝ }
+    ensures { λ r. ⌜ r ≡ deadlineRemaining d now ⌝ }
 {
     match d {
         Deadline::Unset => Remaining::Inactive,
@@ -102,7 +98,7 @@ fn read_too_late(t: RetransmissionTimer, now: u64) -> bool
 
 impl RetransmissionTimer {
     pub fn new() -> RetransmissionTimer
-        ensures { λ r. ⌜ r ≡ newDef ⌝ }
+        ensures { λ r. ⌜ r ≡ newTimer ⌝ }
     {
         RetransmissionTimer {
             deadline: Deadline::Unset,
@@ -112,7 +108,7 @@ impl RetransmissionTimer {
 
     pub fn started_at_unchecked(self, now: u64, duration: u64) -> RetransmissionTimer
         requires { ⌜ startTooLate self now duration ≡ false ⌝ }
-        ensures { λ r. ⌜ r ≡ start self now duration ⌝ }
+        ensures { λ r. ⌜ r ≡ startedAtUnchecked self now duration ⌝ }
     {
         RetransmissionTimer {
             deadline: Deadline::At(now + duration),
@@ -122,7 +118,7 @@ impl RetransmissionTimer {
 
     pub fn cancelled_unchecked(self) -> RetransmissionTimer
         requires { ⌜ deadlineTooLate (self .deadline) ≡ false ⌝ }
-        ensures { λ r. ⌜ r ≡ cancel self ⌝ }
+        ensures { λ r. ⌜ r ≡ cancelledUnchecked self ⌝ }
     {
         let next = std::num::wrapping_add_u64(self.generation, 1);
         RetransmissionTimer {
@@ -140,51 +136,51 @@ impl RetransmissionTimer {
     }
 
     // Starts or restarts the timer.
-    pub fn started_at(self, now: u64, duration: u64) -> TimerChange
-        ensures { λ r. ⌜ r ≡ startedAtDef self now duration ⌝ }
+    pub fn started_at(self, now: u64, duration: u64) -> TimerResult
+        ensures { λ r. ⌜ r ≡ startedAt self now duration ⌝ }
     {
         if start_too_late(self, now, duration) {
-            return TimerChange {
+            return TimerResult {
                 timer: self,
                 answer: TimerAnswer::Refused(Refusal::Time),
             };
         }
         let t = self.started_at_unchecked(now, duration);
-        TimerChange {
+        TimerResult {
             timer: t,
             answer: TimerAnswer::Id(t.generation),
         }
     }
 
-    pub fn cancelled(self) -> TimerChange
-        ensures { λ r. ⌜ r ≡ cancelledDef self ⌝ }
+    pub fn cancelled(self) -> TimerResult
+        ensures { λ r. ⌜ r ≡ cancelled self ⌝ }
     {
         let d = self.deadline;
         if deadline_too_late(d) {
-            return TimerChange {
+            return TimerResult {
                 timer: self,
                 answer: TimerAnswer::Refused(Refusal::Time),
             };
         }
         let t = self.cancelled_unchecked();
-        TimerChange {
+        TimerResult {
             timer: t,
             answer: TimerAnswer::Id(t.generation),
         }
     }
 
-    pub fn is_active(self) -> TimerTest
-        ensures { λ r. ⌜ r ≡ isActiveDef self ⌝ }
+    pub fn is_active(self) -> TestAnswer
+        ensures { λ r. ⌜ r ≡ isActive self ⌝ }
     {
         let d = self.deadline;
         if deadline_too_late(d) {
-            return TimerTest::Refused(Refusal::Time);
+            return TestAnswer::Refused(Refusal::Time);
         }
-        TimerTest::Is(deadline_set(d))
+        TestAnswer::Is(deadline_set(d))
     }
 
     pub fn remaining_at(self, now: u64) -> Remaining
-        ensures { λ r. ⌜ r ≡ remainingAtDef self now ⌝ }
+        ensures { λ r. ⌜ r ≡ remainingAt self now ⌝ }
     {
         if read_too_late(self, now) {
             return Remaining::Refused(Refusal::Time);
@@ -193,25 +189,25 @@ impl RetransmissionTimer {
         deadline_remaining(d, now)
     }
 
-    pub fn is_expired_at(self, now: u64) -> TimerTest
-        ensures { λ r. ⌜ r ≡ isExpiredAtDef self now ⌝ }
+    pub fn is_expired_at(self, now: u64) -> TestAnswer
+        ensures { λ r. ⌜ r ≡ isExpiredAt self now ⌝ }
     {
         if read_too_late(self, now) {
-            return TimerTest::Refused(Refusal::Time);
+            return TestAnswer::Refused(Refusal::Time);
         }
-        TimerTest::Is(self.is_expired_at_unchecked(now))
+        TestAnswer::Is(self.is_expired_at_unchecked(now))
     }
 
     // An event of an older generation is stale.
-    pub fn is_expired_for_at(self, expected: u64, now: u64) -> TimerTest
-        ensures { λ r. ⌜ r ≡ isExpiredForAtDef self expected now ⌝ }
+    pub fn is_expired_for_at(self, expected: u64, now: u64) -> TestAnswer
+        ensures { λ r. ⌜ r ≡ isExpiredForAt self expected now ⌝ }
     {
         if read_too_late(self, now) {
-            return TimerTest::Refused(Refusal::Time);
+            return TestAnswer::Refused(Refusal::Time);
         }
         if self.generation != expected {
-            return TimerTest::Is(false);
+            return TestAnswer::Is(false);
         }
-        TimerTest::Is(self.is_expired_at_unchecked(now))
+        TestAnswer::Is(self.is_expired_at_unchecked(now))
     }
 }

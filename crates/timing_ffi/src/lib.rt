@@ -11,28 +11,25 @@ ghost use lib.ListN.{length, take};
 ghost use Rattle.multi_timer.specs.Search.{dueIn};
 ghost use Rattle.multi_timer.specs.MultiTimer.{timers, broken, startFull};
 use multi_timer::CancelAnswer;
-use multi_timer::ClearAnswer;
 use multi_timer::EarliestAnswer;
-use multi_timer::ExpiredAnswer;
-use multi_timer::Making;
 use multi_timer::MultiTimer;
+use multi_timer::MultiTimerAnswer;
 use multi_timer::PopAnswer;
 use multi_timer::StartAnswer;
-use rto::LimitAnswer;
+use refusal::DoneAnswer;
+use refusal::TestAnswer;
+use rto::MaybeDuration;
 use rto::MeanAnswer;
-use rto::ResetAnswer;
+use rto::RtoAnswer;
 use rto::RtoConfig;
 use rto::RtoEstimator;
 use rto::RtoStats;
-use rto::Rtt;
-use rto::TimeoutAnswer;
 use rto::UpdateAnswer;
-use rto::Updated;
+use rto::UpdateResult;
 use timer::Deadline;
 use timer::Remaining;
 use timer::RetransmissionTimer;
 use timer::TimerAnswer;
-use timer::TimerTest;
 
 // ---- durations
 
@@ -107,13 +104,13 @@ fn timer_number(a: TimerAnswer) -> u8 {
     }
 }
 
-fn put_test(a: TimerTest, answer: &mut [u64]) -> u8 {
+fn put_test(a: TestAnswer, answer: &mut [u64]) -> u8 {
     match a {
-        TimerTest::Is(x) => {
+        TestAnswer::Is(x) => {
             put(answer, x as u64);
             0
         }
-        TimerTest::Refused(r) => r.number(),
+        TestAnswer::Refused(r) => r.number(),
     }
 }
 
@@ -200,11 +197,11 @@ fn store_timers(s: &mut [u64], t: MultiTimer) {
 #[no_mangle]
 pub extern "C" fn timing_multi_new(s: &mut [u64], keys: &mut [u32], deadlines: &mut [u64]) -> u8 {
     match multi_timer::new_timers(keys, deadlines) {
-        Making::Made(t) => {
+        MultiTimerAnswer::Made(t) => {
             store_timers(s, t);
             0
         }
-        Making::Refused(r) => r.number(),
+        MultiTimerAnswer::Refused(r) => r.number(),
     }
 }
 
@@ -258,11 +255,11 @@ pub extern "C" fn timing_multi_expired(
     answer: &mut [u64],
 ) -> u8 {
     match load_timers(s).is_expired_at(keys, deadlines, key, now) {
-        ExpiredAnswer::Is(x) => {
+        TestAnswer::Is(x) => {
             put(answer, x as u64);
             0
         }
-        ExpiredAnswer::Refused(r) => r.number(),
+        TestAnswer::Refused(r) => r.number(),
     }
 }
 
@@ -316,31 +313,31 @@ pub extern "C" fn timing_multi_clear(s: &mut [u64], keys: &mut [u32], deadlines:
     let a = c.answer;
     store_timers(s, t);
     match a {
-        ClearAnswer::Done => 0,
-        ClearAnswer::Refused(r) => r.number(),
+        DoneAnswer::Done => 0,
+        DoneAnswer::Refused(r) => r.number(),
     }
 }
 
 // ---- the estimator
 
-fn rtt_of(set: u64, value: u64) -> Rtt {
+fn rtt_of(set: u64, value: u64) -> MaybeDuration {
     if set == 1 {
-        return Rtt::Is(value);
+        return MaybeDuration::Set(value);
     }
-    Rtt::Unset
+    MaybeDuration::Unset
 }
 
-fn is_set(r: Rtt) -> u64 {
+fn is_set(r: MaybeDuration) -> u64 {
     match r {
-        Rtt::Unset => 0,
-        Rtt::Is(_) => 1,
+        MaybeDuration::Unset => 0,
+        MaybeDuration::Set(_) => 1,
     }
 }
 
-fn value_of(r: Rtt) -> u64 {
+fn value_of(r: MaybeDuration) -> u64 {
     match r {
-        Rtt::Unset => 0,
-        Rtt::Is(x) => x,
+        MaybeDuration::Unset => 0,
+        MaybeDuration::Set(x) => x,
     }
 }
 
@@ -428,7 +425,7 @@ fn store_doubles(d: &mut [f64], c: RtoConfig, sum: f64) {
     d[4] = sum;
 }
 
-fn store_rtt(w: &mut [u64], r: Rtt) {
+fn store_rtt(w: &mut [u64], r: MaybeDuration) {
     if w.len() < 2 {
         return;
     }
@@ -500,11 +497,11 @@ pub extern "C" fn timing_rto_new(w: &mut [u64], d: &mut [f64]) {
 #[no_mangle]
 pub extern "C" fn timing_rto_with_config(w: &mut [u64], d: &mut [f64]) -> u8 {
     match RtoEstimator::with_config(load_config(w, d)) {
-        rto::Making::Made(e) => {
+        rto::EstimatorAnswer::Made(e) => {
             store_estimator(w, d, e);
             0
         }
-        rto::Making::Refused(r) => r.number(),
+        rto::EstimatorAnswer::Refused(r) => r.number(),
     }
 }
 
@@ -537,11 +534,11 @@ pub extern "C" fn timing_rto_timeout(w: &mut [u64], d: &mut [f64], answer: &mut 
     let a = c.answer;
     store_estimator(w, d, e);
     match a {
-        TimeoutAnswer::Rto(x) => {
+        RtoAnswer::Rto(x) => {
             put(answer, x);
             0
         }
-        TimeoutAnswer::Refused(r) => r.number(),
+        RtoAnswer::Refused(r) => r.number(),
     }
 }
 
@@ -552,8 +549,8 @@ pub extern "C" fn timing_rto_reset(w: &mut [u64], d: &mut [f64]) -> u8 {
     let a = c.answer;
     store_estimator(w, d, e);
     match a {
-        ResetAnswer::Done => 0,
-        ResetAnswer::Refused(r) => r.number(),
+        DoneAnswer::Done => 0,
+        DoneAnswer::Refused(r) => r.number(),
     }
 }
 
@@ -565,11 +562,11 @@ pub extern "C" fn timing_rto_limit(
     answer: &mut [u64],
 ) -> u8 {
     match load_estimator(w, d).has_exceeded_retry_limit(max_retries) {
-        LimitAnswer::Exceeded(x) => {
+        TestAnswer::Is(x) => {
             put(answer, x as u64);
             0
         }
-        LimitAnswer::Refused(r) => r.number(),
+        TestAnswer::Refused(r) => r.number(),
     }
 }
 
@@ -595,7 +592,7 @@ pub extern "C" fn timing_rto_run(samples: &[u64]) -> u64 {
 }
 
 // The estimator after these samples, and the answer to the last one. The one place that calls `update_rtt`, so that it is inlined here.
-fn updated_by(first: RtoEstimator, samples: &[u64], is_retransmission: bool) -> Updated {
+fn updated_by(first: RtoEstimator, samples: &[u64], is_retransmission: bool) -> UpdateResult {
     let mut e = first;
     let mut a = UpdateAnswer::Accepted(false);
     let mut i = 0;
@@ -605,7 +602,7 @@ fn updated_by(first: RtoEstimator, samples: &[u64], is_retransmission: bool) -> 
         a = c.answer;
         i += 1;
     }
-    Updated {
+    UpdateResult {
         estimator: e,
         answer: a,
     }

@@ -20,28 +20,25 @@ ghost use Prim.Native.Nat.{_≤_, _<_};
 ghost use lib.ListN.{length};
 use libc::STDOUT_FILENO;
 use multi_timer::CancelAnswer;
-use multi_timer::ClearAnswer;
 use multi_timer::EarliestAnswer;
-use multi_timer::ExpiredAnswer;
-use multi_timer::Making;
 use multi_timer::MultiTimer;
+use multi_timer::MultiTimerAnswer;
 use multi_timer::PopAnswer;
 use multi_timer::StartAnswer;
+use refusal::DoneAnswer;
 use refusal::Refusal;
-use rto::LimitAnswer;
+use refusal::TestAnswer;
+use rto::MaybeDuration;
 use rto::MeanAnswer;
-use rto::ResetAnswer;
+use rto::RtoAnswer;
 use rto::RtoConfig;
 use rto::RtoEstimator;
 use rto::RtoStats;
-use rto::Rtt;
-use rto::TimeoutAnswer;
 use rto::UpdateAnswer;
 use timer::Remaining;
 use timer::RetransmissionTimer;
 use timer::TimerAnswer;
-use timer::TimerChange;
-use timer::TimerTest;
+use timer::TimerResult;
 
 fn main() {
     let mut text = [0u8; 262144];
@@ -52,7 +49,7 @@ fn main() {
 fn replay(text: &[u8]) {
     let mut at: usize = 0;
     while at < text.len() {
-        let end = lines::line_end_unchecked(text, at);
+        let end = replay_io::line_end_unchecked(text, at);
         case(&text[at..end]);
         at = end;
         if at < text.len() {
@@ -95,7 +92,10 @@ fn word_at(digits: &[u8], at: usize) -> u64 {
     let mut x: u64 = 0;
     let mut i: usize = 0;
     while i < 16 {
-        x = std::num::wrapping_add_u64(shifted(x), lines::hex_value(byte(digits, at, i)) as u64);
+        x = std::num::wrapping_add_u64(
+            shifted(x),
+            replay_io::hex_value(byte(digits, at, i)) as u64,
+        );
         i += 1;
     }
     x
@@ -135,8 +135,8 @@ fn estimator_case(digits: &[u8]) {
         rto_multiplier: double(word(digits, 7)),
     };
     match RtoEstimator::with_config(c) {
-        rto::Making::Made(e) => estimator_calls(digits, e),
-        rto::Making::Refused(r) => print_refusal(r),
+        rto::EstimatorAnswer::Made(e) => estimator_calls(digits, e),
+        rto::EstimatorAnswer::Refused(r) => print_refusal(r),
     }
     end_line();
 }
@@ -167,8 +167,8 @@ fn estimator_call(e: RtoEstimator, op: u64, x: u64) -> RtoEstimator {
 
 fn limit_call(e: RtoEstimator, x: u64) {
     match e.has_exceeded_retry_limit(narrow(x)) {
-        LimitAnswer::Exceeded(b) => answer(b as u64),
-        LimitAnswer::Refused(r) => print_refusal(r),
+        TestAnswer::Is(b) => answer(b as u64),
+        TestAnswer::Refused(r) => print_refusal(r),
     }
 }
 
@@ -191,11 +191,11 @@ fn timeout_call(e: RtoEstimator) -> RtoEstimator {
     let next = c.estimator;
     let a = c.answer;
     match a {
-        TimeoutAnswer::Rto(rto) => {
+        RtoAnswer::Rto(rto) => {
             number(rto);
             print_estimator(next);
         }
-        TimeoutAnswer::Refused(r) => print_refusal(r),
+        RtoAnswer::Refused(r) => print_refusal(r),
     }
     next
 }
@@ -205,8 +205,8 @@ fn reset_call(e: RtoEstimator) -> RtoEstimator {
     let next = c.estimator;
     let a = c.answer;
     match a {
-        ResetAnswer::Done => print_estimator(next),
-        ResetAnswer::Refused(r) => print_refusal(r),
+        DoneAnswer::Done => print_estimator(next),
+        DoneAnswer::Refused(r) => print_refusal(r),
     }
     next
 }
@@ -250,10 +250,10 @@ fn print_bits(x: f64) {
     }
 }
 
-fn print_rtt(r: Rtt) {
+fn print_rtt(r: MaybeDuration) {
     match r {
-        Rtt::Unset => none(),
-        Rtt::Is(x) => number(x),
+        MaybeDuration::Unset => none(),
+        MaybeDuration::Set(x) => number(x),
     }
 }
 
@@ -277,8 +277,8 @@ fn timers_in(digits: &[u8], room: u64, keys: &mut [u32], deadlines: &mut [u64]) 
 
 fn timers_within(digits: &[u8], keys: &mut [u32], deadlines: &mut [u64]) {
     match multi_timer::new_timers(keys, deadlines) {
-        Making::Made(t) => timers_calls(digits, t, keys, deadlines),
-        Making::Refused(r) => print_refusal(r),
+        MultiTimerAnswer::Made(t) => timers_calls(digits, t, keys, deadlines),
+        MultiTimerAnswer::Refused(r) => print_refusal(r),
     }
 }
 
@@ -330,8 +330,8 @@ fn timers_call(
 
 fn expired_call(t: MultiTimer, keys: &[u32], deadlines: &[u64], key: u32, now: u64) {
     match t.is_expired_at(keys, deadlines, key, now) {
-        ExpiredAnswer::Is(b) => answer(b as u64),
-        ExpiredAnswer::Refused(r) => print_refusal(r),
+        TestAnswer::Is(b) => answer(b as u64),
+        TestAnswer::Refused(r) => print_refusal(r),
     }
 }
 
@@ -340,8 +340,8 @@ fn clear_call(t: MultiTimer, keys: &mut [u32], deadlines: &mut [u64]) -> MultiTi
     let next = c.timers;
     let a = c.answer;
     match a {
-        ClearAnswer::Done => answer(next.len() as u64),
-        ClearAnswer::Refused(r) => print_refusal(r),
+        DoneAnswer::Done => answer(next.len() as u64),
+        DoneAnswer::Refused(r) => print_refusal(r),
     }
     next
 }
@@ -442,7 +442,7 @@ fn timer_call(t: RetransmissionTimer, op: u64, x: u64, y: u64) -> Retransmission
     t
 }
 
-fn print_change(c: TimerChange) -> RetransmissionTimer {
+fn print_change(c: TimerResult) -> RetransmissionTimer {
     let t = c.timer;
     let a = c.answer;
     match a {
@@ -452,10 +452,10 @@ fn print_change(c: TimerChange) -> RetransmissionTimer {
     t
 }
 
-fn print_test(a: TimerTest) {
+fn print_test(a: TestAnswer) {
     match a {
-        TimerTest::Is(b) => answer(b as u64),
-        TimerTest::Refused(r) => print_refusal(r),
+        TestAnswer::Is(b) => answer(b as u64),
+        TestAnswer::Refused(r) => print_refusal(r),
     }
 }
 

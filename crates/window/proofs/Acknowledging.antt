@@ -12,10 +12,10 @@ use Rattle.refusal.specs.Order.{check, verdict, order, orElse, numbered, firstO
 use Rattle.refusal.proofs.Laws.{false-check, accepted-none-true, decide-accepted, on-accepted, on-refused}
 use Rattle.packet.specs.Reading.{readChecks}
 use Rattle.window.specs.State.{stateBroken, countsBroken}
-use Rattle.window.specs.Acknowledgement.{handedChecks, readAck, inWindow, byAck, ackDecision, acknowledging, byDecision}
+use Rattle.window.specs.Acknowledgement.{handedChecks, readAck, inWindow, byAck, ackDecision, ackExit, byDecision}
 use Rattle.window.specs.declared.SendWindow.{SendWindow}
-use Rattle.window.specs.declared.AckRead.{AckRead}
-use Rattle.window.specs.declared.AckRead.the-variants as ackRead
+use Rattle.window.specs.declared.AckReading.{AckReading}
+use Rattle.window.specs.declared.AckReading.the-variants as ackRead
 use Rattle.window.specs.declared.AckDecision.{AckDecision}
 use Rattle.window.specs.declared.AckDecision.the-variants as decision
 use Rattle.window.specs.declared.AckAnswer.the-variants as answer
@@ -46,7 +46,7 @@ module _ (selective : Bool) (s : SendWindow) (store raw : List ℕ) where
   unfolding ackDecision
   ack-unread r e f h = on-refused decision.Refused _ (beyond e f ∙ ack-verdict-refused raw r h)
 
-  decided : stateBroken selective s store ≡ false → countsBroken s ≡ false → (a : AckRead) → ((r : Refusal) → a ≡ ackRead.Refused r → ⊥) → readAck raw ≡ a → ackDecision selective s store raw ≡ byAck s a
+  decided : stateBroken selective s store ≡ false → countsBroken s ≡ false → (a : AckReading) → ((r : Refusal) → a ≡ ackRead.Refused r → ⊥) → readAck raw ≡ a → ackDecision selective s store raw ≡ byAck s a
   unfolding ackDecision
   decided e f a not h = on-accepted decision.Refused _ (beyond e f ∙ ack-verdict-accepted raw (λ r g. not r (sym h ∙ g))) ∙ ap (byAck s) h
 
@@ -67,7 +67,7 @@ module _ (selective : Bool) (s : SendWindow) (store raw : List ℕ) where
       → ackDecision selective s store raw ≡ decision.Accept n
   ack-within n e f h k l = of-number n e f h ∙ rw (le-leb _ _ k, lt-ltb _ _ l)
 
-  by-read : (n : ℕ) (a : AckRead) → byAck s a ≡ decision.Accept n → inWindow s n ≡ true
+  by-read : (n : ℕ) (a : AckReading) → byAck s a ≡ decision.Accept n → inWindow s n ≡ true
   by-read n (ackRead.Ack m) e = by-test (inWindow s m) refl e where
     by-test : (b : Bool) → inWindow s m ≡ b → cond b (decision.Accept m) decision.NotAccepted ≡ decision.Accept n → inWindow s n ≡ true
     by-test true f g = let h : m ≡ n = cc in ap (inWindow s) (sym h) ∙ f
@@ -90,14 +90,14 @@ module _ (selective : Bool) (s : SendWindow) (store raw : List ℕ) where
 
 -- the answers of `byDecision`
 module _ {S : Type 0} {d : AckDecision} (v : S) (accept : ℕ → S) where
-  pub on-accept : (n : ℕ) {after : S} → d ≡ decision.Accept n → after ≡ accept n → acknowledging answer.Accepted after ≡ byDecision d v accept
+  pub on-accept : (n : ℕ) {after : S} → d ≡ decision.Accept n → after ≡ accept n → ackExit answer.Accepted after ≡ byDecision d v accept
   unfolding byDecision
   on-accept n e f = rw (e, f)
 
-  pub on-not-accepted : d ≡ decision.NotAccepted → acknowledging answer.NotAccepted v ≡ byDecision d v accept
+  pub on-not-accepted : d ≡ decision.NotAccepted → ackExit answer.NotAccepted v ≡ byDecision d v accept
   unfolding byDecision
   on-not-accepted e = rw e
 
-  pub on-ack-refused : (r : Refusal) → d ≡ decision.Refused r → acknowledging (answer.Refused r) v ≡ byDecision d v accept
+  pub on-ack-refused : (r : Refusal) → d ≡ decision.Refused r → ackExit (answer.Refused r) v ≡ byDecision d v accept
   unfolding byDecision
   on-ack-refused r e = rw e

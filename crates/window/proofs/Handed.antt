@@ -17,7 +17,7 @@ use Rattle.packet.specs.declared.Packet.{Packet}
 use Rattle.packet.specs.declared.PacketAnswer.the-variants as packetAnswer
 use Rattle.packet.proofs.Laws.{read-packet, read-refused, read-header, payload-none}
 use Rattle.window.specs.Acknowledgement.{handedChecks, readAck}
-use Rattle.window.specs.declared.AckRead.the-variants as ackRead
+use Rattle.window.specs.declared.AckReading.the-variants as ackRead
 
 pub handed-refused : (raw : List ℕ) (r : Refusal) → fromBytes raw ≡ packetAnswer.Refused r → verdict (handedChecks raw) ≡ refused r
 handed-refused raw r e =

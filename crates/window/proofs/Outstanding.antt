@@ -10,7 +10,7 @@ use Rattle.refusal.proofs.Laws.{decide-accepted, decide-refused, on-accepted, o
 use Rattle.window.specs.State.{outstanding, numbersBroken, countsBroken}
 use Rattle.window.specs.Outstanding.{unlessBroken, inFlightCount}
 use Rattle.window.specs.declared.SendWindow.{SendWindow}
-use Rattle.window.specs.declared.WindowCount.the-variants as windowCount
+use Rattle.refusal.specs.declared.CountAnswer.the-variants as windowCount
 
 module _ {A : Type 0} (s : SendWindow) (f : Refusal → A) (a : A) where
   pub numbers-refused : numbersBroken s ≡ true → f State ≡ unlessBroken s f a

@@ -12,12 +12,12 @@ use Rattle.refusal.specs.declared.Refusal.{Refusal}
 use Rattle.refusal.specs.declared.Refusal.the-variants.{State, Counts, Full}
 use Rattle.refusal.specs.Order.{check, verdict, accepted, order, orElse, numbered, firstOf, decide}
 use Rattle.refusal.proofs.Laws.{none-true-accepted, on-accepted}
-use Rattle.store.specs.Slot.{slotAt, lengthOf, flagsOf}
+use Rattle.store.specs.Slot.{slotAt, slotLength, slotFlags}
 use Rattle.store.proofs.Laws.{slot-byte, slot-in}
 use Rattle.octets.proofs.Laws.{tail-written}
 use Rattle.packet.proofs.Laws.{made-length}
 use Rattle.window.specs.Slots.{Sender, slotFor, packetFor, markRetransmitted, datagramFor}
-use Rattle.window.specs.Resending.{datagramsFrom, markFrom, sentAgain, resending, resend, Resendable}
+use Rattle.window.specs.Resending.{datagramsFrom, markFrom, sentAgain, timeoutExit, resend, Resendable}
 use Rattle.window.specs.declared.SendWindow.{SendWindow}
 use Rattle.window.specs.declared.TimeoutAnswer.the-variants as timeoutAnswer
 use Rattle.window.proofs.Sound.{Sound, slot-low}
@@ -69,7 +69,7 @@ mark-done v n k e = rw e
 pub record Marked (v w : Sender) : Type 0 where
   pub window-size : w .window .«window_size» ≡ v .window .«window_size»
   pub store-length : length (w .store) ≡ length (v .store)
-  pub slot-lengths : (j : ℕ) → lengthOf (slotAt (w .store) j) ≡ lengthOf (slotAt (v .store) j)
+  pub slot-lengths : (j : ℕ) → slotLength (slotAt (w .store) j) ≡ slotLength (slotAt (v .store) j)
 
 set-flags-byte : (store : List ℕ) (j k i f : ℕ) → i < 2 → getD (slotAt (set store (j * 1404 + 3) f) k) i 0 ≡ getD (slotAt store k) i 0
 set-flags-byte store j k i f h =
@@ -80,7 +80,7 @@ pub mark-one : (v : Sender) (n : ℕ) → Marked v (markRetransmitted v n)
 unfolding markRetransmitted
 mark-one v n = record {
   window-size = refl;
-  store-length = length-set (v .store) (slotFor (v .window) n * 1404 + 3) (flagsOf (slotAt (v .store) (slotFor (v .window) n)) / 2 * 2 + 1);
+  store-length = length-set (v .store) (slotFor (v .window) n * 1404 + 3) (slotFlags (slotAt (v .store) (slotFor (v .window) n)) / 2 * 2 + 1);
   slot-lengths = λ j. rw (set-flags-byte (v .store) (slotFor (v .window) n) j 0 _ (omega arith), set-flags-byte (v .store) (slotFor (v .window) n) j 1 _ (omega arith));
 }
 
@@ -117,10 +117,10 @@ marked-resendable v w n k m h = record {
 }
 
 -- the length of a number's datagram
-pub length-low : (s : SendWindow) (store : List ℕ) (n k m : ℕ) → Resendable s store n k → n ≤ m → m < n + k → lengthOf (slotAt store (slotFor s m)) ≤ 1400
+pub length-low : (s : SendWindow) (store : List ℕ) (n k m : ℕ) → Resendable s store n k → n ≤ m → m < n + k → slotLength (slotAt store (slotFor s m)) ≤ 1400
 length-low s store n k m h from below = let e : n + (m - n) ≡ m = omega arith in rw e at (h .lengths (m - n) (omega arith))
 
-pub datagram-length : (v : Sender) (n k m : ℕ) → Resendable (v .window) (v .store) n k → n ≤ m → m < n + k → length (datagramFor v m) ≡ 10 + lengthOf (slotAt (v .store) (slotFor (v .window) m))
+pub datagram-length : (v : Sender) (n k m : ℕ) → Resendable (v .window) (v .store) n k → n ≤ m → m < n + k → length (datagramFor v m) ≡ 10 + slotLength (slotAt (v .store) (slotFor (v .window) m))
 unfolding datagramFor
 datagram-length v n k m h from below =
     made-length (packetFor v m) _
@@ -131,7 +131,7 @@ pub same-lengths : (v w : Sender) (n k : ℕ) → Marked v w → Resendable (v .
 unfolding datagramsFrom
 same-lengths v w n zero m h = refl
 same-lengths v w n (suc k) m h =
-    let slot : lengthOf (slotAt (w .store) (slotFor (w .window) n)) ≡ lengthOf (slotAt (v .store) (slotFor (v .window) n)) = m .slot-lengths (slotFor (w .window) n) ∙ rw (m .window-size) in
+    let slot : slotLength (slotAt (w .store) (slotFor (w .window) n)) ≡ slotLength (slotAt (v .store) (slotFor (v .window) n)) = m .slot-lengths (slotFor (w .window) n) ∙ rw (m .window-size) in
     let one = datagram-length v n (suc k) n h (omega arith) (omega arith) in
     let two = datagram-length w n (suc k) n (marked-resendable v w n (suc k) m h) (omega arith) (omega arith) in
     let rest = same-lengths v w (n + 1) k m (next v n k h) in
@@ -184,15 +184,15 @@ module _ (out part datagram : List ℕ) (at : ℕ) (fit : at + length datagram �
 
 -- the answers of `resend`, one law for each
 module _ (broken counts : Bool) (v : Sender) (n k : ℕ) (out : List ℕ) where
-  pub resend-state : broken ≡ true → resending (timeoutAnswer.Refused State) v out ≡ resend broken counts v n k out
+  pub resend-state : broken ≡ true → timeoutExit (timeoutAnswer.Refused State) v out ≡ resend broken counts v n k out
   unfolding resend verdict firstOf numbered orElse order decide
   resend-state e = rw e
 
-  pub resend-counts : broken ≡ false → counts ≡ true → resending (timeoutAnswer.Refused Counts) v out ≡ resend broken counts v n k out
+  pub resend-counts : broken ≡ false → counts ≡ true → timeoutExit (timeoutAnswer.Refused Counts) v out ≡ resend broken counts v n k out
   unfolding resend verdict firstOf numbered orElse order decide
   resend-counts e f = rw (e, f)
 
-  pub resend-full : broken ≡ false → counts ≡ false → length out < length (sentAgain v n k) → resending (timeoutAnswer.Refused Full) v out ≡ resend broken counts v n k out
+  pub resend-full : broken ≡ false → counts ≡ false → length out < length (sentAgain v n k) → timeoutExit (timeoutAnswer.Refused Full) v out ≡ resend broken counts v n k out
   unfolding resend verdict firstOf numbered orElse order decide
   resend-full e f h = rw (e, f, lt-ltb _ _ h)
 
@@ -200,18 +200,18 @@ module _ (broken counts : Bool) (v : Sender) (n k : ℕ) (out : List ℕ) where
       → verdict (check broken State ∷ check counts Counts ∷ check (ltb (length out) (length (sentAgain v n k))) Full ∷ []) ≡ accepted
   fits e f h = none-true-accepted _ (e, (f, (le-ltb _ _ h, tt)))
 
-  pub resend-nothing : broken ≡ false → counts ≡ false → k ≡ 0 → resending timeoutAnswer.Nothing v out ≡ resend broken counts v n k out
+  pub resend-nothing : broken ≡ false → counts ≡ false → k ≡ 0 → timeoutExit timeoutAnswer.Nothing v out ≡ resend broken counts v n k out
   unfolding resend
   resend-nothing e f z =
       let none = ap length (datagrams-done (markFrom v n k) n k z) in
-      sym (on-accepted (λ (r : Refusal). resending (timeoutAnswer.Refused r) v out) _ (fits e f (omega arith)) ∙ rw (eq-eqb k 0 z))
+      sym (on-accepted (λ (r : Refusal). timeoutExit (timeoutAnswer.Refused r) v out) _ (fits e f (omega arith)) ∙ rw (eq-eqb k 0 z))
 
   pub resend-some : (total : ℕ) (w : Sender) (last : List ℕ) → broken ≡ false → counts ≡ false → (k ≡ 0 → ⊥) → length (sentAgain v n k) ≤ length out
       → total ≡ length (sentAgain v n k) → w ≡ markFrom v n k → last ≡ sentAgain v n k ++ drop (length (sentAgain v n k)) out
-      → resending (timeoutAnswer.Resent total) w last ≡ resend broken counts v n k out
+      → timeoutExit (timeoutAnswer.Resent total) w last ≡ resend broken counts v n k out
   unfolding resend
   resend-some total w last e f z h t m l =
-      rw (t, m, l) (sym (on-accepted (λ (r : Refusal). resending (timeoutAnswer.Refused r) v out) _ (fits e f h) ∙ rw (ne-eqb k 0 z)))
+      rw (t, m, l) (sym (on-accepted (λ (r : Refusal). timeoutExit (timeoutAnswer.Refused r) v out) _ (fits e f h) ∙ rw (ne-eqb k 0 z)))
 
 -- how many numbers matters only where the state isn't refused
 pub resend-count : (broken counts : Bool) (v : Sender) (n k m : ℕ) (out : List ℕ) → (broken ≡ false → k ≡ m) → resend broken counts v n k out ≡ resend broken counts v n m out

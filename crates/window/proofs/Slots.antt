@@ -12,7 +12,7 @@ use Rattle.store.proofs.Laws.{put-length}
 pub use Rattle.store.proofs.Laws.{slot-payload-length}
 use Rattle.window.specs.Slots.{Sender, emptyFrom}
 use Rattle.window.specs.State.{stateBroken}
-use Rattle.window.specs.Sending.{sending, sendChecks, sendChunk}
+use Rattle.window.specs.Sending.{sendExit, sendChecks, sendChunk}
 use Rattle.window.specs.declared.SendAnswer.{SendAnswer}
 use Rattle.window.specs.declared.SendAnswer.the-variants as sendAnswer
 
@@ -30,9 +30,9 @@ pub empty-length : (store : List ℕ) (j : ℕ) → SlotIn store j → length (e
 empty-length store j h = put-length store j (replicate 1404 0) h (length-replicate {A = ℕ} 1404 0)
 
 -- the parts of what a send leaves
-pub sending-is : {S : Type 0} (a : SendAnswer) {v w : S} {out last : List ℕ} → v ≡ w → out ≡ last → sending a v out ≡ sending a w last
+pub sending-is : {S : Type 0} (a : SendAnswer) {v w : S} {out last : List ℕ} → v ≡ w → out ≡ last → sendExit a v out ≡ sendExit a w last
 sending-is a e f = rw (e, f)
 
-pub send-state : (selective : Bool) (v : Sender) (payload out : List ℕ) → stateBroken selective (v .window) (v .store) ≡ true → sending (sendAnswer.Refused State) v out ≡ sendChunk selective v payload out
+pub send-state : (selective : Bool) (v : Sender) (payload out : List ℕ) → stateBroken selective (v .window) (v .store) ≡ true → sendExit (sendAnswer.Refused State) v out ≡ sendChunk selective v payload out
 unfolding sendChunk sendChecks verdict firstOf numbered orElse order decide
 send-state selective v payload out e = rw e

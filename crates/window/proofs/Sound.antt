@@ -10,7 +10,7 @@ use lib.Dec.{ltb}
 use Rattle.refusal.specs.Clauses.{anyOf}
 use Rattle.refusal.specs.Counts.{countLimit}
 use Rattle.refusal.proofs.Laws.{none-of, any-of-none, or-false}
-use Rattle.store.specs.Slot.{slotAt, lengthOf}
+use Rattle.store.specs.Slot.{slotAt, slotLength}
 use Rattle.store.proofs.Laws.{none-found}
 use Rattle.store.specs.Sound.{senderTest, senderSlotBroken, senderSlotsBroken}
 use Rattle.window.specs.State.{windowBroken, storeShort, outstanding, numbersBroken, stateBroken, countsBroken}
@@ -92,7 +92,7 @@ not-broken selective s store h = any-of-none _ (numbers-not-broken s (sound-numb
 
 -- the lengths of a window's slots
 pub slot-low : (selective : Bool) (s : SendWindow) (store : List ℕ) → Sound selective s store → (i : ℕ) → i < s .«window_size»
-    → lengthOf (slotAt store ((s .«send_base» + i) % s .«window_size»)) ≤ 1400
+    → slotLength (slotAt store ((s .«send_base» + i) % s .«window_size»)) ≤ 1400
 unfolding senderSlotsBroken senderSlotBroken
 slot-low selective s store h i l =
     let broken = none-found (s .«window_size») i (senderTest selective store (s .«window_size») (s .«send_base») (outstanding s)) l (h .slots) in

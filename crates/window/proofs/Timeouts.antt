@@ -9,7 +9,7 @@ use lib.Dec.{eqb}
 use Rattle.refusal.specs.declared.Refusal.the-variants.{State, Counts}
 use Rattle.refusal.specs.Order.{order, orElse, numbered, firstOf, verdict, decide}
 use Rattle.window.specs.Slots.{Sender}
-use Rattle.window.specs.Resending.{Resending, resend, timeoutDecision, byTimeoutDecision}
+use Rattle.window.specs.Resending.{TimeoutExit, resend, timeoutDecision, byTimeoutDecision}
 use Rattle.window.specs.declared.TimeoutDecision.{TimeoutDecision}
 use Rattle.window.specs.declared.TimeoutDecision.the-variants as decision
 use Rattle.window.proofs.Resending.{resend-state, resend-counts, resend-nothing}
@@ -42,7 +42,7 @@ resend-decided false false v n k out = by-count (eqb k 0) refl where
       ap (λ (d : TimeoutDecision). byTimeoutDecision d v out) (decision-nothing false false n k refl refl (eqb-true k 0 e)) ∙ resend-nothing false false v n k out refl refl (eqb-true k 0 e)
   by-count false e = ap (λ (d : TimeoutDecision). byTimeoutDecision d v out) (decision-resend false false n k refl refl (eqb-false k 0 e))
 
-pub by-decision : (broken counts : Bool) (v : Sender) (n k : ℕ) (out : List ℕ) (d : TimeoutDecision) {r : Resending Sender} → timeoutDecision broken counts n k ≡ d → r ≡ byTimeoutDecision d v out
+pub by-decision : (broken counts : Bool) (v : Sender) (n k : ℕ) (out : List ℕ) (d : TimeoutDecision) {r : TimeoutExit Sender} → timeoutDecision broken counts n k ≡ d → r ≡ byTimeoutDecision d v out
     → r ≡ resend broken counts v n k out
 by-decision broken counts v n k out d e q = q ∙ ap (λ (f : TimeoutDecision). byTimeoutDecision f v out) (sym e) ∙ resend-decided broken counts v n k out
 

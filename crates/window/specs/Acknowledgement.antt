@@ -10,8 +10,8 @@ use Rattle.packet.specs.Writing.{checkLong}
 use Rattle.packet.specs.Reading.{readChecks, headerOf, payloadOf}
 use Rattle.window.specs.State.{stateBroken, countsBroken}
 use Rattle.window.specs.declared.SendWindow.{SendWindow}
-use Rattle.window.specs.declared.AckRead.{AckRead}
-use Rattle.window.specs.declared.AckRead.the-variants as ackRead
+use Rattle.window.specs.declared.AckReading.{AckReading}
+use Rattle.window.specs.declared.AckReading.the-variants as ackRead
 use Rattle.window.specs.declared.AckDecision.{AckDecision}
 use Rattle.window.specs.declared.AckDecision.the-variants as decision
 use Rattle.window.specs.declared.AckAnswer.{AckAnswer}
@@ -22,7 +22,7 @@ abbrev pub handedChecks : List ℕ → List Check
 handedChecks raw = checkLong (payloadOf raw) ∷ readChecks raw
 
 -- a valid ACK's number; any other datagram that can be read is no ACK
-unfoldable pub readAck : List ℕ → AckRead
+unfoldable pub readAck : List ℕ → AckReading
 readAck raw =
     decide (verdict (handedChecks raw)) ackRead.Refused
     (cond (matches (headerOf raw) (payloadOf raw) && eqb (byteOf (headerOf raw .«pkt_type»)) 2) (ackRead.Ack (headerOf raw .«seq_num»)) ackRead.Other)
@@ -31,7 +31,7 @@ readAck raw =
 abbrev pub inWindow : SendWindow → ℕ → Bool
 inWindow s n = leb (s .«send_base») n && ltb n (s .«next_seq_num»)
 
-abbrev pub byAck : SendWindow → AckRead → AckDecision
+abbrev pub byAck : SendWindow → AckReading → AckDecision
 byAck s (ackRead.Ack n) = cond (inWindow s n) (decision.Accept n) decision.NotAccepted
 byAck s ackRead.Other = decision.NotAccepted
 byAck s (ackRead.Refused r) = decision.NotAccepted
@@ -42,15 +42,15 @@ ackDecision selective s store raw =
     (byAck s (readAck raw))
 
 -- the answer, and the state when the call returns
-pub record Acknowledging (S : Type 0) : Type 0 where
+pub record AckExit (S : Type 0) : Type 0 where
   pub answer : AckAnswer
   pub after : S
 
-abbrev pub acknowledging : {S : Type 0} → AckAnswer → S → Acknowledging S
-acknowledging a v = record { answer = a; after = v }
+abbrev pub ackExit : {S : Type 0} → AckAnswer → S → AckExit S
+ackExit a v = record { answer = a; after = v }
 
 -- v the state, accept what an accepted number makes of it
-unfoldable pub byDecision : {S : Type 0} → AckDecision → S → (ℕ → S) → Acknowledging S
-byDecision (decision.Accept n) v accept = acknowledging answer.Accepted (accept n)
-byDecision decision.NotAccepted v accept = acknowledging answer.NotAccepted v
-byDecision (decision.Refused r) v accept = acknowledging (answer.Refused r) v
+unfoldable pub byDecision : {S : Type 0} → AckDecision → S → (ℕ → S) → AckExit S
+byDecision (decision.Accept n) v accept = ackExit answer.Accepted (accept n)
+byDecision decision.NotAccepted v accept = ackExit answer.NotAccepted v
+byDecision (decision.Refused r) v accept = ackExit (answer.Refused r) v

@@ -6,7 +6,7 @@ use lib.ListN.{length, drop}
 use lib.Dec.{ltb, eqb}
 use Rattle.refusal.specs.declared.Refusal.the-variants.{State, Counts, Full}
 use Rattle.refusal.specs.Order.{check, verdict, decide}
-use Rattle.store.specs.Slot.{slotAt, lengthOf}
+use Rattle.store.specs.Slot.{slotAt, slotLength}
 use Rattle.window.specs.State.{outstanding, stateBroken, countsBroken}
 use Rattle.window.specs.Slots.{Sender, slotFor, markRetransmitted, datagramFor}
 use Rattle.window.specs.declared.SendWindow.{SendWindow}
@@ -30,24 +30,24 @@ abbrev pub sentAgain : Sender → ℕ → ℕ → List ℕ
 sentAgain v n k = datagramsFrom (markFrom v n k) n k
 
 -- the answer, and the state and the buffer when the call returns
-pub record Resending (S : Type 0) : Type 0 where
+pub record TimeoutExit (S : Type 0) : Type 0 where
   pub answer : TimeoutAnswer
   pub after : S
   pub out : List ℕ
 
-abbrev pub resending : {S : Type 0} → TimeoutAnswer → S → List ℕ → Resending S
-resending a s out = record { answer = a; after = s; out = out }
+abbrev pub timeoutExit : {S : Type 0} → TimeoutAnswer → S → List ℕ → TimeoutExit S
+timeoutExit a s out = record { answer = a; after = s; out = out }
 
 -- k numbers from n on; 5 speaks of the very bytes that are written
-unfoldable pub resend : Bool → Bool → Sender → ℕ → ℕ → List ℕ → Resending Sender
+unfoldable pub resend : Bool → Bool → Sender → ℕ → ℕ → List ℕ → TimeoutExit Sender
 resend stateBroken countsBroken v n k out =
     decide (verdict (check stateBroken State ∷ check countsBroken Counts ∷ check (ltb (length out) (length (sentAgain v n k))) Full ∷ []))
-    (λ r. resending (timeoutAnswer.Refused r) v out)
-    (cond (eqb k 0) (resending timeoutAnswer.Nothing v out)
-    (resending (timeoutAnswer.Resent (length (sentAgain v n k))) (markFrom v n k) (sentAgain v n k ++ drop (length (sentAgain v n k)) out)))
+    (λ r. timeoutExit (timeoutAnswer.Refused r) v out)
+    (cond (eqb k 0) (timeoutExit timeoutAnswer.Nothing v out)
+    (timeoutExit (timeoutAnswer.Resent (length (sentAgain v n k))) (markFrom v n k) (sentAgain v n k ++ drop (length (sentAgain v n k)) out)))
 
 -- the lowest outstanding numbers, at most so many
-abbrev pub resendOutstanding : Bool → Sender → ℕ → List ℕ → Resending Sender
+abbrev pub resendOutstanding : Bool → Sender → ℕ → List ℕ → TimeoutExit Sender
 resendOutstanding selective v most out =
     resend (stateBroken selective (v .window) (v .store)) (countsBroken (v .window)) v (v .window .«send_base») (min most (outstanding (v .window))) out
 
@@ -60,10 +60,10 @@ abbrev pub outstandingDecision : Bool → SendWindow → List ℕ → ℕ → Ti
 outstandingDecision selective s store most = timeoutDecision (stateBroken selective s store) (countsBroken s) (s .«send_base») (min most (outstanding s))
 
 -- such a decision carried out
-unfoldable pub byTimeoutDecision : TimeoutDecision → Sender → List ℕ → Resending Sender
+unfoldable pub byTimeoutDecision : TimeoutDecision → Sender → List ℕ → TimeoutExit Sender
 byTimeoutDecision (decision.Resend n k) v out = resend false false v n k out
-byTimeoutDecision decision.Nothing v out = resending timeoutAnswer.Nothing v out
-byTimeoutDecision (decision.Refused r) v out = resending (timeoutAnswer.Refused r) v out
+byTimeoutDecision decision.Nothing v out = timeoutExit timeoutAnswer.Nothing v out
+byTimeoutDecision (decision.Refused r) v out = timeoutExit (timeoutAnswer.Refused r) v out
 
 -- what the functions below the entry points ask: k numbers from n on have slots with lengths in bounds
 pub record Resendable (s : SendWindow) (store : List ℕ) (n k : ℕ) : Type 0 where
@@ -71,4 +71,4 @@ pub record Resendable (s : SendWindow) (store : List ℕ) (n k : ℕ) : Type 0 w
   pub room : s .«window_size» * 1404 ≤ length store
   pub few : k ≤ 32
   pub low : n + k ≤ 4294901760
-  pub lengths : (i : ℕ) → i < k → lengthOf (slotAt store (slotFor s (n + i))) ≤ 1400
+  pub lengths : (i : ℕ) → i < k → slotLength (slotAt store (slotFor s (n + i))) ≤ 1400

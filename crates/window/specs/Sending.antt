@@ -10,33 +10,33 @@ use Rattle.packet.specs.Writing.{checkLong}
 use Rattle.window.specs.State.{windowBroken, storeShort, outstanding, stateBroken, countsBroken}
 use Rattle.window.specs.Slots.{Sender, fresh, hold, firstDatagram}
 use Rattle.window.specs.declared.SendWindow.{SendWindow}
-use Rattle.window.specs.declared.MakeAnswer.{MakeAnswer}
-use Rattle.window.specs.declared.MakeAnswer.the-variants as makeAnswer
+use Rattle.window.specs.declared.SendWindowAnswer.{SendWindowAnswer}
+use Rattle.window.specs.declared.SendWindowAnswer.the-variants as makeAnswer
 use Rattle.window.specs.declared.SendAnswer.{SendAnswer}
 use Rattle.window.specs.declared.SendAnswer.the-variants as sendAnswer
 
 -- making: the answer, and the store when the call returns
-pub record Making (A : Type 0) : Type 0 where
+pub record MakeExit (A : Type 0) : Type 0 where
   pub answer : A
   pub store : List ℕ
 
-abbrev pub making : {A : Type 0} → A → List ℕ → Making A
-making a store = record { answer = a; store = store }
+abbrev pub makeExit : {A : Type 0} → A → List ℕ → MakeExit A
+makeExit a store = record { answer = a; store = store }
 
-unfoldable pub makeWindow : ℕ → List ℕ → Making MakeAnswer
+unfoldable pub makeWindow : ℕ → List ℕ → MakeExit SendWindowAnswer
 makeWindow w store =
     decide (verdict (check (storeShort store w) State ∷ check (windowBroken w) Setup ∷ []))
-    (λ r. making (makeAnswer.Refused r) store)
-    (making (makeAnswer.Window (fresh w store .window)) (fresh w store .store))
+    (λ r. makeExit (makeAnswer.Refused r) store)
+    (makeExit (makeAnswer.Window (fresh w store .window)) (fresh w store .store))
 
 -- sending: the answer, and the state and the buffer when the call returns
-pub record Sending (S : Type 0) : Type 0 where
+pub record SendExit (S : Type 0) : Type 0 where
   pub answer : SendAnswer
   pub after : S
   pub out : List ℕ
 
-abbrev pub sending : {S : Type 0} → SendAnswer → S → List ℕ → Sending S
-sending a v out = record { answer = a; after = v; out = out }
+abbrev pub sendExit : {S : Type 0} → SendAnswer → S → List ℕ → SendExit S
+sendExit a v out = record { answer = a; after = v; out = out }
 
 abbrev pub windowFree : SendWindow → Bool
 windowFree s = ltb (outstanding s) (s .«window_size»)
@@ -51,10 +51,10 @@ sendChecks selective v payload out =
     ∷ []
 
 -- a full window is an ordinary answer
-unfoldable pub sendChunk : Bool → Sender → List ℕ → List ℕ → Sending Sender
+unfoldable pub sendChunk : Bool → Sender → List ℕ → List ℕ → SendExit Sender
 sendChunk selective v payload out =
     decide (verdict (sendChecks selective v payload out))
-    (λ r. sending (sendAnswer.Refused r) v out)
+    (λ r. sendExit (sendAnswer.Refused r) v out)
     (cond (windowFree (v .window))
-    (sending (sendAnswer.Sent (10 + length payload)) (hold v payload) (firstDatagram v payload ++ drop (10 + length payload) out))
-    (sending sendAnswer.WindowFull v out))
+    (sendExit (sendAnswer.Sent (10 + length payload)) (hold v payload) (firstDatagram v payload ++ drop (10 + length payload) out))
+    (sendExit sendAnswer.WindowFull v out))

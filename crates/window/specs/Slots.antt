@@ -6,7 +6,7 @@ use lib.ListN.{drop, replicate}
 use Rattle.packet.specs.Format.{newPacket, made}
 use Rattle.packet.specs.declared.Packet.{Packet}
 use Rattle.packet.specs.declared.PacketType.the-variants.{Data}
-use Rattle.store.specs.Slot.{slotAt, flagsOf, payloadOf, fillSlot, emptySlot, setFlags}
+use Rattle.store.specs.Slot.{slotAt, slotFlags, slotPayload, fillSlot, emptySlot, setFlags}
 use Rattle.window.specs.declared.SendWindow.{SendWindow}
 
 -- a window and its store
@@ -55,14 +55,14 @@ markRetransmitted v n =
       «total_sent» = v .window .«total_sent» + 1;
       retransmissions = v .window .retransmissions + 1;
     })
-    (setFlags (v .store) (slotFor (v .window) n) (flagsOf (slotAt (v .store) (slotFor (v .window) n)) / 2 * 2 + 1))
+    (setFlags (v .store) (slotFor (v .window) n) (slotFlags (slotAt (v .store) (slotFor (v .window) n)) / 2 * 2 + 1))
 
 -- the datagram of number n, as its slot has it
 abbrev pub packetFor : Sender → ℕ → Packet
-packetFor v n = record { «seq_num» = n; «pkt_type» = Data; flags = flagsOf (slotAt (v .store) (slotFor (v .window) n)); checksum = 0 }
+packetFor v n = record { «seq_num» = n; «pkt_type» = Data; flags = slotFlags (slotAt (v .store) (slotFor (v .window) n)); checksum = 0 }
 
 unfoldable pub datagramFor : Sender → ℕ → List ℕ
-datagramFor v n = made (packetFor v n) (payloadOf (slotAt (v .store) (slotFor (v .window) n)))
+datagramFor v n = made (packetFor v n) (slotPayload (slotAt (v .store) (slotFor (v .window) n)))
 
 -- k slots from number n on emptied
 unfoldable pub emptyFrom : List ℕ → ℕ → ℕ → ℕ → List ℕ

@@ -6,17 +6,19 @@ ghost use lib.ListN.{length, drop};
 ghost use mathlib.Core.List.{_++_};
 ghost use Rattle.refusal.specs.Counts.{countLimit};
 ghost use Rattle.window.specs.Acknowledgement.{readAck, ackDecision};
-ghost use Rattle.window.specs.Sending.{making, makeWindow, sending, sendChunk};
+ghost use Rattle.window.specs.Sending.{makeExit, makeWindow, sendExit, sendChunk};
 ghost use Rattle.window.specs.Slots.{sender, fresh, slotFor, hold, firstDatagram, markRetransmitted, datagramFor, emptyFrom, release};
-ghost use Rattle.window.specs.Resending.{datagramsFrom, markFrom, resending, resend, resendOutstanding, outstandingDecision, Resendable};
-ghost use Rattle.store.specs.Slot.{slotAt, lengthOf};
+ghost use Rattle.window.specs.Resending.{datagramsFrom, markFrom, timeoutExit, resend, resendOutstanding, outstandingDecision, Resendable};
+ghost use Rattle.store.specs.Slot.{slotAt, slotLength};
 ghost use Rattle.window.specs.State.{stateBroken, numbersBroken, countsBroken, windowBroken, storeShort};
 ghost use Rattle.window.specs.Outstanding.{inFlightCount, canSend, hasUnackedPackets};
 use packet::Packet;
 use packet::PacketAnswer;
 use packet::PacketType;
 use refusal::COUNT_LIMIT;
+use refusal::CountAnswer;
 use refusal::Refusal;
+use refusal::TestAnswer;
 
 pub const MAX_WINDOW_SIZE: usize = 32;
 
@@ -31,7 +33,7 @@ pub struct SendWindow {
     pub retransmissions: u64,
 }
 
-pub enum MakeAnswer {
+pub enum SendWindowAnswer {
     Window(SendWindow),
     Refused(Refusal),
 }
@@ -49,7 +51,7 @@ pub struct SendResult {
 }
 
 // What a datagram handed to a sender is: a valid ACK with its number, or another.
-pub enum AckRead {
+pub enum AckReading {
     Ack(u32),
     Other,
     Refused(Refusal),
@@ -83,32 +85,22 @@ pub enum TimeoutDecision {
     Refused(Refusal),
 }
 
-pub enum WindowCount {
-    Count(usize),
-    Refused(Refusal),
-}
-
-pub enum WindowTest {
-    Is(bool),
-    Refused(Refusal),
-}
-
 pub struct TimeoutResult {
     pub window: SendWindow,
     pub answer: TimeoutAnswer,
 }
 
 impl SendWindow {
-    pub fn new(window: usize, store: &mut [u8]) -> MakeAnswer
-        ensures { λ r. ⌜ making r (now (store .exit)) ≡ makeWindow window (now (store .entry)) ⌝ }
+    pub fn new(window: usize, store: &mut [u8]) -> SendWindowAnswer
+        ensures { λ r. ⌜ makeExit r (now (store .exit)) ≡ makeWindow window (now (store .entry)) ⌝ }
     {
         if store_short(store, window) {
-            return MakeAnswer::Refused(Refusal::State);
+            return SendWindowAnswer::Refused(Refusal::State);
         }
         if window_broken(window) {
-            return MakeAnswer::Refused(Refusal::Setup);
+            return SendWindowAnswer::Refused(Refusal::Setup);
         }
-        MakeAnswer::Window(SendWindow::new_unchecked(window, store))
+        SendWindowAnswer::Window(SendWindow::new_unchecked(window, store))
     }
 
     // A chunk into its slot and as a datagram to the start of out.
@@ -119,7 +111,7 @@ impl SendWindow {
         payload: &[u8],
         out: &mut [u8],
     ) -> SendResult
-        ensures { λ r. ⌜ sending (r .answer) (sender (r .window) (now (store .exit))) (now (out .exit)) ≡ sendChunk selective (sender self (now (store .entry))) (now (payload .entry)) (now (out .entry)) ⌝ }
+        ensures { λ r. ⌜ sendExit (r .answer) (sender (r .window) (now (store .exit))) (now (out .exit)) ≡ sendChunk selective (sender self (now (store .entry))) (now (payload .entry)) (now (out .entry)) ⌝ }
     {
         let n = payload.len();
         if self.state_broken(store, selective) {
@@ -166,33 +158,33 @@ impl SendWindow {
     }
 
     // How many numbers are outstanding.
-    pub fn in_flight_count(self) -> WindowCount
+    pub fn in_flight_count(self) -> CountAnswer
         ensures { λ r. ⌜ r ≡ inFlightCount self ⌝ }
     {
         if self.numbers_broken() {
-            return WindowCount::Refused(Refusal::State);
+            return CountAnswer::Refused(Refusal::State);
         }
         if self.counts_broken() {
-            return WindowCount::Refused(Refusal::Counts);
+            return CountAnswer::Refused(Refusal::Counts);
         }
-        WindowCount::Count((self.next_seq_num - self.send_base) as usize)
+        CountAnswer::Count((self.next_seq_num - self.send_base) as usize)
     }
 
-    pub fn can_send(self) -> WindowTest
+    pub fn can_send(self) -> TestAnswer
         ensures { λ r. ⌜ r ≡ canSend self ⌝ }
     {
         match self.in_flight_count() {
-            WindowCount::Count(n) => WindowTest::Is(n < self.window_size),
-            WindowCount::Refused(r) => WindowTest::Refused(r),
+            CountAnswer::Count(n) => TestAnswer::Is(n < self.window_size),
+            CountAnswer::Refused(r) => TestAnswer::Refused(r),
         }
     }
 
-    pub fn has_unacked_packets(self) -> WindowTest
+    pub fn has_unacked_packets(self) -> TestAnswer
         ensures { λ r. ⌜ r ≡ hasUnackedPackets self ⌝ }
     {
         match self.in_flight_count() {
-            WindowCount::Count(n) => WindowTest::Is(0 < n),
-            WindowCount::Refused(r) => WindowTest::Refused(r),
+            CountAnswer::Count(n) => TestAnswer::Is(0 < n),
+            CountAnswer::Refused(r) => TestAnswer::Refused(r),
         }
     }
 
@@ -204,7 +196,7 @@ impl SendWindow {
         most: u32,
         out: &mut [u8],
     ) -> TimeoutResult
-        ensures { λ r. ⌜ resending (r .answer) (sender (r .window) (now (store .exit))) (now (out .exit)) ≡ resendOutstanding selective (sender self (now (store .entry))) most (now (out .entry)) ⌝ }
+        ensures { λ r. ⌜ timeoutExit (r .answer) (sender (r .window) (now (store .exit))) (now (out .exit)) ≡ resendOutstanding selective (sender self (now (store .entry))) most (now (out .entry)) ⌝ }
     {
         match self.decide_timeout(store, selective, most) {
             TimeoutDecision::Resend { first, count } => {
@@ -274,7 +266,7 @@ impl SendWindow {
     // Writes a number's datagram, as its slot has it, to the start of out, and answers its length.
     pub fn write_datagram_unchecked(self, store: &[u8], seq_num: u32, out: &mut [u8]) -> usize
         requires { ⌜ (0 < self .«window_size») × (self .«window_size» * 1404 ≤ length (now store)) ⌝ }
-        requires { ⌜ (lengthOf (slotAt (now store) (slotFor self «seq_num»)) ≤ 1400) × (10 + lengthOf (slotAt (now store) (slotFor self «seq_num»)) ≤ length (now out)) ⌝ }
+        requires { ⌜ (slotLength (slotAt (now store) (slotFor self «seq_num»)) ≤ 1400) × (10 + slotLength (slotAt (now store) (slotFor self «seq_num»)) ≤ length (now out)) ⌝ }
         ensures { λ r. ⌜ r ≡ length (datagramFor (sender self (now (store .entry))) «seq_num») ⌝ }
         ensures { λ r. ⌜ now (out .exit) ≡ datagramFor (sender self (now (store .entry))) «seq_num» ++ drop (length (datagramFor (sender self (now (store .entry))) «seq_num»)) (now (out .entry)) ⌝ }
     {
@@ -354,7 +346,7 @@ impl SendWindow {
     ) -> TimeoutResult
         requires { ⌜ Resendable self (now store) first count ⌝ }
         requires { ⌜ (self .«total_sent» < countLimit) × (self .retransmissions < countLimit) ⌝ }
-        ensures { λ r. ⌜ resending (r .answer) (sender (r .window) (now (store .exit))) (now (out .exit)) ≡ resend false false (sender self (now (store .entry))) first count (now (out .entry)) ⌝ }
+        ensures { λ r. ⌜ timeoutExit (r .answer) (sender (r .window) (now (store .exit))) (now (out .exit)) ≡ resend false false (sender self (now (store .entry))) first count (now (out .entry)) ⌝ }
     {
         if count == 0 {
             return TimeoutResult {
@@ -399,9 +391,9 @@ impl SendWindow {
             return AckDecision::Refused(Refusal::Counts);
         }
         match read_ack(raw) {
-            AckRead::Refused(r) => AckDecision::Refused(r),
-            AckRead::Other => AckDecision::NotAccepted,
-            AckRead::Ack(n) => {
+            AckReading::Refused(r) => AckDecision::Refused(r),
+            AckReading::Other => AckDecision::NotAccepted,
+            AckReading::Ack(n) => {
                 if n < self.send_base {
                     return AckDecision::NotAccepted;
                 }
@@ -503,25 +495,25 @@ fn lower(a: u32, b: u32) -> u32
 }
 
 // What a datagram handed to a sender is.
-pub fn read_ack(raw: &[u8]) -> AckRead
+pub fn read_ack(raw: &[u8]) -> AckReading
     ensures { λ r. ⌜ r ≡ readAck (now (raw .entry)) ⌝ }
 {
     let packet = match Packet::from_bytes(raw) {
         PacketAnswer::Packet(p) => p,
-        PacketAnswer::Refused(r) => return AckRead::Refused(r),
+        PacketAnswer::Refused(r) => return AckReading::Refused(r),
     };
     let payload = Packet::payload(raw);
     if Packet::MAX_PAYLOAD_SIZE < payload.len() {
-        return AckRead::Refused(Refusal::Long);
+        return AckReading::Refused(Refusal::Long);
     }
     if !packet.is_valid_unchecked(payload) {
-        return AckRead::Other;
+        return AckReading::Other;
     }
     let pkt_type = packet.pkt_type;
     match pkt_type {
-        PacketType::Ack => AckRead::Ack(packet.seq_num),
-        PacketType::Data => AckRead::Other,
-        PacketType::Fin => AckRead::Other,
+        PacketType::Ack => AckReading::Ack(packet.seq_num),
+        PacketType::Data => AckReading::Other,
+        PacketType::Fin => AckReading::Other,
     }
 }
 

@@ -2,13 +2,13 @@ use Prim.Native.Nat.{_<_}
 use mathlib.Core.Path.{_≡_, _∙_}
 use native.Mathlib.Omega.{arith}
 use lib.Bits.{and-mask}
-use Rattle.checksum.specs.Techniques.{carried}
+use Rattle.checksum.specs.Techniques.{folded}
 use Rattle.checksum.proofs.Carry.{carried-fold}
 use Rattle.checksum.proofs.fold_carries.Statement.{statement}
 use Rattle.checksum.proofs.fold_carries.Tie as tie
 
 abbrev Inv-loop : tie.InvT-loop
-Inv-loop sum s₀ s = (s < 18446744073709551616) × (carried s ≡ carried sum)
+Inv-loop sum s₀ s = (s < 18446744073709551616) × (folded s ≡ folded sum)
 
 abbrev μ-loop : tie.MeasureT-loop
 μ-loop sum s₀ s = s

@@ -3,15 +3,15 @@ use mathlib.Core.List.{List}
 use Prim.Native.Nat.{ℕ}
 use borrow.Author.Needs.{needs}
 use borrow.Author.Tests.{eq-eqb, ne-eqb}
-use Rattle.multi_timer.specs.MultiTimer.{after, newDef}
+use Rattle.multi_timer.specs.MultiTimer.{timersExit, newTimers}
 use Rattle.multi_timer.proofs.Checks.{state-only}
-use Rattle.multi_timer.specs.declared.Making.the-variants.{Made}
+use Rattle.multi_timer.specs.declared.MultiTimerAnswer.the-variants.{Made}
 use Rattle.multi_timer.specs.MultiTimer.{timers}
 use Rattle.multi_timer.proofs.new_timers.Statement.{statement}
 use Rattle.multi_timer.proofs.new_timers.Tie as tie
 
 returns : tie.Need-returns
-unfolding newDef
+unfolding newTimers
 returns c = simp (state-only, ne-eqb _ _ (c .if1 .taken))
 
 clear-keys-requires : tie.Need-clear-keys-requires
@@ -27,9 +27,9 @@ same-length-2 : tie.Need-same-length-2
 same-length-2 c = search needs
 
 returns-2 : tie.Need-returns-2
-unfolding newDef
+unfolding newTimers
 returns-2 c =
-    ap₂ (λ (k d : List ℕ). after (Made (timers 0 0)) k d) (c .before .before .before .before .before .before .clear-keys .ensures) (c .before .before .clear-deadlines .ensures)
+    ap₂ (λ (k d : List ℕ). timersExit (Made (timers 0 0)) k d) (c .before .before .before .before .before .before .clear-keys .ensures) (c .before .before .clear-deadlines .ensures)
     ∙ simp (state-only, eq-eqb _ _ (c .before .before .before .before .before .before .before .before .if1 .left))
 
 pub new-timers-spec : {M : Type 1} → statement M

@@ -3,7 +3,7 @@ use Prim.Native.Nat.{_+_, _-_}
 use native.Mathlib.Omega.{arith}
 use lib.ListN.{length}
 use Rattle.octets.proofs.Laws.{part-written}
-use Rattle.receiver.specs.Reply.{carriedOut}
+use Rattle.receiver.specs.Reply.{applied}
 use Rattle.receiver.proofs.Replies.{room-output, room-ack, replied-is}
 use borrow.Author.Needs.{needs}
 use Rattle.receiver.proofs.carry_out_unchecked.Statement.{statement}
@@ -36,7 +36,7 @@ same-length-2 : tie.Need-same-length-2
 same-length-2 c = search needs
 
 returns : tie.Need-returns
-unfolding carriedOut
+unfolding applied
 returns c =
     let a = c .before .before .before .before .before .before .before .before .before .before .before .before .args in
     simp (c .before .before .before .before .if1 .taken)
@@ -46,7 +46,7 @@ same-length-3 : tie.Need-same-length-3
 same-length-3 c = search needs
 
 returns-2 : tie.Need-returns-2
-unfolding carriedOut
+unfolding applied
 returns-2 c = simp (c .if1 .left) (replied-is (c .before .before .before .before .before .before .before .before .args .filled) refl (c .before .before .before .write-reply .ensures))
 
 pub carry-out-unchecked-spec : {M : Type 1} → statement M

@@ -1,5 +1,5 @@
 use mathlib.Core.Path.{sym, _∙_}
-use Rattle.receiver.specs.Receive.{finish}
+use Rattle.receiver.specs.Receive.{apply}
 use Rattle.receiver.proofs.Receiving.{finish-done}
 use borrow.Author.Needs.{needs}
 use Rattle.receiver.proofs.finish_unchecked.Statement.{statement}
@@ -18,7 +18,7 @@ same-length-2 : tie.Need-same-length-2
 same-length-2 c = search needs
 
 returns : tie.Need-returns
-unfolding finish
+unfolding apply
 returns c = rw (← (c .before .before .before .before .payload .ensures), sym (c .before .room-missing-unchecked .ensures) ∙ c .if1 .taken)
 
 carry-out-unchecked-requires : tie.Need-carry-out-unchecked-requires

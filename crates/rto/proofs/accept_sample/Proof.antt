@@ -5,13 +5,13 @@ use mathlib.Core.Path.{_≡_}
 use mathlib.Core.Bool.{false}
 use Prim.Native.Nat.{ℕ}
 use Rattle.rto.specs.Rto.{limited, estimateFor, sampled, estimatorOf, acceptSample}
-use Rattle.rto.specs.declared.Rtt.the-variants.{Is}
+use Rattle.rto.specs.declared.MaybeDuration.the-variants.{Set}
 use Rattle.rto.proofs.Checks.{broken-config, broken-estimate}
 use Rattle.rto.specs.declared.RtoEstimator.{RtoEstimator}
 use Rattle.rto.specs.declared.RtoStats.{RtoStats}
 use Rattle.rtt.specs.declared.Estimate.{Estimate}
 
-accepted-as : (e : RtoEstimator) (d : ℕ) (x : Estimate) (r : ℕ) (st : RtoStats) → x ≡ estimateFor (e .config) (e .srtt) (e .rttvar) d → r ≡ limited (e .config) (x .rto) → st ≡ sampled (e .stats) d → estimatorOf (e .config) (Is (x .srtt)) (Is (x .rttvar)) r r false 0 st ≡ acceptSample e d
+accepted-as : (e : RtoEstimator) (d : ℕ) (x : Estimate) (r : ℕ) (st : RtoStats) → x ≡ estimateFor (e .config) (e .srtt) (e .rttvar) d → r ≡ limited (e .config) (x .rto) → st ≡ sampled (e .stats) d → estimatorOf (e .config) (Set (x .srtt)) (Set (x .rttvar)) r r false 0 st ≡ acceptSample e d
 unfolding acceptSample
 accepted-as e d x r st p q u = simp (q, u, p)
 

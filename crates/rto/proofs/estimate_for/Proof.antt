@@ -3,7 +3,7 @@ use Rattle.rto.proofs.estimate_for.Statement.{statement}
 use Rattle.rto.proofs.estimate_for.Tie as tie
 use mathlib.Core.Path.{sym, ap, ap₂, _∙_}
 use Rattle.rto.specs.Rto.{estimateBroken, estimateFor}
-use Rattle.rto.specs.declared.Rtt.{Rtt}
+use Rattle.rto.specs.declared.MaybeDuration.{MaybeDuration}
 use Rattle.rto.proofs.Checks.{estimates-fit}
 use Rattle.rto.proofs.Checks.{estimates-fit}
 
@@ -33,15 +33,15 @@ next-estimate-requires c κs =
 
 returns : tie.Need-returns
 unfolding estimateFor
-returns c = c .first-estimate .ensures ∙ sym (ap (λ (x : Rtt). estimateFor (c .before .before .before .args .c) x (c .before .before .before .args .rttvar) (c .before .before .before .args .sample)) (c .before .enum-told .given .1))
+returns c = c .first-estimate .ensures ∙ sym (ap (λ (x : MaybeDuration). estimateFor (c .before .before .before .args .c) x (c .before .before .before .args .rttvar) (c .before .before .before .args .sample)) (c .before .enum-told .given .1))
 
 returns-2 : tie.Need-returns-2
 unfolding estimateFor
-returns-2 c = c .first-estimate2 .ensures ∙ sym (ap₂ (λ (x y : Rtt). estimateFor (c .before .before .before .before .before .before .args .c) x y (c .before .before .before .before .before .before .args .sample)) (c .before .before .before .before .srtt .given .1) (c .before .enum-told2 .given .1))
+returns-2 c = c .first-estimate2 .ensures ∙ sym (ap₂ (λ (x y : MaybeDuration). estimateFor (c .before .before .before .before .before .before .args .c) x y (c .before .before .before .before .before .before .args .sample)) (c .before .before .before .before .srtt .given .1) (c .before .enum-told2 .given .1))
 
 returns-3 : tie.Need-returns-3
 unfolding estimateFor
-returns-3 c = c .next-estimate .ensures ∙ sym (ap₂ (λ (x y : Rtt). estimateFor (c .before .before .before .before .before .before .before .args .c) x y (c .before .before .before .before .before .before .before .args .sample)) (c .before .before .before .before .before .srtt .given .1) (c .before .before .rttvar .given .1))
+returns-3 c = c .next-estimate .ensures ∙ sym (ap₂ (λ (x y : MaybeDuration). estimateFor (c .before .before .before .before .before .before .before .args .c) x y (c .before .before .before .before .before .before .before .args .sample)) (c .before .before .before .before .before .srtt .given .1) (c .before .before .rttvar .given .1))
 
 pub estimate-for-spec : {M : Type 1} → statement M
 estimate-for-spec =

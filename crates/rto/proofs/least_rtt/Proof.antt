@@ -2,7 +2,7 @@ use borrow.Author.Needs.{needs}
 use Rattle.rto.proofs.least_rtt.Statement.{statement}
 use Rattle.rto.proofs.least_rtt.Tie as tie
 use mathlib.Core.Path.{ap}
-use Rattle.rto.specs.declared.Rtt.the-variants.{Is}
+use Rattle.rto.specs.declared.MaybeDuration.the-variants.{Set}
 
 enum-told : tie.Need-enum-told
 enum-told c = search needs
@@ -17,7 +17,7 @@ returns : tie.Need-returns
 returns c = rw (c .enum-told .given .1)
 
 returns-2 : tie.Need-returns-2
-returns-2 c = rw (c .before .before .r .given .1) (ap Is (c .least .ensures))
+returns-2 c = rw (c .before .before .r .given .1) (ap Set (c .least .ensures))
 
 pub least-rtt-spec : {M : Type 1} → statement M
 least-rtt-spec = tie.close (tie.spec enum-told enum-known-r least-requires returns returns-2)

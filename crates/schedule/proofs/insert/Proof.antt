@@ -19,26 +19,26 @@ module _ (s : List (List ℕ)) (count : ℕ) (r : List ℕ) (room : count < leng
   fits : count - at < length (take (length s - at) (drop at s))
   fits = let l = low in let e : length (take (length s - at) (drop at s)) ≡ length s - at = ap length (tail-is at s) ∙ length-drop at s in omega arith
 
-place-for-requires : tie.Need-place-for-requires
-place-for-requires c κs = search needs
+index-for-requires : tie.Need-index-for-requires
+index-for-requires c κs = search needs
 
 mul-insert-first : tie.Need-mul-insert-first
 mul-insert-first c =
     let s = c .before .before in
-    let l = low (s .args .s .now) (s .args .count) (s .args .r) (s .pre .0) (c .place-for .ensures) in
+    let l = low (s .args .s .now) (s .args .count) (s .args .r) (s .pre .0) (c .index-for .ensures) in
     search needs
 
 sub-insert-first : tie.Need-sub-insert-first
 sub-insert-first c =
     let s = c .before .before in
-    let l = low (s .args .s .now) (s .args .count) (s .args .r) (s .pre .0) (c .place-for .ensures) in
+    let l = low (s .args .s .now) (s .args .count) (s .args .r) (s .pre .0) (c .index-for .ensures) in
     let p = s .pre .0 in
     omega arith
 
 part-insert-first-start : tie.Need-part-insert-first-start
 part-insert-first-start c =
     let s = c .before .before in
-    let l = low (s .args .s .now) (s .args .count) (s .args .r) (s .pre .0) (c .place-for .ensures) in
+    let l = low (s .args .s .now) (s .args .count) (s .args .r) (s .pre .0) (c .index-for .ensures) in
     search needs
 
 part-insert-first-end : tie.Need-part-insert-first-end
@@ -47,12 +47,12 @@ part-insert-first-end c = search needs
 sub-insert-first-2 : tie.Need-sub-insert-first-2
 sub-insert-first-2 c =
     let s = c .before .before .before in
-    low (s .args .s .now) (s .args .count) (s .args .r) (s .pre .0) (c .before .place-for .ensures)
+    low (s .args .s .now) (s .args .count) (s .args .r) (s .pre .0) (c .before .index-for .ensures)
 
 insert-first-requires : tie.Need-insert-first-requires
 insert-first-requires c κs =
     let s = c .before .before .before in
-    fits (s .args .s .now) (s .args .count) (s .args .r) (s .pre .0) (c .before .place-for .ensures)
+    fits (s .args .s .now) (s .args .count) (s .args .r) (s .pre .0) (c .before .index-for .ensures)
 
 same-length : tie.Need-same-length
 same-length c = search needs
@@ -60,10 +60,10 @@ same-length c = search needs
 returns : tie.Need-returns
 returns c =
     let s = c .before .before .before .before .before in
-    let found = c .before .before .before .place-for .ensures in
+    let found = c .before .before .before .index-for .ensures in
     let w = take (s .args .count) (s .args .s .now) in
     let rest = drop (s .args .count + 1) (s .args .s .now) in
-    insert-part (s .args .r) (c .before .before .before .place-for .result) (s .args .count) (s .args .s .now) (c .before .insert-first .last .0) (low (s .args .s .now) (s .args .count) (s .args .r) (s .pre .0) found) (s .pre .0) (c .before .insert-first .ensures)
+    insert-part (s .args .r) (c .before .before .before .index-for .result) (s .args .count) (s .args .s .now) (c .before .insert-first .last .0) (low (s .args .s .now) (s .args .count) (s .args .r) (s .pre .0) found) (s .pre .0) (c .before .insert-first .ensures)
     ∙ ap (λ (k : ℕ). (take k w ++ s .args .r ∷ drop k w) ++ rest) found
     ∙ ap (λ (xs : List (List ℕ)). xs ++ rest) (sym (for-inserts after (s .args .r) w))
 
@@ -71,7 +71,7 @@ pub insert-spec : {M : Type 1} → statement M
 insert-spec =
     tie.close
     (tie.spec
-    place-for-requires
+    index-for-requires
     mul-insert-first
     sub-insert-first
     part-insert-first-start

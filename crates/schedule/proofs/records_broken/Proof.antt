@@ -2,35 +2,35 @@ use mathlib.Core.Path.{sym, _∙_}
 use lib.ListN.{take}
 use Rattle.schedule.specs.Record.{vacant}
 use Rattle.schedule.proofs.Sound.{told}
-use Rattle.schedule.proofs.Doubled.{alone-broken, alone-doubled, alone-outside}
+use Rattle.schedule.proofs.Doubled.{any-record-broken, alone-doubled, alone-outside}
 use borrow.Author.Needs.{needs}
 use Rattle.schedule.proofs.records_broken.Statement.{statement}
 use Rattle.schedule.proofs.records_broken.Tie as tie
 
-few-broken-requires : tie.Need-few-broken-requires
-few-broken-requires c κs = search needs
+records-broken-small-requires : tie.Need-records-broken-small-requires
+records-broken-small-requires c κs = search needs
 
 returns : tie.Need-returns
-returns c = c .few-broken .ensures
+returns c = c .records-broken-small .ensures
 
-alone-broken-requires : tie.Need-alone-broken-requires
-alone-broken-requires c κs = search needs
+any-record-broken-requires : tie.Need-any-record-broken-requires
+any-record-broken-requires c κs = search needs
 
 returns-2 : tie.Need-returns-2
 returns-2 c =
     let a = c .before .before .before .args in
-    sym (alone-broken (a .next) (a .places) vacant (take (a .count) (a .s .now)) (told (c .before .alone-broken .ensures) (c .if2 .taken)))
+    sym (any-record-broken (a .next) (a .places) vacant (take (a .count) (a .s .now)) (told (c .before .any-record-broken .ensures) (c .if2 .taken)))
 
 place-doubled-requires : tie.Need-place-doubled-requires
 place-doubled-requires c κs =
     let s = c .before .before .before in
-    (s .pre .0, s .pre .1, alone-outside (s .args .next) (s .args .places) vacant (take (s .args .count) (s .args .s .now)) (told (c .before .alone-broken .ensures) (c .if2 .left)))
+    (s .pre .0, s .pre .1, alone-outside (s .args .next) (s .args .places) vacant (take (s .args .count) (s .args .s .now)) (told (c .before .any-record-broken .ensures) (c .if2 .left)))
 
 returns-3 : tie.Need-returns-3
 returns-3 c =
     let a = c .before .before .before .before .args in
-    c .place-doubled .ensures ∙ sym (alone-doubled (a .next) (a .places) vacant (take (a .count) (a .s .now)) (told (c .before .before .alone-broken .ensures) (c .before .if2 .left)))
+    c .place-doubled .ensures ∙ sym (alone-doubled (a .next) (a .places) vacant (take (a .count) (a .s .now)) (told (c .before .before .any-record-broken .ensures) (c .before .if2 .left)))
 
 pub records-broken-spec : {M : Type 1} → statement M
 records-broken-spec =
-    tie.close (tie.spec few-broken-requires returns alone-broken-requires returns-2 place-doubled-requires returns-3)
+    tie.close (tie.spec records-broken-small-requires returns any-record-broken-requires returns-2 place-doubled-requires returns-3)

@@ -9,7 +9,7 @@ use lib.ListN.{length}
 use Rattle.store.specs.Numbers.{payloadsFrom, writtenAt}
 use Rattle.store.proofs.Tests.{carried-in, carried-below, carried-on}
 use Rattle.store.proofs.Numbers.{payloads-turn, payloads-turn-length, written-length, payloads-end, written-on, written-none}
-use Rattle.store.specs.Slot.{lengthOf, payloadOf, slotAt}
+use Rattle.store.specs.Slot.{slotLength, slotPayload, slotAt}
 use Rattle.store.proofs.copy_payloads_unchecked.Statement.{statement}
 use Rattle.store.proofs.copy_payloads_unchecked.Tie as tie
 
@@ -27,12 +27,12 @@ loop-holds c = (omega arith, refl, rw (add-zero, sub-zero), rw (add-zero, sub-ze
 
 payload-unchecked-requires : tie.Need-payload-unchecked-requires Inv-loop μ-loop
 payload-unchecked-requires c κs = let short = c .before .before .before .before .pre .0 .0 .short (c .before .loop .k) (c .loop-test .taken) in
-    let same = ap (λ (s : ℕ). lengthOf (slotAt (c .before .before .before .before .args .store .now) s)) (c .before .loop .inv .4) in
+    let same = ap (λ (s : ℕ). slotLength (slotAt (c .before .before .before .before .args .store .now) s)) (c .before .loop .inv .4) in
     (carried-in (c .before .before .before .before .args .store .now) _ (c .before .before .before .before .args .first + c .before .loop .k) (c .before .before .before .before .args .window) (c .before .loop .inv .4) (c .before .before .before .before .pre .0 .0 .positive) (c .before .before .before .before .pre .0 .0 .room), omega arith)
 
 add-end : tie.Need-add-end Inv-loop μ-loop
 add-end c =
-    let size = ap length ((c .payload-unchecked .ensures ∙ ap (λ (s : ℕ). payloadOf (slotAt (c .before .before .before .before .before .args .store .now) s)) (c .before .before .loop .inv .4))) in
+    let size = ap length ((c .payload-unchecked .ensures ∙ ap (λ (s : ℕ). slotPayload (slotAt (c .before .before .before .before .before .args .store .now) s)) (c .before .before .loop .inv .4))) in
     let turn = payloads-turn-length (c .before .before .before .before .before .args .store .now) (c .before .before .before .before .before .args .window) (c .before .before .before .before .before .args .first) (c .before .before .loop .k) (c .before .before .before .before .before .args .count) (c .before .loop-test .taken) in
     let same = c .before .before .loop .inv .1 in
     let inv = c .before .before .loop .inv .2 in
@@ -47,7 +47,7 @@ part-copy-unchecked-start c = search needs
 
 part-copy-unchecked-end : tie.Need-part-copy-unchecked-end Inv-loop μ-loop
 part-copy-unchecked-end c =
-    let size = ap length ((c .payload-unchecked .ensures ∙ ap (λ (s : ℕ). payloadOf (slotAt (c .before .before .before .before .before .args .store .now) s)) (c .before .before .loop .inv .4))) in
+    let size = ap length ((c .payload-unchecked .ensures ∙ ap (λ (s : ℕ). slotPayload (slotAt (c .before .before .before .before .before .args .store .now) s)) (c .before .before .loop .inv .4))) in
     let turn = payloads-turn-length (c .before .before .before .before .before .args .store .now) (c .before .before .before .before .before .args .window) (c .before .before .before .before .before .args .first) (c .before .before .loop .k) (c .before .before .before .before .before .args .count) (c .before .loop-test .taken) in
     let same = c .before .before .loop .inv .1 in
     let inv = c .before .before .loop .inv .2 in
@@ -68,7 +68,7 @@ loop-less c = omega arith
 
 loop-again : tie.Need-loop-again Inv-loop μ-loop
 loop-again c =
-    let size = ap length ((c .before .before .before .before .before .payload-unchecked .ensures ∙ ap (λ (s : ℕ). payloadOf (slotAt (c .before .before .before .before .before .before .before .before .before .before .args .store .now) s)) (c .before .before .before .before .before .before .before .loop .inv .4))) in
+    let size = ap length ((c .before .before .before .before .before .payload-unchecked .ensures ∙ ap (λ (s : ℕ). slotPayload (slotAt (c .before .before .before .before .before .before .before .before .before .before .args .store .now) s)) (c .before .before .before .before .before .before .before .loop .inv .4))) in
     let turn = payloads-turn-length (c .before .before .before .before .before .before .before .before .before .before .args .store .now) (c .before .before .before .before .before .before .before .before .before .before .args .window) (c .before .before .before .before .before .before .before .before .before .before .args .first) (c .before .before .before .before .before .before .before .loop .k) (c .before .before .before .before .before .before .before .before .before .before .args .count) (c .before .before .before .before .before .before .loop-test .taken) in
     let same = c .before .before .before .before .before .before .before .loop .inv .1 in
     let inv = c .before .before .before .before .before .before .before .loop .inv .2 in
@@ -81,7 +81,7 @@ loop-again c =
       omega arith,
       ap (λ (b : List ℕ). writtenAt b (c .before .before .before .before .before .before .before .loop .start + length p) (payloadsFrom (c .before .before .before .before .before .before .before .before .before .before .args .store .now) (c .before .before .before .before .before .before .before .before .before .before .args .window) (c .before .before .before .before .before .before .before .before .before .before .args .first + (c .before .before .before .before .before .before .before .loop .k + 1)) (c .before .before .before .before .before .before .before .before .before .before .args .count - (c .before .before .before .before .before .before .before .loop .k + 1)))) over
           ∙ written-on (c .before .before .before .before .before .before .before .loop .buffer) p _ (c .before .before .before .before .before .before .before .loop .start) (omega arith)
-          ∙ ap (writtenAt (c .before .before .before .before .before .before .before .loop .buffer) (c .before .before .before .before .before .before .before .loop .start)) (ap (λ (l : List ℕ). l ++ payloadsFrom (c .before .before .before .before .before .before .before .before .before .before .args .store .now) (c .before .before .before .before .before .before .before .before .before .before .args .window) (c .before .before .before .before .before .before .before .before .before .before .args .first + (c .before .before .before .before .before .before .before .loop .k + 1)) (c .before .before .before .before .before .before .before .before .before .before .args .count - (c .before .before .before .before .before .before .before .loop .k + 1))) ((c .before .before .before .before .before .payload-unchecked .ensures ∙ ap (λ (s : ℕ). payloadOf (slotAt (c .before .before .before .before .before .before .before .before .before .before .args .store .now) s)) (c .before .before .before .before .before .before .before .loop .inv .4))) ∙ payloads-turn (c .before .before .before .before .before .before .before .before .before .before .args .store .now) (c .before .before .before .before .before .before .before .before .before .before .args .window) (c .before .before .before .before .before .before .before .before .before .before .args .first) (c .before .before .before .before .before .before .before .loop .k) (c .before .before .before .before .before .before .before .before .before .before .args .count) (c .before .before .before .before .before .before .loop-test .taken))
+          ∙ ap (writtenAt (c .before .before .before .before .before .before .before .loop .buffer) (c .before .before .before .before .before .before .before .loop .start)) (ap (λ (l : List ℕ). l ++ payloadsFrom (c .before .before .before .before .before .before .before .before .before .before .args .store .now) (c .before .before .before .before .before .before .before .before .before .before .args .window) (c .before .before .before .before .before .before .before .before .before .before .args .first + (c .before .before .before .before .before .before .before .loop .k + 1)) (c .before .before .before .before .before .before .before .before .before .before .args .count - (c .before .before .before .before .before .before .before .loop .k + 1))) ((c .before .before .before .before .before .payload-unchecked .ensures ∙ ap (λ (s : ℕ). slotPayload (slotAt (c .before .before .before .before .before .before .before .before .before .before .args .store .now) s)) (c .before .before .before .before .before .before .before .loop .inv .4))) ∙ payloads-turn (c .before .before .before .before .before .before .before .before .before .before .args .store .now) (c .before .before .before .before .before .before .before .before .before .before .args .window) (c .before .before .before .before .before .before .before .before .before .before .args .first) (c .before .before .before .before .before .before .before .loop .k) (c .before .before .before .before .before .before .before .before .before .before .args .count) (c .before .before .before .before .before .before .loop-test .taken))
           ∙ c .before .before .before .before .before .before .before .loop .inv .3,
       carried-on _ _ (c .before .before .before .before .before .before .before .before .before .before .args .first) (c .before .before .before .before .before .before .before .loop .k) (c .before .before .before .before .before .before .before .before .before .before .args .window) (c .before .before .before .before .before .before .before .loop .inv .4) (c .next-slot-unchecked .ensures),
     )

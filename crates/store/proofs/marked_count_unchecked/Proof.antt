@@ -8,7 +8,7 @@ use mathlib.Core.Logic.{⊎-elim}
 use Rattle.store.specs.Numbers.{marked, markedCount}
 use Rattle.store.proofs.Tests.{carried-in, carried-below, carried-on}
 use Rattle.store.proofs.Numbers.{count-turn, count-end, count-within}
-use Rattle.store.specs.Slot.{markOf, slotAt}
+use Rattle.store.specs.Slot.{slotMark, slotAt}
 use Rattle.store.proofs.marked_count_unchecked.Statement.{statement}
 use Rattle.store.proofs.marked_count_unchecked.Tie as tie
 
@@ -43,8 +43,8 @@ loop-again : tie.Need-loop-again Inv-loop μ-loop
 loop-again c =
     let here = marked (c .before .before .before .before .before .before .args .mark) (c .before .before .before .before .before .before .args .store .now) (c .before .before .before .before .before .before .args .window) (c .before .before .before .before .before .before .args .first + c .before .before .before .before .loop .k) in
     let total : c .before .if1 .total ≡ c .before .before .before .before .loop .total + cond here 1 0 = ⊎-elim
-    (λ came. came .1 ∙ sym (ap (λ (b : Bool). c .before .before .before .before .loop .total + cond b 1 0) (eq-eqb _ _ (sym ((c .before .before .mark-unchecked .ensures ∙ ap (λ (s : ℕ). markOf (slotAt (c .before .before .before .before .before .before .args .store .now) s)) (c .before .before .before .before .loop .inv .2))) ∙ came .0 .taken))))
-    (λ came. came .1 ∙ sym (ap (λ (b : Bool). c .before .before .before .before .loop .total + cond b 1 0) (ne-eqb _ _ (λ e. came .0 .left ((c .before .before .mark-unchecked .ensures ∙ ap (λ (s : ℕ). markOf (slotAt (c .before .before .before .before .before .before .args .store .now) s)) (c .before .before .before .before .loop .inv .2)) ∙ e))) ∙ add-zero (c .before .before .before .before .loop .total)))
+    (λ came. came .1 ∙ sym (ap (λ (b : Bool). c .before .before .before .before .loop .total + cond b 1 0) (eq-eqb _ _ (sym ((c .before .before .mark-unchecked .ensures ∙ ap (λ (s : ℕ). slotMark (slotAt (c .before .before .before .before .before .before .args .store .now) s)) (c .before .before .before .before .loop .inv .2))) ∙ came .0 .taken))))
+    (λ came. came .1 ∙ sym (ap (λ (b : Bool). c .before .before .before .before .loop .total + cond b 1 0) (ne-eqb _ _ (λ e. came .0 .left ((c .before .before .mark-unchecked .ensures ∙ ap (λ (s : ℕ). slotMark (slotAt (c .before .before .before .before .before .before .args .store .now) s)) (c .before .before .before .before .loop .inv .2)) ∙ e))) ∙ add-zero (c .before .before .before .before .loop .total)))
     (c .before .if1 .came) in
     let turn = count-turn (c .before .before .before .before .before .before .args .store .now) (c .before .before .before .before .before .before .args .window) (c .before .before .before .before .before .before .args .first) (c .before .before .before .before .loop .k) (c .before .before .before .before .before .before .args .count) (c .before .before .before .loop-test .taken) (c .before .before .before .before .before .before .args .mark) in
     let inv = c .before .before .before .before .loop .inv .1 in

@@ -7,7 +7,7 @@ use native.Mathlib.Nat.{add-zero, sub-zero, zero-add}
 use Rattle.store.specs.Numbers.{marked, markedRun}
 use Rattle.store.proofs.Tests.{carried-in, carried-below, carried-on}
 use Rattle.store.proofs.Numbers.{run-turn, run-stop, run-end}
-use Rattle.store.specs.Slot.{markOf, slotAt}
+use Rattle.store.specs.Slot.{slotMark, slotAt}
 use Rattle.store.proofs.marked_run_unchecked.Statement.{statement}
 use Rattle.store.proofs.marked_run_unchecked.Tie as tie
 
@@ -28,7 +28,7 @@ mark-unchecked-requires c κs = carried-in (c .before .before .before .args .sto
 
 returns : tie.Need-returns Inv-loop μ-loop
 returns c =
-    let other : marked (c .before .before .before .before .before .args .mark) (c .before .before .before .before .before .args .store .now) (c .before .before .before .before .before .args .window) (c .before .before .before .before .before .args .first + c .before .before .before .loop .k) ≡ false = ne-eqb _ _ (λ e. c .if1 .taken ((c .before .mark-unchecked .ensures ∙ ap (λ (s : ℕ). markOf (slotAt (c .before .before .before .before .before .args .store .now) s)) (c .before .before .before .loop .inv .2)) ∙ e)) in
+    let other : marked (c .before .before .before .before .before .args .mark) (c .before .before .before .before .before .args .store .now) (c .before .before .before .before .before .args .window) (c .before .before .before .before .before .args .first + c .before .before .before .loop .k) ≡ false = ne-eqb _ _ (λ e. c .if1 .taken ((c .before .mark-unchecked .ensures ∙ ap (λ (s : ℕ). slotMark (slotAt (c .before .before .before .before .before .args .store .now) s)) (c .before .before .before .loop .inv .2)) ∙ e)) in
     let inv = c .before .before .before .loop .inv .1 in
     let stop = run-stop (c .before .before .before .before .before .args .mark) (c .before .before .before .before .before .args .store .now) (c .before .before .before .before .before .args .window) (c .before .before .before .before .before .args .first + c .before .before .before .loop .k) (c .before .before .before .before .before .args .count - c .before .before .before .loop .k) other in
     omega arith
@@ -44,7 +44,7 @@ loop-less c = omega arith
 
 loop-again : tie.Need-loop-again Inv-loop μ-loop
 loop-again c =
-    let same : marked (c .before .before .before .before .before .before .args .mark) (c .before .before .before .before .before .before .args .store .now) (c .before .before .before .before .before .before .args .window) (c .before .before .before .before .before .before .args .first + c .before .before .before .before .loop .k) ≡ true = eq-eqb _ _ (sym ((c .before .before .mark-unchecked .ensures ∙ ap (λ (s : ℕ). markOf (slotAt (c .before .before .before .before .before .before .args .store .now) s)) (c .before .before .before .before .loop .inv .2))) ∙ c .before .if1 .left) in
+    let same : marked (c .before .before .before .before .before .before .args .mark) (c .before .before .before .before .before .before .args .store .now) (c .before .before .before .before .before .before .args .window) (c .before .before .before .before .before .before .args .first + c .before .before .before .before .loop .k) ≡ true = eq-eqb _ _ (sym ((c .before .before .mark-unchecked .ensures ∙ ap (λ (s : ℕ). slotMark (slotAt (c .before .before .before .before .before .before .args .store .now) s)) (c .before .before .before .before .loop .inv .2))) ∙ c .before .if1 .left) in
     (omega arith, run-turn (c .before .before .before .before .before .before .args .store .now) (c .before .before .before .before .before .before .args .window) (c .before .before .before .before .before .before .args .first) (c .before .before .before .before .loop .k) (c .before .before .before .before .before .before .args .count) (c .before .before .before .loop-test .taken) (c .before .before .before .before .before .before .args .mark) same ∙ c .before .before .before .before .loop .inv .1, carried-on _ _ (c .before .before .before .before .before .before .args .first) (c .before .before .before .before .loop .k) (c .before .before .before .before .before .before .args .window) (c .before .before .before .before .loop .inv .2) (c .next-slot-unchecked .ensures))
 
 returns-2 : tie.Need-returns-2 Inv-loop μ-loop

@@ -8,7 +8,7 @@ use Rattle.store.specs.Numbers.{payloadsFrom}
 use Rattle.store.proofs.Tests.{slot-in, carried-in, carried-below, carried-on}
 use Rattle.store.proofs.Laws.{slot-payload-length}
 use Rattle.store.proofs.Numbers.{payloads-turn-length, payloads-end}
-use Rattle.store.specs.Slot.{lengthOf, slotAt}
+use Rattle.store.specs.Slot.{slotLength, slotAt}
 use Rattle.store.proofs.payloads_length_unchecked.Statement.{statement}
 use Rattle.store.proofs.payloads_length_unchecked.Tie as tie
 
@@ -31,7 +31,7 @@ cast-total : tie.Need-cast-total Inv-loop μ-loop
 cast-total c = search needs
 
 add-total : tie.Need-add-total Inv-loop μ-loop
-add-total c = let n = c .length-unchecked .ensures ∙ ap (λ (s : ℕ). lengthOf (slotAt (c .before .before .before .before .args .store .now) s)) (c .before .before .loop .inv .3) in let short = c .before .before .before .before .pre .0 .short (c .before .before .loop .k) (c .before .loop-test .taken) in let few = c .before .before .before .before .pre .1 in omega arith
+add-total c = let n = c .length-unchecked .ensures ∙ ap (λ (s : ℕ). slotLength (slotAt (c .before .before .before .before .args .store .now) s)) (c .before .before .loop .inv .3) in let short = c .before .before .before .before .pre .0 .short (c .before .before .loop .k) (c .before .loop-test .taken) in let few = c .before .before .before .before .pre .1 in omega arith
 
 next-slot-unchecked-requires : tie.Need-next-slot-unchecked-requires Inv-loop μ-loop
 next-slot-unchecked-requires c κs = carried-below _ (c .before .before .before .before .args .first + c .before .before .loop .k) (c .before .before .before .before .args .window) (c .before .before .loop .inv .3) (c .before .before .before .before .pre .0 .positive)
@@ -45,7 +45,7 @@ loop-less c = omega arith
 loop-again : tie.Need-loop-again Inv-loop μ-loop
 loop-again c =
     let short = c .before .before .before .before .before .pre .0 .short (c .before .before .before .loop .k) (c .before .before .loop-test .taken) in
-    let n = (c .before .length-unchecked .ensures ∙ ap (λ (s : ℕ). lengthOf (slotAt (c .before .before .before .before .before .args .store .now) s)) (c .before .before .before .loop .inv .3)) in
+    let n = (c .before .length-unchecked .ensures ∙ ap (λ (s : ℕ). slotLength (slotAt (c .before .before .before .before .before .args .store .now) s)) (c .before .before .before .loop .inv .3)) in
     let size = slot-payload-length (c .before .before .before .before .before .args .store .now) ((c .before .before .before .before .before .args .first + c .before .before .before .loop .k) % c .before .before .before .before .before .args .window) (slot-in (c .before .before .before .before .before .args .store .now) (c .before .before .before .before .before .args .first + c .before .before .before .loop .k) (c .before .before .before .before .before .args .window) (c .before .before .before .before .before .pre .0 .positive) (c .before .before .before .before .before .pre .0 .room)) short in
     let turn = (payloads-turn-length (c .before .before .before .before .before .args .store .now) (c .before .before .before .before .before .args .window) (c .before .before .before .before .before .args .first) (c .before .before .before .loop .k) (c .before .before .before .before .before .args .count) (c .before .before .loop-test .taken)) in
     let inv = c .before .before .before .loop .inv .2 in

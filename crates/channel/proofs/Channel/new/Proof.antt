@@ -1,6 +1,6 @@
 use Rattle.schedule.proofs.Laws.{told}
 use Rattle.refusal.specs.Order.{verdict, firstOf, numbered, orElse, decide, order}
-use Rattle.channel.specs.Process.{newDef}
+use Rattle.channel.specs.Process.{newChannel}
 use borrow.Author.Needs.{needs}
 use Rattle.channel.proofs.Channel.new.Statement.{statement}
 use Rattle.channel.proofs.Channel.new.Tie as tie
@@ -9,11 +9,11 @@ config-broken-requires : tie.Need-config-broken-requires
 config-broken-requires c κs = search needs
 
 returns : tie.Need-returns
-unfolding newDef verdict firstOf numbered orElse decide order
+unfolding newChannel verdict firstOf numbered orElse decide order
 returns c = simp (told (c .before .config-broken .ensures) (c .if1 .taken))
 
 returns-2 : tie.Need-returns-2
-unfolding newDef verdict firstOf numbered orElse decide order
+unfolding newChannel verdict firstOf numbered orElse decide order
 returns-2 c = simp (told (c .before .config-broken .ensures) (c .if1 .left))
 
 pub new-spec : {M : Type 1} → statement M

@@ -4,20 +4,20 @@ use borrow.Author.Needs.{needs}
 use Rattle.channel.proofs.Rolls.rolls_broken.Statement.{statement}
 use Rattle.channel.proofs.Rolls.rolls_broken.Tie as tie
 
-four-broken-requires : tie.Need-four-broken-requires
-four-broken-requires c κs = search needs
+any-roll-broken-requires : tie.Need-any-roll-broken-requires
+any-roll-broken-requires c κs = search needs
 
 returns : tie.Need-returns
 unfolding rollsBroken
-returns c = simp (told (c .before .four-broken .ensures) (c .if1 .taken))
+returns c = simp (told (c .before .any-roll-broken .ensures) (c .if1 .taken))
 
-four-broken-requires-2 : tie.Need-four-broken-requires-2
-four-broken-requires-2 c κs = search needs
+any-roll-broken-requires-2 : tie.Need-any-roll-broken-requires-2
+any-roll-broken-requires-2 c κs = search needs
 
 returns-2 : tie.Need-returns-2
 unfolding rollsBroken
-returns-2 c = simp (told (c .before .before .four-broken .ensures) (c .before .if1 .left)) (c .four-broken2 .ensures)
+returns-2 c = simp (told (c .before .before .any-roll-broken .ensures) (c .before .if1 .left)) (c .any-roll-broken2 .ensures)
 
 pub rolls-broken-spec : {M : Type 1} → statement M
 rolls-broken-spec =
-    tie.close (tie.spec four-broken-requires returns four-broken-requires-2 returns-2)
+    tie.close (tie.spec any-roll-broken-requires returns any-roll-broken-requires-2 returns-2)

@@ -2,7 +2,7 @@ use borrow.Author.Needs.{needs}
 use Rattle.rto.proofs.RtoEstimator.mean_rtt_ms.Statement.{statement}
 use Rattle.rto.proofs.RtoEstimator.mean_rtt_ms.Tie as tie
 use mathlib.Core.Path.{sym, ap, _∙_}
-use Rattle.rto.specs.Rto.{meanRttMsDef}
+use Rattle.rto.specs.Rto.{meanRttMs}
 use Rattle.rto.proofs.Checks.{refused-state, refused-counts, refused-time, accepted-call}
 use Rattle.rto.specs.declared.MeanAnswer.the-variants.{Millis}
 
@@ -10,28 +10,28 @@ state-broken-requires : tie.Need-state-broken-requires
 state-broken-requires c κs = search needs
 
 returns : tie.Need-returns
-unfolding meanRttMsDef
+unfolding meanRttMs
 returns c = refused-state _ _ _ _ _ (sym (c .before .state-broken .ensures) ∙ c .if1 .taken)
 
 counts-full-requires : tie.Need-counts-full-requires
 counts-full-requires c κs = search needs
 
 returns-2 : tie.Need-returns-2
-unfolding meanRttMsDef
+unfolding meanRttMs
 returns-2 c = refused-counts _ _ _ _ _ (sym (c .before .before .before .state-broken .ensures) ∙ c .before .before .if1 .left) (sym (c .before .counts-full .ensures) ∙ c .if2 .taken)
 
 held-too-long-requires : tie.Need-held-too-long-requires
 held-too-long-requires c κs = search needs
 
 returns-3 : tie.Need-returns-3
-unfolding meanRttMsDef
+unfolding meanRttMs
 returns-3 c = refused-time _ _ _ _ _ (sym (c .before .before .before .before .before .state-broken .ensures) ∙ c .before .before .before .before .if1 .left) (sym (c .before .before .before .counts-full .ensures) ∙ c .before .before .if2 .left) (sym (c .before .held-too-long .ensures) ∙ c .if3 .taken)
 
 mean-rtt-ms-unchecked-requires : tie.Need-mean-rtt-ms-unchecked-requires
 mean-rtt-ms-unchecked-requires c κs = search needs
 
 returns-4 : tie.Need-returns-4
-unfolding meanRttMsDef
+unfolding meanRttMs
 returns-4 c = accepted-call _ _ _ _ _ _ (sym (c .before .before .before .before .before .before .state-broken .ensures) ∙ c .before .before .before .before .before .if1 .left) (sym (c .before .before .before .before .counts-full .ensures) ∙ c .before .before .before .if2 .left) (sym (c .before .before .held-too-long .ensures) ∙ c .before .if3 .left) (ap Millis (c .mean-rtt-ms-unchecked .ensures))
 
 pub mean-rtt-ms-spec : {M : Type 1} → statement M

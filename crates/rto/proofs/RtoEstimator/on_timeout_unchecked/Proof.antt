@@ -2,7 +2,7 @@ use borrow.Author.Needs.{needs}
 use Rattle.rto.proofs.RtoEstimator.on_timeout_unchecked.Statement.{statement}
 use Rattle.rto.proofs.RtoEstimator.on_timeout_unchecked.Tie as tie
 use native.Mathlib.Omega.{arith}
-use Rattle.rto.specs.Rto.{backOff}
+use Rattle.rto.specs.Rto.{onTimeoutUnchecked}
 use Rattle.rto.proofs.Checks.{count-below}
 
 next-consecutive-requires : tie.Need-next-consecutive-requires
@@ -24,7 +24,7 @@ limit-requires : tie.Need-limit-requires
 limit-requires c κs = search needs
 
 returns : tie.Need-returns
-unfolding backOff
+unfolding onTimeoutUnchecked
 returns c = simp (c .limit .ensures, c .before .before .before .before .most-consecutive .ensures, c .before .before .before .before .before .next-consecutive .ensures)
 
 pub on-timeout-unchecked-spec : {M : Type 1} → statement M

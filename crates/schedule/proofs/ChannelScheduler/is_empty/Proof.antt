@@ -1,6 +1,6 @@
-use Rattle.schedule.specs.State.{mem}
-use Rattle.schedule.specs.Schedule.{emptyDef}
-use Rattle.schedule.specs.declared.Emptiness.the-variants as emptiness
+use Rattle.schedule.specs.State.{schedule}
+use Rattle.schedule.specs.Schedule.{isEmpty}
+use Rattle.refusal.specs.declared.TestAnswer.the-variants as emptiness
 use Rattle.schedule.proofs.Calls.{reading-refused, reading-sound}
 use borrow.Author.Needs.{needs}
 use Rattle.schedule.proofs.ChannelScheduler.is_empty.Statement.{statement}
@@ -16,17 +16,17 @@ enum-told : tie.Need-enum-told
 enum-told c = search needs
 
 returns : tie.Need-returns
-unfolding emptyDef
+unfolding isEmpty
 returns c =
     let s = c .before .before .before .before .before in
-    let m = mem (s .args .records .now) (s .args .places .now) (s .args .self) in
+    let m = schedule (s .args .records .now) (s .args .places .now) (s .args .self) in
     reading-refused m emptiness.Refused _ (c .before .before .before .held .ensures) (c .before .r .given .1)
 
 returns-2 : tie.Need-returns-2
-unfolding emptyDef
+unfolding isEmpty
 returns-2 c =
     let s = c .before .before .before .before .before in
-    let m = mem (s .args .records .now) (s .args .places .now) (s .args .self) in
+    let m = schedule (s .args .records .now) (s .args .places .now) (s .args .self) in
     reading-sound m emptiness.Refused _ (c .before .before .before .held .ensures) (c .before .enum-told .given .1)
 
 pub is-empty-spec : {M : Type 1} → statement M

@@ -1,6 +1,6 @@
-use Rattle.schedule.specs.State.{mem}
-use Rattle.schedule.specs.Schedule.{lenDef}
-use Rattle.schedule.specs.declared.Amount.the-variants as amount
+use Rattle.schedule.specs.State.{schedule}
+use Rattle.schedule.specs.Schedule.{len}
+use Rattle.refusal.specs.declared.CountAnswer.the-variants as amount
 use Rattle.schedule.proofs.Calls.{reading-refused, reading-sound}
 use borrow.Author.Needs.{needs}
 use Rattle.schedule.proofs.ChannelScheduler.len.Statement.{statement}
@@ -16,17 +16,17 @@ enum-told : tie.Need-enum-told
 enum-told c = search needs
 
 returns : tie.Need-returns
-unfolding lenDef
+unfolding len
 returns c =
     let s = c .before .before .before .before .before in
-    let m = mem (s .args .records .now) (s .args .places .now) (s .args .self) in
+    let m = schedule (s .args .records .now) (s .args .places .now) (s .args .self) in
     reading-refused m amount.Refused _ (c .before .before .before .held .ensures) (c .before .r .given .1)
 
 returns-2 : tie.Need-returns-2
-unfolding lenDef
+unfolding len
 returns-2 c =
     let s = c .before .before .before .before in
-    let m = mem (s .args .records .now) (s .args .places .now) (s .args .self) in
+    let m = schedule (s .args .records .now) (s .args .places .now) (s .args .self) in
     reading-sound m amount.Refused _ (c .before .before .held .ensures) (c .enum-told .given .1)
 
 pub len-spec : {M : Type 1} → statement M

@@ -1,6 +1,6 @@
-use Rattle.schedule.specs.State.{mem}
-use Rattle.schedule.specs.Schedule.{deadlineDef}
-use Rattle.schedule.specs.declared.Deadline.the-variants as deadline
+use Rattle.schedule.specs.State.{schedule}
+use Rattle.schedule.specs.Schedule.{nextDeadline}
+use Rattle.schedule.specs.declared.DeadlineAnswer.the-variants as deadline
 use Rattle.schedule.proofs.Calls.{reading-refused, reading-sound, found-sound}
 use Rattle.schedule.proofs.Memory.{within}
 use mathlib.Core.Path.{_∙_}
@@ -20,21 +20,21 @@ enum-told c = search needs
 next-deadline-unchecked-requires : tie.Need-next-deadline-unchecked-requires
 next-deadline-unchecked-requires c κs =
     let s = c .before .before .before .before in
-    let m = mem (s .args .records .now) (s .args .places .now) (s .args .self) in
+    let m = schedule (s .args .records .now) (s .args .places .now) (s .args .self) in
     within m (found-sound m (c .before .before .held .ensures) (c .enum-told .given .1))
 
 returns : tie.Need-returns
-unfolding deadlineDef
+unfolding nextDeadline
 returns c =
     let s = c .before .before .before .before .before in
-    let m = mem (s .args .records .now) (s .args .places .now) (s .args .self) in
+    let m = schedule (s .args .records .now) (s .args .places .now) (s .args .self) in
     reading-refused m deadline.Refused _ (c .before .before .before .held .ensures) (c .before .r .given .1)
 
 returns-2 : tie.Need-returns-2
-unfolding deadlineDef
+unfolding nextDeadline
 returns-2 c =
     let s = c .before .before .before .before .before in
-    let m = mem (s .args .records .now) (s .args .places .now) (s .args .self) in
+    let m = schedule (s .args .records .now) (s .args .places .now) (s .args .self) in
     c .next-deadline-unchecked .ensures ∙ reading-sound m deadline.Refused _ (c .before .before .before .held .ensures) (c .before .enum-told .given .1)
 
 pub next-deadline-spec : {M : Type 1} → statement M

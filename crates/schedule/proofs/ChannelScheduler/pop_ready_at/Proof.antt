@@ -1,6 +1,6 @@
 use borrow.Author.Tests.{le-leb, lt-leb}
 use Rattle.refusal.specs.Counts.{countLimit}
-use Rattle.schedule.specs.State.{mem, late, heldLate, waitingRecords}
+use Rattle.schedule.specs.State.{schedule, late, heldLate, waitingRecords}
 use Rattle.schedule.proofs.Sound.{told}
 use Rattle.schedule.proofs.Memory.{in-order, within}
 use Rattle.schedule.proofs.Calls.{no-deliveries, pop-state, pop-counts, pop-time, pop-full, pop-done}
@@ -20,7 +20,7 @@ same-length-2 c = search needs
 returns : tie.Need-returns
 returns c =
     let s = c .before .before .before .before .before .before in
-    let m = mem (s .args .records .now) (s .args .places .now) (s .args .self) in
+    let m = schedule (s .args .records .now) (s .args .places .now) (s .args .self) in
     pop-state m (s .args .now) (s .args .out .now) (told (c .before .state-broken .ensures) (c .if1 .taken))
 
 same-length-3 : tie.Need-same-length-3
@@ -32,13 +32,13 @@ same-length-4 c = search needs
 returns-2 : tie.Need-returns-2
 returns-2 c =
     let s = c .before .before .before .before .before .before .before .before in
-    let m = mem (s .args .records .now) (s .args .places .now) (s .args .self) in
+    let m = schedule (s .args .records .now) (s .args .places .now) (s .args .self) in
     pop-counts m (s .args .now) (s .args .out .now) (told (c .before .before .before .state-broken .ensures) (c .before .before .if1 .left)) (le-leb countLimit (s .args .self .«next_order») (c .if2 .taken))
 
 time-late-requires : tie.Need-time-late-requires
 time-late-requires c κs =
     let s = c .before .before .before .before .before .before .before .before .before in
-    let m = mem (s .args .records .now) (s .args .places .now) (s .args .self) in
+    let m = schedule (s .args .records .now) (s .args .places .now) (s .args .self) in
     let e = told (c .before .before .before .before .state-broken .ensures) (c .before .before .before .if1 .left) in
     (within m e, in-order m e)
 
@@ -51,13 +51,13 @@ same-length-6 c = search needs
 returns-3 : tie.Need-returns-3
 returns-3 c =
     let s = c .before .before .before .before .before .before .before .before .before .before .before in
-    let m = mem (s .args .records .now) (s .args .places .now) (s .args .self) in
+    let m = schedule (s .args .records .now) (s .args .places .now) (s .args .self) in
     pop-time m (s .args .now) (s .args .out .now) (told (c .before .before .before .before .before .before .state-broken .ensures) (c .before .before .before .before .before .if1 .left)) (lt-leb countLimit (s .args .self .«next_order») (c .before .before .before .if2 .left)) (no-deliveries (late (s .args .now)) (heldLate (waitingRecords m)) (c .before .time-late .ensures) (c .if3 .taken))
 
 out-short-requires : tie.Need-out-short-requires
 out-short-requires c κs =
     let s = c .before .before .before .before .before .before .before .before .before .before .before .before in
-    let m = mem (s .args .records .now) (s .args .places .now) (s .args .self) in
+    let m = schedule (s .args .records .now) (s .args .places .now) (s .args .self) in
     within m (told (c .before .before .before .before .before .before .before .state-broken .ensures) (c .before .before .before .before .before .before .if1 .left))
 
 same-length-7 : tie.Need-same-length-7
@@ -69,7 +69,7 @@ same-length-8 c = search needs
 returns-4 : tie.Need-returns-4
 returns-4 c =
     let s = c .before .before .before .before .before .before .before .before .before .before .before .before .before .before in
-    let m = mem (s .args .records .now) (s .args .places .now) (s .args .self) in
+    let m = schedule (s .args .records .now) (s .args .places .now) (s .args .self) in
     pop-full m (s .args .now) (s .args .out .now) (told (c .before .before .before .before .before .before .before .before .before .state-broken .ensures) (c .before .before .before .before .before .before .before .before .if1 .left)) (lt-leb countLimit (s .args .self .«next_order») (c .before .before .before .before .before .before .if2 .left)) (no-deliveries (late (s .args .now)) (heldLate (waitingRecords m)) (c .before .before .before .before .time-late .ensures) (c .before .before .before .if3 .left)) (told (c .before .out-short .ensures) (c .if4 .taken))
 
 pop-ready-at-unchecked-requires : tie.Need-pop-ready-at-unchecked-requires
@@ -87,7 +87,7 @@ same-length-11 c = search needs
 returns-5 : tie.Need-returns-5
 returns-5 c =
     let s = c .before .before .before .before .before .before .before .before .before .before .before .before .before .before .before .before .before .before .before .before .before .before .before in
-    let m = mem (s .args .records .now) (s .args .places .now) (s .args .self) in
+    let m = schedule (s .args .records .now) (s .args .places .now) (s .args .self) in
     pop-done m (s .args .now) (s .args .out .now) (told (c .before .before .before .before .before .before .before .before .before .before .before .before .before .before .before .before .before .before .state-broken .ensures) (c .before .before .before .before .before .before .before .before .before .before .before .before .before .before .before .before .before .if1 .left)) (lt-leb countLimit (s .args .self .«next_order») (c .before .before .before .before .before .before .before .before .before .before .before .before .before .before .before .if2 .left)) (no-deliveries (late (s .args .now)) (heldLate (waitingRecords m)) (c .before .before .before .before .before .before .before .before .before .before .before .before .before .time-late .ensures) (c .before .before .before .before .before .before .before .before .before .before .before .before .if3 .left)) (told (c .before .before .before .before .before .before .before .before .before .before .out-short .ensures) (c .before .before .before .before .before .before .before .before .before .if4 .left)) (c .before .before .before .before .before .pop-ready-at-unchecked .ensures)
 
 pub pop-ready-at-spec : {M : Type 1} → statement M

@@ -1,7 +1,7 @@
 use lib.ListN.{length}
 use borrow.Author.Tests.{lt-ltb, le-ltb, le-leb, lt-leb}
 use Rattle.refusal.specs.Counts.{countLimit}
-use Rattle.schedule.specs.State.{mem, copies}
+use Rattle.schedule.specs.State.{schedule, copies}
 use Rattle.schedule.proofs.Sound.{told}
 use Rattle.schedule.proofs.Memory.{in-order, within}
 use Rattle.schedule.proofs.Calls.{lacks, lacks-not, schedule-state, schedule-counts, schedule-time, schedule-long, schedule-full, schedule-done, can-schedule}
@@ -21,7 +21,7 @@ same-length-2 c = search needs
 returns : tie.Need-returns
 returns c =
     let s = c .before .before .before .before .before .before in
-    let m = mem (s .args .records .now) (s .args .places .now) (s .args .self) in
+    let m = schedule (s .args .records .now) (s .args .places .now) (s .args .self) in
     schedule-state m (s .args .now) (s .args .packet .now) (s .args .deliveries) (told (c .before .state-broken .ensures) (c .if1 .taken))
 
 same-length-3 : tie.Need-same-length-3
@@ -33,13 +33,13 @@ same-length-4 c = search needs
 returns-2 : tie.Need-returns-2
 returns-2 c =
     let s = c .before .before .before .before .before .before .before .before in
-    let m = mem (s .args .records .now) (s .args .places .now) (s .args .self) in
+    let m = schedule (s .args .records .now) (s .args .places .now) (s .args .self) in
     schedule-counts m (s .args .now) (s .args .packet .now) (s .args .deliveries) (told (c .before .before .before .state-broken .ensures) (c .before .before .if1 .left)) (le-leb countLimit (s .args .self .«next_order») (c .if2 .taken))
 
 time-late-requires : tie.Need-time-late-requires
 time-late-requires c κs =
     let s = c .before .before .before .before .before .before .before .before .before in
-    let m = mem (s .args .records .now) (s .args .places .now) (s .args .self) in
+    let m = schedule (s .args .records .now) (s .args .places .now) (s .args .self) in
     let e = told (c .before .before .before .before .state-broken .ensures) (c .before .before .before .if1 .left) in
     (within m e, in-order m e)
 
@@ -52,7 +52,7 @@ same-length-6 c = search needs
 returns-3 : tie.Need-returns-3
 returns-3 c =
     let s = c .before .before .before .before .before .before .before .before .before .before .before in
-    let m = mem (s .args .records .now) (s .args .places .now) (s .args .self) in
+    let m = schedule (s .args .records .now) (s .args .places .now) (s .args .self) in
     schedule-time m (s .args .now) (s .args .packet .now) (s .args .deliveries) (told (c .before .before .before .before .before .before .state-broken .ensures) (c .before .before .before .before .before .if1 .left)) (lt-leb countLimit (s .args .self .«next_order») (c .before .before .before .if2 .left)) (told (c .before .time-late .ensures) (c .if3 .taken))
 
 same-length-7 : tie.Need-same-length-7
@@ -64,7 +64,7 @@ same-length-8 c = search needs
 returns-4 : tie.Need-returns-4
 returns-4 c =
     let s = c .before .before .before .before .before .before .before .before .before .before .before .before in
-    let m = mem (s .args .records .now) (s .args .places .now) (s .args .self) in
+    let m = schedule (s .args .records .now) (s .args .places .now) (s .args .self) in
     schedule-long m (s .args .now) (s .args .packet .now) (s .args .deliveries) (told (c .before .before .before .before .before .before .before .state-broken .ensures) (c .before .before .before .before .before .before .if1 .left)) (lt-leb countLimit (s .args .self .«next_order») (c .before .before .before .before .if2 .left)) (told (c .before .before .time-late .ensures) (c .before .if3 .left)) (lt-ltb 1410 (length (s .args .packet .now)) (c .if4 .taken))
 
 room-unchecked-requires : tie.Need-room-unchecked-requires
@@ -82,13 +82,13 @@ same-length-10 c = search needs
 returns-5 : tie.Need-returns-5
 returns-5 c =
     let s = c .before .before .before .before .before .before .before .before .before .before .before .before .before .before .before .before .before in
-    let m = mem (s .args .records .now) (s .args .places .now) (s .args .self) in
+    let m = schedule (s .args .records .now) (s .args .places .now) (s .args .self) in
     schedule-full m (s .args .now) (s .args .packet .now) (s .args .deliveries) (told (c .before .before .before .before .before .before .before .before .before .before .before .before .state-broken .ensures) (c .before .before .before .before .before .before .before .before .before .before .before .if1 .left)) (lt-leb countLimit (s .args .self .«next_order») (c .before .before .before .before .before .before .before .before .before .if2 .left)) (told (c .before .before .before .before .before .before .before .time-late .ensures) (c .before .before .before .before .before .before .if3 .left)) (le-ltb 1410 (length (s .args .packet .now)) (c .before .before .before .before .before .if4 .left)) (lacks m (copies (s .args .deliveries)) (c .before .before .room-unchecked .ensures) (c .before .copies-of .ensures) (c .if5 .taken))
 
 schedule-at-unchecked-requires : tie.Need-schedule-at-unchecked-requires
 schedule-at-unchecked-requires c κs =
     let s = c .before .before .before .before .before .before .before .before .before .before .before .before .before .before .before .before .before .before .before in
-    let m = mem (s .args .records .now) (s .args .places .now) (s .args .self) in
+    let m = schedule (s .args .records .now) (s .args .places .now) (s .args .self) in
     can-schedule m (s .args .now) (s .args .packet .now) (s .args .deliveries) (told (c .before .before .before .before .before .before .before .before .before .before .before .before .before .before .state-broken .ensures) (c .before .before .before .before .before .before .before .before .before .before .before .before .before .if1 .left)) (lt-leb countLimit (s .args .self .«next_order») (c .before .before .before .before .before .before .before .before .before .before .before .if2 .left)) (told (c .before .before .before .before .before .before .before .before .before .time-late .ensures) (c .before .before .before .before .before .before .before .before .if3 .left)) (le-ltb 1410 (length (s .args .packet .now)) (c .before .before .before .before .before .before .before .if4 .left)) (lacks-not m (copies (s .args .deliveries)) (c .before .before .before .before .room-unchecked .ensures) (c .before .before .before .copies-of .ensures) (c .before .before .if5 .left))
 
 same-length-11 : tie.Need-same-length-11
@@ -100,7 +100,7 @@ same-length-12 c = search needs
 returns-6 : tie.Need-returns-6
 returns-6 c =
     let s = c .before .before .before .before .before .before .before .before .before .before .before .before .before .before .before .before .before .before .before .before .before .before .before in
-    let m = mem (s .args .records .now) (s .args .places .now) (s .args .self) in
+    let m = schedule (s .args .records .now) (s .args .places .now) (s .args .self) in
     schedule-done m (s .args .now) (s .args .packet .now) (s .args .deliveries) (told (c .before .before .before .before .before .before .before .before .before .before .before .before .before .before .before .before .before .before .state-broken .ensures) (c .before .before .before .before .before .before .before .before .before .before .before .before .before .before .before .before .before .if1 .left)) (lt-leb countLimit (s .args .self .«next_order») (c .before .before .before .before .before .before .before .before .before .before .before .before .before .before .before .if2 .left)) (told (c .before .before .before .before .before .before .before .before .before .before .before .before .before .time-late .ensures) (c .before .before .before .before .before .before .before .before .before .before .before .before .if3 .left)) (le-ltb 1410 (length (s .args .packet .now)) (c .before .before .before .before .before .before .before .before .before .before .before .if4 .left)) (lacks-not m (copies (s .args .deliveries)) (c .before .before .before .before .before .before .before .before .room-unchecked .ensures) (c .before .before .before .before .before .before .before .copies-of .ensures) (c .before .before .before .before .before .before .if5 .left)) (c .before .before .before .schedule-at-unchecked .ensures)
 
 pub schedule-at-spec : {M : Type 1} → statement M

@@ -3,13 +3,13 @@ use borrow.Author.Needs.{needs}
 use mathlib.Core.Path.{_≡_, refl, _∙_}
 use Prim.Native.Nat.{_≤_, _-_}
 use lib.ListN.{length}
-use Rattle.schedule.specs.State.{mem}
+use Rattle.schedule.specs.State.{schedule}
 use Rattle.schedule.proofs.Calls.{putFirst, put-none, put-more, put-all, next-fits, can-next}
 use Rattle.schedule.proofs.ChannelScheduler.schedule_at_unchecked.Statement.{statement}
 use Rattle.schedule.proofs.ChannelScheduler.schedule_at_unchecked.Tie as tie
 
 abbrev Inv-loop : tie.InvT-loop
-Inv-loop records₀ places₀ now packet deliveries copies scheduler₀ k₀ records places scheduler k = (k ≤ copies) × (mem records places scheduler ≡ putFirst (mem records₀ places₀ scheduler₀) now packet deliveries k) × (length records ≡ length records₀) × (length places ≡ length places₀)
+Inv-loop records₀ places₀ now packet deliveries copies scheduler₀ k₀ records places scheduler k = (k ≤ copies) × (schedule records places scheduler ≡ putFirst (schedule records₀ places₀ scheduler₀) now packet deliveries k) × (length records ≡ length records₀) × (length places ≡ length places₀)
 
 abbrev μ-loop : tie.MeasureT-loop
 μ-loop records₀ places₀ now packet deliveries copies scheduler₀ k₀ records places scheduler k = copies - k
@@ -27,21 +27,21 @@ mul-put : tie.Need-mul-put Inv-loop μ-loop
 mul-put c =
     let l = c .before .before .before .before in
     let s = l .before .before .before .before in
-    let f = next-fits (mem (s .args .records .now) (s .args .places .now) (s .args .self)) (s .args .now) (s .args .packet .now) (s .args .deliveries) (l .loop .k) (s .pre) (l .before .copies-of .ensures) (c .before .before .before .loop-test .taken) (c .before .before .delay-of .ensures) in
+    let f = next-fits (schedule (s .args .records .now) (s .args .places .now) (s .args .self)) (s .args .now) (s .args .packet .now) (s .args .deliveries) (l .loop .k) (s .pre) (l .before .copies-of .ensures) (c .before .before .before .loop-test .taken) (c .before .before .delay-of .ensures) in
     omega arith
 
 add-put : tie.Need-add-put Inv-loop μ-loop
 add-put c =
     let l = c .before .before .before .before in
     let s = l .before .before .before .before in
-    let f = next-fits (mem (s .args .records .now) (s .args .places .now) (s .args .self)) (s .args .now) (s .args .packet .now) (s .args .deliveries) (l .loop .k) (s .pre) (l .before .copies-of .ensures) (c .before .before .before .loop-test .taken) (c .before .before .delay-of .ensures) in
+    let f = next-fits (schedule (s .args .records .now) (s .args .places .now) (s .args .self)) (s .args .now) (s .args .packet .now) (s .args .deliveries) (l .loop .k) (s .pre) (l .before .copies-of .ensures) (c .before .before .before .loop-test .taken) (c .before .before .delay-of .ensures) in
     omega arith
 
 put-requires : tie.Need-put-requires Inv-loop μ-loop
 put-requires c κs =
     let l = c .before .before .before .before in
     let s = l .before .before .before .before in
-    can-next (mem (s .args .records .now) (s .args .places .now) (s .args .self)) (s .args .now) (s .args .packet .now) (s .args .deliveries) (l .loop .k) (s .pre) (l .before .copies-of .ensures) (c .before .before .before .loop-test .taken) (l .loop .inv .1)
+    can-next (schedule (s .args .records .now) (s .args .places .now) (s .args .self)) (s .args .now) (s .args .packet .now) (s .args .deliveries) (l .loop .k) (s .pre) (l .before .copies-of .ensures) (c .before .before .before .loop-test .taken) (l .loop .inv .1)
 
 add-k : tie.Need-add-k Inv-loop μ-loop
 add-k c = search needs
@@ -53,7 +53,7 @@ loop-again : tie.Need-loop-again Inv-loop μ-loop
 loop-again c =
     let l = c .before .before .before .before .before .before .before .before in
     let s = l .before .before .before .before in
-    (omega arith, put-more (mem (s .args .records .now) (s .args .places .now) (s .args .self)) (s .args .now) (s .args .packet .now) (s .args .deliveries) (l .loop .k) (l .loop .inv .1) (c .before .before .before .before .before .before .delay-of .ensures) (c .before .before .before .put .ensures), search needs, search needs)
+    (omega arith, put-more (schedule (s .args .records .now) (s .args .places .now) (s .args .self)) (s .args .now) (s .args .packet .now) (s .args .deliveries) (l .loop .k) (l .loop .inv .1) (c .before .before .before .before .before .before .delay-of .ensures) (c .before .before .before .put .ensures), search needs, search needs)
 
 same-length : tie.Need-same-length Inv-loop μ-loop
 same-length c = search needs
@@ -66,7 +66,7 @@ returns c =
     let l = c .before in
     let s = l .before .before .before .before in
     let last : l .loop .k ≡ l .before .copies-of .result = omega arith in
-    put-all (mem (s .args .records .now) (s .args .places .now) (s .args .self)) (s .args .now) (s .args .packet .now) (s .args .deliveries) (l .loop .inv .1) (last ∙ l .before .copies-of .ensures)
+    put-all (schedule (s .args .records .now) (s .args .places .now) (s .args .self)) (s .args .now) (s .args .packet .now) (s .args .deliveries) (l .loop .inv .1) (last ∙ l .before .copies-of .ensures)
 
 pub schedule-at-unchecked-spec : {M : Type 1} → statement M
 schedule-at-unchecked-spec =

@@ -1,6 +1,6 @@
 use mathlib.Core.Path.{sym, ap, _∙_}
 use Rattle.window.specs.State.{countsBroken}
-use Rattle.window.specs.declared.WindowTest.the-variants as windowTest
+use Rattle.refusal.specs.declared.TestAnswer.the-variants as windowTest
 use Rattle.window.proofs.Laws.{numbers-refused, counts-refused, numbers-accepted}
 use Rattle.stop_and_wait.specs.Sender.{windowOf}
 use borrow.Author.Needs.{needs}

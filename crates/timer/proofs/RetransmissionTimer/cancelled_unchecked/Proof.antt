@@ -1,5 +1,5 @@
 use borrow.Author.Needs.{needs}
-use Rattle.timer.specs.Timer.{cancel}
+use Rattle.timer.specs.Timer.{cancelledUnchecked}
 use Rattle.timer.proofs.RetransmissionTimer.cancelled_unchecked.Statement.{statement}
 use Rattle.timer.proofs.RetransmissionTimer.cancelled_unchecked.Tie as tie
 
@@ -7,7 +7,7 @@ wrapping-add-u64-requires : tie.Need-wrapping-add-u64-requires
 wrapping-add-u64-requires c κs = search needs
 
 returns : tie.Need-returns
-unfolding cancel
+unfolding cancelledUnchecked
 returns c = simp (c .wrapping-add-u64 .ensures)
 
 pub cancelled-unchecked-spec : {M : Type 1} → statement M

@@ -1,5 +1,5 @@
 use borrow.Author.Needs.{needs}
-use Rattle.timer.specs.Timer.{deadlineTooLate, start}
+use Rattle.timer.specs.Timer.{deadlineTooLate, startedAtUnchecked}
 use native.Mathlib.Omega.{arith}
 use Rattle.duration.proofs.Laws.{start-in-time}
 use Rattle.timer.proofs.RetransmissionTimer.started_at_unchecked.Statement.{statement}
@@ -12,7 +12,7 @@ wrapping-add-u64-requires : tie.Need-wrapping-add-u64-requires
 wrapping-add-u64-requires c κs = search needs
 
 returns : tie.Need-returns
-unfolding start
+unfolding startedAtUnchecked
 returns c = simp (c .wrapping-add-u64 .ensures)
 
 pub started-at-unchecked-spec : {M : Type 1} → statement M

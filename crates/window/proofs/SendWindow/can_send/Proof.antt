@@ -1,7 +1,7 @@
 use Prim.Native.Nat.{ℕ}
 use mathlib.Core.Path.{sym, ap, _∙_}
 use lib.Dec.{ltb}
-use Rattle.window.specs.declared.WindowTest.the-variants as windowTest
+use Rattle.refusal.specs.declared.TestAnswer.the-variants as windowTest
 use Rattle.window.proofs.Outstanding.{by-count, by-refusal, count-is}
 use borrow.Author.Needs.{needs}
 use Rattle.window.proofs.SendWindow.can_send.Statement.{statement}

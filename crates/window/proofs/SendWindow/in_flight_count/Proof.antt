@@ -1,7 +1,7 @@
 use mathlib.Core.Path.{sym, _∙_}
 use native.Mathlib.Omega.{arith}
 use Rattle.window.specs.State.{outstanding}
-use Rattle.window.specs.declared.WindowCount.the-variants as windowCount
+use Rattle.refusal.specs.declared.CountAnswer.the-variants as windowCount
 use Rattle.window.proofs.Sound.{numbers}
 use Rattle.window.proofs.Outstanding.{numbers-refused, counts-refused, numbers-accepted}
 use borrow.Author.Needs.{needs}

@@ -1,5 +1,5 @@
 use Rattle.store.proofs.Laws.{slot-in}
-use Rattle.store.specs.Slot.{slotAt, flagsOf}
+use Rattle.store.specs.Slot.{slotAt, slotFlags}
 use Rattle.window.specs.Slots.{slotFor, markRetransmitted}
 use Rattle.packet.proofs.Laws.{bit-0-set}
 use borrow.Author.Needs.{needs}
@@ -26,7 +26,7 @@ same-length c = search needs
 
 returns : tie.Need-returns
 unfolding markRetransmitted
-returns c = rw (c .before .before .before .before .set-flags-unchecked .ensures, c .before .before .before .before .before .before .flags-unchecked .ensures, bit-0-set (flagsOf (slotAt (c .before .before .before .before .before .before .before .before .before .before .args .store .now) (slotFor (c .before .before .before .before .before .before .before .before .before .before .args .self) (c .before .before .before .before .before .before .before .before .before .before .args .seq-num)))))
+returns c = rw (c .before .before .before .before .set-flags-unchecked .ensures, c .before .before .before .before .before .before .flags-unchecked .ensures, bit-0-set (slotFlags (slotAt (c .before .before .before .before .before .before .before .before .before .before .args .store .now) (slotFor (c .before .before .before .before .before .before .before .before .before .before .args .self) (c .before .before .before .before .before .before .before .before .before .before .args .seq-num)))))
 
 pub mark-retransmitted-unchecked-spec : {M : Type 1} → statement M
 mark-retransmitted-unchecked-spec =

@@ -1,8 +1,8 @@
 use mathlib.Core.Path.{sym, ap, _∙_}
 use Rattle.refusal.specs.Order.{order, orElse, numbered, firstOf, verdict, decide}
 use Rattle.window.specs.Slots.{Sender}
-use Rattle.window.specs.Sending.{making, makeWindow}
-use Rattle.window.specs.declared.MakeAnswer.the-variants as makeAnswer
+use Rattle.window.specs.Sending.{makeExit, makeWindow}
+use Rattle.window.specs.declared.SendWindowAnswer.the-variants as makeAnswer
 use Rattle.window.proofs.Sound.{windows-fit}
 use borrow.Author.Needs.{needs}
 use Rattle.window.proofs.SendWindow.new.Statement.{statement}
@@ -38,7 +38,7 @@ returns-3 : tie.Need-returns-3
 unfolding makeWindow verdict firstOf numbered orElse order decide
 returns-3 c =
     simp (sym (c .before .before .before .before .before .before .before .store-short .ensures) ∙ c .before .before .before .before .before .before .if1 .left, sym (c .before .before .before .before .before .window-broken .ensures) ∙ c .before .before .before .before .if2 .left)
-    (ap (λ (v : Sender). making (makeAnswer.Window (v .window)) (v .store)) (c .before .before .new-unchecked .ensures))
+    (ap (λ (v : Sender). makeExit (makeAnswer.Window (v .window)) (v .store)) (c .before .before .new-unchecked .ensures))
 
 pub new-spec : {M : Type 1} → statement M
 new-spec =

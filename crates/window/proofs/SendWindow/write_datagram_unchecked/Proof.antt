@@ -4,7 +4,7 @@ use mathlib.Core.Path.{sym, ap, _∙_}
 use native.Mathlib.Omega.{arith}
 use Rattle.store.proofs.Laws.{slot-in}
 use lib.ListN.{length}
-use Rattle.store.specs.Slot.{slotAt, payloadOf}
+use Rattle.store.specs.Slot.{slotAt, slotPayload}
 use Rattle.window.specs.Slots.{slotFor, packetFor, datagramFor, sender}
 use Rattle.packet.proofs.Laws.{made-length}
 use Rattle.window.proofs.Slots.{slot-payload-length}
@@ -44,7 +44,7 @@ unfolding datagramFor
 returns c =
     let v = sender (c .before .before .before .before .before .before .before .before .before .before .args .self) (c .before .before .before .before .before .before .before .before .before .before .args .store .now) in
     let p = packetFor v (c .before .before .before .before .before .before .before .before .before .before .args .seq-num) in
-    let l = payloadOf (slotAt (c .before .before .before .before .before .before .before .before .before .before .args .store .now) (slotFor (c .before .before .before .before .before .before .before .before .before .before .args .self) (c .before .before .before .before .before .before .before .before .before .before .args .seq-num))) in
+    let l = slotPayload (slotAt (c .before .before .before .before .before .before .before .before .before .before .args .store .now) (slotFor (c .before .before .before .before .before .before .before .before .before .before .args .self) (c .before .before .before .before .before .before .before .before .before .before .args .seq-num))) in
     let e = c .before .before .before .before .before .before .payload-unchecked .ensures in (
       ap (λ (m : List ℕ). 10 + length m) e ∙ sym (made-length p l),
       c .before .before .to-bytes-unchecked .ensures ∙ rw (c .before .before .before .before .compute-and-set-checksum-unchecked .ensures, c .before .before .before .before .before .flags-unchecked .ensures, e, made-length p l),

@@ -1,0 +1,276 @@
+-- What a datagram handed to a receiver does, by what is read in it: one law for the three protocols.
+use Prim.Native.Nat.{ℕ, _+_, _-_, _≤_, _<_}
+use mathlib.Core.Path.{_≡_, refl, sym, ap, _∙_}
+use mathlib.Core.Bool.{Bool, true, false, cond, _&&_}
+use mathlib.Core.List.{List, [], _∷_, _++_, append-assoc, flatten}
+use native.Mathlib.Omega.{arith}
+use borrow.Author.Tests.{leb-false, ltb-false}
+use lib.ListN.{length, take, drop, length-append}
+use lib.Seq.{take-at, drop-at, length-take-le}
+use lib.Dec.{ltb, leb, eqb}
+use Rattle.protocol.specs.Machine.{Chunk, Segment, ReceiverState, Received}
+use Rattle.protocol.specs.Machine
+use Rattle.protocol.specs.declared.ProtocolType.{ProtocolType}
+use Rattle.protocol.specs.declared.ProtocolType.the-variants.{StopAndWait, GoBackN, SelectiveRepeat}
+use Rattle.refusal.specs.declared.Refusal.{Refusal}
+use Rattle.refusal.specs.declared.Refusal.the-variants.{State, Counts, Full}
+use Rattle.refusal.specs.Order.{check, verdict, accepted}
+use Rattle.refusal.proofs.Laws.{accepted-none-true, none-true-accepted, on-accepted, decided}
+use Rattle.packet.specs.Format.{newPacket, made, matches}
+use Rattle.packet.specs.Reading.{headerOf, payloadOf}
+use Rattle.packet.specs.declared.PacketType.{PacketType}
+use Rattle.packet.specs.declared.PacketType.the-variants.{Ack}
+use Rattle.packet.specs.declared.PacketType.the-variants as packetType
+use Rattle.packet.proofs.Laws.{made-length}
+use Rattle.store.specs.Numbers.{writtenAt}
+use Rattle.store.proofs.Laws.{written-none, written-length}
+use Rattle.receiver.specs.Handed.{byType, isData, packetChecks, readPacket}
+use Rattle.receiver.specs.Reply.{answerOf, ackAfter, roomMissing, applied, applyExit}
+use Rattle.receiver.specs.Receive.{ReceiveExit, receiveExit, applyResult, receive}
+use Rattle.receiver.specs.declared.PacketReading.{PacketReading}
+use Rattle.receiver.specs.declared.PacketReading.the-variants as handed
+use Rattle.receiver.specs.declared.Reply.{Reply}
+use Rattle.receiver.specs.declared.Reply.the-variants as reply
+use Rattle.receiver.specs.declared.Decision.{Decision}
+use Rattle.receiver.specs.declared.ReceiveAnswer.the-variants as answer
+use Rattle.receiver.proofs.Laws.{read-refused, room-output}
+use Rattle.refinement.specs.Follows.{acksOf}
+use Rattle.refinement.specs.Copies.{AckOf, NoPacket}
+use Rattle.refinement.specs.Copies
+
+-- valid Data that isn't refused has a number below the limit
+by-type : (b : Bool) (t : PacketType) (m n : ℕ) → (b && isData t && leb 4294901760 m) ≡ false → cond b (byType t m) handed.Corrupted ≡ handed.Data n → n < 4294901760
+by-type true packetType.Data m n h e = let f : m ≡ n = cc in rw f at (leb-false 4294901760 m h)
+by-type true packetType.Ack m n h e = let z : _≡_ {A = ℕ} 0 1 = cc in absurd (omega arith)
+by-type true packetType.Fin m n h e = let z : _≡_ {A = ℕ} 0 1 = cc in absurd (omega arith)
+by-type false t m n h e = let z : _≡_ {A = ℕ} 0 1 = cc in absurd (omega arith)
+
+pub data-low : (raw : List ℕ) (n : ℕ) → verdict (packetChecks raw) ≡ accepted → readPacket raw ≡ handed.Data n → n < 4294901760
+unfolding readPacket
+data-low raw n v e =
+    by-type (matches (headerOf raw) (payloadOf raw)) (headerOf raw .«pkt_type») (headerOf raw .«seq_num») n (accepted-none-true _ v .0) (sym (on-accepted handed.Refused _ v) ∙ e)
+
+-- bytes written behind the fill mark
+module _ (output bytes : List ℕ) (filled : ℕ) (mark : filled ≤ length output) where
+  front-length : length (take filled output ++ bytes) ≡ filled + length bytes
+  front-length = length-append (take filled output) bytes ∙ ap (λ (n : ℕ). n + length bytes) (length-take-le filled output mark)
+
+  pub written-front : take (filled + length bytes) (writtenAt output filled bytes) ≡ take filled output ++ bytes
+  written-front = take-at (take filled output ++ bytes) (drop (filled + length bytes) output) (filled + length bytes) front-length
+
+  pub written-behind : drop (filled + length bytes) (writtenAt output filled bytes) ≡ drop (filled + length bytes) output
+  written-behind = drop-at (take filled output ++ bytes) (drop (filled + length bytes) output) (filled + length bytes) front-length
+
+-- what a receiver that took Data has done: the machine's step, the bytes behind the fill mark, the ACK in its buffer
+pub record Took {R : Type 0} (view : R → ReceiverState) (filledOf : R → ℕ) (r : R) (output ack : List ℕ) (m : Received) (result : ReceiveExit R) : Type 0 where
+  pub follows : view (result .receiver) ≡ m .after
+  pub filled : filledOf (result .receiver) ≡ filledOf r + length (flatten (m .delivered))
+  pub output-is : result .output ≡ writtenAt output (filledOf r) (flatten (m .delivered))
+  pub fits : filledOf r + length (flatten (m .delivered)) ≤ length output
+  pub acks : acksOf (result .answer) ≡ m .acks
+  pub ack-made : (n : ℕ) → result .answer ≡ answer.Ack n → AckOf n (take 10 (result .ack))
+
+-- no Data: state, fill mark and output as they were; nothing is answered to what isn't valid
+pub record Ignored {R : Type 0} (view : R → ReceiverState) (filledOf : R → ℕ) (r : R) (raw output ack : List ℕ) (result : ReceiveExit R) : Type 0 where
+  pub follows : view (result .receiver) ≡ view r
+  pub filled : filledOf (result .receiver) ≡ filledOf r
+  pub output-is : result .output ≡ output
+  pub silent : NoPacket raw → (result .answer ≡ answer.Silent) × (result .ack ≡ ack)
+
+pub data ReceiveOutcome {R : Type 0} (p : ProtocolType) (w : ℕ) (view : R → ReceiverState) (filledOf : R → ℕ) (r : R) (raw output ack : List ℕ) (result : ReceiveExit R) : Type 0 where
+  packet-refused : (s : Refusal) → result ≡ receiveExit (answer.Refused s) r output ack → ReceiveOutcome p w view filledOf r raw output ack result
+  not-data : ((n : ℕ) → readPacket raw ≡ handed.Data n → ⊥) → Ignored view filledOf r raw output ack result → ReceiveOutcome p w view filledOf r raw output ack result
+  data-taken : (n : ℕ) → readPacket raw ≡ handed.Data n → n < 4294901760 → Took view filledOf r output ack (Machine.receive p w (view r) (record { number = n; payload = payloadOf raw })) result
+      → ReceiveOutcome p w view filledOf r raw output ack result
+
+-- what is asked of a protocol, of a state that isn't broken: its decision on a packet is the machine's
+pub record Follows {R : Type 0} (view : R → ReceiverState) (after : ℕ → R) (d : Decision) (bytes : List ℕ) (m : Received) : Type 0 where
+  pub state : (filled : ℕ) → view (after filled) ≡ m .after
+  pub delivered : cond (d .deliver) bytes [] ≡ flatten (m .delivered)
+  pub acks : acksOf (answerOf (d .reply)) ≡ m .acks
+
+pub record Leaves {R : Type 0} (view : R → ReceiverState) (after : ℕ → R) (r : R) (d : Decision) (h : PacketReading) : Type 0 where
+  pub state : (filled : ℕ) → view (after filled) ≡ view r
+  pub nothing : d .deliver ≡ false
+  pub silent : h ≡ handed.Corrupted → d .reply ≡ reply.Silent
+
+-- packets that are no Data, kind by kind
+pub other-kind : (P : PacketReading → Type 0) → ((n : ℕ) → P (handed.Fin n)) → P handed.Ack → P handed.Corrupted → ((s : Refusal) → P (handed.Refused s)) → (h : PacketReading) → ((n : ℕ) → h ≡ handed.Data n → ⊥) → P h
+other-kind P fin ack corrupted refused (handed.Data n) no-number = absurd (no-number n refl)
+other-kind P fin ack corrupted refused (handed.Fin n) no-number = fin n
+other-kind P fin ack corrupted refused handed.Ack no-number = ack
+other-kind P fin ack corrupted refused handed.Corrupted no-number = corrupted
+other-kind P fin ack corrupted refused (handed.Refused s) no-number = refused s
+
+pub left : {R : Type 0} {view : R → ReceiverState} {after : ℕ → R} {r : R} {d : Decision} {h : PacketReading} → ((filled : ℕ) → view (after filled) ≡ view r) → d .deliver ≡ false → (h ≡ handed.Corrupted → d .reply ≡ reply.Silent)
+    → Leaves view after r d h
+left same nothing silent = record { state = same; nothing = nothing; silent = silent }
+
+pub fin-valid : (n : ℕ) {a b : Reply} → handed.Fin n ≡ handed.Corrupted → a ≡ b
+fin-valid n e = let z : _≡_ {A = ℕ} 0 1 = cc in absurd (omega arith)
+
+pub record Decides {R : Type 0} (p : ProtocolType) (w : ℕ) (view : R → ReceiverState) (filledOf : R → ℕ) (r : R) (broken : Bool) (after : ℕ → R) (d : Decision) (bytes raw output : List ℕ) : Type 0 where
+  pub mark : broken ≡ false → filledOf r ≤ length output
+  pub base-low : broken ≡ false → view r .base ≤ 4294901760
+  pub with-mark : (filled : ℕ) → filledOf (after filled) ≡ filled
+  pub on-data : broken ≡ false → (n : ℕ) → readPacket raw ≡ handed.Data n → length (payloadOf raw) ≤ 1400 → Follows view after d bytes (Machine.receive p w (view r) (record { number = n; payload = payloadOf raw }))
+  pub on-other : ((n : ℕ) → readPacket raw ≡ handed.Data n → ⊥) → Leaves view after r d (readPacket raw)
+
+-- the ACK in its buffer
+ack-front : (r : Reply) (n : ℕ) (ack : List ℕ) → answerOf r ≡ answer.Ack n → take 10 (ackAfter r ack) ≡ made (newPacket n Ack) []
+unfolding ackAfter
+ack-front (reply.Ack m) n ack e = let f : m ≡ n = cc in rw f (take-at (made (newPacket n Ack) []) (drop 10 ack) 10 (made-length (newPacket n Ack) []))
+ack-front reply.Silent n ack e = let z : _≡_ {A = ℕ} 0 1 = cc in absurd (omega arith)
+
+-- a number that the machine acknowledges is the segment's, or below base
+module _ (n : ℕ) (q : Segment) (limit : ℕ) (low : q .number < limit) where
+  one-ack : (m : ℕ) → n ∷ [] ≡ m ∷ [] → m < limit → n < limit
+  one-ack m e h = let f : n ≡ m = cc in omega arith
+
+  no-ack : _≡_ {A = List ℕ} (n ∷ []) [] → n < limit
+  no-ack e = let z : _≡_ {A = ℕ} 0 1 = cc in absurd (omega arith)
+
+  by-late : (b : Bool) (e : ℕ) (l : List ℕ) → e ≤ limit → (n ∷ [] ≡ l → n < limit) → n ∷ [] ≡ cond b l ((e - 1) ∷ []) → n < limit
+  by-late true e l h f g = f g
+  by-late false e l h f g = one-ack (e - 1) g (omega arith)
+
+  by-order : (b : Bool) (r s : ReceiverState) (late : List ℕ) → (n ∷ [] ≡ late → n < limit)
+      → n ∷ [] ≡ cond b (Machine.received s (q .payload ∷ []) (q .number ∷ [])) (Machine.received r [] late) .acks → n < limit
+  by-order true r s late f g = one-ack (q .number) g low
+  by-order false r s late f g = f g
+
+  by-window : (a b c : Bool) (r s : ReceiverState) (delivered : List Chunk)
+      → n ∷ [] ≡ cond a (cond b (Machine.received s delivered (q .number ∷ [])) (Machine.received r [] [])) (cond c (Machine.received r [] (q .number ∷ [])) (Machine.received r [] [])) .acks → n < limit
+  by-window true true c r s delivered g = one-ack (q .number) g low
+  by-window true false c r s delivered g = no-ack g
+  by-window false b true r s delivered g = one-ack (q .number) g low
+  by-window false b false r s delivered g = no-ack g
+
+  pub acks-low : (p : ProtocolType) (w : ℕ) (r : ReceiverState) → r .base ≤ limit → n ∷ [] ≡ Machine.receive p w r q .acks → n < limit
+  unfolding Machine.receive
+  acks-low StopAndWait w r h g = by-order (eqb (q .number) (r .base)) r _ _ (by-late (ltb (q .number) (r .base)) (r .base) (q .number ∷ []) h (λ f. one-ack (q .number) f low)) g
+  acks-low GoBackN w r h g = by-order (eqb (q .number) (r .base)) r _ _ (by-late (eqb (r .base) 0) (r .base) [] h no-ack) g
+  acks-low SelectiveRepeat w r h g = by-window (leb (r .base) (q .number)) (ltb (q .number) (r .base + w)) (leb (r .base) (q .number + w)) r _ _ g
+
+-- the bytes that a decision appends
+carried-filled : (d : Decision) (bytes l : List ℕ) (filled : ℕ) (output ack : List ℕ) → cond (d .deliver) bytes [] ≡ l → applied d bytes filled output ack .filled ≡ filled + length l
+unfolding applied
+carried-filled d bytes l filled output ack e = by-deliver (d .deliver) e
+  where
+    by-deliver : (b : Bool) → cond b bytes [] ≡ l → cond b (applyExit (filled + length bytes) (writtenAt output filled bytes) (ackAfter (d .reply) ack)) (applyExit filled output (ackAfter (d .reply) ack)) .filled ≡ filled + length l
+    by-deliver true f = rw f
+    by-deliver false f = rw (← f) (omega arith)
+
+carried-output : (d : Decision) (bytes l : List ℕ) (filled : ℕ) (output ack : List ℕ) → cond (d .deliver) bytes [] ≡ l → applied d bytes filled output ack .output ≡ writtenAt output filled l
+unfolding applied
+carried-output d bytes l filled output ack e = by-deliver (d .deliver) e
+  where
+    by-deliver : (b : Bool) → cond b bytes [] ≡ l → cond b (applyExit (filled + length bytes) (writtenAt output filled bytes) (ackAfter (d .reply) ack)) (applyExit filled output (ackAfter (d .reply) ack)) .output ≡ writtenAt output filled l
+    by-deliver true f = rw f
+    by-deliver false f = rw (← f) (sym (written-none output filled [] refl))
+
+carried-ack : (d : Decision) (bytes : List ℕ) (filled : ℕ) (output ack : List ℕ) → applied d bytes filled output ack .ack ≡ ackAfter (d .reply) ack
+unfolding applied
+carried-ack d bytes filled output ack = by-deliver (d .deliver)
+  where
+    by-deliver : (b : Bool) → cond b (applyExit (filled + length bytes) (writtenAt output filled bytes) (ackAfter (d .reply) ack)) (applyExit filled output (ackAfter (d .reply) ack)) .ack ≡ ackAfter (d .reply) ack
+    by-deliver true = refl
+    by-deliver false = refl
+
+carried-fits : (d : Decision) (bytes l : List ℕ) (filled : ℕ) (output ack : List ℕ) → filled ≤ length output → roomMissing d (length bytes) filled output ack ≡ false
+    → cond (d .deliver) bytes [] ≡ l → filled + length l ≤ length output
+carried-fits d bytes l filled output ack mark room e = by-deliver (d .deliver) refl e
+  where
+    by-deliver : (b : Bool) → d .deliver ≡ b → cond b bytes [] ≡ l → filled + length l ≤ length output
+    by-deliver true f g = rw g at (room-output d (length bytes) filled output ack (record { mark = mark; room = room }) f)
+    by-deliver false f g = rw (← g) (omega arith)
+
+module _ {R : Type 0} (p : ProtocolType) (w : ℕ) (view : R → ReceiverState) (filledOf : R → ℕ) (broken counts : Bool) (r : R) (d : Decision) (bytes : List ℕ) (after : ℕ → R) (raw output ack : List ℕ)
+    (decides : Decides p w view filledOf r broken after d bytes raw output) where
+  abbrev result : ReceiveExit R
+  result = receive broken counts r (filledOf r) d bytes after raw output ack
+
+  took : broken ≡ false → roomMissing d (length bytes) (filledOf r) output ack ≡ false → result ≡ applyResult after d (applied d bytes (filledOf r) output ack)
+      → (q : Segment) → q .number < 4294901760 → Follows view after d bytes (Machine.receive p w (view r) q) → Took view filledOf r output ack (Machine.receive p w (view r) q) result
+  took sound room is q low f =
+      rw is (record {
+        follows = f .state _;
+        filled = decides .with-mark _ ∙ carried-filled d bytes _ (filledOf r) output ack (f .delivered);
+        output-is = carried-output d bytes _ (filledOf r) output ack (f .delivered);
+        fits = carried-fits d bytes _ (filledOf r) output ack (decides .mark sound) room (f .delivered);
+        acks = f .acks;
+        ack-made = λ n e.
+            let l = acks-low n q 4294901760 low p w (view r) (decides .base-low sound) (ap acksOf (sym e) ∙ f .acks) in
+            record { is = ap (take 10) (carried-ack d bytes (filledOf r) output ack) ∙ ack-front (d .reply) n ack e; low = omega arith };
+      })
+
+  ignored : verdict (packetChecks raw) ≡ accepted → result ≡ applyResult after d (applied d bytes (filledOf r) output ack) → Leaves view after r d (readPacket raw) → Ignored view filledOf r raw output ack result
+  unfolding ackAfter
+  ignored v is l =
+      let none : cond (d .deliver) bytes [] ≡ [] = rw (l .nothing) in
+      rw is (record {
+        follows = l .state _;
+        filled = decides .with-mark _ ∙ carried-filled d bytes [] (filledOf r) output ack none ∙ omega arith;
+        output-is = carried-output d bytes [] (filledOf r) output ack none ∙ written-none output (filledOf r) [] refl;
+        silent = by-kind;
+      })
+    where
+      by-kind : NoPacket raw → (answerOf (d .reply) ≡ answer.Silent) × (applied d bytes (filledOf r) output ack .ack ≡ ack)
+      by-kind (Copies.NoPacket.refused s e) = let f = read-refused raw s e in let z : _≡_ {A = ℕ} 0 1 = cc in absurd (omega arith)
+      by-kind (Copies.NoPacket.corrupted e) = let s = l .silent e in (rw s, carried-ack d bytes (filledOf r) output ack ∙ rw s)
+
+  no-data : verdict (packetChecks raw) ≡ accepted → result ≡ applyResult after d (applied d bytes (filledOf r) output ack) → ((n : ℕ) → readPacket raw ≡ handed.Data n → ⊥)
+      → ReceiveOutcome p w view filledOf r raw output ack result
+  no-data v is no-number = not-data no-number (ignored v is (decides .on-other no-number))
+
+  by-handed : broken ≡ false → roomMissing d (length bytes) (filledOf r) output ack ≡ false → verdict (packetChecks raw) ≡ accepted → length (payloadOf raw) ≤ 1400
+      → result ≡ applyResult after d (applied d bytes (filledOf r) output ack) → (h : PacketReading) → readPacket raw ≡ h → ReceiveOutcome p w view filledOf r raw output ack result
+  by-handed sound room v short is (handed.Data n) e = let low = data-low raw n v e in data-taken n e low (took sound room is (record { number = n; payload = payloadOf raw }) low (decides .on-data sound n e short))
+  by-handed sound room v short is (handed.Fin m) e = no-data v is (λ n f. let z : _≡_ {A = ℕ} 0 1 = cc in omega arith)
+  by-handed sound room v short is handed.Ack e = no-data v is (λ n f. let z : _≡_ {A = ℕ} 0 1 = cc in omega arith)
+  by-handed sound room v short is handed.Corrupted e = no-data v is (λ n f. let z : _≡_ {A = ℕ} 0 1 = cc in omega arith)
+  by-handed sound room v short is (handed.Refused s) e = no-data v is (λ n f. let z : _≡_ {A = ℕ} 0 1 = cc in omega arith)
+
+  pub receive-outcome : ReceiveOutcome p w view filledOf r raw output ack result
+  unfolding receive
+  receive-outcome =
+      decided (λ (x : ReceiveExit R). result ≡ x → ReceiveOutcome p w view filledOf r raw output ack result)
+      (check broken State ∷ check counts Counts ∷ check (roomMissing d (length bytes) (filledOf r) output ack) Full ∷ packetChecks raw) _ _ (λ s. packet-refused s)
+      (λ none is. by-handed (none .0) (none .1 .1 .0) (none-true-accepted (packetChecks raw) (none .1 .1 .1)) (ltb-false 1400 (length (payloadOf raw)) (none .1 .1 .1 .1 .0)) is (readPacket raw) refl)
+      refl
+
+-- what holds of the state, and of whatever a packet that isn't refused makes of it, holds after the call
+pub after-packet : {R : Type 0} (P : R → Type 0) (broken counts : Bool) (r : R) (filled : ℕ) (d : Decision) (bytes : List ℕ) (after : ℕ → R) (raw output ack : List ℕ)
+    → P r → (broken ≡ false → verdict (packetChecks raw) ≡ accepted → length (payloadOf raw) ≤ 1400 → (n : ℕ) → P (after n))
+    → P (receive broken counts r filled d bytes after raw output ack .receiver)
+unfolding receive
+after-packet {R} P broken counts r filled d bytes after raw output ack before step =
+    decided (λ (x : ReceiveExit R). P (x .receiver)) (check broken State ∷ check counts Counts ∷ check (roomMissing d (length bytes) filled output ack) Full ∷ packetChecks raw) _ _ (λ s. before)
+    (λ none. step (none .0) (none-true-accepted (packetChecks raw) (none .1 .1 .1)) (ltb-false 1400 (length (payloadOf raw)) (none .1 .1 .1 .1 .0)) _)
+
+-- the output keeps its length, and the fill mark stays within it
+module _ {R : Type 0} (p : ProtocolType) (w : ℕ) (view : R → ReceiverState) (filledOf : R → ℕ) (r : R) (raw output ack : List ℕ) (result : ReceiveExit R)
+    (outcome : ReceiveOutcome p w view filledOf r raw output ack result) (mark : filledOf r ≤ length output) where
+  pub outcome-length : length (result .output) ≡ length output
+  outcome-length = elim outcome [
+    | packet-refused s e ↦ rw e
+    | not-data n i ↦ rw (i .output-is)
+    | data-taken n e l t ↦ ap length (t .output-is) ∙ written-length output _ (filledOf r) (t .fits)
+  ]
+
+  pub outcome-mark : filledOf (result .receiver) ≤ length (result .output)
+  outcome-mark = elim outcome [
+    | packet-refused s e ↦ rw e mark
+    | not-data n i ↦ rw (i .filled, i .output-is) mark
+    | data-taken n e l t ↦ rw (t .filled, outcome-length) (t .fits)
+  ]
+
+-- the output up to the fill mark: what it was, then what is delivered
+pub took-output : {R : Type 0} {view : R → ReceiverState} {filledOf : R → ℕ} {r : R} {output ack : List ℕ} {m : Received} {result : ReceiveExit R}
+    → Took view filledOf r output ack m result → filledOf r ≤ length output → take (filledOf (result .receiver)) (result .output) ≡ take (filledOf r) output ++ flatten (m .delivered)
+took-output {filledOf = filledOf} {r = r} {output = output} {m = m} t mark = rw (t .filled, t .output-is) (written-front output (flatten (m .delivered)) (filledOf r) mark)
+
+pub flatten-append : (a b : List Chunk) → flatten (a ++ b) ≡ flatten a ++ flatten b
+unfolding flatten
+flatten-append [] b = refl
+flatten-append (c ∷ a) b = ap (λ (l : List ℕ). c ++ l) (flatten-append a b) ∙ sym (append-assoc c (flatten a) (flatten b))

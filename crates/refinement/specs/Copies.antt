@@ -1,0 +1,51 @@
+-- Document 01, demand 3: a datagram handed over is a copy of one that was made, whole or with a bit turned over.
+use Prim.Native.Nat.{ℕ, _≤_, _<_}
+use mathlib.Core.Path.{_≡_}
+use mathlib.Core.List.{List, []}
+use lib.ListN.{length}
+use Rattle.protocol.specs.Machine.{Segment}
+use Rattle.checksum.specs.Below.{Octets}
+use Rattle.checksum.specs.Flip.{flip}
+use Rattle.refusal.specs.declared.Refusal.{Refusal}
+use Rattle.packet.specs.Format.{newPacket, made}
+use Rattle.packet.specs.declared.Packet.{Packet}
+use Rattle.packet.specs.declared.PacketType.the-variants.{Data, Ack}
+use Rattle.window.specs.Acknowledgement.{readAck}
+use Rattle.window.specs.declared.AckReading.the-variants as ackRead
+use Rattle.receiver.specs.Handed.{readPacket}
+use Rattle.receiver.specs.declared.PacketReading.the-variants as handed
+
+-- a Data datagram that was made of a segment
+pub record DataOf (q : Segment) (raw : List ℕ) : Type 0 where
+  pub packet : Packet
+  pub is : raw ≡ made packet (q .payload)
+  pub kind : packet .«pkt_type» ≡ Data
+  pub number : packet .«seq_num» ≡ q .number
+  pub flags : packet .flags < 256
+  pub low : q .number < 4294901760
+  pub octets : Octets (q .payload)
+  pub short : length (q .payload) ≤ 1400
+
+-- the ACK of number n
+pub record AckOf (n : ℕ) (raw : List ℕ) : Type 0 where
+  pub is : raw ≡ made (newPacket n Ack) []
+  pub low : n < 4294967296
+
+-- bit b of byte i turned over, outside the length field
+pub record Flipped (original raw : List ℕ) : Type 0 where
+  pub byte : ℕ
+  pub bit : ℕ
+  pub is : raw ≡ flip original byte bit
+  pub bit-low : bit < 8
+  pub byte-in : byte < length original
+  pub not-6 : byte ≡ 6 → ⊥
+  pub not-7 : byte ≡ 7 → ⊥
+
+-- a receiver, a sender, doesn't take it for a packet
+pub data NoPacket (raw : List ℕ) : Type 0 where
+  refused : (r : Refusal) → readPacket raw ≡ handed.Refused r → NoPacket raw
+  corrupted : readPacket raw ≡ handed.Corrupted → NoPacket raw
+
+pub data NoAck (raw : List ℕ) : Type 0 where
+  refused : (r : Refusal) → readAck raw ≡ ackRead.Refused r → NoAck raw
+  other : readAck raw ≡ ackRead.Other → NoAck raw
