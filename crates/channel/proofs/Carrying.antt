@@ -9,7 +9,7 @@ use lib.Seq.{take-at, drop-at, length-take-le}
 use lib.Dec.{ltb}
 use lib.Ieee.{lt}
 use borrow.Author.Tests.{ltb-true, ltb-false}
-use Rattle.checksum.specs.Flip.{flip}
+use Rattle.octets.specs.Flip.{flip}
 use Rattle.schedule.specs.State.{copies}
 use Rattle.schedule.specs.declared.Deliveries.{Deliveries}
 use Rattle.schedule.specs.declared.Deliveries.the-variants.{Lost, One, Two}

@@ -6,7 +6,7 @@ use mathlib.Core.List.{List, [], _∷_}
 use lib.IntN.{pos, negsuc}
 use lib.Ieee.{Float, fin, mul, ofInt, toUnsigned, le, lt}
 use Rattle.refusal.specs.Order.{order, orElse, numbered, firstOf, verdict, decide}
-use Rattle.checksum.specs.Flip.{flip}
+use Rattle.octets.specs.Flip.{flip}
 use Rattle.schedule.specs.declared.Deliveries.{Deliveries}
 use Rattle.schedule.specs.declared.Deliveries.the-variants.{Lost, One, Two}
 use Rattle.channel.specs.Bounds.{configBroken, statsFull, rollsBroken}

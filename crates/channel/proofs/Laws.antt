@@ -13,11 +13,11 @@ use lib.Pow.{pow-pos}
 use lib.Bits.{bitXor}
 use lib.IntN.{negsuc}
 use lib.Ieee.{Float, fin, binary64, fits}
-use Rattle.checksum.specs.Flip.{flip}
-use Rattle.checksum.proofs.Bits.{xor-moves}
+use Rattle.bounds.specs.Bounds.{maxTime}
+use Rattle.octets.specs.Flip.{flip}
+use Rattle.octets.proofs.Laws.{xor-moves}
 use Rattle.float.specs.Roll.{rollInBounds, scaled}
 use Rattle.float.proofs.Laws.{scaled-below, j1}
-use Rattle.duration.specs.Bounds.{maxTime}
 use Rattle.schedule.specs.State.{leavesAt, delayLate, deliveriesLate}
 use Rattle.schedule.specs.declared.Deliveries.the-variants.{Lost, One, Two}
 use Rattle.schedule.proofs.Laws.{or-both}

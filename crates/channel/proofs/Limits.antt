@@ -7,7 +7,8 @@ use lib.Dec.{T, ltb}
 use mir.Val.{Fits}
 use mir.Syntax.{w64}
 use borrow.Author.Tests.{ltb-false, leb-false}
-use Rattle.refusal.specs.Counts.{countLimit, countFull}
+use Rattle.bounds.specs.Bounds.{countLimit}
+use Rattle.refusal.specs.Counts.{countFull}
 use Rattle.refusal.proofs.Laws.{or-false}
 use Rattle.float.specs.Roll.{rollInBounds}
 use Rattle.channel.specs.Bounds.{chancesBroken, delaysBroken, configBroken, statsFull, anyRollBroken, rollsBroken}

@@ -3,6 +3,7 @@ use Prim.Native.Nat.{ℕ}
 use mathlib.Core.Bool.{Bool, not, _||_}
 use lib.Dec.{ltb}
 use lib.Ieee.{Float}
+use Rattle.bounds.specs.Bounds.{maxSetupDelay}
 use Rattle.refusal.specs.Counts.{countFull}
 use Rattle.float.specs.Roll.{rollInBounds, chanceInBounds}
 use Rattle.channel.specs.declared.ChannelConfig.{ChannelConfig}
@@ -15,7 +16,7 @@ chancesBroken a b c d = not (chanceInBounds a) || (not (chanceInBounds b) || (no
 
 -- "Each delay in a setup at most 60,000 ms"
 abbrev pub delaysBroken : ℕ → ℕ → ℕ → Bool
-delaysBroken a b c = ltb 60000 a || (ltb 60000 b || ltb 60000 c)
+delaysBroken a b c = ltb maxSetupDelay a || (ltb maxSetupDelay b || ltb maxSetupDelay c)
 
 unfoldable pub configBroken : ChannelConfig → Bool
 configBroken c = chancesBroken (c .loss) (c .duplicate) (c .reorder) (c .corrupt) || delaysBroken (c .«reorder_extra_ms») (c .«base_delay_ms») (c .«jitter_ms»)

@@ -6,7 +6,7 @@ use lib.ListN.{length}
 use lib.Dec.{ltb}
 use lib.Ieee.{Float, lt}
 use Rattle.float.specs.Roll.{scaled}
-use Rattle.checksum.specs.Flip.{flip}
+use Rattle.octets.specs.Flip.{flip}
 use Rattle.schedule.specs.declared.Deliveries.{Deliveries}
 use Rattle.schedule.specs.declared.Deliveries.the-variants.{Lost, One, Two}
 use Rattle.channel.specs.declared.ChannelConfig.{ChannelConfig}

@@ -5,6 +5,7 @@ use mathlib.Core.List.{List, [], _∷_}
 use lib.ListN.{length}
 use lib.Dec.{ltb}
 use lib.Ieee.{lt}
+use Rattle.bounds.specs.Bounds.{maxDatagram}
 use Rattle.channel.specs.Bounds.{configBroken, statsFull, rollsBroken}
 use Rattle.channel.specs.Process.{stats6, channelOf, process}
 use Rattle.channel.specs.declared.ChannelConfig.{ChannelConfig}
@@ -60,7 +61,7 @@ tallies c xs =
 -- whether a call is refused, from the calls accepted before it alone: lines 9, 8, 11, 6 and 5
 unfoldable pub turnedAway : ChannelConfig → List Call → Call → Bool
 turnedAway c before x =
-    configBroken c || (statsFull (tallies c before) || (rollsBroken (x .rolls) || (ltb 1410 (length (x .packet)) || (not (loses c x) && ltb (length (x .out)) (length (x .packet))))))
+    configBroken c || (statsFull (tallies c before) || (rollsBroken (x .rolls) || (ltb maxDatagram (length (x .packet)) || (not (loses c x) && ltb (length (x .out)) (length (x .packet))))))
 
 -- the accepted calls of a list
 unfoldable pub accepted : ChannelConfig → List Call → List Call

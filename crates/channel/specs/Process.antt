@@ -5,6 +5,7 @@ use mathlib.Core.Bool.{Bool, true, false, cond, not, _&&_}
 use mathlib.Core.List.{List, [], _∷_, _++_}
 use lib.ListN.{length, drop}
 use lib.Dec.{ltb}
+use Rattle.bounds.specs.Bounds.{maxDatagram}
 use Rattle.refusal.specs.Order.{check, verdict, decide}
 use Rattle.refusal.specs.declared.Refusal.the-variants.{Setup, State, Counts, Roll, Long, Full}
 use Rattle.schedule.specs.State.{copies}
@@ -77,7 +78,7 @@ process ch p r out =
     (check (configBroken (ch .config)) State
     ∷ check (statsFull (ch .stats)) Counts
     ∷ check (rollsBroken r) Roll
-    ∷ check (ltb 1410 (length p)) Long
+    ∷ check (ltb maxDatagram (length p)) Long
     ∷ check (outShort ch r (length p) (length out)) Full
     ∷ []))
     (λ x. refusedExit ch out (outcome.Refused x))
@@ -88,5 +89,5 @@ pub record CanProcess (ch : Channel) (p : List ℕ) (r : Rolls) (out : List ℕ)
   pub config : configBroken (ch .config) ≡ false
   pub counts : statsFull (ch .stats) ≡ false
   pub rolls : rollsBroken r ≡ false
-  pub short : ltb 1410 (length p) ≡ false
+  pub short : ltb maxDatagram (length p) ≡ false
   pub room : outShort ch r (length p) (length out) ≡ false

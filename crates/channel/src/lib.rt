@@ -4,13 +4,14 @@ ghost use mathlib.Core.Bool.{true, false, not, _||_};
 ghost use Prim.Native.Nat.{_+_, _≤_, _<_};
 ghost use lib.Dec.{T};
 ghost use lib.ListN.{length};
-ghost use Rattle.checksum.specs.Flip.{flip};
+ghost use Rattle.bounds.specs.Bounds.{maxDatagram, maxDeliveryDelay, maxSetupDelay};
+ghost use Rattle.octets.specs.Flip.{flip};
 ghost use Rattle.float.specs.Roll.{rollInBounds};
 ghost use Rattle.schedule.specs.State.{copies};
 ghost use Rattle.channel.specs.Bounds.{chancesBroken, delaysBroken, configBroken, anyCountFull, statsFull, anyRollBroken, rollsBroken};
 ghost use Rattle.channel.specs.Faults.{isLost, isDuplicated, isReordered, isCorrupted, carriedBytes, holdOf, delayOf, deliveriesOf};
 ghost use Rattle.channel.specs.Process.{newChannel, one, countedStats, transitExit, processUnchecked, outShort, processExit, process, CanProcess};
-use refusal::COUNT_LIMIT;
+use bounds::COUNT_LIMIT;
 use refusal::Refusal;
 use schedule::Deliveries;
 
@@ -100,13 +101,13 @@ fn chances_broken(a: f64, b: f64, c: f64, d: f64) -> bool
 fn delays_broken(a: u64, b: u64, c: u64) -> bool
     ensures { λ r. ⌜ r ≡ delaysBroken a b c ⌝ }
 {
-    if 60000 < a {
+    if bounds::MAX_SETUP_DELAY < a {
         return true;
     }
-    if 60000 < b {
+    if bounds::MAX_SETUP_DELAY < b {
         return true;
     }
-    60000 < c
+    bounds::MAX_SETUP_DELAY < c
 }
 
 fn any_count_full(a: u64, b: u64, c: u64) -> bool
@@ -253,7 +254,7 @@ impl Channel {
 // The extra delay of a copy that is held back.
 fn hold_of(config: ChannelConfig, rolls: Rolls) -> u64
     requires { ⌜ configBroken config ≡ false ⌝ }
-    ensures { λ n. ⌜ (n ≡ holdOf config rolls) × (n ≤ 60000) ⌝ }
+    ensures { λ n. ⌜ (n ≡ holdOf config rolls) × (n ≤ maxSetupDelay) ⌝ }
 {
     if config.is_reordered(rolls) {
         return config.reorder_extra_ms;
@@ -264,7 +265,7 @@ fn hold_of(config: ChannelConfig, rolls: Rolls) -> u64
 // Base, jitter and hold.
 fn delay_of(config: ChannelConfig, rolls: Rolls, roll: f64) -> u64
     requires { ⌜ (configBroken config ≡ false) × T (rollInBounds roll) ⌝ }
-    ensures { λ n. ⌜ (n ≡ delayOf config rolls roll) × (n ≤ 180000) ⌝ }
+    ensures { λ n. ⌜ (n ≡ delayOf config rolls roll) × (n ≤ maxDeliveryDelay) ⌝ }
 {
     config.base_delay_ms
         + float::scaled_unchecked(roll, config.jitter_ms + 1)
@@ -315,7 +316,7 @@ fn granted(config: ChannelConfig, rolls: Rolls) -> u64
 
 // Corrupts a packet, if the rolls say so.
 fn corrupt(config: ChannelConfig, rolls: Rolls, d: &mut [u8])
-    requires { ⌜ (length (now d) ≤ 1410) × (rollsBroken rolls ≡ false) ⌝ }
+    requires { ⌜ (length (now d) ≤ maxDatagram) × (rollsBroken rolls ≡ false) ⌝ }
     ensures { λ _. ⌜ now (d .exit) ≡ carriedBytes config rolls (now (d .entry)) ⌝ }
 {
     let len = d.len();
@@ -391,7 +392,7 @@ impl Channel {
                 answer: ProcessAnswer::Refused(Refusal::Roll),
             };
         }
-        if 1410 < packet.len() {
+        if bounds::MAX_DATAGRAM_SIZE < packet.len() {
             return ProcessResult {
                 channel: self,
                 answer: ProcessAnswer::Refused(Refusal::Long),

@@ -7,12 +7,11 @@ use native.Mathlib.Omega.{arith}
 use lib.ListN.{length, getD}
 use lib.Bits.{bitXor, bitAnd, xor-add-and, and-high, xor-lt}
 use lib.Pow.{pow-pos, pow-mono, pow-add}
-use Rattle.checksum.specs.Below.{Octets}
 use Rattle.checksum.specs.Rfc1071.{words}
 use Rattle.checksum.specs.Techniques.{plainSum}
-use Rattle.checksum.specs.Flip.{flip}
+use Rattle.octets.specs.Flip.{flip}
 use Rattle.checksum.proofs.Words.{sum}
-use Rattle.checksum.proofs.Bounded.{below-set}
+use Rattle.octets.proofs.Laws.{xor-moves, power-le}
 
 -- two numbers that are 1 to 65534 apart
 pub record Apart (m n : ℕ) : Type 0 where
@@ -20,27 +19,6 @@ pub record Apart (m n : ℕ) : Type 0 where
   pub positive : 0 < by
   pub small : by < 65535
   pub way : (n ≡ m + by) ⊎ (m ≡ n + by)
-
-and-power : (a b : ℕ) → bitAnd a (2 ^ b) ≡ a / 2 ^ b % 2 * 2 ^ b
-and-power a b =
-    let e : 2 ^ (1 + b) - 2 ^ b ≡ 2 ^ b = omega (arith, pow-add 2 1 b) in
-    sym (ap (bitAnd a) e) ∙ and-high a 1 b
-
-by-bit : (x a p q : ℕ) → q < 2 → x + q * p * 2 ≡ a + p → (x ≡ a + p) ⊎ (a ≡ x + p)
-by-bit x a p zero h e = inl (omega arith)
-by-bit x a p (suc zero) h e = inr (omega arith)
-by-bit x a p (suc (suc q)) h e = absurd (omega arith)
-
-pub xor-moves : (a b : ℕ) → (bitXor a (2 ^ b) ≡ a + 2 ^ b) ⊎ (a ≡ bitXor a (2 ^ b) + 2 ^ b)
-xor-moves a b =
-    by-bit (bitXor a (2 ^ b)) a (2 ^ b) (a / 2 ^ b % 2) (omega arith)
-    (ap (λ (n : ℕ). bitXor a (2 ^ b) + n * 2) (sym (and-power a b)) ∙ xor-add-and a (2 ^ b))
-
-pub power-le : (b : ℕ) → b < 8 → 2 ^ b ≤ 128
-power-le b h = pow-mono {i = b} {j = 7} (omega arith)
-
-pub xor-octet : (a b : ℕ) → a < 256 → b < 8 → bitXor a (2 ^ b) < 256
-xor-octet a b h k = xor-lt 8 a (2 ^ b) h (omega (arith, power-le b k))
 
 -- the octet in the high place of a word, and in the low place
 high : (x a b m n : ℕ) → b < 8 → m ≡ x + a * 256 → n ≡ x + bitXor a (2 ^ b) * 256 → Apart m n
@@ -75,7 +53,3 @@ flip-sum (a ∷ []) (suc i) b h k = absurd (omega arith)
 flip-sum (a ∷ c ∷ l) zero b h k = high (c + sum l) a b _ _ h (omega arith) (omega arith)
 flip-sum (a ∷ c ∷ l) (suc zero) b h k = low (a * 256 + sum l) c b _ _ h (omega arith) (omega arith)
 flip-sum (a ∷ c ∷ l) (suc (suc i)) b h k = after (sum l) (sum (flip l i b)) (a * 256 + c) (flip-sum l i b h (omega arith))
-
-pub flip-octets : (l : List ℕ) (i b : ℕ) → b < 8 → Octets l → Octets (flip l i b)
-unfolding flip
-flip-octets l i b h k = below-set l i _ (xor-octet (getD l i 0) b (k .at i) h) k

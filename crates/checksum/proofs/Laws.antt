@@ -10,17 +10,17 @@ use lib.ListN.{length}
 use lib.Dec.{eqb}
 use lib.Bits.{bitXor}
 use lib.Pow.{pow-pos}
-use Rattle.checksum.specs.Below.{Octets, Integers16}
+use Rattle.octets.specs.Octets.{Octets}
+use Rattle.checksum.specs.Integers.{Integers16}
 use Rattle.checksum.specs.Rfc1071.{words, onesAdd, onesSum, complement}
 use Rattle.checksum.specs.Techniques.{plainSum, folded}
-use Rattle.checksum.specs.Flip.{flip}
+use Rattle.octets.specs.Flip.{flip}
 use Rattle.checksum.proofs.Carry.{carried-le, carried-apart, add-carried}
 use Rattle.checksum.proofs.Words.{sum, ones-carried}
-use Rattle.checksum.proofs.Bits.{flip-sum, xor-moves, Apart}
-pub use Rattle.checksum.proofs.Bounded.{below-nil, below-cons, below-head, below-tail, below-append, below-take, below-drop, below-set}
+use Rattle.checksum.proofs.Bits.{flip-sum, Apart}
+use Rattle.octets.proofs.Laws.{xor-moves, flip-octets}
 pub use Rattle.checksum.proofs.Carry.{carried-fold, carried-small}
 pub use Rattle.checksum.proofs.Words.{words-below}
-pub use Rattle.checksum.proofs.Bits.{xor-octet, flip-octets}
 
 -- section 2 (A): commutative and associative
 pub ones-add-comm : (a b : ℕ) → onesAdd a b ≡ onesAdd b a

@@ -1,4 +1,3 @@
-pub mod Bounded
 pub mod Carry
 pub mod Words
 pub mod Swap

@@ -6,11 +6,12 @@ use native.Mathlib.Omega.{arith}
 use lib.ListN.{length, getD, drop-of-length-le}
 use lib.Seq.{drop-cons}
 use lib.Dec.{lit<}
-use Rattle.checksum.specs.Below.{Octets, Integers16}
+use Rattle.octets.specs.Octets.{Octets}
+use Rattle.checksum.specs.Integers.{Integers16}
 use Rattle.checksum.specs.Rfc1071.{words, onesAdd, onesSum}
 use Rattle.checksum.specs.Techniques.{plainSum, folded, sumFrom}
 use Rattle.checksum.proofs.Carry.{add-carried}
-use Rattle.checksum.proofs.Bounded.{below-nil, below-cons, below-head, below-tail}
+use Rattle.octets.proofs.Laws.{below-nil, below-cons, below-head, below-tail}
 
 abbrev pub sum : List ℕ → ℕ
 sum l = plainSum (words l)

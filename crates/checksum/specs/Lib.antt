@@ -1,4 +1,3 @@
-pub mod Below
+pub mod Integers
 pub mod Rfc1071
 pub mod Techniques
-pub mod Flip

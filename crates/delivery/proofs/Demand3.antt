@@ -8,7 +8,7 @@ use lib.ListN.{length, replicate, drop}
 use lib.Dec.{ltb, leb, eqb}
 use borrow.Author.Tests.{ltb-false}
 use Rattle.refusal.proofs.Laws.{none-of}
-use Rattle.checksum.specs.Below.{Octets}
+use Rattle.octets.specs.Octets.{Octets}
 use Rattle.protocol.specs.declared.ProtocolType.{ProtocolType}
 use Rattle.protocol.specs.declared.ProtocolType.the-variants.{StopAndWait, GoBackN, SelectiveRepeat}
 use Rattle.protocol.specs.Machine.{newSender}

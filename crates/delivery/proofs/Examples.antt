@@ -6,10 +6,10 @@ use mathlib.Core.List.{List, [], _∷_}
 use lib.ListN.{replicate, getD}
 use lib.Dec.{lit<}
 use native.Mathlib.Omega.{arith}
-use Rattle.checksum.specs.Below.{Octets}
-use Rattle.checksum.proofs.Laws.{below-nil, below-cons}
+use Rattle.octets.specs.Octets.{Octets}
+use Rattle.octets.proofs.Laws.{below-nil, below-cons}
 use Rattle.checksum.specs.Rfc1071.{words, onesAdd, onesSum, checksum}
-use Rattle.checksum.specs.Flip.{flip}
+use Rattle.octets.specs.Flip.{flip}
 use Rattle.refusal.specs.Clauses.{anyOf}
 use Rattle.refusal.specs.Order.{order, orElse, numbered, firstOf, verdict, decide}
 use Rattle.packet.specs.Format.{headerBytes, datagram, checksumOf, matches}

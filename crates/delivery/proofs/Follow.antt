@@ -4,8 +4,8 @@ use mathlib.Core.Path.{_≡_}
 use mathlib.Core.List.{List, [], _∷_, _++_, flatten}
 use mathlib.Core.Bool.{Bool, true, false}
 use lib.ListN.{length, drop}
-use Rattle.checksum.specs.Below.{Octets}
-use Rattle.checksum.specs.Flip.{flip}
+use Rattle.octets.specs.Octets.{Octets}
+use Rattle.octets.specs.Flip.{flip}
 use Rattle.protocol.specs.declared.ProtocolType.{ProtocolType}
 use Rattle.protocol.specs.Machine.{Segment, SenderState, ReceiverState, nextNumber, send, segmentsFrom, acknowledge, receive}
 use Rattle.delivery.specs.Calls.{Done, Ends}

@@ -5,8 +5,8 @@ use mathlib.Core.List.{List, [], _∷_, _++_}
 use mathlib.Core.Bool.{Bool, true, false, cond}
 use native.Mathlib.Omega.{arith}
 use lib.ListN.{length, take, drop}
-use Rattle.checksum.specs.Below.{Octets}
-use Rattle.checksum.specs.Flip.{flip}
+use Rattle.octets.specs.Octets.{Octets}
+use Rattle.octets.specs.Flip.{flip}
 use Rattle.protocol.specs.declared.ProtocolType.{ProtocolType}
 use Rattle.protocol.specs.declared.ProtocolType.the-variants.{StopAndWait, GoBackN, SelectiveRepeat}
 use Rattle.protocol.specs.Machine.{Segment, SenderState, ReceiverState}

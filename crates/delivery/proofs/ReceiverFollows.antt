@@ -6,7 +6,9 @@ use mathlib.Core.Bool.{Bool, true, false}
 use native.Mathlib.Omega.{arith}
 use lib.ListN.{length, take, drop}
 use lib.Seq.{drop-drop}
-use Rattle.refusal.specs.Order.{Verdict, check, verdict, accepted, refused}
+use Rattle.refusal.specs.Order.{check, verdict}
+use Rattle.refusal.specs.declared.Verdict.{Verdict}
+use Rattle.refusal.specs.declared.Verdict.the-variants.{Accepted, Refused}
 use Rattle.refusal.specs.declared.Refusal.the-variants.{State, Counts, Full}
 use Rattle.refusal.proofs.Laws.{on-accepted, on-refused}
 use Rattle.protocol.specs.declared.ProtocolType.{ProtocolType}
@@ -31,7 +33,7 @@ use Rattle.delivery.specs.Ends.{bytesReplied, isReceived, WithOutput, wi
 use Rattle.delivery.proofs.Datagrams.{DataBytes, AckBytes, Each}
 use Rattle.delivery.proofs.SenderFollows.{false-true}
 
--- a refused packet changes nothing
+-- a Refused packet changes nothing
 pub answered : (r : Reply) → isReceived (answerOf r) ≡ true
 answered (reply.Ack n) = refl
 answered reply.Silent = refl
@@ -44,8 +46,8 @@ not-received broken counts r filled d bytes after raw output ack h = by-verdict 
   where
     by-verdict : (v : Verdict) → verdict (check broken State ∷ check counts Counts ∷ check (roomMissing d (length bytes) filled output ack) Full ∷ packetChecks raw) ≡ v
         → byReceiving (receiver.receive broken counts r filled d bytes after raw output ack) ≡ record { after = withOutput r output; written = []; isDone = false }
-    by-verdict (refused s) e = ap byReceiving (on-refused _ _ e)
-    by-verdict accepted e = false-true (sym h ∙ ap (λ (x : ReceiveExit _). isReceived (x .answer)) (on-accepted _ _ e) ∙ answered (d .reply))
+    by-verdict (Refused s) e = ap byReceiving (on-refused _ _ e)
+    by-verdict Accepted e = false-true (sym h ∙ ap (λ (x : ReceiveExit _). isReceived (x .answer)) (on-accepted _ _ e) ∙ answered (d .reply))
 
 -- the ACKs that were written
 replies-of : (a : ReceiveAnswer) (ack : List ℕ) → List (List ℕ)

@@ -5,8 +5,8 @@ use mathlib.Core.List.{List, [], _∷_, _++_, map, List·Memᴰ, append-nil, fla
 use mathlib.Core.Bool.{Bool, true, false, cond, _&&_}
 use lib.ListN.{length, getD, take, drop, length-append}
 use lib.Seq.{drop-drop}
-use Rattle.checksum.specs.Below.{Octets}
-use Rattle.checksum.specs.Flip.{flip}
+use Rattle.octets.specs.Octets.{Octets}
+use Rattle.octets.specs.Flip.{flip}
 use Rattle.protocol.specs.declared.ProtocolType.{ProtocolType}
 use Rattle.protocol.specs.PlainMachine as plain
 use Rattle.protocol.specs.PlainMachine.{Fed, fed, plainStart, plainRun}

@@ -5,8 +5,9 @@ use mathlib.Core.Path.{_≡_}
 use mathlib.Core.List.{List, [], _∷_, _++_}
 use mathlib.Core.Bool.{Bool, true, false, _&&_}
 use lib.ListN.{length, getD, take, drop}
-use Rattle.checksum.specs.Below.{Octets}
-use Rattle.checksum.specs.Flip.{flip}
+use Rattle.bounds.specs.Bounds.{headerSize}
+use Rattle.octets.specs.Octets.{Octets}
+use Rattle.octets.specs.Flip.{flip}
 use Rattle.packet.specs.Reading.{declared, headerOf}
 use Rattle.protocol.specs.PlainMachine.{Fed, fed}
 use Rattle.protocol.specs.PlainMachine as plain
@@ -74,7 +75,7 @@ fresh E s r = record { sender = s; receiver = r; sent = []; replies = [] }
 abbrev pub cut : ℕ → List ℕ → List (List ℕ)
 cut zero raw = []
 cut (suc n) [] = []
-cut (suc n) (x ∷ raw) = take (10 + declared (x ∷ raw)) (x ∷ raw) ∷ cut n (drop (10 + declared (x ∷ raw)) (x ∷ raw))
+cut (suc n) (x ∷ raw) = take (headerSize + declared (x ∷ raw)) (x ∷ raw) ∷ cut n (drop (headerSize + declared (x ∷ raw)) (x ∷ raw))
 
 unfoldable pub datagrams : List ℕ → List (List ℕ)
 datagrams raw = cut (length raw) raw

@@ -4,7 +4,8 @@ use mathlib.Core.List.{List, [], _++_}
 use mathlib.Core.Path.{_≡_}
 use mathlib.Core.Bool.{Bool, true, false}
 use lib.ListN.{take, drop, replicate}
-use Rattle.checksum.specs.Below.{Octets}
+use Rattle.bounds.specs.Bounds.{slotSize}
+use Rattle.octets.specs.Octets.{Octets}
 use Rattle.window.specs.State.{windowBroken, storeShort}
 use Rattle.window.specs.Slots as slots
 use Rattle.window.specs.Sending.{makeExit, makeWindow, SendExit, sendChunk}
@@ -146,7 +147,7 @@ freshEnds StopAndWait w limit sending receiving output =
 freshEnds GoBackN w limit sending receiving output = fresh goBackNEnds (slots.fresh w sending) (withOutput goBackNReceiver.newReceiver output)
 freshEnds SelectiveRepeat w limit sending receiving output =
     fresh selectiveRepeatEnds (slots.fresh w sending)
-    (withOutput (selectiveRepeatReceiver.receiver (selectiveRepeatReceiver.state w 0 0 0 0 0) (replicate (w * 1404) 0 ++ drop (w * 1404) receiving)) output)
+    (withOutput (selectiveRepeatReceiver.receiver (selectiveRepeatReceiver.state w 0 0 0 0 0) (replicate (w * slotSize) 0 ++ drop (w * slotSize) receiving)) output)
 
 -- What making asks: the window within bounds, Stop-and-Wait's 1, and stores that aren't short; the bytes of the sender's store are bytes.
 abbrev pub ReceivingRoom : ProtocolType → ℕ → List ℕ → Type 0

@@ -4,7 +4,8 @@ use mathlib.Core.Bool.{false}
 use mathlib.Core.Path.{_≡_, refl}
 use mathlib.Core.List.{List, [], _∷_}
 use lib.ListN.{replicate}
-use Rattle.checksum.specs.Flip.{flip}
+use Rattle.bounds.specs.Bounds.{slotSize}
+use Rattle.octets.specs.Flip.{flip}
 use Rattle.checksum.specs.Rfc1071.{words, onesAdd, onesSum, checksum}
 use Rattle.refusal.specs.Clauses.{anyOf}
 use Rattle.refusal.specs.Order.{order, orElse, numbered, firstOf, verdict, decide}
@@ -46,7 +47,7 @@ abbrev flippedZero : List ℕ
 flippedZero = flip (made (newPacket 0 Data) (0x41 ∷ [])) 10 3
 
 abbrev limitZero : stopAndWaitSender.End
-limitZero = stopAndWaitSender.endOf (stopAndWaitSender.state 0 false 0 0 0 0) (replicate 1404 0)
+limitZero = stopAndWaitSender.endOf (stopAndWaitSender.state 0 false 0 0 0 0) (replicate slotSize 0)
 
 pub record Departures : Type 0 where
   pub go-back-n-corrupt : goBackN.handlePacket goBackN.newReceiver flippedZero [] (replicate 10 0) .answer ≡ answer.Silent

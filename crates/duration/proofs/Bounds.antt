@@ -4,7 +4,8 @@ use mathlib.Core.Bool.{Bool, true, false, _||_, true≢false}
 use Prim.Native.Nat.{ℕ, _+_, _≤_}
 use lib.Dec.{ltb}
 use borrow.Author.Tests.{ltb-false}
-use Rattle.duration.specs.Bounds.{maxDuration, maxTime, startLate}
+use Rattle.bounds.specs.Bounds.{maxDuration, maxTime}
+use Rattle.duration.specs.Bounds.{startLate}
 
 pub start-in-time : (held : Bool) (now duration : ℕ) → (held || startLate now duration) ≡ false → now + duration ≤ maxTime
 start-in-time held now duration e = go held (ltb maxTime now) (ltb maxDuration duration) (ltb maxTime (now + duration)) (ltb-false _ _) e

@@ -2,15 +2,7 @@
 use Prim.Native.Nat.{ℕ, _+_}
 use mathlib.Core.Bool.{Bool, _||_}
 use lib.Dec.{ltb}
-
-abbrev pub maxDuration : ℕ
-maxDuration = 86400000000000
-
-abbrev pub maxTime : ℕ
-maxTime = 172800000000000
-
-abbrev pub maxEstimate : ℕ
-maxEstimate = 86401000000000
+use Rattle.bounds.specs.Bounds.{maxDuration, maxTime}
 
 -- line 10 of a start: the time and the duration that are given, and the deadline that is to be stored
 abbrev pub startLate : ℕ → ℕ → Bool

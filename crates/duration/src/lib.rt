@@ -6,13 +6,8 @@ ghost use lib.Ieee.Nearest.{closest};
 ghost use Rattle.float.proofs.Sticky.{sticky};
 ghost use Rattle.duration.specs.Bounds.{startLate};
 ghost use Rattle.duration.specs.Duration.{asSecsF64, fromSecsF64, secsInBounds, below21, from21, fromSecsChecked};
-
-// 86,400 s: durations, samples and virtual time.
-pub const MAX_DURATION: u64 = 86400000000000;
-// 172,800 s: other times.
-pub const MAX_TIME: u64 = 172800000000000;
-// 86,401 s: SRTT and RTTVAR.
-pub const MAX_ESTIMATE: u64 = 86401000000000;
+use bounds::MAX_DURATION;
+use bounds::MAX_TIME;
 
 pub fn start_late(now: u64, duration: u64) -> bool
     ensures { λ r. ⌜ r ≡ startLate now duration ⌝ }

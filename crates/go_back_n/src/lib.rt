@@ -2,7 +2,7 @@
 ghost use mathlib.Core.Path.{_≡_};
 ghost use Prim.Native.Nat.{_≤_, _<_};
 ghost use mathlib.Core.Bool.{false};
-ghost use Rattle.refusal.specs.Counts.{countLimit};
+ghost use Rattle.bounds.specs.Bounds.{countLimit, seqNumLimit};
 ghost use Rattle.window.specs.Slots.{sender};
 ghost use Rattle.window.specs.Sending.{makeExit, makeWindow, sendExit, sendChunk};
 ghost use Rattle.window.specs.Acknowledgement.{ackExit};
@@ -105,7 +105,7 @@ impl GoBackNSender {
         ensures { λ r. ⌜ timeoutExit (r .answer) (sender (r .sender .window) (now (store .exit))) (now (out .exit)) ≡ handleTimeout (sender (self .window) (now (store .entry))) (now (out .entry)) ⌝ }
     {
         let window = self.window;
-        let all = window::MAX_WINDOW_SIZE as u32;
+        let all = bounds::MAX_WINDOW_SIZE as u32;
         let result = window.resend_outstanding(false, store, all, out);
         let window = result.window;
         let answer = result.answer;
@@ -224,7 +224,7 @@ impl GoBackNReceiver {
     // What a packet that isn't refused does to the state, and what is to be written.
     pub fn decide_unchecked(mut self, handed: PacketReading) -> GoBackNDecision
         requires { ⌜ countsBroken (self .«total_received») (self .«discarded_out_of_order») (self .«duplicate_acks_sent») ≡ false ⌝ }
-        requires { ⌜ self .«expected_seq» ≤ 4294901760 ⌝ }
+        requires { ⌜ self .«expected_seq» ≤ seqNumLimit ⌝ }
         ensures { λ r. ⌜ r ≡ decision self handed ⌝ }
     {
         self.total_received = self.total_received + 1;
@@ -238,7 +238,7 @@ impl GoBackNReceiver {
     }
 
     fn decide_data(mut self, n: u32) -> GoBackNDecision
-        requires { ⌜ (self .«expected_seq» ≤ 4294901760) × (self .«discarded_out_of_order» < countLimit) × (self .«duplicate_acks_sent» < countLimit) ⌝ }
+        requires { ⌜ (self .«expected_seq» ≤ seqNumLimit) × (self .«discarded_out_of_order» < countLimit) × (self .«duplicate_acks_sent» < countLimit) ⌝ }
         ensures { λ r. ⌜ r ≡ dataDecision self n ⌝ }
     {
         let expected = self.expected_seq;

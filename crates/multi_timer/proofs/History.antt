@@ -9,7 +9,8 @@ use native.Mathlib.Omega.{arith}
 use lib.Dec.{leb, ltb, eqb}
 use lib.ListN.{length, take, drop, replicate, length-replicate}
 use borrow.Author.Tests.{eq-eqb, le-ltb}
-use Rattle.duration.specs.Bounds.{maxTime, startLate}
+use Rattle.bounds.specs.Bounds.{maxTime}
+use Rattle.duration.specs.Bounds.{startLate}
 use Rattle.duration.proofs.Laws.{start-in-time}
 use Rattle.refusal.specs.Order.{check, verdict, decide, firstOf, numbered, orElse, order}
 use Rattle.refusal.specs.declared.Refusal.{Refusal}

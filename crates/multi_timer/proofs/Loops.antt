@@ -9,7 +9,7 @@ use lib.ListN.{length, getD, take}
 use lib.Dec.{ltb, lit≤}
 use lib.Bits.{bitAnd, bitOr, or-lt, or-add-and, and-le-l, and-le-r}
 use borrow.Author.Tests.{le-leb, lt-ltb, le-ltb, ltb-true, ltb-false, eq-eqb, ne-eqb}
-use Rattle.duration.specs.Bounds.{maxTime}
+use Rattle.bounds.specs.Bounds.{maxTime}
 use Rattle.multi_timer.specs.Map.{ascending, ascendingFrom}
 use Rattle.multi_timer.specs.MultiTimer.{anyLate}
 use Rattle.multi_timer.specs.Search.{searchIn, later, risingFrom, allBelowPower}

@@ -10,7 +10,7 @@ use lib.Dec.{leb, ltb, eqb}
 use lib.ListN.{length, take, drop, replicate, length-append, length-replicate, length-drop}
 use lib.Seq.{take-append-seam}
 use borrow.Author.Tests.{ltb-true, ltb-false, eqb-true, eqb-false, leb-true, leb-false, le-ltb, le-leb, lt-leb, eq-eqb, ne-eqb}
-use Rattle.duration.specs.Bounds.{maxTime}
+use Rattle.bounds.specs.Bounds.{maxTime}
 use Rattle.multi_timer.specs.Map.{Entry, entry, entriesOf, keysOf, deadlinesOf, ascendingFrom, ascending, lookup, keep, put, other, remove, due, pending, isSome, dueAt, stillSet, least, earliest, contains, LeastOf}
 use Rattle.multi_timer.specs.MultiTimer.{laid, broken, anyLate}
 use Rattle.multi_timer.proofs.Sorted.{first-key, other-keys, length-keys, length-deadlines}

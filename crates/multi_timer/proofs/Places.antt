@@ -9,7 +9,7 @@ use native.Mathlib.Omega.{arith}
 use lib.ListN.{length, getD, take, drop, set, replicate, length-append, length-set, length-drop, take-append-drop}
 use lib.Seq.{length-take-le, take-take, drop-drop, getD-take, set-append-left}
 use borrow.Rule.Slice.PartMut.{putMid, post-is}
-use Rattle.refusal.proofs.Tails.{tail-is, tail-back}
+use Rattle.octets.proofs.Laws.{tail-is, tail-back}
 use Rattle.multi_timer.specs.Map.{Entry, entriesOf, keysOf, deadlinesOf, lookup, put, remove}
 use Rattle.multi_timer.specs.Search.{searchIn, insertedAt, removedAt, clearedIn}
 use Rattle.multi_timer.specs.MultiTimer.{laid}

@@ -5,7 +5,8 @@ use mathlib.Core.List.{List, [], _∷_}
 use mathlib.Core.Option.{Option, none, some}
 use lib.Dec.{leb, ltb, eqb}
 use lib.ListN.{length, replicate}
-use Rattle.duration.specs.Bounds.{maxTime, startLate}
+use Rattle.bounds.specs.Bounds.{maxTime}
+use Rattle.duration.specs.Bounds.{startLate}
 use Rattle.multi_timer.specs.declared.MultiTimer.{MultiTimer}
 use Rattle.multi_timer.specs.declared.StartAnswer as St
 use Rattle.multi_timer.specs.declared.CancelAnswer as Ca

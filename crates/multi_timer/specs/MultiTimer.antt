@@ -5,7 +5,8 @@ use mathlib.Core.List.{List, [], _∷_, _++_}
 use mathlib.Core.Option.{Option, none, some}
 use lib.Dec.{leb, ltb, eqb}
 use lib.ListN.{length, take, drop, replicate}
-use Rattle.duration.specs.Bounds.{maxTime, startLate}
+use Rattle.bounds.specs.Bounds.{maxTime}
+use Rattle.duration.specs.Bounds.{startLate}
 use Rattle.refusal.specs.Order.{check, verdict, decide}
 use Rattle.refusal.specs.declared.Refusal.the-variants.{State, Time, Full}
 use Rattle.multi_timer.specs.declared.MultiTimer.{MultiTimer}

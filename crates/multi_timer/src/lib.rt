@@ -1,5 +1,5 @@
 // A set of timers by key in two lent slices: the reference's MultiTimer on nanoseconds.
-use duration::MAX_TIME;
+use bounds::MAX_TIME;
 use refusal::DoneAnswer;
 use refusal::Refusal;
 use refusal::TestAnswer;
@@ -10,7 +10,8 @@ ghost use mathlib.Core.List.{_∷_, _++_};
 ghost use mathlib.Core.Option.{some};
 ghost use Prim.Native.Nat.{suc, min, _≤_, _<_};
 ghost use lib.ListN.{length, take, drop, set, replicate};
-ghost use Rattle.duration.specs.Bounds.{maxTime, startLate};
+ghost use Rattle.bounds.specs.Bounds.{maxTime};
+ghost use Rattle.duration.specs.Bounds.{startLate};
 ghost use Rattle.multi_timer.specs.Map.{entriesOf, ascending, lookup, isSome, earliest};
 ghost use Rattle.multi_timer.specs.Search.{searchIn, later, risingFrom, allBelowPower, dueIn, Partitioned, insertedAt, removedAt, clearedIn};
 ghost use Rattle.multi_timer.specs.MultiTimer.{timersExit, popExit, broken, heldTooLate, brokenLine, startFull, startTimerAtUnchecked, cancelTimerUnchecked, popExpiredAtUnchecked, clearUnchecked, isExpiredAtUnchecked, earliestDeadlineUnchecked, newTimers, startTimerAt, cancelTimer, isExpiredAt, popExpiredAt, earliestDeadline, clearTimers};

@@ -1,4 +1,4 @@
--- Parts of a buffer written over, for crates above to cite.
+-- Laws for crates above to cite: what octets are, one bit turned over, parts of a slice written over.
 use Prim.Native.Nat.{ℕ, _+_, _-_, _≤_}
 use mathlib.Core.Path.{_≡_, sym, ap, _∙_}
 use mathlib.Core.List.{List, _++_, append-assoc, append-nil}
@@ -6,6 +6,9 @@ use native.Mathlib.Omega.{arith}
 use native.Mathlib.Nat.{add-sub-cancel-left}
 use lib.ListN.{length, take, drop, drop-of-length-le}
 use lib.Seq.{take-at, drop-append-add, drop-drop}
+pub use Rattle.octets.proofs.Bounded.{below-nil, below-cons, below-head, below-tail, below-append, below-take, below-drop, below-set}
+pub use Rattle.octets.proofs.Flip.{xor-moves, power-le, xor-octet, flip-octets}
+pub use Rattle.octets.proofs.Parts.{tail-is, tail-back}
 
 -- after the n bytes from a on were lent and came back as new
 pub part-written : (buffer part new : List ℕ) (a n : ℕ) → part ≡ new

@@ -1,7 +1,8 @@
-// Octets in lent memory: copies, zeros, and big-endian numbers.
+// Octets in lent memory: copies, zeros, sums, and big-endian numbers.
 ghost use mathlib.Core.Path.{_≡_};
 ghost use Prim.Native.Nat.{_+_, _*_, _≤_};
 ghost use lib.ListN.{length, replicate};
+ghost use Rattle.octets.specs.Fold.{foldBytes};
 
 fn copy_each(src: &[u8], dst: &mut [u8])
     requires { ⌜ length (now src) ≡ length (now dst) ⌝ }
@@ -45,6 +46,19 @@ pub fn clear(dst: &mut [u8])
         dst[i] = 0;
         i += 1;
     }
+}
+
+// The sum of the bytes, wrapping in 16 bits.
+pub fn fold_bytes(bytes: &[u8]) -> u16
+    ensures { λ r. ⌜ r ≡ foldBytes (now (bytes .entry)) ⌝ }
+{
+    let mut sum: u16 = 0;
+    let mut i: usize = 0;
+    while i < bytes.len() {
+        sum = std::num::wrapping_add_u16(sum, bytes[i] as u16);
+        i += 1;
+    }
+    sum
 }
 
 pub fn be16(a: u8, b: u8) -> u16

@@ -10,10 +10,11 @@ use lib.ListN.{length, take, length-set}
 use lib.Seq.{take-all, getD-set-other}
 use lib.Bits.{bitXor}
 use lib.Dec.{ltb}
-use Rattle.checksum.specs.Below.{Octets}
+use Rattle.octets.specs.Octets.{Octets}
 use Rattle.checksum.specs.Rfc1071.{words, onesSum}
-use Rattle.checksum.specs.Flip.{flip}
-use Rattle.checksum.proofs.Laws.{flip-changes-sum, flip-octets, xor-differs}
+use Rattle.octets.specs.Flip.{flip}
+use Rattle.checksum.proofs.Laws.{flip-changes-sum, xor-differs}
+use Rattle.octets.proofs.Laws.{flip-octets}
 use Rattle.refusal.specs.Order.{verdict}
 use Rattle.refusal.specs.declared.Refusal.the-variants.{Cut}
 use Rattle.refusal.proofs.Laws.{decide-accepted, on-accepted, on-refused}

@@ -5,9 +5,10 @@ use mathlib.Core.List.{List, _++_}
 use native.Mathlib.Omega.{arith}
 use lib.ListN.{length}
 use lib.Dec.{lit<}
-use Rattle.checksum.specs.Below.{Octets}
+use Rattle.octets.specs.Octets.{Octets}
 use Rattle.checksum.specs.Rfc1071.{words, onesAdd, onesSum, checksum}
-use Rattle.checksum.proofs.Laws.{ones-add-assoc, ones-add-zero, ones-add-le, ones-sum-le, words-below, below-cons}
+use Rattle.checksum.proofs.Laws.{ones-add-assoc, ones-add-zero, ones-add-le, ones-sum-le, words-below}
+use Rattle.octets.proofs.Laws.{below-cons}
 use Rattle.packet.specs.Format.{byteOf, headerBytes, checksumOf}
 use Rattle.packet.specs.declared.Packet.{Packet}
 use Rattle.packet.proofs.Types.{byte-lt}

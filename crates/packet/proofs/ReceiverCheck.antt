@@ -8,10 +8,12 @@ use native.Mathlib.Omega.{arith}
 use borrow.Author.Tests.{eq-eqb, ne-eqb, eqb-true}
 use lib.ListN.{length, take, drop}
 use lib.Dec.{lit<}
-use Rattle.checksum.specs.Below.{Octets}
+use Rattle.octets.specs.Octets.{Octets}
 use Rattle.checksum.specs.Rfc1071.{words, onesAdd, onesSum}
-use Rattle.checksum.proofs.Laws.{ones-add-assoc, ones-add-comm, ones-add-le, ones-sum-le, all-ones, complement-all-ones, words-below, below-take, below-drop}
-use Rattle.refusal.specs.Order.{verdict, accepted}
+use Rattle.checksum.proofs.Laws.{ones-add-assoc, ones-add-comm, ones-add-le, ones-sum-le, all-ones, complement-all-ones, words-below}
+use Rattle.octets.proofs.Laws.{below-take, below-drop}
+use Rattle.refusal.specs.Order.{verdict}
+use Rattle.refusal.specs.declared.Verdict.the-variants.{Accepted}
 use Rattle.packet.specs.Format.{datagram, checksumOf, matches}
 use Rattle.packet.specs.Reading.{declared, readChecks, headerOf, fromBytes, payloadOf, validity}
 use Rattle.packet.specs.declared.Packet.{Packet}
@@ -33,7 +35,7 @@ header-checksum : (raw : List ℕ) → Octets raw → headerOf raw .checksum < 6
 unfolding headerOf
 header-checksum raw o = omega (arith, o .at 8, o .at 9)
 
-pub payload-octets : (raw : List ℕ) → Octets raw → verdict (readChecks raw) ≡ accepted → Octets (payloadOf raw)
+pub payload-octets : (raw : List ℕ) → Octets raw → verdict (readChecks raw) ≡ Accepted → Octets (payloadOf raw)
 payload-octets raw o v = rw (payload-is raw v) (below-take (declared raw) (drop 10 raw) (lit< tt) (below-drop 10 raw o))
 
 -- all words but the checksum's

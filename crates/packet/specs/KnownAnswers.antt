@@ -3,7 +3,7 @@ use Prim.Native.Nat.{ℕ}
 use mathlib.Core.Path.{_≡_, refl}
 use mathlib.Core.List.{List, [], _∷_}
 use Rattle.checksum.specs.Rfc1071.{words, onesAdd, onesSum, checksum}
-use Rattle.checksum.specs.Flip.{flip}
+use Rattle.octets.specs.Flip.{flip}
 use Rattle.refusal.specs.declared.Refusal.the-variants.{Short, Kind, Cut}
 use Rattle.refusal.specs.Order.{order, orElse, numbered, firstOf, verdict, decide}
 use Rattle.packet.specs.Format.{newPacket, headerBytes, datagram, checksumOf, made, matches}

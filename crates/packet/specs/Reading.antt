@@ -4,6 +4,7 @@ use mathlib.Core.List.{List, [], _∷_}
 use mathlib.Core.Bool.{Bool, false, cond, not}
 use lib.ListN.{length, getD, take, drop}
 use lib.Dec.{ltb, leb, eqb}
+use Rattle.bounds.specs.Bounds.{headerSize}
 use Rattle.refusal.specs.declared.Refusal.the-variants.{Short, Kind, Cut}
 use Rattle.refusal.specs.Order.{Check, check, verdict, decide}
 use Rattle.packet.specs.Format.{matches}
@@ -34,11 +35,11 @@ abbrev pub declared : List ℕ → ℕ
 declared raw = getD raw 6 0 * 256 + getD raw 7 0
 
 abbrev pub present : List ℕ → ℕ
-present raw = length raw - 10
+present raw = length raw - headerSize
 
 unfoldable pub readChecks : List ℕ → List Check
 readChecks raw =
-    check (ltb (length raw) 10) (Short (length raw)) ∷ checkType (getD raw 4 0) ∷ check (ltb (present raw) (declared raw)) (Cut (declared raw) (present raw)) ∷ []
+    check (ltb (length raw) headerSize) (Short (length raw)) ∷ checkType (getD raw 4 0) ∷ check (ltb (present raw) (declared raw)) (Cut (declared raw) (present raw)) ∷ []
 
 unfoldable pub headerOf : List ℕ → Packet
 headerOf raw = record {
@@ -49,7 +50,7 @@ headerOf raw = record {
 }
 
 unfoldable pub payloadPart : List ℕ → List ℕ
-payloadPart raw = take (declared raw) (drop 10 raw)
+payloadPart raw = take (declared raw) (drop headerSize raw)
 
 unfoldable pub fromBytes : List ℕ → PacketAnswer
 fromBytes raw = decide (verdict (readChecks raw)) packetAnswer.Refused (packetAnswer.Packet (headerOf raw))

@@ -3,6 +3,7 @@ use Prim.Native.Nat.{ℕ, _+_}
 use mathlib.Core.List.{List, [], _∷_, _++_}
 use lib.ListN.{length, drop}
 use lib.Dec.{ltb}
+use Rattle.bounds.specs.Bounds.{headerSize, maxPayload}
 use Rattle.refusal.specs.declared.Refusal.the-variants.{Long, Full}
 use Rattle.refusal.specs.Order.{Check, check, verdict, decide}
 use Rattle.packet.specs.Format.{datagram, checksumOf, withChecksum}
@@ -15,7 +16,7 @@ use Rattle.packet.specs.declared.LengthAnswer.{LengthAnswer}
 use Rattle.packet.specs.declared.LengthAnswer.the-variants as lengthAnswer
 
 abbrev pub checkLong : List ℕ → Check
-checkLong payload = check (ltb 1400 (length payload)) Long
+checkLong payload = check (ltb maxPayload (length payload)) Long
 
 unfoldable pub computeChecksum : Packet → List ℕ → ChecksumAnswer
 computeChecksum p payload = decide (verdict (checkLong payload ∷ [])) checksumAnswer.Refused (checksumAnswer.Checksum (checksumOf p payload))
@@ -33,6 +34,6 @@ written a o = record { answer = a; out = o }
 
 unfoldable pub toBytes : Packet → List ℕ → List ℕ → Written
 toBytes p payload out =
-    decide (verdict (checkLong payload ∷ check (ltb (length out) (10 + length payload)) Full ∷ []))
+    decide (verdict (checkLong payload ∷ check (ltb (length out) (headerSize + length payload)) Full ∷ []))
     (λ r. written (lengthAnswer.Refused r) out)
-    (written (lengthAnswer.Length (10 + length payload)) (datagram p payload ++ drop (10 + length payload) out))
+    (written (lengthAnswer.Length (headerSize + length payload)) (datagram p payload ++ drop (headerSize + length payload) out))

@@ -3,6 +3,7 @@ ghost use mathlib.Core.Path.{_≡_};
 ghost use Prim.Native.Nat.{_+_, _≤_};
 ghost use mathlib.Core.List.{_++_};
 ghost use lib.ListN.{length, drop};
+ghost use Rattle.bounds.specs.Bounds.{headerSize};
 ghost use Rattle.packet.specs.Format.{byteOf, newPacket, isRetransmitted, setRetransmitted, headerBytes, datagram, checksumOf, withChecksum, matches};
 ghost use Rattle.packet.specs.Reading.{tryFrom, fromBytes, payloadOf, validity};
 ghost use Rattle.packet.specs.Writing.{computeChecksum, computeAndSetChecksum, toBytes, written};
@@ -79,9 +80,9 @@ impl PacketType {
 }
 
 impl Packet {
-    pub const HEADER_SIZE: usize = 10;
+    pub const HEADER_SIZE: usize = bounds::HEADER_SIZE;
 
-    pub const MAX_PAYLOAD_SIZE: usize = 1400;
+    pub const MAX_PAYLOAD_SIZE: usize = bounds::MAX_PAYLOAD_SIZE;
 
     pub fn new_data(seq_num: u32) -> Packet
         ensures { λ r. ⌜ r ≡ newPacket «seq_num» PacketType.Data ⌝ }
@@ -210,7 +211,7 @@ impl Packet {
         match Packet::from_bytes(raw) {
             PacketAnswer::Packet(_) => {
                 let end = Packet::HEADER_SIZE + octets::be16(raw[6], raw[7]) as usize;
-                &raw[10..end]
+                &raw[Packet::HEADER_SIZE..end]
             }
             PacketAnswer::Refused(_) => &raw[..0],
         }
@@ -223,9 +224,9 @@ impl Packet {
         let pkt_type = self.pkt_type;
         let high = (self.seq_num >> 16) as u16;
         let low = (self.seq_num % 65536) as u16;
-        let second = octets::be16(pkt_type.to_byte(), self.flags);
+        let kind_and_flags = octets::be16(pkt_type.to_byte(), self.flags);
         let header = checksum::ones_add(
-            checksum::ones_add(checksum::ones_add(high, low), second),
+            checksum::ones_add(checksum::ones_add(high, low), kind_and_flags),
             payload.len() as u16,
         );
         !checksum::ones_sum_unchecked(header, payload)
@@ -248,19 +249,19 @@ impl Packet {
     }
 
     pub fn to_bytes_unchecked(self, payload: &[u8], out: &mut [u8])
-        requires { ⌜ (length (now payload) ≤ 65535) × (10 + length (now payload) ≤ length (now out)) ⌝ }
-        ensures { λ _. ⌜ now (out .exit) ≡ datagram self (now (payload .entry)) ++ drop (10 + length (now (payload .entry))) (now (out .entry)) ⌝ }
+        requires { ⌜ (length (now payload) ≤ 65535) × (headerSize + length (now payload) ≤ length (now out)) ⌝ }
+        ensures { λ _. ⌜ now (out .exit) ≡ datagram self (now (payload .entry)) ++ drop (headerSize + length (now (payload .entry))) (now (out .entry)) ⌝ }
     {
         let n = payload.len();
         put_header(self, n as u16, out);
-        let end = 10 + n;
-        octets::copy_unchecked(payload, &mut out[10..end]);
+        let end = Packet::HEADER_SIZE + n;
+        octets::copy_unchecked(payload, &mut out[Packet::HEADER_SIZE..end]);
     }
 }
 
 fn put_header(p: Packet, payload_len: u16, out: &mut [u8])
-    requires { ⌜ 10 ≤ length (now out) ⌝ }
-    ensures { λ _. ⌜ now (out .exit) ≡ headerBytes p «payload_len» (p .checksum) ++ drop 10 (now (out .entry)) ⌝ }
+    requires { ⌜ headerSize ≤ length (now out) ⌝ }
+    ensures { λ _. ⌜ now (out .exit) ≡ headerBytes p «payload_len» (p .checksum) ++ drop headerSize (now (out .entry)) ⌝ }
 {
     let pkt_type = p.pkt_type;
     out[0] = (p.seq_num >> 24) as u8;

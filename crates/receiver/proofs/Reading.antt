@@ -8,7 +8,9 @@ use borrow.Author.Tests.{ltb-false}
 use lib.ListN.{length}
 use Rattle.refusal.specs.declared.Refusal.{Refusal}
 use Rattle.refusal.specs.declared.Refusal.the-variants.{Short, Kind, Cut, Full, Long, Numbers}
-use Rattle.refusal.specs.Order.{Verdict, check, verdict, accepted, refused, order, orElse, numbered, firstOf}
+use Rattle.refusal.specs.Order.{check, verdict, order, orElse, numbered, firstOf}
+use Rattle.refusal.specs.declared.Verdict.{Verdict}
+use Rattle.refusal.specs.declared.Verdict.the-variants.{Accepted, Refused}
 use Rattle.refusal.proofs.Laws.{true-check, accepted-none-true, none-true-accepted, on-accepted, on-refused, decide-refused}
 use Rattle.packet.specs.Format.{matches}
 use Rattle.packet.specs.Reading.{readChecks, headerOf, fromBytes, payloadOf}
@@ -24,8 +26,8 @@ use Rattle.receiver.specs.declared.PacketReading.the-variants as handed
 
 -- lines 1, 2, 3 and 6 come before 7
 earlier : (high long short kind cut : Bool) (n m d e : ℕ) (r : Refusal)
-    → verdict (check long Long ∷ check short (Short n) ∷ check kind (Kind m) ∷ check cut (Cut d e) ∷ []) ≡ refused r
-    → verdict (check high Numbers ∷ check long Long ∷ check short (Short n) ∷ check kind (Kind m) ∷ check cut (Cut d e) ∷ []) ≡ refused r
+    → verdict (check long Long ∷ check short (Short n) ∷ check kind (Kind m) ∷ check cut (Cut d e) ∷ []) ≡ Refused r
+    → verdict (check high Numbers ∷ check long Long ∷ check short (Short n) ∷ check kind (Kind m) ∷ check cut (Cut d e) ∷ []) ≡ Refused r
 unfolding verdict firstOf numbered orElse order
 earlier high long true kind cut n m d e r v = v
 earlier high long false true cut n m d e r v = v
@@ -33,15 +35,15 @@ earlier high long false false true n m d e r v = v
 earlier high true false false false n m d e r v = v
 earlier high false false false false n m d e r v = let z : _≡_ {A = ℕ} 0 1 = cc in absurd (omega arith)
 
-pub before-numbers : (raw : List ℕ) (r : Refusal) → verdict (handedChecks raw) ≡ refused r → readPacket raw ≡ handed.Refused r
+pub before-numbers : (raw : List ℕ) (r : Refusal) → verdict (handedChecks raw) ≡ Refused r → readPacket raw ≡ handed.Refused r
 unfolding readPacket readChecks
 before-numbers raw r v =
     on-refused handed.Refused _ (earlier (numberHigh (headerOf raw) (payloadOf raw)) _ _ _ _ _ _ _ _ r v)
 
 -- and 7 before 5
 last : (full high long short kind cut : Bool) (n m d e : ℕ) (r : Refusal)
-    → verdict (check high Numbers ∷ check long Long ∷ check short (Short n) ∷ check kind (Kind m) ∷ check cut (Cut d e) ∷ []) ≡ refused r
-    → verdict (check full Full ∷ check high Numbers ∷ check long Long ∷ check short (Short n) ∷ check kind (Kind m) ∷ check cut (Cut d e) ∷ []) ≡ refused r
+    → verdict (check high Numbers ∷ check long Long ∷ check short (Short n) ∷ check kind (Kind m) ∷ check cut (Cut d e) ∷ []) ≡ Refused r
+    → verdict (check full Full ∷ check high Numbers ∷ check long Long ∷ check short (Short n) ∷ check kind (Kind m) ∷ check cut (Cut d e) ∷ []) ≡ Refused r
 unfolding verdict firstOf numbered orElse order
 last full high long true kind cut n m d e r v = v
 last full high long false true cut n m d e r v = v
@@ -50,7 +52,7 @@ last full high true false false false n m d e r v = v
 last full true false false false false n m d e r v = v
 last full false false false false false n m d e r v = let z : _≡_ {A = ℕ} 0 1 = cc in absurd (omega arith)
 
-pub before-full : (full : Bool) (raw : List ℕ) (r : Refusal) → verdict (packetChecks raw) ≡ refused r → verdict (check full Full ∷ packetChecks raw) ≡ refused r
+pub before-full : (full : Bool) (raw : List ℕ) (r : Refusal) → verdict (packetChecks raw) ≡ Refused r → verdict (check full Full ∷ packetChecks raw) ≡ Refused r
 unfolding readChecks
 before-full full raw r v = last full (numberHigh (headerOf raw) (payloadOf raw)) _ _ _ _ _ _ _ _ r v
 
@@ -78,18 +80,18 @@ by-validity true packetType.Data n r e = let z : _≡_ {A = ℕ} 0 1 = cc in ome
 by-validity true packetType.Ack n r e = let z : _≡_ {A = ℕ} 0 1 = cc in omega arith
 by-validity true packetType.Fin n r e = let z : _≡_ {A = ℕ} 0 1 = cc in omega arith
 
-pub read-refused : (raw : List ℕ) (r : Refusal) → readPacket raw ≡ handed.Refused r → verdict (packetChecks raw) ≡ refused r
+pub read-refused : (raw : List ℕ) (r : Refusal) → readPacket raw ≡ handed.Refused r → verdict (packetChecks raw) ≡ Refused r
 unfolding readPacket
 read-refused raw r e =
     decide-refused (verdict (packetChecks raw)) handed.Refused _ r e (λ f. by-validity (matches (headerOf raw) (payloadOf raw)) (headerOf raw .«pkt_type») (headerOf raw .«seq_num») r f) (λ s f. cc)
 
-pub read-accepted : (raw : List ℕ) → ((r : Refusal) → readPacket raw ≡ handed.Refused r → ⊥) → verdict (packetChecks raw) ≡ accepted
+pub read-accepted : (raw : List ℕ) → ((r : Refusal) → readPacket raw ≡ handed.Refused r → ⊥) → verdict (packetChecks raw) ≡ Accepted
 unfolding readPacket
 read-accepted raw h = by-verdict (verdict (packetChecks raw)) refl where
-  by-verdict : (v : Verdict) → verdict (packetChecks raw) ≡ v → verdict (packetChecks raw) ≡ accepted
-  by-verdict accepted e = e
-  by-verdict (refused r) e = absurd (h r (on-refused handed.Refused _ e))
+  by-verdict : (v : Verdict) → verdict (packetChecks raw) ≡ v → verdict (packetChecks raw) ≡ Accepted
+  by-verdict Accepted e = e
+  by-verdict (Refused r) e = absurd (h r (on-refused handed.Refused _ e))
 
--- a packet that isn't refused has a payload of at most 1,400 bytes
+-- a packet that isn't Refused has a payload of at most 1,400 bytes
 pub read-short : (raw : List ℕ) → ((r : Refusal) → readPacket raw ≡ handed.Refused r → ⊥) → length (payloadOf raw) ≤ 1400
 read-short raw h = ltb-false 1400 (length (payloadOf raw)) (accepted-none-true (packetChecks raw) (read-accepted raw h) .1 .0)

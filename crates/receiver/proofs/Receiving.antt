@@ -8,7 +8,8 @@ use lib.ListN.{length}
 use types.Run.{OneOf, miss}
 use Rattle.refusal.specs.declared.Refusal.{Refusal}
 use Rattle.refusal.specs.declared.Refusal.the-variants.{State, Counts, Full}
-use Rattle.refusal.specs.Order.{check, verdict, refused, order, orElse, numbered, firstOf}
+use Rattle.refusal.specs.Order.{check, verdict, order, orElse, numbered, firstOf}
+use Rattle.refusal.specs.declared.Verdict.the-variants.{Refused}
 use Rattle.refusal.proofs.Laws.{false-check, true-check, accepted-none-true, on-accepted, on-refused}
 use Rattle.packet.specs.Reading.{readChecks}
 use Rattle.receiver.specs.Handed.{packetChecks, readPacket, readChecked}
@@ -23,14 +24,14 @@ use Rattle.receiver.specs.declared.ReceiveAnswer.{ReceiveAnswer}
 use Rattle.receiver.specs.declared.ReceiveAnswer.the-variants as answer
 use Rattle.receiver.proofs.Reading.{before-full, read-refused, read-accepted}
 
--- the tags of what isn't refused: of a packet, of an answer
+-- the tags of what isn't Refused: of a packet, of an answer
 pub not-four : OneOf (0 ∷ 1 ∷ 2 ∷ 3 ∷ []) 4 → ⊥
 not-four k = miss (0 ∷ 1 ∷ 2 ∷ 3 ∷ []) 4 tt k
 
 pub not-two : OneOf (0 ∷ 1 ∷ []) 2 → ⊥
 not-two k = miss (0 ∷ 1 ∷ []) 2 tt k
 
--- a datagram that isn't refused
+-- a datagram that isn't Refused
 abbrev pub Taken : PacketReading → Type 0
 Taken h = (s : Refusal) → h ≡ handed.Refused s → ⊥
 
@@ -40,15 +41,15 @@ taken true counts raw h = absurd (h State refl)
 taken false true raw h = absurd (h Counts refl)
 taken false false raw h = (refl, refl, refl)
 
--- the verdict on a state that isn't broken, and on a datagram that is refused, whatever is to be written
+-- the verdict on a state that isn't broken, and on a datagram that is Refused, whatever is to be written
 unbroken : (full : Bool) (raw : List ℕ) → verdict (check false State ∷ check false Counts ∷ check full Full ∷ packetChecks raw) ≡ verdict (check full Full ∷ packetChecks raw)
 unbroken full raw = false-check State _ ∙ false-check Counts _
 
 refused-verdict : (broken counts full : Bool) (raw : List ℕ) (s : Refusal) → readChecked broken counts raw ≡ handed.Refused s
-    → verdict (check broken State ∷ check counts Counts ∷ check full Full ∷ packetChecks raw) ≡ refused s
+    → verdict (check broken State ∷ check counts Counts ∷ check full Full ∷ packetChecks raw) ≡ Refused s
 unfolding readChecked readChecks verdict firstOf numbered orElse order
-refused-verdict true counts full raw s e = ap refused cc
-refused-verdict false true full raw s e = ap refused cc
+refused-verdict true counts full raw s e = ap Refused cc
+refused-verdict false true full raw s e = ap Refused cc
 refused-verdict false false full raw s e = unbroken full raw ∙ before-full full raw s (read-refused raw s e)
 
 never-refused : (r : Reply) (s : Refusal) → answerOf r ≡ answer.Refused s → ⊥

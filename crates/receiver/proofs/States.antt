@@ -6,8 +6,8 @@ use mathlib.Core.List.{List, [], _∷_}
 use borrow.Author.Tests.{ltb-false, leb-false}
 use lib.ListN.{length}
 use lib.Dec.{leb}
+use Rattle.bounds.specs.Bounds.{countLimit}
 use Rattle.refusal.specs.Clauses.{anyOf}
-use Rattle.refusal.specs.Counts.{countLimit}
 use Rattle.refusal.proofs.Laws.{none-of}
 use Rattle.window.proofs.Laws.{or-false-right}
 use Rattle.receiver.specs.State.{marksBroken, countsBroken}

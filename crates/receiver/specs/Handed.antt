@@ -3,6 +3,7 @@ use Prim.Native.Nat.{ℕ}
 use mathlib.Core.List.{List, _∷_}
 use mathlib.Core.Bool.{Bool, true, false, cond, _&&_}
 use lib.Dec.{leb}
+use Rattle.bounds.specs.Bounds.{seqNumLimit}
 use Rattle.refusal.specs.declared.Refusal.the-variants.{State, Counts, Numbers}
 use Rattle.refusal.specs.Order.{Check, check, verdict, decide}
 use Rattle.packet.specs.Format.{matches}
@@ -27,7 +28,7 @@ isData packetType.Fin = false
 
 -- 7: valid Data with the number 4,294,901,760 or a higher one
 abbrev pub numberHigh : Packet → List ℕ → Bool
-numberHigh p payload = matches p payload && isData (p .«pkt_type») && leb 4294901760 (p .«seq_num»)
+numberHigh p payload = matches p payload && isData (p .«pkt_type») && leb seqNumLimit (p .«seq_num»)
 
 abbrev pub packetChecks : List ℕ → List Check
 packetChecks raw = check (numberHigh (headerOf raw) (payloadOf raw)) Numbers ∷ handedChecks raw

@@ -5,6 +5,7 @@ use mathlib.Core.Bool.{Bool, false, cond, _||_, _&&_}
 use mathlib.Core.Path.{_≡_}
 use lib.ListN.{length, take, drop}
 use lib.Dec.{ltb}
+use Rattle.bounds.specs.Bounds.{headerSize}
 use Rattle.packet.specs.Format.{newPacket, made}
 use Rattle.packet.specs.declared.PacketType.the-variants.{Ack}
 use Rattle.receiver.specs.declared.Reply.{Reply}
@@ -19,11 +20,11 @@ answerOf reply.Silent = answer.Silent
 
 -- the buffer for the ACK after a reply
 unfoldable pub ackAfter : Reply → List ℕ → List ℕ
-ackAfter (reply.Ack n) ack = made (newPacket n Ack) [] ++ drop 10 ack
+ackAfter (reply.Ack n) ack = made (newPacket n Ack) [] ++ drop headerSize ack
 ackAfter reply.Silent ack = ack
 
 abbrev pub ackMissing : Reply → List ℕ → Bool
-ackMissing (reply.Ack n) ack = ltb (length ack) 10
+ackMissing (reply.Ack n) ack = ltb (length ack) headerSize
 ackMissing reply.Silent ack = false
 
 -- 5: the output without space for what is delivered, or the buffer for the ACK too short

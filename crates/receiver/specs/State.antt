@@ -4,12 +4,13 @@ use mathlib.Core.List.{List, [], _∷_}
 use mathlib.Core.Bool.{Bool}
 use lib.ListN.{length}
 use lib.Dec.{ltb}
+use Rattle.bounds.specs.Bounds.{seqNumLimit}
 use Rattle.refusal.specs.Clauses.{anyOf}
 use Rattle.refusal.specs.Counts.{countFull}
 
 -- 9: the base above 4,294,901,760; the fill mark above the output's length
 unfoldable pub marksBroken : ℕ → ℕ → List ℕ → Bool
-marksBroken base filled output = anyOf (ltb 4294901760 base ∷ ltb (length output) filled ∷ [])
+marksBroken base filled output = anyOf (ltb seqNumLimit base ∷ ltb (length output) filled ∷ [])
 
 -- 8
 unfoldable pub countsBroken : ℕ → ℕ → ℕ → Bool

@@ -9,12 +9,12 @@ ghost use Rattle.receiver.specs.State.{marksBroken, countsBroken};
 ghost use Rattle.receiver.specs.Handed.{readPacket, readChecked};
 ghost use Rattle.receiver.specs.Reply.{applyExit, applied, roomMissing, RoomFor, RoomForReply, ackAfter, answerOf};
 ghost use Rattle.receiver.specs.Receive.{receiveExit, apply};
+use bounds::COUNT_LIMIT;
+use bounds::SEQ_NUM_LIMIT;
 use packet::Packet;
 use packet::PacketAnswer;
 use packet::PacketType;
-use refusal::COUNT_LIMIT;
 use refusal::Refusal;
-use window::SEQ_NUM_LIMIT;
 
 // What a datagram handed to a receiver is.
 pub enum PacketReading {

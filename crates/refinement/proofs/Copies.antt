@@ -8,11 +8,12 @@ use native.Mathlib.Omega.{arith}
 use native.Mathlib.Decide.{ℕ-discrete}
 use borrow.Author.Tests.{eq-eqb, lt-leb}
 use lib.ListN.{length}
-use Rattle.checksum.specs.Below.{Octets}
-use Rattle.checksum.specs.Flip.{flip}
-use Rattle.checksum.proofs.Laws.{below-nil}
+use Rattle.octets.specs.Octets.{Octets}
+use Rattle.octets.specs.Flip.{flip}
+use Rattle.octets.proofs.Laws.{below-nil}
 use Rattle.protocol.specs.Machine.{Segment}
-use Rattle.refusal.specs.Order.{verdict, accepted}
+use Rattle.refusal.specs.Order.{verdict}
+use Rattle.refusal.specs.declared.Verdict.the-variants.{Accepted}
 use Rattle.refusal.proofs.Laws.{none-true-accepted, on-accepted, decided}
 use Rattle.packet.specs.Format.{newPacket, headerBytes, checksumOf, withChecksum, made, matches}
 use Rattle.packet.specs.Reading.{readChecks, headerOf, payloadOf, fromBytes, validity}
@@ -63,7 +64,7 @@ module _ (p : Packet) (payload : List ℕ) where
 
 -- a datagram that isn't valid
 module _ (raw : List ℕ) (invalid : validity raw ≡ validityAnswer.Valid → ⊥) where
-  no-match : verdict (readChecks raw) ≡ accepted → matches (headerOf raw) (payloadOf raw) ≡ false
+  no-match : verdict (readChecks raw) ≡ Accepted → matches (headerOf raw) (payloadOf raw) ≡ false
   unfolding fromBytes
   no-match v = by-match (matches (headerOf raw) (payloadOf raw)) refl
     where

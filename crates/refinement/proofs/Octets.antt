@@ -4,8 +4,8 @@ use mathlib.Core.Bool.{Bool}
 use mathlib.Core.List.{List, _++_}
 use native.Mathlib.Omega.{arith}
 use lib.ListN.{length, take, drop, replicate}
-use Rattle.checksum.specs.Below.{Octets}
-use Rattle.checksum.proofs.Laws.{below-nil, below-cons, below-append, below-take, below-drop, below-set}
+use Rattle.octets.specs.Octets.{Octets}
+use Rattle.octets.proofs.Laws.{below-nil, below-cons, below-append, below-take, below-drop, below-set}
 use Rattle.store.specs.Slot.{slotAt, slotLength, slotFlags, slotPayload, slotBytes, putSlot, fillSlot, emptySlot}
 use Rattle.window.specs.Sending.{sendChunk}
 use Rattle.window.specs.Acknowledgement.{byDecision}

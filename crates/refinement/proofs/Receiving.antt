@@ -14,7 +14,8 @@ use Rattle.protocol.specs.declared.ProtocolType.{ProtocolType}
 use Rattle.protocol.specs.declared.ProtocolType.the-variants.{StopAndWait, GoBackN, SelectiveRepeat}
 use Rattle.refusal.specs.declared.Refusal.{Refusal}
 use Rattle.refusal.specs.declared.Refusal.the-variants.{State, Counts, Full}
-use Rattle.refusal.specs.Order.{check, verdict, accepted}
+use Rattle.refusal.specs.Order.{check, verdict}
+use Rattle.refusal.specs.declared.Verdict.the-variants.{Accepted}
 use Rattle.refusal.proofs.Laws.{accepted-none-true, none-true-accepted, on-accepted, decided}
 use Rattle.packet.specs.Format.{newPacket, made, matches}
 use Rattle.packet.specs.Reading.{headerOf, payloadOf}
@@ -38,14 +39,14 @@ use Rattle.refinement.specs.Follows.{acksOf}
 use Rattle.refinement.specs.Copies.{AckOf, NoPacket}
 use Rattle.refinement.specs.Copies
 
--- valid Data that isn't refused has a number below the limit
+-- valid Data that isn't Refused has a number below the limit
 by-type : (b : Bool) (t : PacketType) (m n : ℕ) → (b && isData t && leb 4294901760 m) ≡ false → cond b (byType t m) handed.Corrupted ≡ handed.Data n → n < 4294901760
 by-type true packetType.Data m n h e = let f : m ≡ n = cc in rw f at (leb-false 4294901760 m h)
 by-type true packetType.Ack m n h e = let z : _≡_ {A = ℕ} 0 1 = cc in absurd (omega arith)
 by-type true packetType.Fin m n h e = let z : _≡_ {A = ℕ} 0 1 = cc in absurd (omega arith)
 by-type false t m n h e = let z : _≡_ {A = ℕ} 0 1 = cc in absurd (omega arith)
 
-pub data-low : (raw : List ℕ) (n : ℕ) → verdict (packetChecks raw) ≡ accepted → readPacket raw ≡ handed.Data n → n < 4294901760
+pub data-low : (raw : List ℕ) (n : ℕ) → verdict (packetChecks raw) ≡ Accepted → readPacket raw ≡ handed.Data n → n < 4294901760
 unfolding readPacket
 data-low raw n v e =
     by-type (matches (headerOf raw) (payloadOf raw)) (headerOf raw .«pkt_type») (headerOf raw .«seq_num») n (accepted-none-true _ v .0) (sym (on-accepted handed.Refused _ v) ∙ e)
@@ -96,11 +97,11 @@ pub record Leaves {R : Type 0} (view : R → ReceiverState) (after : ℕ → R) 
 
 -- packets that are no Data, kind by kind
 pub other-kind : (P : PacketReading → Type 0) → ((n : ℕ) → P (handed.Fin n)) → P handed.Ack → P handed.Corrupted → ((s : Refusal) → P (handed.Refused s)) → (h : PacketReading) → ((n : ℕ) → h ≡ handed.Data n → ⊥) → P h
-other-kind P fin ack corrupted refused (handed.Data n) no-number = absurd (no-number n refl)
-other-kind P fin ack corrupted refused (handed.Fin n) no-number = fin n
-other-kind P fin ack corrupted refused handed.Ack no-number = ack
-other-kind P fin ack corrupted refused handed.Corrupted no-number = corrupted
-other-kind P fin ack corrupted refused (handed.Refused s) no-number = refused s
+other-kind P fin ack corrupted Refused (handed.Data n) no-number = absurd (no-number n refl)
+other-kind P fin ack corrupted Refused (handed.Fin n) no-number = fin n
+other-kind P fin ack corrupted Refused handed.Ack no-number = ack
+other-kind P fin ack corrupted Refused handed.Corrupted no-number = corrupted
+other-kind P fin ack corrupted Refused (handed.Refused s) no-number = Refused s
 
 pub left : {R : Type 0} {view : R → ReceiverState} {after : ℕ → R} {r : R} {d : Decision} {h : PacketReading} → ((filled : ℕ) → view (after filled) ≡ view r) → d .deliver ≡ false → (h ≡ handed.Corrupted → d .reply ≡ reply.Silent)
     → Leaves view after r d h
@@ -204,7 +205,7 @@ module _ {R : Type 0} (p : ProtocolType) (w : ℕ) (view : R → ReceiverState) 
             record { is = ap (take 10) (carried-ack d bytes (filledOf r) output ack) ∙ ack-front (d .reply) n ack e; low = omega arith };
       })
 
-  ignored : verdict (packetChecks raw) ≡ accepted → result ≡ applyResult after d (applied d bytes (filledOf r) output ack) → Leaves view after r d (readPacket raw) → Ignored view filledOf r raw output ack result
+  ignored : verdict (packetChecks raw) ≡ Accepted → result ≡ applyResult after d (applied d bytes (filledOf r) output ack) → Leaves view after r d (readPacket raw) → Ignored view filledOf r raw output ack result
   unfolding ackAfter
   ignored v is l =
       let none : cond (d .deliver) bytes [] ≡ [] = rw (l .nothing) in
@@ -219,11 +220,11 @@ module _ {R : Type 0} (p : ProtocolType) (w : ℕ) (view : R → ReceiverState) 
       by-kind (Copies.NoPacket.refused s e) = let f = read-refused raw s e in let z : _≡_ {A = ℕ} 0 1 = cc in absurd (omega arith)
       by-kind (Copies.NoPacket.corrupted e) = let s = l .silent e in (rw s, carried-ack d bytes (filledOf r) output ack ∙ rw s)
 
-  no-data : verdict (packetChecks raw) ≡ accepted → result ≡ applyResult after d (applied d bytes (filledOf r) output ack) → ((n : ℕ) → readPacket raw ≡ handed.Data n → ⊥)
+  no-data : verdict (packetChecks raw) ≡ Accepted → result ≡ applyResult after d (applied d bytes (filledOf r) output ack) → ((n : ℕ) → readPacket raw ≡ handed.Data n → ⊥)
       → ReceiveOutcome p w view filledOf r raw output ack result
   no-data v is no-number = not-data no-number (ignored v is (decides .on-other no-number))
 
-  by-handed : broken ≡ false → roomMissing d (length bytes) (filledOf r) output ack ≡ false → verdict (packetChecks raw) ≡ accepted → length (payloadOf raw) ≤ 1400
+  by-handed : broken ≡ false → roomMissing d (length bytes) (filledOf r) output ack ≡ false → verdict (packetChecks raw) ≡ Accepted → length (payloadOf raw) ≤ 1400
       → result ≡ applyResult after d (applied d bytes (filledOf r) output ack) → (h : PacketReading) → readPacket raw ≡ h → ReceiveOutcome p w view filledOf r raw output ack result
   by-handed sound room v short is (handed.Data n) e = let low = data-low raw n v e in data-taken n e low (took sound room is (record { number = n; payload = payloadOf raw }) low (decides .on-data sound n e short))
   by-handed sound room v short is (handed.Fin m) e = no-data v is (λ n f. let z : _≡_ {A = ℕ} 0 1 = cc in omega arith)
@@ -239,9 +240,9 @@ module _ {R : Type 0} (p : ProtocolType) (w : ℕ) (view : R → ReceiverState) 
       (λ none is. by-handed (none .0) (none .1 .1 .0) (none-true-accepted (packetChecks raw) (none .1 .1 .1)) (ltb-false 1400 (length (payloadOf raw)) (none .1 .1 .1 .1 .0)) is (readPacket raw) refl)
       refl
 
--- what holds of the state, and of whatever a packet that isn't refused makes of it, holds after the call
+-- what holds of the state, and of whatever a packet that isn't Refused makes of it, holds after the call
 pub after-packet : {R : Type 0} (P : R → Type 0) (broken counts : Bool) (r : R) (filled : ℕ) (d : Decision) (bytes : List ℕ) (after : ℕ → R) (raw output ack : List ℕ)
-    → P r → (broken ≡ false → verdict (packetChecks raw) ≡ accepted → length (payloadOf raw) ≤ 1400 → (n : ℕ) → P (after n))
+    → P r → (broken ≡ false → verdict (packetChecks raw) ≡ Accepted → length (payloadOf raw) ≤ 1400 → (n : ℕ) → P (after n))
     → P (receive broken counts r filled d bytes after raw output ack .receiver)
 unfolding receive
 after-packet {R} P broken counts r filled d bytes after raw output ack before step =

@@ -9,7 +9,7 @@ use lib.ListN.{length, getD, drop}
 use lib.Dec.{ltb, eqb}
 use Rattle.protocol.specs.Runs.{upFrom}
 use Rattle.protocol.specs.Machine.{SenderState, segmentAt}
-use Rattle.checksum.specs.Below.{Octets}
+use Rattle.octets.specs.Octets.{Octets}
 use Rattle.refusal.specs.declared.Refusal.{Refusal}
 use Rattle.refusal.specs.declared.Refusal.the-variants.{State, Counts, Full}
 use Rattle.refusal.specs.Order.{check}

@@ -8,7 +8,7 @@ use borrow.Author.Tests.{ltb-true, ltb-false, eqb-false}
 use lib.ListN.{length, take, drop}
 use lib.Seq.{take-at}
 use Rattle.protocol.specs.Machine.{nextNumber, send}
-use Rattle.checksum.specs.Below.{Octets}
+use Rattle.octets.specs.Octets.{Octets}
 use Rattle.refusal.specs.declared.Refusal.{Refusal}
 use Rattle.refusal.proofs.Laws.{NoneTrue, decided}
 use Rattle.packet.specs.Format.{newPacket, made}

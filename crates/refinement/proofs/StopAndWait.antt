@@ -5,7 +5,7 @@ use mathlib.Core.Bool.{Bool, true, false, cond}
 use mathlib.Core.List.{List}
 use native.Mathlib.Omega.{arith}
 use Rattle.protocol.specs.declared.ProtocolType.the-variants.{StopAndWait}
-use Rattle.checksum.specs.Below.{Octets}
+use Rattle.octets.specs.Octets.{Octets}
 use Rattle.window.specs.State.{outstanding}
 use Rattle.window.specs.Slots.{Sender, sender, fresh, hold, markRetransmitted, release}
 use Rattle.window.specs.Sending as window

@@ -3,9 +3,10 @@ use Prim.Native.Nat.{ℕ, _≤_, _<_}
 use mathlib.Core.Path.{_≡_}
 use mathlib.Core.List.{List, []}
 use lib.ListN.{length}
+use Rattle.bounds.specs.Bounds.{maxPayload, seqNumLimit}
 use Rattle.protocol.specs.Machine.{Segment}
-use Rattle.checksum.specs.Below.{Octets}
-use Rattle.checksum.specs.Flip.{flip}
+use Rattle.octets.specs.Octets.{Octets}
+use Rattle.octets.specs.Flip.{flip}
 use Rattle.refusal.specs.declared.Refusal.{Refusal}
 use Rattle.packet.specs.Format.{newPacket, made}
 use Rattle.packet.specs.declared.Packet.{Packet}
@@ -22,9 +23,9 @@ pub record DataOf (q : Segment) (raw : List ℕ) : Type 0 where
   pub kind : packet .«pkt_type» ≡ Data
   pub number : packet .«seq_num» ≡ q .number
   pub flags : packet .flags < 256
-  pub low : q .number < 4294901760
+  pub low : q .number < seqNumLimit
   pub octets : Octets (q .payload)
-  pub short : length (q .payload) ≤ 1400
+  pub short : length (q .payload) ≤ maxPayload
 
 -- the ACK of number n
 pub record AckOf (n : ℕ) (raw : List ℕ) : Type 0 where

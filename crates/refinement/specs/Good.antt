@@ -3,6 +3,7 @@ use Prim.Native.Nat.{ℕ, _+_, _≤_, _<_}
 use mathlib.Core.Path.{_≡_}
 use mathlib.Core.Bool.{Bool, false}
 use mathlib.Core.List.{List}
+use Rattle.bounds.specs.Bounds.{seqNumLimit}
 use Rattle.store.specs.Slot.{slotMark}
 use Rattle.store.specs.Sound.{slotOf}
 use Rattle.window.specs.State.{stateBroken}
@@ -19,4 +20,4 @@ NoneHeldFrom limit store window base = (k : ℕ) → k < window → limit ≤ ba
 
 pub record GoodSelectiveReceiver (v : Receiver) (output : List ℕ) : Type 0 where
   pub sound : receivingBroken (v .state) (v .store) output ≡ false
-  pub none-high : NoneHeldFrom 4294901760 (v .store) (v .state .«window_size») (v .state .«recv_base»)
+  pub none-high : NoneHeldFrom seqNumLimit (v .store) (v .state .«window_size») (v .state .«recv_base»)

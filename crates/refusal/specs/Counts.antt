@@ -2,10 +2,7 @@
 use Prim.Native.Nat.{ℕ}
 use mathlib.Core.Bool.{Bool}
 use lib.Dec.{leb}
-
--- 2^60
-abbrev pub countLimit : ℕ
-countLimit = 1152921504606846976
+use Rattle.bounds.specs.Bounds.{countLimit}
 
 -- "stands at 2^60 or more"
 abbrev pub countFull : ℕ → Bool

@@ -5,6 +5,8 @@ use mathlib.Core.List.{List, [], _∷_}
 use lib.Dec.{eqb}
 use Rattle.refusal.specs.Refusal.{entryOf}
 use Rattle.refusal.specs.declared.Refusal.{Refusal}
+use Rattle.refusal.specs.declared.Verdict.{Verdict}
+use Rattle.refusal.specs.declared.Verdict.the-variants.{Accepted, Refused}
 
 unfoldable pub order : List ℕ
 order = 9 ∷ 8 ∷ 10 ∷ 11 ∷ 4 ∷ 1 ∷ 2 ∷ 3 ∷ 6 ∷ 7 ∷ 5 ∷ []
@@ -17,21 +19,17 @@ pub record Check : Type 0 where
 abbrev pub check : Bool → Refusal → Check
 check b r = record { fires = b; refusal = r }
 
-pub data Verdict : Type 0 where
-  accepted : Verdict
-  refused : Refusal → Verdict
-
 unfoldable pub orElse : Verdict → Verdict → Verdict
-orElse accepted v = v
-orElse (refused r) v = refused r
+orElse Accepted v = v
+orElse (Refused r) v = Refused r
 
 -- the checks of one number
 unfoldable pub numbered : ℕ → List Check → Verdict
-numbered n [] = accepted
-numbered n (c ∷ cs) = orElse (cond (eqb (entryOf (c .refusal) .number) n) (cond (c .fires) (refused (c .refusal)) accepted) accepted) (numbered n cs)
+numbered n [] = Accepted
+numbered n (c ∷ cs) = orElse (cond (eqb (entryOf (c .refusal) .number) n) (cond (c .fires) (Refused (c .refusal)) Accepted) Accepted) (numbered n cs)
 
 unfoldable pub firstOf : List ℕ → List Check → Verdict
-firstOf [] cs = accepted
+firstOf [] cs = Accepted
 firstOf (n ∷ ns) cs = orElse (numbered n cs) (firstOf ns cs)
 
 -- the verdict on a call, however its checks are listed
@@ -40,5 +38,5 @@ verdict cs = firstOf order cs
 
 -- what a call gives: after a refusal the one, else the other
 unfoldable pub decide : {A : Type 0} → Verdict → (Refusal → A) → A → A
-decide accepted f a = a
-decide (refused r) f a = f r
+decide Accepted f a = a
+decide (Refused r) f a = f r

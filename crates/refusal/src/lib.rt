@@ -1,9 +1,10 @@
 // Why a call is turned away, for every layer: document 01, "Turned away".
+// A new refusal has six places: its case in `Refusal`, its arms in `number`, `word` and, where it has values, `values`; its line of
+// `entryOf` in specs/Refusal.antt; its place in `order` in specs/Order.antt; its line of `in-order` in proofs/Laws.antt.
 ghost use mathlib.Core.Path.{_≡_};
-ghost use Rattle.refusal.specs.Refusal.{entryOf};
-
-// 2^60: a counter at this value or above it is refused.
-pub const COUNT_LIMIT: u64 = 1_152_921_504_606_846_976;
+ghost use Prim.Native.Nat.{_≤_};
+ghost use lib.ListN.{length};
+ghost use Rattle.refusal.specs.Refusal.{entryOf, wordOf, valuesOf};
 
 // A case for each line of the table, with the values that its line names.
 pub enum Refusal {
@@ -23,6 +24,12 @@ pub enum Refusal {
     Roll,
 }
 
+// What a call's checks say.
+pub enum Verdict {
+    Accepted,
+    Refused(Refusal),
+}
+
 // Answers that are a bool, a count, or nothing but that the call is done.
 pub enum TestAnswer {
     Is(bool),
@@ -39,10 +46,10 @@ pub enum DoneAnswer {
     Refused(Refusal),
 }
 
-// A word of at most seven letters, with zeros after it.
+// A word of at most 16 letters in ASCII, with zeros after it.
 pub struct Word {
     pub len: usize,
-    pub bytes: [u8; 7],
+    pub bytes: [u8; 16],
 }
 
 // The values that a line names, in its order; 0 past their count.
@@ -75,63 +82,29 @@ impl Refusal {
         }
     }
 
-    // The word of the line, in ASCII.
     pub fn word(self) -> Word
-        ensures { λ r. ⌜ r ≡ entryOf self .word ⌝ }
+        ensures { λ r. ⌜ r ≡ wordOf (entryOf self .word) ⌝ }
     {
         match self {
-            Refusal::Short(_) => Word {
-                len: 5,
-                bytes: [b's', b'h', b'o', b'r', b't', 0, 0],
-            },
-            Refusal::Kind(_) => Word {
-                len: 4,
-                bytes: [b'k', b'i', b'n', b'd', 0, 0, 0],
-            },
+            Refusal::Short(_) => padded(b"short"),
+            Refusal::Kind(_) => padded(b"kind"),
             Refusal::Cut {
                 declared: _,
                 present: _,
-            } => Word {
-                len: 3,
-                bytes: [b'c', b'u', b't', 0, 0, 0, 0],
-            },
-            Refusal::Setup => Word {
-                len: 5,
-                bytes: [b's', b'e', b't', b'u', b'p', 0, 0],
-            },
-            Refusal::Full => Word {
-                len: 4,
-                bytes: [b'f', b'u', b'l', b'l', 0, 0, 0],
-            },
-            Refusal::Long => Word {
-                len: 4,
-                bytes: [b'l', b'o', b'n', b'g', 0, 0, 0],
-            },
-            Refusal::Numbers => Word {
-                len: 7,
-                bytes: [b'n', b'u', b'm', b'b', b'e', b'r', b's'],
-            },
-            Refusal::Counts => Word {
-                len: 6,
-                bytes: [b'c', b'o', b'u', b'n', b't', b's', 0],
-            },
-            Refusal::State => Word {
-                len: 5,
-                bytes: [b's', b't', b'a', b't', b'e', 0, 0],
-            },
-            Refusal::Time => Word {
-                len: 4,
-                bytes: [b't', b'i', b'm', b'e', 0, 0, 0],
-            },
-            Refusal::Roll => Word {
-                len: 4,
-                bytes: [b'r', b'o', b'l', b'l', 0, 0, 0],
-            },
+            } => padded(b"cut"),
+            Refusal::Setup => padded(b"setup"),
+            Refusal::Full => padded(b"full"),
+            Refusal::Long => padded(b"long"),
+            Refusal::Numbers => padded(b"numbers"),
+            Refusal::Counts => padded(b"counts"),
+            Refusal::State => padded(b"state"),
+            Refusal::Time => padded(b"time"),
+            Refusal::Roll => padded(b"roll"),
         }
     }
 
     pub fn values(self) -> Values
-        ensures { λ r. ⌜ r ≡ entryOf self .values ⌝ }
+        ensures { λ r. ⌜ r ≡ valuesOf (entryOf self .values) ⌝ }
     {
         match self {
             Refusal::Short(length) => Values {
@@ -155,5 +128,21 @@ impl Refusal {
                 second: 0,
             },
         }
+    }
+}
+
+fn padded(letters: &[u8]) -> Word
+    requires { ⌜ length (now letters) ≤ 16 ⌝ }
+    ensures { λ r. ⌜ r ≡ wordOf (now (letters .entry)) ⌝ }
+{
+    let mut bytes = [0u8; 16];
+    let mut i: usize = 0;
+    while i < letters.len() {
+        bytes[i] = letters[i];
+        i += 1;
+    }
+    Word {
+        len: letters.len(),
+        bytes,
     }
 }

@@ -6,9 +6,9 @@ use Prim.Native.Nat.{ℕ, _≤_, _<_}
 use lib.Dec.{T, leb, ltb}
 use denote.Floats.{passes}
 use borrow.Author.Tests.{leb-true, leb-false, ltb-false, le-leb, lt-leb}
+use Rattle.bounds.specs.Bounds.{countLimit, maxDuration, maxEstimate}
 use Rattle.refusal.proofs.Laws.{or-false}
-use Rattle.duration.specs.Bounds.{maxDuration, maxEstimate}
-use Rattle.refusal.specs.Counts.{countLimit, countFull}
+use Rattle.refusal.specs.Counts.{countFull}
 use Rattle.refusal.specs.Order.{check, verdict, decide, firstOf, numbered, orElse, order}
 use Rattle.refusal.specs.declared.Refusal.{Refusal}
 use Rattle.refusal.specs.declared.Refusal.the-variants.{State, Counts, Time, Setup}

@@ -11,7 +11,7 @@ use lib.ListN.{length}
 use lib.IntN.{pos}
 use lib.Ieee.{Float, fin, binary64, div, ofInt}
 use borrow.Author.Tests.{le-ltb, lt-ltb}
-use Rattle.duration.specs.Bounds.{maxDuration}
+use Rattle.bounds.specs.Bounds.{maxDuration}
 use Rattle.refusal.specs.Counts.{countFull}
 use Rattle.rto.specs.Rto.{configInBounds, countsFull, heldTooLong, sampleTooLong, noStats, fresh, leastRtt, greatestRtt, sampled, acceptSample, rejectSample, updateRttUnchecked, nextConsecutive, onTimeoutUnchecked, resetBackoffUnchecked, updateResult, timeoutResult, resetResult, updateRtt, onTimeout, resetBackoff, hasExceededRetryLimit, meanRttMsUnchecked, meanRttMs}
 use Rattle.rto.specs.History.{Call, sample, timeout, reset, step, afterCalls, updateRefused, timeoutRefused, resetRefused, isRefused, accepted, samples, rejections, timeouts, timeoutsSince, consecutive, mostConsecutive, least, greatest, latest, sumMs, full, tooLong}

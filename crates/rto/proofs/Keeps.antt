@@ -7,8 +7,8 @@ use native.Mathlib.Omega.{arith}
 use lib.Dec.{T, ltb, lit≤}
 use lib.Ieee.{binary64, fits}
 use borrow.Author.Tests.{le-ltb, ltb-false}
+use Rattle.bounds.specs.Bounds.{maxDuration, maxEstimate}
 use Rattle.refusal.proofs.Laws.{or-false}
-use Rattle.duration.specs.Bounds.{maxDuration, maxEstimate}
 use Rattle.rtt.proofs.Range.{first-srtt-range, first-rttvar-range, next-srtt-range, next-rttvar-range}
 use Rattle.rto.specs.Rto.{configInBounds, estimateBroken, stateBroken, rttTooLong, heldTooLong, limited, noStats, fresh, estimateFor, leastRtt, greatestRtt, sampled, acceptSample, rejectSample, onTimeoutUnchecked, resetBackoffUnchecked, estimatorOf}
 use Rattle.rto.specs.declared.RtoConfig.{RtoConfig}

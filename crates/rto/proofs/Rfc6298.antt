@@ -5,7 +5,7 @@ use Prim.Native.Nat.{ℕ, _+_, _*_, _≤_}
 use native.Mathlib.Nat.{le-trans}
 use lib.Dec.{lit≤}
 use lib.Ieee.{Float, binary64, add, mul, div}
-use Rattle.duration.specs.Bounds.{maxDuration}
+use Rattle.bounds.specs.Bounds.{maxDuration}
 use Rattle.rtt.proofs.FirstSample.{same-sample, half-sample}
 use Rattle.rtt.specs.Rtt.{toMs, fromMs, two64, larger, weighted, distance, firstEstimate, nextEstimate}
 use Rattle.rto.specs.Rto.{stateBroken, countsFull, limited, fresh, estimateFor, acceptSample, rejectSample, onTimeoutUnchecked, resetBackoffUnchecked, updateResult, updateRtt}

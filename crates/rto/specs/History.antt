@@ -6,8 +6,8 @@ use lib.Dec.{ltb}
 use lib.ListN.{length}
 use lib.IntN.{pos}
 use lib.Ieee.{Float, fin, binary64, add}
+use Rattle.bounds.specs.Bounds.{maxDuration}
 use Rattle.refusal.specs.Counts.{countFull}
-use Rattle.duration.specs.Bounds.{maxDuration}
 use Rattle.rtt.specs.Rtt.{toMs}
 use Rattle.rto.specs.declared.RtoConfig.{RtoConfig}
 use Rattle.rto.specs.declared.RtoEstimator.{RtoEstimator}

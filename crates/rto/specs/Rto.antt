@@ -5,8 +5,8 @@ use mathlib.Core.List.{[], _∷_}
 use lib.Dec.{leb, ltb, eqb}
 use lib.IntN.{pos, negsuc}
 use lib.Ieee.{Float, fin, binary64, add, div, ofInt}
+use Rattle.bounds.specs.Bounds.{maxDuration, maxEstimate, maxGranularity}
 use Rattle.float.specs.Roll.{chanceInBounds}
-use Rattle.duration.specs.Bounds.{maxDuration, maxEstimate}
 use Rattle.rtt.specs.Rtt.{factorInBounds, toMs, firstEstimate, nextEstimate}
 use Rattle.rtt.specs.declared.Estimate.{Estimate}
 use Rattle.refusal.specs.Counts.{countFull}
@@ -29,10 +29,6 @@ use Rattle.refusal.specs.declared.TestAnswer as Li
 use Rattle.refusal.specs.declared.TestAnswer.{TestAnswer}
 use Rattle.rto.specs.declared.MeanAnswer as Me
 use Rattle.rto.specs.declared.MeanAnswer.{MeanAnswer}
-
--- ---- bounds: granularity 1 s
-abbrev pub maxGranularity : ℕ
-maxGranularity = 1000000000
 
 abbrev pub durationsInBounds : RtoConfig → Bool
 durationsInBounds c =

@@ -1,7 +1,7 @@
 // The RTO estimator of RFC 6298 by value: the reference's timing/rto.rs on nanoseconds.
-use duration::MAX_DURATION;
-use duration::MAX_ESTIMATE;
-use refusal::COUNT_LIMIT;
+use bounds::COUNT_LIMIT;
+use bounds::MAX_DURATION;
+use bounds::MAX_ESTIMATE;
 use refusal::DoneAnswer;
 use refusal::Refusal;
 use refusal::TestAnswer;
@@ -10,12 +10,10 @@ ghost use mathlib.Core.Path.{_≡_};
 ghost use mathlib.Core.Bool.{true, false, _||_};
 ghost use Prim.Native.Nat.{_≤_, min, max};
 ghost use lib.Dec.{ltb};
-ghost use Rattle.duration.specs.Bounds.{maxEstimate, maxDuration};
+ghost use Rattle.bounds.specs.Bounds.{maxDuration, maxEstimate};
 ghost use Rattle.rtt.specs.Rtt.{firstEstimate, nextEstimate};
 ghost use Rattle.rto.specs.Rto.{durationsInBounds, factorsInBounds, configInBounds, estimateBroken, stateBroken, countsFull, rttTooLong, heldTooLong, sampleTooLong, defaultConfig, noStats, fresh, estimateFor, leastRtt, greatestRtt, sampled, acceptSample, rejectSample, updateRttUnchecked, nextConsecutive, onTimeoutUnchecked, resetBackoffUnchecked, meanRttMsUnchecked, withConfig, updateRtt, onTimeout, resetBackoff, hasExceededRetryLimit, meanRttMs};
-
-// 1 s in nanoseconds.
-const MAX_GRANULARITY: u64 = 1000000000;
+use bounds::MAX_GRANULARITY;
 
 pub struct RtoConfig {
     pub initial_rto: u64,

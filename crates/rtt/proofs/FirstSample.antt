@@ -7,7 +7,7 @@ use lib.Dec.{lit≤, lit<}
 use lib.Pow.{pow-pos}
 use lib.Ieee.{Float, binary64, div}
 use lib.Ieee.Nearest.{closest}
-use Rattle.duration.specs.Bounds.{maxEstimate}
+use Rattle.bounds.specs.Bounds.{maxEstimate}
 use Rattle.duration.specs.Duration.{asSecsF64}
 use Rattle.duration.proofs.RoundTrip.{closest-is, close, nanos-units, slack, near}
 use Rattle.float.proofs.Error.{closest-up, closest-down}

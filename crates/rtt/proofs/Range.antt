@@ -13,7 +13,7 @@ use lib.Ieee.Fits.{and-i, and-l, and-r, eq→eqb, down-pos}
 use lib.Ieee.Order.{le-of-values}
 use lib.Ieee.Scale.{finite}
 use lib.Ieee.Nearest.{closest}
-use Rattle.duration.specs.Bounds.{maxEstimate}
+use Rattle.bounds.specs.Bounds.{maxEstimate}
 use Rattle.float.specs.Sign.{absolute, unsigned}
 use Rattle.float.proofs.Error.{closest-up}
 use Rattle.float.proofs.Units.{Is, of-whole, mul-units, add-units, sub-units, div-units, units-of, le-units}

@@ -3,7 +3,7 @@ ghost use mathlib.Core.Path.{_≡_};
 ghost use Prim.Native.Nat.{_≤_};
 ghost use lib.Dec.{T};
 ghost use lib.Ieee.{binary64, mul, div};
-ghost use Rattle.duration.specs.Bounds.{maxDuration, maxEstimate};
+ghost use Rattle.bounds.specs.Bounds.{maxDuration, maxEstimate};
 ghost use Rattle.float.specs.Sign.{unsigned};
 ghost use Rattle.float.specs.Roll.{chanceInBounds};
 ghost use Rattle.duration.specs.Duration.{secsInBounds};

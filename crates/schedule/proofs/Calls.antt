@@ -9,14 +9,15 @@ use lib.ListN.{length, take, drop, replicate}
 use lib.Seq.{length-take-le}
 use lib.Dec.{ltb}
 use borrow.Author.Tests.{ltb-false, leb-false, lt-ltb, le-ltb, le-leb, lt-leb, ne-eqb}
+use Rattle.bounds.specs.Bounds.{countLimit, maxTime}
 use Rattle.refusal.proofs.Laws.{or-false}
-use Rattle.duration.specs.Bounds.{maxTime}
-use Rattle.refusal.specs.Counts.{countLimit}
 use Rattle.schedule.specs.Record.{record4, timeOf, recordLength, placeOf, vacant, after, inserted, lowestFree}
 use Rattle.schedule.specs.State.{Schedule, schedule, waitingRecords, brokenFrom, stateBroken, countsBroken, late, heldLate, leavesAt, delayLate, deliveriesLate, copies, unusedPlaces, unusedRecords, lacksRoom, CanPut, CanSchedule}
 use Rattle.schedule.specs.Scans.{delayAt}
 use Rattle.schedule.specs.Schedule.{scheduler, newSchedule, placed, placeBytes, putCopy, scheduleAtUnchecked, roomOf, onSchedule, scheduleAt, firstRecord, bytesOf, withoutFirst, PopExit, popExit, onPop, outShort, popUnchecked, popReadyAt, CanPop, reading}
-use Rattle.refusal.specs.Order.{Verdict, accepted, refused, check, verdict, firstOf, numbered, orElse, decide, order}
+use Rattle.refusal.specs.Order.{check, verdict, firstOf, numbered, orElse, decide, order}
+use Rattle.refusal.specs.declared.Verdict.{Verdict}
+use Rattle.refusal.specs.declared.Verdict.the-variants.{Accepted, Refused}
 use Rattle.refusal.specs.declared.Refusal.{Refusal}
 use Rattle.refusal.specs.declared.Refusal.the-variants.{State, Counts, Time, Long, Full}
 use Rattle.refusal.specs.declared.DoneAnswer.the-variants as queued
@@ -184,13 +185,13 @@ module _ {A : Type 0} (m : Schedule) (f : Refusal → A) (a : A) where
 
   decided-refused : (v : Verdict) {h : Held} {r : Refusal} → h ≡ decide v held.Refused held.Sound → h ≡ held.Refused r → f r ≡ decide v f a
   unfolding decide
-  decided-refused accepted p q = let z : _≡_ {A = ℕ} 0 1 = cc in absurd (omega arith)
-  decided-refused (refused r′) p q = cc
+  decided-refused Accepted p q = let z : _≡_ {A = ℕ} 0 1 = cc in absurd (omega arith)
+  decided-refused (Refused r′) p q = cc
 
   decided-sound : (v : Verdict) {h : Held} → h ≡ decide v held.Refused held.Sound → h ≡ held.Sound → a ≡ decide v f a
   unfolding decide
-  decided-sound accepted p q = refl
-  decided-sound (refused r′) p q = let z : _≡_ {A = ℕ} 0 1 = cc in absurd (omega arith)
+  decided-sound Accepted p q = refl
+  decided-sound (Refused r′) p q = let z : _≡_ {A = ℕ} 0 1 = cc in absurd (omega arith)
 
   -- what `held` found is what the call answers
   pub reading-refused : {h : Held} {r : Refusal} → h ≡ reading m held.Refused held.Sound → h ≡ held.Refused r → f r ≡ reading m f a

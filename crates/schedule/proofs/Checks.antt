@@ -10,7 +10,7 @@ use lib.ListN.{length, getD, take, set, replicate}
 use lib.Seq.{length-take-le, getD-take}
 use lib.Dec.{eqb, ltb}
 use borrow.Author.Tests.{eq-eqb, ne-eqb, ltb-true, ltb-false, le-ltb}
-use Rattle.duration.specs.Bounds.{maxTime}
+use Rattle.bounds.specs.Bounds.{maxTime}
 use Rattle.schedule.specs.Record.{timeOf, orderOf, vacant, after, orderedFrom, ordered, placeOf, placeIn, freeFrom}
 use Rattle.schedule.specs.Scans.{blockSize, placeMarks, firstFree}
 use Rattle.schedule.specs.State.{late, heldLate}

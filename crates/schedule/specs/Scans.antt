@@ -4,6 +4,7 @@ use mathlib.Core.Bool.{Bool, false, cond, _&&_, _||_}
 use mathlib.Core.List.{List, [], _∷_, _++_}
 use lib.ListN.{take, drop}
 use lib.Dec.{ltb, leb, eqb}
+use Rattle.bounds.specs.Bounds.{maxDatagram}
 use Rattle.schedule.specs.Record.{orderOf, recordLength, placeOf, placeIn}
 use Rattle.schedule.specs.State.{recordBroken}
 use Rattle.schedule.specs.declared.Deliveries.{Deliveries}
@@ -22,7 +23,7 @@ raised n i l = take (i + 1) l ++ (drop i (take n l) ++ drop (n + 1) l)
 
 -- line 9 of a record by itself
 abbrev pub boundsBroken : ℕ → ℕ → List ℕ → Bool
-boundsBroken next n r = ltb 1410 (recordLength r) || (leb next (orderOf r) || leb n (placeOf r))
+boundsBroken next n r = ltb maxDatagram (recordLength r) || (leb next (orderOf r) || leb n (placeOf r))
 
 -- one of these records is broken, doubled places apart
 unfoldable pub anyRecordBroken : ℕ → ℕ → List ℕ → List (List ℕ) → Bool

@@ -5,6 +5,7 @@ use mathlib.Core.Bool.{Bool, false, cond, _&&_, _||_}
 use mathlib.Core.List.{List, [], _∷_, _++_}
 use lib.ListN.{length, take, drop, getD, replicate}
 use lib.Dec.{ltb, leb, eqb}
+use Rattle.bounds.specs.Bounds.{maxDatagram, placeSize}
 use Rattle.refusal.specs.Order.{check, verdict, decide}
 use Rattle.refusal.specs.declared.Refusal.{Refusal}
 use Rattle.refusal.specs.declared.Refusal.the-variants.{State, Counts, Time, Long, Full}
@@ -31,15 +32,15 @@ scheduler count next = record { count = count; «next_order» = next }
 
 -- making: "a schedule zeroes its records and places"; a remainder of the store is no place
 abbrev pub newSchedule : List (List ℕ) → List ℕ → Schedule
-newSchedule rs ps = schedule (replicate (length rs) vacant) (replicate (length ps / 1410 * 1410) 0 ++ drop (length ps / 1410 * 1410) ps) (scheduler 0 0)
+newSchedule rs ps = schedule (replicate (length rs) vacant) (replicate (length ps / placeSize * placeSize) 0 ++ drop (length ps / placeSize * placeSize) ps) (scheduler 0 0)
 
 -- the store with other bytes in the place p
 abbrev pub placed : List ℕ → ℕ → List ℕ → List ℕ
-placed ps p bytes = take (p * 1410) ps ++ bytes ++ drop (p * 1410 + 1410) ps
+placed ps p bytes = take (p * placeSize) ps ++ bytes ++ drop (p * placeSize + placeSize) ps
 
 -- all bytes of a place: the packet, "zeros after the packet"
 abbrev pub placeBytes : List ℕ → List ℕ
-placeBytes packet = packet ++ replicate (1410 - length packet) 0
+placeBytes packet = packet ++ replicate (placeSize - length packet) 0
 
 -- one copy more, to leave at `time`, in the lowest place not in use
 unfoldable pub putCopy : Schedule → ℕ → List ℕ → Schedule
@@ -73,7 +74,7 @@ scheduleAt m now packet ds =
     (check (stateBroken m) State
     ∷ check (countsBroken m) Counts
     ∷ check (late now || (heldLate (waitingRecords m) || deliveriesLate now ds)) Time
-    ∷ check (ltb 1410 (length packet)) Long
+    ∷ check (ltb maxDatagram (length packet)) Long
     ∷ check (lacksRoom m (copies ds)) Full
     ∷ []))
     (λ r. onSchedule m (queued.Refused r))
@@ -88,13 +89,13 @@ due count rs now = ltb 0 count && leb (timeOf (firstRecord rs)) now
 
 -- the bytes of a record's packet
 abbrev pub bytesOf : List ℕ → List ℕ → List ℕ
-bytesOf ps r = take (recordLength r) (drop (placeOf r * 1410) ps)
+bytesOf ps r = take (recordLength r) (drop (placeOf r * placeSize) ps)
 
 -- the first record taken out: the others one down, a vacant one behind them, its place cleared
 unfoldable pub withoutFirst : Schedule → Schedule
 withoutFirst m =
     let s = m .scheduler in
-    schedule (drop 1 (waitingRecords m) ++ vacant ∷ drop (s .count) (m .records)) (placed (m .places) (placeOf (firstRecord (m .records))) (replicate 1410 0)) (scheduler (s .count - 1) (s .«next_order»))
+    schedule (drop 1 (waitingRecords m) ++ vacant ∷ drop (s .count) (m .records)) (placed (m .places) (placeOf (firstRecord (m .records))) (replicate placeSize 0)) (scheduler (s .count - 1) (s .«next_order»))
 
 pub record PopExit : Type 0 where
   pub records : List (List ℕ)

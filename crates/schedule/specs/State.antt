@@ -5,8 +5,8 @@ use mathlib.Core.Bool.{Bool, false, _||_}
 use mathlib.Core.List.{List, [], _∷_}
 use lib.ListN.{length, take}
 use lib.Dec.{ltb, leb}
-use Rattle.refusal.specs.Counts.{countLimit, countFull}
-use Rattle.duration.specs.Bounds.{maxTime}
+use Rattle.bounds.specs.Bounds.{countLimit, maxDatagram, maxDeliveryDelay, maxTime, placeSize}
+use Rattle.refusal.specs.Counts.{countFull}
 use Rattle.schedule.specs.Record.{timeOf, orderOf, recordLength, placeOf, vacant, after, placeIn, freePlaces}
 use Rattle.schedule.specs.declared.ChannelScheduler.{ChannelScheduler}
 use Rattle.schedule.specs.declared.Deliveries.{Deliveries}
@@ -27,11 +27,11 @@ waitingRecords m = take (m .scheduler .count) (m .records)
 
 -- how many places the store has; a remainder belongs to none
 abbrev pub placeCount : Schedule → ℕ
-placeCount m = length (m .places) / 1410
+placeCount m = length (m .places) / placeSize
 
 -- line 9 of a waiting record: it leaves before the one in front of it, is longer than 1,410, has an order not below the next one or a place outside the store
 abbrev pub recordBroken : ℕ → ℕ → List ℕ → List ℕ → Bool
-recordBroken next n front r = after front r || (ltb 1410 (recordLength r) || (leb next (orderOf r) || leb n (placeOf r)))
+recordBroken next n front r = after front r || (ltb maxDatagram (recordLength r) || (leb next (orderOf r) || leb n (placeOf r)))
 
 -- one of these records is such a record, or a place is doubled; `front` stands in front of them
 unfoldable pub brokenFrom : ℕ → ℕ → List ℕ → List (List ℕ) → Bool
@@ -61,7 +61,7 @@ leavesAt now delay = now + delay * 1000000
 
 -- line 10 of a delay, "a delivery's 180,000 ms", and of the time to be stored
 abbrev pub delayLate : ℕ → ℕ → Bool
-delayLate now delay = ltb 180000 delay || late (leavesAt now delay)
+delayLate now delay = ltb maxDeliveryDelay delay || late (leavesAt now delay)
 
 abbrev pub deliveriesLate : ℕ → Deliveries → Bool
 deliveriesLate now Lost = false
@@ -88,12 +88,12 @@ lacksRoom m k = ltb (unusedPlaces m) k || ltb (unusedRecords m) k
 pub record CanPut (m : Schedule) (packet : List ℕ) : Type 0 where
   pub sound : stateBroken m ≡ false
   pub counts : m .scheduler .«next_order» ≤ countLimit
-  pub short : ltb 1410 (length packet) ≡ false
+  pub short : ltb maxDatagram (length packet) ≡ false
   pub room : lacksRoom m 1 ≡ false
 
 pub record CanSchedule (m : Schedule) (now : ℕ) (packet : List ℕ) (ds : Deliveries) : Type 0 where
   pub sound : stateBroken m ≡ false
   pub counts : countsBroken m ≡ false
   pub times : deliveriesLate now ds ≡ false
-  pub short : ltb 1410 (length packet) ≡ false
+  pub short : ltb maxDatagram (length packet) ≡ false
   pub room : lacksRoom m (copies ds) ≡ false

@@ -4,13 +4,14 @@ ghost use mathlib.Core.Bool.{true, false, _||_};
 ghost use mathlib.Core.List.{[], _∷_, _++_};
 ghost use Prim.Native.Nat.{_+_, _-_, _*_, _/_, _≤_, _<_};
 ghost use lib.ListN.{length, getD, take, drop, replicate};
-ghost use Rattle.duration.specs.Bounds.{maxTime};
+ghost use Rattle.bounds.specs.Bounds.{maxDatagram, maxTime, placeSize};
 ghost use Rattle.schedule.specs.Record.{vacant, after, ordered, inserted, placeOf, freePlaces, lowestFree};
 ghost use Rattle.schedule.specs.State.{schedule, recordBroken, brokenFrom, stateBroken, heldLate, late, delayLate, deliveriesLate, copies, CanPut, CanSchedule};
 ghost use Rattle.schedule.specs.Scans.{placeFor, raised, blockSize, boundsBroken, anyRecordBroken, doubled, outside, doubledIn, placeMarks, firstFree, firstUnset, sumFrom, delayAt};
 ghost use Rattle.schedule.specs.Schedule.{newSchedule, placed, placeBytes, putCopy, scheduleAtUnchecked, scheduleExit, scheduleAt, outShort, popExit, popUnchecked, popReadyAt, CanPop, reading, firstTime, nextDeadline, len, isEmpty, roomOf, room};
-use duration::MAX_TIME;
-use refusal::COUNT_LIMIT;
+use bounds::COUNT_LIMIT;
+use bounds::MAX_TIME;
+use bounds::PLACE_SIZE;
 use refusal::CountAnswer;
 use refusal::DoneAnswer;
 use refusal::Refusal;
@@ -18,9 +19,6 @@ use refusal::TestAnswer;
 
 // A record: time in nanoseconds, order, length, place.
 pub type Scheduled = [u64; 4];
-
-// The bytes of a place, and so the longest packet.
-const PLACE_SIZE: usize = 1410;
 
 // The first `count` records wait; `next_order` is the order of the next copy.
 pub struct ChannelScheduler {
@@ -436,7 +434,7 @@ fn delay_late(now: u64, delay: u64) -> bool
     requires { ⌜ now ≤ maxTime ⌝ }
     ensures { λ b. ⌜ b ≡ delayLate now delay ⌝ }
 {
-    if 180000 < delay {
+    if bounds::MAX_DELIVERY_DELAY < delay {
         return true;
     }
     MAX_TIME < now + delay * 1000000
@@ -486,7 +484,7 @@ fn delay_of(deliveries: Deliveries, k: usize) -> u64
 
 // Fills a place: the packet, and zeros after it.
 fn fill_place(places: &mut [u8], place: usize, packet: &[u8])
-    requires { ⌜ (place * 1410 + 1410 ≤ length (now places)) × (length (now packet) ≤ 1410) ⌝ }
+    requires { ⌜ (place * maxDatagram + maxDatagram ≤ length (now places)) × (length (now packet) ≤ maxDatagram) ⌝ }
     ensures { λ _. ⌜ now (places .exit) ≡ placed (now (places .entry)) place (placeBytes (now (packet .entry))) ⌝ }
 {
     let from = place * PLACE_SIZE;
@@ -498,8 +496,8 @@ fn fill_place(places: &mut [u8], place: usize, packet: &[u8])
 
 // Writes the packet of a place to the front of `out`, and clears the place.
 fn take_packet(places: &mut [u8], place: usize, len: usize, out: &mut [u8])
-    requires { ⌜ (place * 1410 + 1410 ≤ length (now places)) × (len ≤ 1410) × (len ≤ length (now out)) ⌝ }
-    ensures { λ _. ⌜ (now (places .exit) ≡ placed (now (places .entry)) place (replicate 1410 0)) × (now (out .exit) ≡ take len (drop (place * 1410) (now (places .entry))) ++ drop len (now (out .entry))) ⌝ }
+    requires { ⌜ (place * maxDatagram + maxDatagram ≤ length (now places)) × (len ≤ maxDatagram) × (len ≤ length (now out)) ⌝ }
+    ensures { λ _. ⌜ (now (places .exit) ≡ placed (now (places .entry)) place (replicate placeSize 0)) × (now (out .exit) ≡ take len (drop (place * placeSize) (now (places .entry))) ++ drop len (now (out .entry))) ⌝ }
 {
     let from = place * PLACE_SIZE;
     let end = from + len;

@@ -4,6 +4,7 @@ use mathlib.Core.Path.{_≡_, refl}
 use mathlib.Core.Bool.{true}
 use mathlib.Core.List.{[], _∷_}
 use lib.ListN.{replicate}
+use Rattle.bounds.specs.Bounds.{slotSize}
 use Rattle.checksum.specs.Rfc1071.{words, onesAdd, onesSum, checksum}
 use Rattle.refusal.specs.Clauses.{anyOf}
 use Rattle.refusal.specs.Order.{order, orElse, numbered, firstOf, verdict, decide}
@@ -23,7 +24,7 @@ use Rattle.selective_repeat.specs.Receiver.{Receiver, receiver, state, s
 
 -- a receiver with window 4 that holds nothing, handed Data n with one byte, and a buffer for the ACK
 abbrev pub handData : ℕ → ℕ → ReceiveExit Receiver
-handData base n = handlePacket (receiver (state 4 base 0 0 0 0) (replicate (4 * 1404) 0)) (made (newPacket n Data) (0x41 ∷ [])) [] (replicate 10 0)
+handData base n = handlePacket (receiver (state 4 base 0 0 0 0) (replicate (4 * slotSize) 0)) (made (newPacket n Data) (0x41 ∷ [])) [] (replicate 10 0)
 
 pub record SelectiveRepeatRows : Type 0 where
   pub s1-ack : handData 0 3 .answer ≡ answer.Ack 3

@@ -6,6 +6,7 @@ use mathlib.Core.Bool.{Bool, true, false, cond, _&&_}
 use mathlib.Core.Path.{_≡_}
 use lib.ListN.{length, drop, replicate}
 use lib.Dec.{ltb, leb, eqb}
+use Rattle.bounds.specs.Bounds.{maxWindow, seqNumLimit, slotSize}
 use Rattle.refusal.specs.declared.Refusal.the-variants.{State, Counts, Setup}
 use Rattle.refusal.specs.Clauses.{anyOf}
 use Rattle.refusal.specs.Order.{check, verdict, decide}
@@ -56,7 +57,7 @@ unfoldable pub makeReceiver : ℕ → List ℕ → MakeExit SelectiveRepeatRecei
 makeReceiver w store =
     decide (verdict (check (storeShort store w) State ∷ check (windowBroken w) Setup ∷ []))
     (λ r. makeExit (made.Refused r) store)
-    (makeExit (made.Receiver (state w 0 0 0 0 0)) (replicate (w * 1404) 0 ++ drop (w * 1404) store))
+    (makeExit (made.Receiver (state w 0 0 0 0 0)) (replicate (w * slotSize) 0 ++ drop (w * slotSize) store))
 
 -- 9, but for the fill mark
 unfoldable pub stateBroken : SelectiveRepeatReceiver → List ℕ → Bool
@@ -64,7 +65,7 @@ stateBroken r store =
     anyOf
     (windowBroken (r .«window_size»)
     ∷ storeShort store (r .«window_size»)
-    ∷ ltb 4294901760 (r .«recv_base»)
+    ∷ ltb seqNumLimit (r .«recv_base»)
     ∷ receiverSlotsBroken store (r .«window_size») (r .«recv_base»)
     ∷ [])
 
@@ -180,7 +181,7 @@ handlePacket v raw output ack =
 -- what the functions below the entry points ask: 9 is false, but for the fill mark
 pub record Ready (r : SelectiveRepeatReceiver) (store : List ℕ) : Type 0 where
   pub positive : 0 < r .«window_size»
-  pub small : r .«window_size» ≤ 32
-  pub room : r .«window_size» * 1404 ≤ length store
-  pub low : r .«recv_base» ≤ 4294901760
+  pub small : r .«window_size» ≤ maxWindow
+  pub room : r .«window_size» * slotSize ≤ length store
+  pub low : r .«recv_base» ≤ seqNumLimit
   pub slots : receiverSlotsBroken store (r .«window_size») (r .«recv_base») ≡ false

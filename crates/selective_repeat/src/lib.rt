@@ -3,7 +3,7 @@ ghost use mathlib.Core.Path.{_≡_};
 ghost use Prim.Native.Nat.{_+_, _-_, _*_, _≤_, _<_};
 ghost use mathlib.Core.Bool.{true, false};
 ghost use lib.ListN.{length};
-ghost use Rattle.refusal.specs.Counts.{countLimit};
+ghost use Rattle.bounds.specs.Bounds.{countLimit, maxPayload, maxWindow, slotSize};
 ghost use Rattle.window.specs.State as windowState;
 ghost use Rattle.window.specs.Slots.{sender};
 ghost use Rattle.window.specs.Sending.{makeExit, makeWindow, sendExit, sendChunk};
@@ -192,8 +192,8 @@ impl SelectiveRepeatSender {
 
 // How far send_base moves when an outstanding number is acknowledged: at send_base past it and those acknowledged after it.
 fn advance_unchecked(window: SendWindow, store: &[u8], n: u32) -> u32
-    requires { ⌜ (0 < window .«window_size») × (window .«window_size» * 1404 ≤ length (now store)) ⌝ }
-    requires { ⌜ (window .«send_base» < window .«next_seq_num») × (windowState.outstanding window ≤ 32) ⌝ }
+    requires { ⌜ (0 < window .«window_size») × (window .«window_size» * slotSize ≤ length (now store)) ⌝ }
+    requires { ⌜ (window .«send_base» < window .«next_seq_num») × (windowState.outstanding window ≤ maxWindow) ⌝ }
     ensures { λ r. ⌜ r ≡ advance (sender window (now (store .entry))) n ⌝ }
 {
     let base = window.send_base;
@@ -220,7 +220,7 @@ fn acknowledge_one_unchecked(window: SendWindow, store: &mut [u8], n: u32, moved
 
 // Whether a number is outstanding and not acknowledged.
 fn due_unchecked(window: SendWindow, store: &[u8], n: u32) -> bool
-    requires { ⌜ (0 < window .«window_size») × (window .«window_size» * 1404 ≤ length (now store)) ⌝ }
+    requires { ⌜ (0 < window .«window_size») × (window .«window_size» * slotSize ≤ length (now store)) ⌝ }
     ensures { λ r. ⌜ r ≡ due (sender window (now (store .entry))) n ⌝ }
 {
     if n < window.send_base {
@@ -446,7 +446,7 @@ impl SelectiveRepeatReceiver {
         ack: &mut [u8],
     ) -> usize
         requires { ⌜ Ready self (now store) × (released change < self .«window_size») ⌝ }
-        requires { ⌜ (decision .deliver ≡ false → released change ≡ 0) × (length (now payload) ≤ 1400) ⌝ }
+        requires { ⌜ (decision .deliver ≡ false → released change ≡ 0) × (length (now payload) ≤ maxPayload) ⌝ }
         requires { ⌜ RoomFor decision (length (deliveredBytes (receiver self (now store)) (now payload) change)) (self .filled) (now output) (now ack) ⌝ }
         ensures { λ r. ⌜ applyExit r (now (output .exit)) (now (ack .exit)) ≡ applied decision (deliveredBytes (receiver self (now (store .entry))) (now (payload .entry)) change) (self .filled) (now (output .entry)) (now (ack .entry)) ⌝ }
         ensures { λ _. ⌜ now (store .exit) ≡ changedSlots (receiver self (now (store .entry))) (now (payload .entry)) change ⌝ }
@@ -466,7 +466,7 @@ impl SelectiveRepeatReceiver {
 
     // Holds the payload, or empties the slots of the payloads that were delivered.
     fn change_slots_unchecked(self, store: &mut [u8], change: SlotChange, payload: &[u8])
-        requires { ⌜ Ready self (now store) × (released change < self .«window_size») × (length (now payload) ≤ 1400) ⌝ }
+        requires { ⌜ Ready self (now store) × (released change < self .«window_size») × (length (now payload) ≤ maxPayload) ⌝ }
         ensures { λ _. ⌜ now (store .exit) ≡ changedSlots (receiver self (now (store .entry))) (now (payload .entry)) change ⌝ }
     {
         let window = self.window_size;
@@ -504,7 +504,7 @@ impl SelectiveRepeatReceiver {
         if window::store_short(store, window) {
             return true;
         }
-        if window::SEQ_NUM_LIMIT < base {
+        if bounds::SEQ_NUM_LIMIT < base {
             return true;
         }
         store::receiver_slots_broken_unchecked(store, window, base)

@@ -2,7 +2,7 @@
 ghost use mathlib.Core.Path.{_≡_};
 ghost use Prim.Native.Nat.{ℕ, _-_, _≤_, _<_};
 ghost use mathlib.Core.Bool.{false};
-ghost use Rattle.refusal.specs.Counts.{countLimit};
+ghost use Rattle.bounds.specs.Bounds.{countLimit, seqNumLimit};
 ghost use Rattle.window.specs.State.{numbersBroken};
 ghost use Rattle.window.specs.Outstanding.{unlessBroken};
 ghost use Rattle.window.specs.Sending.{makeExit, sendExit};
@@ -203,9 +203,9 @@ impl StopAndWaitSender {
         ensures { λ r. ⌜ r ≡ numbersBroken (windowOf self) ⌝ }
     {
         if self.in_flight {
-            return window::SEQ_NUM_LIMIT <= self.current_seq;
+            return bounds::SEQ_NUM_LIMIT <= self.current_seq;
         }
-        window::SEQ_NUM_LIMIT < self.current_seq
+        bounds::SEQ_NUM_LIMIT < self.current_seq
     }
 
     fn window_unchecked(self) -> SendWindow
@@ -346,7 +346,7 @@ impl StopAndWaitReceiver {
     // What a packet that isn't refused does to the state, and what is to be written.
     pub fn decide_unchecked(mut self, handed: PacketReading) -> StopAndWaitDecision
         requires { ⌜ countsBroken (self .«total_received») (self .«duplicates_count») (self .«corrupted_count») ≡ false ⌝ }
-        requires { ⌜ self .«expected_seq» ≤ 4294901760 ⌝ }
+        requires { ⌜ self .«expected_seq» ≤ seqNumLimit ⌝ }
         ensures { λ r. ⌜ r ≡ decision self handed ⌝ }
     {
         self.total_received = self.total_received + 1;
@@ -363,7 +363,7 @@ impl StopAndWaitReceiver {
     }
 
     fn decide_data(mut self, n: u32) -> StopAndWaitDecision
-        requires { ⌜ (self .«expected_seq» ≤ 4294901760) × (self .«duplicates_count» < countLimit) ⌝ }
+        requires { ⌜ (self .«expected_seq» ≤ seqNumLimit) × (self .«duplicates_count» < countLimit) ⌝ }
         ensures { λ r. ⌜ r ≡ dataDecision self n ⌝ }
     {
         let expected = self.expected_seq;

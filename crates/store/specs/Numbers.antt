@@ -4,6 +4,7 @@ use mathlib.Core.List.{List, [], _++_}
 use mathlib.Core.Bool.{Bool, cond}
 use lib.ListN.{length, take, drop}
 use lib.Dec.{eqb}
+use Rattle.bounds.specs.Bounds.{maxPayload, slotSize}
 use Rattle.store.specs.Slot.{slotAt, slotLength, slotMark, slotPayload}
 
 -- number n's slot has this mark
@@ -32,5 +33,5 @@ writtenAt buffer place bytes = take place buffer ++ bytes ++ drop (place + lengt
 -- the payloads of k numbers from n on lie in their slots
 pub record PayloadsIn (store : List ℕ) (w n k : ℕ) : Type 0 where
   pub positive : 0 < w
-  pub room : w * 1404 ≤ length store
-  pub short : (i : ℕ) → i < k → slotLength (slotAt store ((n + i) % w)) ≤ 1400
+  pub room : w * slotSize ≤ length store
+  pub short : (i : ℕ) → i < k → slotLength (slotAt store ((n + i) % w)) ≤ maxPayload

@@ -3,12 +3,13 @@ use Prim.Native.Nat.{ℕ, _+_}
 use mathlib.Core.List.{List}
 use mathlib.Core.Bool.{Bool, _||_}
 use lib.Dec.{ltb}
+use Rattle.bounds.specs.Bounds.{maxPayload}
 use Rattle.store.specs.Slot.{slotAt, slotLength, slotMark}
 use Rattle.store.specs.Sound.{anyBelow, senderSlotBroken}
 
 -- a slot's length is out of bounds, or its mark isn't from low to high
 unfoldable pub slotOutside : ℕ → ℕ → List ℕ → Bool
-slotOutside low high slot = ltb 1400 (slotLength slot) || ltb (slotMark slot) low || ltb high (slotMark slot)
+slotOutside low high slot = ltb maxPayload (slotLength slot) || ltb (slotMark slot) low || ltb high (slotMark slot)
 
 -- so of one of n slots
 unfoldable pub slotsOutside : ℕ → ℕ → List ℕ → ℕ → ℕ → Bool

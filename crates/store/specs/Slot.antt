@@ -3,13 +3,14 @@
 use Prim.Native.Nat.{ℕ, _+_, _-_, _*_, _/_, _%_, _≤_}
 use mathlib.Core.List.{List, [], _∷_, _++_}
 use lib.ListN.{length, getD, take, drop, set, replicate}
+use Rattle.bounds.specs.Bounds.{maxPayload, slotSize}
 
 -- slot j lies in the store
 abbrev pub SlotIn : List ℕ → ℕ → Type 0
-SlotIn store j = j * 1404 + 1404 ≤ length store
+SlotIn store j = j * slotSize + slotSize ≤ length store
 
 unfoldable pub slotAt : List ℕ → ℕ → List ℕ
-slotAt store j = take 1404 (drop (j * 1404) store)
+slotAt store j = take slotSize (drop (j * slotSize) store)
 
 -- the fields of a slot
 abbrev pub slotLength : List ℕ → ℕ
@@ -28,20 +29,20 @@ abbrev pub headBytes : ℕ → ℕ → ℕ → List ℕ
 headBytes n mark flags = (n / 256) ∷ (n % 256) ∷ mark ∷ flags ∷ []
 
 unfoldable pub slotBytes : List ℕ → ℕ → ℕ → List ℕ
-slotBytes payload mark flags = headBytes (length payload) mark flags ++ payload ++ replicate (1400 - length payload) 0
+slotBytes payload mark flags = headBytes (length payload) mark flags ++ payload ++ replicate (maxPayload - length payload) 0
 
 -- the store with slot j written over
 unfoldable pub putSlot : List ℕ → ℕ → List ℕ → List ℕ
-putSlot store j slot = take (j * 1404) store ++ slot ++ drop (j * 1404 + 1404) store
+putSlot store j slot = take (j * slotSize) store ++ slot ++ drop (j * slotSize + slotSize) store
 
 abbrev pub fillSlot : List ℕ → ℕ → List ℕ → ℕ → ℕ → List ℕ
 fillSlot store j payload mark flags = putSlot store j (slotBytes payload mark flags)
 
 abbrev pub emptySlot : List ℕ → ℕ → List ℕ
-emptySlot store j = putSlot store j (replicate 1404 0)
+emptySlot store j = putSlot store j (replicate slotSize 0)
 
 abbrev pub setMark : List ℕ → ℕ → ℕ → List ℕ
-setMark store j mark = set store (j * 1404 + 2) mark
+setMark store j mark = set store (j * slotSize + 2) mark
 
 abbrev pub setFlags : List ℕ → ℕ → ℕ → List ℕ
-setFlags store j flags = set store (j * 1404 + 3) flags
+setFlags store j flags = set store (j * slotSize + 3) flags

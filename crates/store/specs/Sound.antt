@@ -4,6 +4,7 @@ use Prim.Native.Nat.{ℕ, zero, suc, _+_, _%_}
 use mathlib.Core.List.{List}
 use mathlib.Core.Bool.{Bool, false, cond, not, _||_, _&&_}
 use lib.Dec.{ltb, eqb}
+use Rattle.bounds.specs.Bounds.{maxPayload}
 use Rattle.store.specs.Slot.{slotAt, slotLength, slotMark}
 
 -- the test is true of some number below n
@@ -15,7 +16,7 @@ abbrev pub isFilled : ℕ → Bool
 isFilled mark = not (eqb mark 0)
 
 abbrev pub outOfBounds : ℕ → ℕ → Bool
-outOfBounds length mark = ltb 1400 length || ltb 2 mark
+outOfBounds length mark = ltb maxPayload length || ltb 2 mark
 
 -- a sender's slot, by whether its number is outstanding and may be acknowledged
 unfoldable pub senderSlotBroken : Bool → Bool → ℕ → ℕ → Bool

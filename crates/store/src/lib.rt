@@ -4,13 +4,12 @@ ghost use Prim.Native.Nat.{_+_, _-_, _*_, _%_, _≤_, _<_, min};
 ghost use lib.ListN.{length, replicate, drop};
 ghost use mathlib.Core.Bool.{cond};
 ghost use mathlib.Core.List.{_++_};
+ghost use Rattle.bounds.specs.Bounds.{maxPayload, seqNumLimit, slotSize};
 ghost use Rattle.store.specs.Sound.{senderSlotsBroken, receiverSlotsBroken};
 ghost use Rattle.store.specs.Scans.{slotOutside, slotsOutside, partBroken};
 ghost use Rattle.store.specs.Numbers.{markedRun, markedCount, payloadsFrom, writtenAt, PayloadsIn};
 ghost use Rattle.store.specs.Slot.{SlotIn, headBytes, slotBytes, slotAt, slotLength, slotMark, slotFlags, slotPayload, fillSlot, emptySlot, setMark, setFlags};
-
-// Length (2 bytes, big-endian), mark, flags, payload.
-pub const SLOT_SIZE: usize = 1404;
+use bounds::SLOT_SIZE;
 
 pub fn length_unchecked(store: &[u8], slot: usize) -> u16
     requires { ⌜ SlotIn (now store) slot ⌝ }
@@ -35,7 +34,7 @@ pub fn flags_unchecked(store: &[u8], slot: usize) -> u8
 }
 
 pub fn payload_unchecked(store: &[u8], slot: usize) -> &[u8]
-    requires { ⌜ SlotIn (now store) slot × (slotLength (slotAt (now store) slot) ≤ 1400) ⌝ }
+    requires { ⌜ SlotIn (now store) slot × (slotLength (slotAt (now store) slot) ≤ maxPayload) ⌝ }
     ensures { λ r. ⌜ now r ≡ slotPayload (slotAt (now (store .entry)) slot) ⌝ }
 {
     let start = slot * SLOT_SIZE + 4;
@@ -59,7 +58,7 @@ pub fn set_flags_unchecked(store: &mut [u8], slot: usize, flags: u8)
 
 // Writes the whole slot, zeros past the payload.
 pub fn fill_unchecked(store: &mut [u8], slot: usize, payload: &[u8], mark: u8, flags: u8)
-    requires { ⌜ SlotIn (now store) slot × (length (now payload) ≤ 1400) ⌝ }
+    requires { ⌜ SlotIn (now store) slot × (length (now payload) ≤ maxPayload) ⌝ }
     ensures { λ _. ⌜ now (store .exit) ≡ fillSlot (now (store .entry)) slot (now (payload .entry)) mark flags ⌝ }
 {
     let at = slot * SLOT_SIZE;
@@ -78,8 +77,8 @@ pub fn empty_unchecked(store: &mut [u8], slot: usize)
 
 // Empties the first slots of a store; what lies past them is left as it is.
 pub fn empty_all_unchecked(store: &mut [u8], slots: usize)
-    requires { ⌜ slots * 1404 ≤ length (now store) ⌝ }
-    ensures { λ _. ⌜ now (store .exit) ≡ replicate (slots * 1404) 0 ++ drop (slots * 1404) (now (store .entry)) ⌝ }
+    requires { ⌜ slots * slotSize ≤ length (now store) ⌝ }
+    ensures { λ _. ⌜ now (store .exit) ≡ replicate (slots * slotSize) 0 ++ drop (slots * slotSize) (now (store .entry)) ⌝ }
 {
     let end = slots * SLOT_SIZE;
     octets::clear(&mut store[..end]);
@@ -93,7 +92,7 @@ pub fn sender_slots_broken_unchecked(
     count: usize,
     selective: bool,
 ) -> bool
-    requires { ⌜ (0 < window) × (window * 1404 ≤ length (now store)) ⌝ }
+    requires { ⌜ (0 < window) × (window * slotSize ≤ length (now store)) ⌝ }
     ensures { λ r. ⌜ r ≡ senderSlotsBroken selective (now (store .entry)) window base count ⌝ }
 {
     let first = base as usize % window;
@@ -106,7 +105,7 @@ pub fn sender_slots_broken_unchecked(
 
 // Whether a receiver's slots break document 01's line 9.
 pub fn receiver_slots_broken_unchecked(store: &[u8], window: usize, base: u32) -> bool
-    requires { ⌜ (0 < window) × (window * 1404 ≤ length (now store)) ⌝ }
+    requires { ⌜ (0 < window) × (window * slotSize ≤ length (now store)) ⌝ }
     ensures { λ r. ⌜ r ≡ receiverSlotsBroken (now (store .entry)) window base ⌝ }
 {
     let first = base as usize % window;
@@ -124,7 +123,7 @@ pub fn marked_run_unchecked(
     count: usize,
     mark: u8,
 ) -> usize
-    requires { ⌜ (0 < window) × (window * 1404 ≤ length (now store)) × (count ≤ 32) ⌝ }
+    requires { ⌜ (0 < window) × (window * slotSize ≤ length (now store)) × (count ≤ seqNumLimit) ⌝ }
     ensures { λ r. ⌜ r ≡ markedRun mark (now (store .entry)) window first count ⌝ }
 {
     let mut k: usize = 0;
@@ -147,7 +146,7 @@ pub fn marked_count_unchecked(
     count: usize,
     mark: u8,
 ) -> usize
-    requires { ⌜ (0 < window) × (window * 1404 ≤ length (now store)) × (count ≤ 32) ⌝ }
+    requires { ⌜ (0 < window) × (window * slotSize ≤ length (now store)) × (count ≤ seqNumLimit) ⌝ }
     ensures { λ r. ⌜ r ≡ markedCount mark (now (store .entry)) window first count ⌝ }
 {
     let mut k: usize = 0;
@@ -165,9 +164,9 @@ pub fn marked_count_unchecked(
 
 // The length of the payloads of count numbers from first on, joined.
 pub fn payloads_length_unchecked(store: &[u8], window: usize, first: u32, count: usize) -> usize
-    requires { ⌜ PayloadsIn (now store) window first count × (count ≤ 32) ⌝ }
+    requires { ⌜ PayloadsIn (now store) window first count × (count ≤ seqNumLimit) ⌝ }
     ensures { λ r. ⌜ r ≡ length (payloadsFrom (now (store .entry)) window first count) ⌝ }
-    ensures { λ r. ⌜ r ≤ count * 1400 ⌝ }
+    ensures { λ r. ⌜ r ≤ count * maxPayload ⌝ }
 {
     let mut k: usize = 0;
     let mut total: usize = 0;
@@ -189,7 +188,7 @@ pub fn copy_payloads_unchecked(
     buffer: &mut [u8],
     place: usize,
 ) -> usize
-    requires { ⌜ PayloadsIn (now store) window first count × (count ≤ 32) ⌝ }
+    requires { ⌜ PayloadsIn (now store) window first count × (count ≤ seqNumLimit) ⌝ }
     requires { ⌜ place + length (payloadsFrom (now store) window first count) ≤ length (now buffer) ⌝ }
     ensures { λ r. ⌜ r ≡ place + length (payloadsFrom (now (store .entry)) window first count) ⌝ }
     ensures { λ _. ⌜ now (buffer .exit) ≡ writtenAt (now (buffer .entry)) place (payloadsFrom (now (store .entry)) window first count) ⌝ }
@@ -229,7 +228,7 @@ fn sender_part_broken_unchecked(
     count: usize,
     selective: bool,
 ) -> bool
-    requires { ⌜ (from ≤ to) × (to * 1404 ≤ length (now store)) ⌝ }
+    requires { ⌜ (from ≤ to) × (to * slotSize ≤ length (now store)) ⌝ }
     ensures { λ r. ⌜ r ≡ partBroken selective (now (store .entry)) from (to - from) count ⌝ }
 {
     let middle = from + lower(count, to - from);
@@ -252,7 +251,7 @@ fn highest_mark(selective: bool) -> u8
 // Whether one of the slots before `to` from `from` on has a length out of bounds, or a mark below low or above high. No exit in the loop: it is
 // faster so.
 fn slots_outside_unchecked(store: &[u8], from: usize, to: usize, low: u8, high: u8) -> bool
-    requires { ⌜ (from ≤ to) × (to * 1404 ≤ length (now store)) ⌝ }
+    requires { ⌜ (from ≤ to) × (to * slotSize ≤ length (now store)) ⌝ }
     ensures { λ r. ⌜ r ≡ slotsOutside low high (now (store .entry)) from (to - from) ⌝ }
 {
     let mut outside = false;
@@ -270,7 +269,7 @@ fn slot_outside_unchecked(store: &[u8], slot: usize, low: u8, high: u8) -> bool
 {
     let length = length_unchecked(store, slot);
     let mark = mark_unchecked(store, slot);
-    (1400 < length) | (mark < low) | (high < mark)
+    (bounds::MAX_PAYLOAD_SIZE < length as usize) | (mark < low) | (high < mark)
 }
 
 fn lower(a: usize, b: usize) -> usize
@@ -283,7 +282,7 @@ fn lower(a: usize, b: usize) -> usize
 }
 
 fn write_slot(slot: &mut [u8], payload: &[u8], mark: u8, flags: u8)
-    requires { ⌜ (length (now slot) ≡ 1404) × (length (now payload) ≤ 1400) ⌝ }
+    requires { ⌜ (length (now slot) ≡ slotSize) × (length (now payload) ≤ maxPayload) ⌝ }
     ensures { λ _. ⌜ now (slot .exit) ≡ slotBytes (now (payload .entry)) mark flags ⌝ }
 {
     let n = payload.len();

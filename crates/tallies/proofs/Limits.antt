@@ -7,8 +7,9 @@ use mathlib.Core.List.{List, [], _∷_}
 use native.Mathlib.Omega.{arith}
 use borrow.Author.Tests.{lt-leb}
 use lib.ListN.{length}
+use Rattle.bounds.specs.Bounds.{countLimit}
 use Rattle.refusal.specs.Clauses.{anyOf}
-use Rattle.refusal.specs.Counts.{countLimit, countFull}
+use Rattle.refusal.specs.Counts.{countFull}
 use Rattle.window.specs.State as window
 use Rattle.window.specs.Slots.{fresh}
 use Rattle.receiver.specs.State as receiver

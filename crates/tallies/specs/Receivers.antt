@@ -3,6 +3,7 @@ use Prim.Native.Nat.{ℕ, _*_}
 use mathlib.Core.List.{List, [], _∷_, _++_}
 use mathlib.Core.Bool.{cond}
 use lib.ListN.{length, drop, replicate}
+use Rattle.bounds.specs.Bounds.{slotSize}
 use Rattle.receiver.specs.Handed.{readPacket}
 use Rattle.receiver.specs.Receive.{ReceiveExit}
 use Rattle.receiver.specs.declared.PacketReading.{PacketReading}
@@ -68,4 +69,4 @@ selectiveRepeatAfter w hs filled = record {
 
 -- a Selective Repeat receiver just made: nothing received, all slots empty
 abbrev pub newSelectiveRepeat : ℕ → List ℕ → Receiver
-newSelectiveRepeat w store = receiver (state w 0 0 0 0 0) (replicate (w * 1404) 0 ++ drop (w * 1404) store)
+newSelectiveRepeat w store = receiver (state w 0 0 0 0 0) (replicate (w * slotSize) 0 ++ drop (w * slotSize) store)

@@ -3,7 +3,8 @@ use Prim.Native.Nat.{ℕ, _+_, _-_, _%_, _^_}
 use mathlib.Core.Bool.{Bool, true, false, _||_, _&&_}
 use mathlib.Core.List.{[], _∷_}
 use lib.Dec.{leb, ltb, eqb}
-use Rattle.duration.specs.Bounds.{maxTime, startLate}
+use Rattle.bounds.specs.Bounds.{maxTime}
+use Rattle.duration.specs.Bounds.{startLate}
 use Rattle.refusal.specs.Order.{check, verdict, decide}
 use Rattle.refusal.specs.declared.Refusal.the-variants.{Time}
 use Rattle.timer.specs.declared.Deadline.{Deadline}

@@ -1,5 +1,5 @@
 // The retransmission timer, by value: the reference's timing/timer.rs on nanoseconds.
-use duration::MAX_TIME;
+use bounds::MAX_TIME;
 use refusal::Refusal;
 use refusal::TestAnswer;
 ghost use mathlib.Core.Path.{_≡_};

@@ -5,9 +5,9 @@ use mathlib.Core.Bool.{Bool, true, false, cond, and-eq-true-iff}
 use mathlib.Core.List.{List, _∷_}
 use native.Mathlib.Omega.{arith}
 use borrow.Author.Tests.{lt-ltb, le-ltb, le-leb, lt-leb, ltb-true, leb-true}
+use Rattle.bounds.specs.Bounds.{countLimit}
 use Rattle.refusal.specs.declared.Refusal.{Refusal}
 use Rattle.refusal.specs.declared.Refusal.the-variants.{State, Counts}
-use Rattle.refusal.specs.Counts.{countLimit}
 use Rattle.refusal.specs.Order.{check, verdict, order, orElse, numbered, firstOf, decide}
 use Rattle.refusal.proofs.Laws.{false-check, accepted-none-true, decide-accepted, on-accepted, on-refused}
 use Rattle.packet.specs.Reading.{readChecks}

@@ -10,7 +10,8 @@ use lib.ListN.{length, getD, set, take, drop, length-append, length-drop, length
 use lib.Seq.{getD-set-other, length-take-le, take-all, take-at, drop-append-add, drop-drop}
 use Rattle.refusal.specs.declared.Refusal.{Refusal}
 use Rattle.refusal.specs.declared.Refusal.the-variants.{State, Counts, Full}
-use Rattle.refusal.specs.Order.{check, verdict, accepted, order, orElse, numbered, firstOf, decide}
+use Rattle.refusal.specs.Order.{check, verdict, order, orElse, numbered, firstOf, decide}
+use Rattle.refusal.specs.declared.Verdict.the-variants.{Accepted}
 use Rattle.refusal.proofs.Laws.{none-true-accepted, on-accepted}
 use Rattle.store.specs.Slot.{slotAt, slotLength, slotFlags}
 use Rattle.store.proofs.Laws.{slot-byte, slot-in}
@@ -197,7 +198,7 @@ module _ (broken counts : Bool) (v : Sender) (n k : ℕ) (out : List ℕ) where
   resend-full e f h = rw (e, f, lt-ltb _ _ h)
 
   fits : broken ≡ false → counts ≡ false → length (sentAgain v n k) ≤ length out
-      → verdict (check broken State ∷ check counts Counts ∷ check (ltb (length out) (length (sentAgain v n k))) Full ∷ []) ≡ accepted
+      → verdict (check broken State ∷ check counts Counts ∷ check (ltb (length out) (length (sentAgain v n k))) Full ∷ []) ≡ Accepted
   fits e f h = none-true-accepted _ (e, (f, (le-ltb _ _ h, tt)))
 
   pub resend-nothing : broken ≡ false → counts ≡ false → k ≡ 0 → timeoutExit timeoutAnswer.Nothing v out ≡ resend broken counts v n k out
@@ -213,7 +214,7 @@ module _ (broken counts : Bool) (v : Sender) (n k : ℕ) (out : List ℕ) where
   resend-some total w last e f z h t m l =
       rw (t, m, l) (sym (on-accepted (λ (r : Refusal). timeoutExit (timeoutAnswer.Refused r) v out) _ (fits e f h) ∙ rw (ne-eqb k 0 z)))
 
--- how many numbers matters only where the state isn't refused
+-- how many numbers matters only where the state isn't Refused
 pub resend-count : (broken counts : Bool) (v : Sender) (n k m : ℕ) (out : List ℕ) → (broken ≡ false → k ≡ m) → resend broken counts v n k out ≡ resend broken counts v n m out
 resend-count true counts v n k m out h = sym (resend-state true counts v n k out refl) ∙ resend-state true counts v n m out refl
 resend-count false counts v n k m out h = ap (λ (j : ℕ). resend false counts v n j out) (h refl)

@@ -7,8 +7,8 @@ use native.Mathlib.Omega.{arith}
 use borrow.Author.Tests.{ltb-true, ltb-false, leb-false, lt-ltb, le-ltb}
 use lib.ListN.{length}
 use lib.Dec.{ltb}
+use Rattle.bounds.specs.Bounds.{countLimit}
 use Rattle.refusal.specs.Clauses.{anyOf}
-use Rattle.refusal.specs.Counts.{countLimit}
 use Rattle.refusal.proofs.Laws.{none-of, any-of-none, or-false}
 use Rattle.store.specs.Slot.{slotAt, slotLength}
 use Rattle.store.proofs.Laws.{none-found}

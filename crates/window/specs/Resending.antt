@@ -4,6 +4,7 @@ use mathlib.Core.List.{List, [], _∷_, _++_}
 use mathlib.Core.Bool.{Bool, false, cond}
 use lib.ListN.{length, drop}
 use lib.Dec.{ltb, eqb}
+use Rattle.bounds.specs.Bounds.{maxPayload, maxWindow, seqNumLimit, slotSize}
 use Rattle.refusal.specs.declared.Refusal.the-variants.{State, Counts, Full}
 use Rattle.refusal.specs.Order.{check, verdict, decide}
 use Rattle.store.specs.Slot.{slotAt, slotLength}
@@ -68,7 +69,7 @@ byTimeoutDecision (decision.Refused r) v out = timeoutExit (timeoutAnswer.Refuse
 -- what the functions below the entry points ask: k numbers from n on have slots with lengths in bounds
 pub record Resendable (s : SendWindow) (store : List ℕ) (n k : ℕ) : Type 0 where
   pub positive : 0 < s .«window_size»
-  pub room : s .«window_size» * 1404 ≤ length store
-  pub few : k ≤ 32
-  pub low : n + k ≤ 4294901760
-  pub lengths : (i : ℕ) → i < k → slotLength (slotAt store (slotFor s (n + i))) ≤ 1400
+  pub room : s .«window_size» * slotSize ≤ length store
+  pub few : k ≤ maxWindow
+  pub low : n + k ≤ seqNumLimit
+  pub lengths : (i : ℕ) → i < k → slotLength (slotAt store (slotFor s (n + i))) ≤ maxPayload

@@ -4,6 +4,7 @@ use mathlib.Core.List.{List, [], _∷_, _++_}
 use mathlib.Core.Bool.{Bool, cond, _&&_}
 use lib.ListN.{length, drop}
 use lib.Dec.{ltb, eqb}
+use Rattle.bounds.specs.Bounds.{headerSize, seqNumLimit}
 use Rattle.refusal.specs.declared.Refusal.the-variants.{State, Counts, Setup, Numbers, Full}
 use Rattle.refusal.specs.Order.{Check, check, verdict, decide}
 use Rattle.packet.specs.Writing.{checkLong}
@@ -46,8 +47,8 @@ sendChecks selective v payload out =
     check (stateBroken selective (v .window) (v .store)) State
     ∷ check (countsBroken (v .window)) Counts
     ∷ checkLong payload
-    ∷ check (windowFree (v .window) && eqb (v .window .«next_seq_num») 4294901760) Numbers
-    ∷ check (windowFree (v .window) && ltb (length out) (10 + length payload)) Full
+    ∷ check (windowFree (v .window) && eqb (v .window .«next_seq_num») seqNumLimit) Numbers
+    ∷ check (windowFree (v .window) && ltb (length out) (headerSize + length payload)) Full
     ∷ []
 
 -- a full window is an ordinary answer
@@ -56,5 +57,5 @@ sendChunk selective v payload out =
     decide (verdict (sendChecks selective v payload out))
     (λ r. sendExit (sendAnswer.Refused r) v out)
     (cond (windowFree (v .window))
-    (sendExit (sendAnswer.Sent (10 + length payload)) (hold v payload) (firstDatagram v payload ++ drop (10 + length payload) out))
+    (sendExit (sendAnswer.Sent (headerSize + length payload)) (hold v payload) (firstDatagram v payload ++ drop (headerSize + length payload) out))
     (sendExit sendAnswer.WindowFull v out))

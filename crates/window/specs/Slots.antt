@@ -3,6 +3,7 @@
 use Prim.Native.Nat.{ℕ, zero, suc, _+_, _-_, _*_, _/_, _%_}
 use mathlib.Core.List.{List, _++_}
 use lib.ListN.{drop, replicate}
+use Rattle.bounds.specs.Bounds.{slotSize}
 use Rattle.packet.specs.Format.{newPacket, made}
 use Rattle.packet.specs.declared.Packet.{Packet}
 use Rattle.packet.specs.declared.PacketType.the-variants.{Data}
@@ -22,7 +23,7 @@ abbrev pub newWindow : ℕ → SendWindow
 newWindow w = record { «window_size» = w; «send_base» = 0; «next_seq_num» = 0; «total_sent» = 0; retransmissions = 0 }
 
 unfoldable pub fresh : ℕ → List ℕ → Sender
-fresh w store = sender (newWindow w) (replicate (w * 1404) 0 ++ drop (w * 1404) store)
+fresh w store = sender (newWindow w) (replicate (w * slotSize) 0 ++ drop (w * slotSize) store)
 
 -- the slot of number n
 abbrev pub slotFor : SendWindow → ℕ → ℕ

@@ -4,17 +4,18 @@ use mathlib.Core.List.{List, [], _∷_}
 use mathlib.Core.Bool.{Bool}
 use lib.ListN.{length}
 use lib.Dec.{ltb}
+use Rattle.bounds.specs.Bounds.{maxWindow, seqNumLimit, slotSize}
 use Rattle.refusal.specs.Clauses.{anyOf}
 use Rattle.refusal.specs.Counts.{countFull}
 use Rattle.store.specs.Sound.{senderSlotsBroken}
 use Rattle.window.specs.declared.SendWindow.{SendWindow}
 
 unfoldable pub windowBroken : ℕ → Bool
-windowBroken window = anyOf (ltb window 1 ∷ ltb 32 window ∷ [])
+windowBroken window = anyOf (ltb window 1 ∷ ltb maxWindow window ∷ [])
 
 -- the store is shorter than window × 1,404
 unfoldable pub storeShort : List ℕ → ℕ → Bool
-storeShort store window = ltb (length store) (window * 1404)
+storeShort store window = ltb (length store) (window * slotSize)
 
 abbrev pub outstanding : SendWindow → ℕ
 outstanding s = s .«next_seq_num» - s .«send_base»
@@ -26,7 +27,7 @@ numbersBroken s =
     (windowBroken (s .«window_size»)
     ∷ ltb (s .«next_seq_num») (s .«send_base»)
     ∷ ltb (s .«window_size») (outstanding s)
-    ∷ ltb 4294901760 (s .«next_seq_num»)
+    ∷ ltb seqNumLimit (s .«next_seq_num»)
     ∷ [])
 
 -- 9: selective is true of a Selective Repeat sender

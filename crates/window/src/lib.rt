@@ -4,7 +4,7 @@ ghost use Prim.Native.Nat.{_+_, _-_, _*_, _≤_, _<_, min};
 ghost use mathlib.Core.Bool.{true, false};
 ghost use lib.ListN.{length, drop};
 ghost use mathlib.Core.List.{_++_};
-ghost use Rattle.refusal.specs.Counts.{countLimit};
+ghost use Rattle.bounds.specs.Bounds.{countLimit, headerSize, maxPayload, seqNumLimit, slotSize};
 ghost use Rattle.window.specs.Acknowledgement.{readAck, ackDecision};
 ghost use Rattle.window.specs.Sending.{makeExit, makeWindow, sendExit, sendChunk};
 ghost use Rattle.window.specs.Slots.{sender, fresh, slotFor, hold, firstDatagram, markRetransmitted, datagramFor, emptyFrom, release};
@@ -12,18 +12,15 @@ ghost use Rattle.window.specs.Resending.{datagramsFrom, markFrom, timeou
 ghost use Rattle.store.specs.Slot.{slotAt, slotLength};
 ghost use Rattle.window.specs.State.{stateBroken, numbersBroken, countsBroken, windowBroken, storeShort};
 ghost use Rattle.window.specs.Outstanding.{inFlightCount, canSend, hasUnackedPackets};
+use bounds::COUNT_LIMIT;
+use bounds::MAX_WINDOW_SIZE;
+use bounds::SEQ_NUM_LIMIT;
 use packet::Packet;
 use packet::PacketAnswer;
 use packet::PacketType;
-use refusal::COUNT_LIMIT;
 use refusal::CountAnswer;
 use refusal::Refusal;
 use refusal::TestAnswer;
-
-pub const MAX_WINDOW_SIZE: usize = 32;
-
-// A chunk never has this number or a higher one.
-pub const SEQ_NUM_LIMIT: u32 = 4_294_901_760;
 
 pub struct SendWindow {
     pub window_size: usize,
@@ -214,7 +211,7 @@ impl SendWindow {
     }
 
     pub fn new_unchecked(window: usize, store: &mut [u8]) -> SendWindow
-        requires { ⌜ window * 1404 ≤ length (now store) ⌝ }
+        requires { ⌜ window * slotSize ≤ length (now store) ⌝ }
         ensures { λ r. ⌜ sender r (now (store .exit)) ≡ fresh window (now (store .entry)) ⌝ }
     {
         store::empty_all_unchecked(store, window);
@@ -233,11 +230,11 @@ impl SendWindow {
         payload: &[u8],
         out: &mut [u8],
     ) -> SendWindow
-        requires { ⌜ (0 < self .«window_size») × (self .«window_size» * 1404 ≤ length (now store)) ⌝ }
-        requires { ⌜ (self .«next_seq_num» < 4294901760) × (self .«total_sent» < countLimit) ⌝ }
-        requires { ⌜ (length (now payload) ≤ 1400) × (10 + length (now payload) ≤ length (now out)) ⌝ }
+        requires { ⌜ (0 < self .«window_size») × (self .«window_size» * slotSize ≤ length (now store)) ⌝ }
+        requires { ⌜ (self .«next_seq_num» < seqNumLimit) × (self .«total_sent» < countLimit) ⌝ }
+        requires { ⌜ (length (now payload) ≤ maxPayload) × (headerSize + length (now payload) ≤ length (now out)) ⌝ }
         ensures { λ r. ⌜ sender r (now (store .exit)) ≡ hold (sender self (now (store .entry))) (now (payload .entry)) ⌝ }
-        ensures { λ r. ⌜ now (out .exit) ≡ firstDatagram (sender self (now (store .entry))) (now (payload .entry)) ++ drop (10 + length (now (payload .entry))) (now (out .entry)) ⌝ }
+        ensures { λ r. ⌜ now (out .exit) ≡ firstDatagram (sender self (now (store .entry))) (now (payload .entry)) ++ drop (headerSize + length (now (payload .entry))) (now (out .entry)) ⌝ }
     {
         let next = self.next_seq_num;
         let slot = next as usize % self.window_size;
@@ -251,7 +248,7 @@ impl SendWindow {
 
     // Marks a number's slot as sent again and counts it.
     pub fn mark_retransmitted_unchecked(mut self, store: &mut [u8], seq_num: u32) -> SendWindow
-        requires { ⌜ (0 < self .«window_size») × (self .«window_size» * 1404 ≤ length (now store)) ⌝ }
+        requires { ⌜ (0 < self .«window_size») × (self .«window_size» * slotSize ≤ length (now store)) ⌝ }
         requires { ⌜ (self .«total_sent» < 9223372036854775808) × (self .retransmissions < 9223372036854775808) ⌝ }
         ensures { λ r. ⌜ sender r (now (store .exit)) ≡ markRetransmitted (sender self (now (store .entry))) «seq_num» ⌝ }
     {
@@ -265,8 +262,8 @@ impl SendWindow {
 
     // Writes a number's datagram, as its slot has it, to the start of out, and answers its length.
     pub fn write_datagram_unchecked(self, store: &[u8], seq_num: u32, out: &mut [u8]) -> usize
-        requires { ⌜ (0 < self .«window_size») × (self .«window_size» * 1404 ≤ length (now store)) ⌝ }
-        requires { ⌜ (slotLength (slotAt (now store) (slotFor self «seq_num»)) ≤ 1400) × (10 + slotLength (slotAt (now store) (slotFor self «seq_num»)) ≤ length (now out)) ⌝ }
+        requires { ⌜ (0 < self .«window_size») × (self .«window_size» * slotSize ≤ length (now store)) ⌝ }
+        requires { ⌜ (slotLength (slotAt (now store) (slotFor self «seq_num»)) ≤ maxPayload) × (headerSize + slotLength (slotAt (now store) (slotFor self «seq_num»)) ≤ length (now out)) ⌝ }
         ensures { λ r. ⌜ r ≡ length (datagramFor (sender self (now (store .entry))) «seq_num») ⌝ }
         ensures { λ r. ⌜ now (out .exit) ≡ datagramFor (sender self (now (store .entry))) «seq_num» ++ drop (length (datagramFor (sender self (now (store .entry))) «seq_num»)) (now (out .entry)) ⌝ }
     {
@@ -371,7 +368,7 @@ impl SendWindow {
 
     // Empties the slots of the numbers below until and moves send_base there.
     pub fn release_unchecked(mut self, store: &mut [u8], until: u32) -> SendWindow
-        requires { ⌜ (0 < self .«window_size») × (self .«window_size» * 1404 ≤ length (now store)) ⌝ }
+        requires { ⌜ (0 < self .«window_size») × (self .«window_size» * slotSize ≤ length (now store)) ⌝ }
         requires { ⌜ self .«send_base» ≤ until ⌝ }
         ensures { λ r. ⌜ sender r (now (store .exit)) ≡ release (sender self (now (store .entry))) until ⌝ }
     {
@@ -482,7 +479,7 @@ pub fn window_broken(window: usize) -> bool
 pub fn store_short(store: &[u8], window: usize) -> bool
     ensures { λ r. ⌜ r ≡ storeShort (now (store .entry)) window ⌝ }
 {
-    store.len() / store::SLOT_SIZE < window
+    store.len() / bounds::SLOT_SIZE < window
 }
 
 fn lower(a: u32, b: u32) -> u32
@@ -519,7 +516,7 @@ pub fn read_ack(raw: &[u8]) -> AckReading
 
 // Empties the slots of the numbers from `from` up to until.
 pub fn empty_slots_unchecked(store: &mut [u8], window: usize, from: u32, until: u32)
-    requires { ⌜ (0 < window) × (window * 1404 ≤ length (now store)) × (from ≤ until) ⌝ }
+    requires { ⌜ (0 < window) × (window * slotSize ≤ length (now store)) × (from ≤ until) ⌝ }
     ensures { λ _. ⌜ now (store .exit) ≡ emptyFrom (now (store .entry)) window from (until - from) ⌝ }
 {
     let mut n = from;

@@ -6,7 +6,7 @@ use lib.ListN.{set, getD}
 use lib.Bits.{bitXor}
 use lib.Pow.{shl-exact}
 use lib.Dec.{lit<}
-use Rattle.checksum.specs.Flip.{flip}
+use Rattle.octets.specs.Flip.{flip}
 use borrow.Author.Needs.{needs}
 use Rattle.channel.proofs.flip_bit.Statement.{statement}
 use Rattle.channel.proofs.flip_bit.Tie as tie

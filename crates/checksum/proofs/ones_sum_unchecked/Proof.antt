@@ -1,7 +1,7 @@
 use Prim.Native.Nat.{_*_}
 use mathlib.Core.Path.{sym, ap, _∙_}
 use native.Mathlib.Omega.{arith}
-use Rattle.checksum.specs.Below.{Octets}
+use Rattle.octets.specs.Octets.{Octets}
 use Rattle.checksum.specs.Rfc1071.{words, onesAdd}
 use Rattle.checksum.proofs.Carry.{add-carried, carried-add}
 use Rattle.checksum.proofs.Words.{sum, words-below, ones-carried}

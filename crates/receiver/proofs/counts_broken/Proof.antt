@@ -1,7 +1,7 @@
 use mathlib.Core.Path.{_≡_, refl, sym, ap, _∙_}
 use borrow.Author.Tests.{le-leb, lt-leb}
+use Rattle.bounds.specs.Bounds.{countLimit}
 use Rattle.refusal.specs.Clauses.{anyOf}
-use Rattle.refusal.specs.Counts.{countLimit}
 use Rattle.receiver.specs.State.{countsBroken}
 use Rattle.receiver.proofs.States.{last-count}
 use Rattle.receiver.proofs.counts_broken.Statement.{statement}

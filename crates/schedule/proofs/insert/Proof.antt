@@ -4,7 +4,7 @@ use mathlib.Core.Path.{_≡_, sym, _∙_, ap}
 use Prim.Native.Nat.{ℕ, _≤_, _<_, _+_, _-_}
 use mathlib.Core.List.{List, _∷_, _++_}
 use lib.ListN.{length, take, drop, length-drop}
-use Rattle.refusal.proofs.Tails.{tail-is}
+use Rattle.octets.proofs.Laws.{tail-is}
 use Rattle.schedule.specs.Record.{after}
 use Rattle.schedule.specs.Scans.{placeFor}
 use Rattle.schedule.proofs.Lists.{insert-part}

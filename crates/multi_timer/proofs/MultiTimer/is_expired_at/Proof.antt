@@ -1,10 +1,10 @@
 use mathlib.Core.Path.{_≡_}
 use mathlib.Core.Bool.{true, false}
 use borrow.Author.Needs.{needs}
+use Rattle.bounds.specs.Bounds.{maxTime}
 use Rattle.multi_timer.specs.MultiTimer.{broken, readTooLate}
 use Rattle.multi_timer.proofs.Calls.{expired-state, expired-time, expired-done}
 use lib.Dec.{ltb}
-use Rattle.duration.specs.Bounds.{maxTime}
 use Rattle.multi_timer.proofs.Checks.{told-state, told-good, told-either}
 use Rattle.multi_timer.proofs.MultiTimer.is_expired_at.Statement.{statement}
 use Rattle.multi_timer.proofs.MultiTimer.is_expired_at.Tie as tie

@@ -5,11 +5,11 @@ use borrow.Author.Needs.{needs}
 use borrow.Author.Tests.{ltb-false}
 use lib.Dec.{ltb}
 use lib.ListN.{length, take}
+use Rattle.bounds.specs.Bounds.{maxTime}
 use Rattle.multi_timer.specs.Search.{dueIn}
 use Rattle.multi_timer.specs.MultiTimer.{broken, readTooLate}
 use Rattle.multi_timer.proofs.Changes.{count-fits-deadlines}
 use Rattle.multi_timer.proofs.Calls.{pop-state, pop-time, pop-full, popped-count, pop-done}
-use Rattle.duration.specs.Bounds.{maxTime}
 use Rattle.multi_timer.proofs.Checks.{told-state, told-good, told-either}
 use Rattle.multi_timer.proofs.MultiTimer.pop_expired_at.Statement.{statement}
 use Rattle.multi_timer.proofs.MultiTimer.pop_expired_at.Tie as tie

@@ -1,6 +1,6 @@
 use mathlib.Core.Path.{sym}
 use native.Mathlib.Omega.{arith}
-use Rattle.checksum.specs.Below.{Octets}
+use Rattle.octets.specs.Octets.{Octets}
 use Rattle.packet.proofs.Header.{Fits, checksum-is}
 use borrow.Author.Needs.{needs}
 use Rattle.packet.proofs.Packet.compute_checksum_unchecked.Statement.{statement}

@@ -3,7 +3,7 @@ use mathlib.Core.Path.{_≡_, refl}
 use mathlib.Core.List.{List, [], _∷_}
 use denote.Enum.Declared.{tagOf}
 use types.Run.{OneOf, miss}
-use Rattle.refusal.specs.Refusal.{noValues, entryOf}
+use Rattle.refusal.specs.Refusal.{entryOf, valuesOf}
 use Rattle.refusal.specs.declared.Refusal.{Refusal}
 use Rattle.refusal.specs.declared.Refusal.the-variants.{Short, Kind, Cut, Setup, Full, Long, Numbers, Counts, State, Time, Roll}
 use Rattle.refusal.proofs.Refusal.{the-type}
@@ -14,7 +14,7 @@ use Rattle.refusal.proofs.Refusal.values.Tie as tie
 abbrev others : List ℕ
 others = 3 ∷ 4 ∷ 5 ∷ 6 ∷ 7 ∷ 8 ∷ 9 ∷ 10 ∷ []
 
-names-none : (r : Refusal) → OneOf others (tagOf the-type r) → noValues ≡ entryOf r .values
+names-none : (r : Refusal) → OneOf others (tagOf the-type r) → valuesOf [] ≡ valuesOf (entryOf r .values)
 names-none (Short n) k = absurd (miss others 0 tt k)
 names-none (Kind b) k = absurd (miss others 1 tt k)
 names-none (Cut n m) k = absurd (miss others 2 tt k)

@@ -1,5 +1,5 @@
 use borrow.Author.Tests.{le-leb, lt-leb}
-use Rattle.refusal.specs.Counts.{countLimit}
+use Rattle.bounds.specs.Bounds.{countLimit}
 use Rattle.schedule.specs.State.{schedule}
 use Rattle.schedule.specs.declared.Held.the-variants as held
 use Rattle.schedule.proofs.Sound.{told}

@@ -1,5 +1,5 @@
 use borrow.Author.Tests.{le-leb, lt-leb}
-use Rattle.refusal.specs.Counts.{countLimit}
+use Rattle.bounds.specs.Bounds.{countLimit}
 use Rattle.schedule.specs.State.{schedule, late, heldLate, waitingRecords}
 use Rattle.schedule.proofs.Sound.{told}
 use Rattle.schedule.proofs.Memory.{in-order, within}

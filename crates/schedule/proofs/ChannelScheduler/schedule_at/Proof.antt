@@ -1,6 +1,6 @@
 use lib.ListN.{length}
 use borrow.Author.Tests.{lt-ltb, le-ltb, le-leb, lt-leb}
-use Rattle.refusal.specs.Counts.{countLimit}
+use Rattle.bounds.specs.Bounds.{countLimit}
 use Rattle.schedule.specs.State.{schedule, copies}
 use Rattle.schedule.proofs.Sound.{told}
 use Rattle.schedule.proofs.Memory.{in-order, within}

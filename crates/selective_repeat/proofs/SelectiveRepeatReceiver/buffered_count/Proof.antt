@@ -22,7 +22,7 @@ unfolding bufferedCount verdict firstOf numbered orElse order decide
 returns-2 c = simp (sym (c .before .before .before .state-broken .ensures) ∙ c .before .before .if1 .left, sym (c .before .counts-broken .ensures) ∙ c .if2 .taken)
 
 marked-count-unchecked-requires : tie.Need-marked-count-unchecked-requires
-marked-count-unchecked-requires c κs = let s = ready (c .before .before .before .before .before .args .self) (c .before .before .before .before .before .args .store .now) (sym (c .before .before .before .state-broken .ensures) ∙ c .before .before .if1 .left) in (s .positive, s .room, s .small)
+marked-count-unchecked-requires c κs = let s = ready (c .before .before .before .before .before .args .self) (c .before .before .before .before .before .args .store .now) (sym (c .before .before .before .state-broken .ensures) ∙ c .before .before .if1 .left) in let few = s .small in (s .positive, s .room, omega arith)
 
 returns-3 : tie.Need-returns-3
 unfolding bufferedCount verdict firstOf numbered orElse order decide

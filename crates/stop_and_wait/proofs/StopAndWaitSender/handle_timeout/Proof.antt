@@ -2,7 +2,7 @@ use Prim.Native.Nat.{_<_, min}
 use mathlib.Core.Path.{refl, sym, ap, subst, _∙_}
 use mathlib.Core.Bool.{false}
 use native.Mathlib.Omega.{arith}
-use Rattle.refusal.specs.Counts.{countLimit}
+use Rattle.bounds.specs.Bounds.{countLimit}
 use Rattle.window.specs.State.{outstanding, stateBroken, countsBroken}
 use Rattle.window.specs.Slots.{sender}
 use Rattle.window.specs.Resending.{resend, byTimeoutDecision, Resendable}

@@ -1,4 +1,4 @@
--- Rows of numbers below a bound: octets and 16-bit integers.
+-- Octets: numbers below 256.
 use Prim.Native.Nat.{ℕ, _<_}
 use mathlib.Core.List.{List}
 use lib.ListN.{getD}
@@ -8,6 +8,3 @@ pub record Below (n : ℕ) (l : List ℕ) : Type 0 where
 
 abbrev pub Octets : List ℕ → Type 0
 Octets l = Below 256 l
-
-abbrev pub Integers16 : List ℕ → Type 0
-Integers16 l = Below 65536 l

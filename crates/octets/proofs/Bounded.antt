@@ -1,9 +1,9 @@
--- Laws of rows of numbers below a bound.
+-- Laws of numbers below a bound.
 use Prim.Native.Nat.{ℕ, zero, suc, _+_, _<_}
 use mathlib.Core.List.{List, [], _∷_, _++_}
 use lib.ListN.{getD, set, take, drop}
 use lib.Seq.{getD-drop}
-use Rattle.checksum.specs.Below.{Below}
+use Rattle.octets.specs.Octets.{Below}
 
 module _ {n : ℕ} where
   pub below-nil : 0 < n → Below n []
