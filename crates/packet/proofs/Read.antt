@@ -1,5 +1,5 @@
 -- Laws of reading a datagram.
-use Prim.Native.Nat.{ℕ, _-_, _≤_, _<_}
+use Prim.Native.Nat.{ℕ, _+_, _-_, _≤_, _<_}
 use mathlib.Core.Path.{_≡_, refl, sym, ap, _∙_}
 use mathlib.Core.Bool.{Bool, true, false, cond, not}
 use mathlib.Core.List.{List, [], _∷_}
@@ -86,6 +86,9 @@ type-refused b r e = by-type b r (isType b) refl e
 pub payload-is : (raw : List ℕ) → verdict (readChecks raw) ≡ Accepted → payloadOf raw ≡ take (declared raw) (drop 10 raw)
 unfolding payloadOf payloadPart
 payload-is raw v = on-accepted (λ (r : Refusal). []) (payloadPart raw) v
+
+pub declared-within : (raw : List ℕ) → verdict (readChecks raw) ≡ Accepted → 10 + declared raw ≤ length raw
+declared-within raw v = let r = accepted-readable raw v in omega (arith, r .long, r .whole)
 
 pub payload-none : (raw : List ℕ) {r : Refusal} → verdict (readChecks raw) ≡ Refused r → payloadOf raw ≡ []
 unfolding payloadOf

@@ -3,7 +3,10 @@ use Prim.Native.Nat.{ℕ, _+_, _*_, _/_, _%_}
 use mathlib.Core.List.{List, [], _∷_, _++_}
 use mathlib.Core.Bool.{Bool}
 use lib.ListN.{length}
-use lib.Dec.{eqb}
+use lib.Dec.{ltb, eqb}
+use Rattle.bounds.specs.Bounds.{maxPayload}
+use Rattle.refusal.specs.declared.Refusal.the-variants.{Long}
+use Rattle.refusal.specs.Order.{Check, check}
 use Rattle.checksum.specs.Rfc1071.{checksum}
 use Rattle.packet.specs.declared.PacketType.{PacketType}
 use Rattle.packet.specs.declared.PacketType.the-variants.{Data, Ack, Fin}
@@ -46,3 +49,7 @@ made p payload = datagram (withChecksum p payload) payload
 
 unfoldable pub matches : Packet → List ℕ → Bool
 matches p payload = eqb (p .checksum) (checksumOf p payload)
+
+-- 6
+abbrev pub checkLong : List ℕ → Check
+checkLong payload = check (ltb maxPayload (length payload)) Long

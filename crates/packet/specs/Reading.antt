@@ -1,13 +1,13 @@
 -- Document 01, `packet.rs` and "Turned away" 1, 2, 3: what a datagram reads as. Bytes after the declared payload are ignored.
 use Prim.Native.Nat.{ℕ, _+_, _-_, _*_}
 use mathlib.Core.List.{List, [], _∷_}
-use mathlib.Core.Bool.{Bool, false, cond, not}
+use mathlib.Core.Bool.{Bool, true, false, cond, not}
 use lib.ListN.{length, getD, take, drop}
 use lib.Dec.{ltb, leb, eqb}
 use Rattle.bounds.specs.Bounds.{headerSize}
 use Rattle.refusal.specs.declared.Refusal.the-variants.{Short, Kind, Cut}
 use Rattle.refusal.specs.Order.{Check, check, verdict, decide}
-use Rattle.packet.specs.Format.{matches}
+use Rattle.packet.specs.Format.{matches, checkLong}
 use Rattle.packet.specs.declared.PacketType.{PacketType}
 use Rattle.packet.specs.declared.PacketType.the-variants.{Data, Ack, Fin}
 use Rattle.packet.specs.declared.Packet.{Packet}
@@ -17,6 +17,8 @@ use Rattle.packet.specs.declared.PacketAnswer.{PacketAnswer}
 use Rattle.packet.specs.declared.PacketAnswer.the-variants as packetAnswer
 use Rattle.packet.specs.declared.ValidityAnswer.{ValidityAnswer}
 use Rattle.packet.specs.declared.ValidityAnswer.the-variants as validityAnswer
+use Rattle.packet.specs.declared.DatagramReading.{DatagramReading}
+use Rattle.packet.specs.declared.DatagramReading.the-variants as reading
 
 abbrev pub isType : ℕ → Bool
 isType b = cond (leb 1 b) (leb b 3) false
@@ -63,3 +65,18 @@ unfoldable pub validity : List ℕ → ValidityAnswer
 validity raw =
     decide (verdict (readChecks raw)) validityAnswer.Refused
     (cond (matches (headerOf raw) (payloadPart raw)) validityAnswer.Valid validityAnswer.Invalid)
+
+-- given to a sender or a receiver, its payload is at most 1,400 bytes long too
+abbrev pub givenChecks : List ℕ → List Check
+givenChecks raw = checkLong (payloadOf raw) ∷ readChecks raw
+
+unfoldable pub readDatagram : List ℕ → DatagramReading
+readDatagram raw =
+    decide (verdict (givenChecks raw)) reading.Refused
+    (cond (matches (headerOf raw) (payloadOf raw)) (reading.Valid (headerOf raw)) (reading.Corrupted (headerOf raw)))
+
+-- a refused reading, as a check among those of the call that is given the datagram
+abbrev pub readingChecks : DatagramReading → List Check
+readingChecks (reading.Valid p) = []
+readingChecks (reading.Corrupted p) = []
+readingChecks (reading.Refused r) = check true r ∷ []

@@ -3,10 +3,10 @@ use Prim.Native.Nat.{ℕ, _+_}
 use mathlib.Core.List.{List, [], _∷_, _++_}
 use lib.ListN.{length, drop}
 use lib.Dec.{ltb}
-use Rattle.bounds.specs.Bounds.{headerSize, maxPayload}
-use Rattle.refusal.specs.declared.Refusal.the-variants.{Long, Full}
-use Rattle.refusal.specs.Order.{Check, check, verdict, decide}
-use Rattle.packet.specs.Format.{datagram, checksumOf, withChecksum}
+use Rattle.bounds.specs.Bounds.{headerSize}
+use Rattle.refusal.specs.declared.Refusal.the-variants.{Full}
+use Rattle.refusal.specs.Order.{check, verdict, decide}
+use Rattle.packet.specs.Format.{datagram, checksumOf, withChecksum, checkLong}
 use Rattle.packet.specs.declared.Packet.{Packet}
 use Rattle.packet.specs.declared.PacketAnswer.{PacketAnswer}
 use Rattle.packet.specs.declared.PacketAnswer.the-variants as packetAnswer
@@ -14,9 +14,6 @@ use Rattle.packet.specs.declared.ChecksumAnswer.{ChecksumAnswer}
 use Rattle.packet.specs.declared.ChecksumAnswer.the-variants as checksumAnswer
 use Rattle.packet.specs.declared.LengthAnswer.{LengthAnswer}
 use Rattle.packet.specs.declared.LengthAnswer.the-variants as lengthAnswer
-
-abbrev pub checkLong : List ℕ → Check
-checkLong payload = check (ltb maxPayload (length payload)) Long
 
 unfoldable pub computeChecksum : Packet → List ℕ → ChecksumAnswer
 computeChecksum p payload = decide (verdict (checkLong payload ∷ [])) checksumAnswer.Refused (checksumAnswer.Checksum (checksumOf p payload))

@@ -5,7 +5,7 @@ ghost use mathlib.Core.List.{_++_};
 ghost use lib.ListN.{length, drop};
 ghost use Rattle.bounds.specs.Bounds.{headerSize};
 ghost use Rattle.packet.specs.Format.{byteOf, newPacket, isRetransmitted, setRetransmitted, headerBytes, datagram, checksumOf, withChecksum, matches};
-ghost use Rattle.packet.specs.Reading.{tryFrom, fromBytes, payloadOf, validity};
+ghost use Rattle.packet.specs.Reading.{tryFrom, declared, payloadPart, fromBytes, payloadOf, validity, readDatagram};
 ghost use Rattle.packet.specs.Writing.{computeChecksum, computeAndSetChecksum, toBytes, written};
 use refusal::Refusal;
 
@@ -42,6 +42,15 @@ pub enum ChecksumAnswer {
 pub enum ValidityAnswer {
     Valid,
     Invalid,
+    Refused(Refusal),
+}
+
+// What a datagram given to a sender or a receiver is.
+pub enum DatagramReading {
+    // Its checksum matches.
+    Valid(Packet),
+    // It doesn't.
+    Corrupted(Packet),
     Refused(Refusal),
 }
 
@@ -155,7 +164,7 @@ impl Packet {
     {
         match Packet::from_bytes(raw) {
             PacketAnswer::Packet(p) => {
-                if p.is_valid_unchecked(Packet::payload(raw)) {
+                if p.is_valid_unchecked(Packet::payload_unchecked(raw)) {
                     ValidityAnswer::Valid
                 } else {
                     ValidityAnswer::Invalid
@@ -209,12 +218,37 @@ impl Packet {
         ensures { λ r. ⌜ now r ≡ payloadOf (now (raw .entry)) ⌝ }
     {
         match Packet::from_bytes(raw) {
-            PacketAnswer::Packet(_) => {
-                let end = Packet::HEADER_SIZE + octets::be16(raw[6], raw[7]) as usize;
-                &raw[Packet::HEADER_SIZE..end]
-            }
+            PacketAnswer::Packet(_) => Packet::payload_unchecked(raw),
             PacketAnswer::Refused(_) => &raw[..0],
         }
+    }
+
+    // What a datagram given to a sender or a receiver is: refused by 1, 2, 3 or 6, else its packet and whether its checksum matches.
+    pub fn read_datagram(raw: &[u8]) -> DatagramReading
+        ensures { λ r. ⌜ r ≡ readDatagram (now (raw .entry)) ⌝ }
+    {
+        match Packet::from_bytes(raw) {
+            PacketAnswer::Packet(p) => {
+                let payload = Packet::payload_unchecked(raw);
+                if Packet::MAX_PAYLOAD_SIZE < payload.len() {
+                    return DatagramReading::Refused(Refusal::Long);
+                }
+                if p.is_valid_unchecked(payload) {
+                    DatagramReading::Valid(p)
+                } else {
+                    DatagramReading::Corrupted(p)
+                }
+            }
+            PacketAnswer::Refused(r) => DatagramReading::Refused(r),
+        }
+    }
+
+    pub fn payload_unchecked(raw: &[u8]) -> &[u8]
+        requires { ⌜ headerSize + declared (now raw) ≤ length (now raw) ⌝ }
+        ensures { λ r. ⌜ now r ≡ payloadPart (now (raw .entry)) ⌝ }
+    {
+        let end = Packet::HEADER_SIZE + octets::be16(raw[6], raw[7]) as usize;
+        &raw[Packet::HEADER_SIZE..end]
     }
 
     pub fn compute_checksum_unchecked(self, payload: &[u8]) -> u16

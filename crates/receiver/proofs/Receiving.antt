@@ -1,123 +1,187 @@
--- The answers of `receive`, one law for each.
-use Prim.Native.Nat.{ℕ}
+-- A datagram given to a receiver: read first, and then received by what it was read as.
+use Prim.Native.Nat.{ℕ, _≤_, _<_}
 use mathlib.Core.Path.{_≡_, refl, sym, ap, _∙_}
-use mathlib.Core.Bool.{Bool, true, false}
-use mathlib.Core.List.{List, [], _∷_}
+use mathlib.Core.Bool.{Bool, true, false, cond, _&&_}
+use mathlib.Core.List.{List, [], _∷_, _++_}
 use native.Mathlib.Omega.{arith}
+use borrow.Author.Tests.{leb-false}
 use lib.ListN.{length}
-use types.Run.{OneOf, miss}
+use lib.Dec.{leb}
+use Rattle.bounds.specs.Bounds.{maxPayload, seqNumLimit}
 use Rattle.refusal.specs.declared.Refusal.{Refusal}
-use Rattle.refusal.specs.declared.Refusal.the-variants.{State, Counts, Full}
-use Rattle.refusal.specs.Order.{check, verdict, order, orElse, numbered, firstOf}
+use Rattle.refusal.specs.declared.Refusal.the-variants.{State, Counts, Numbers, Full}
+use Rattle.refusal.specs.Refusal.{entryOf}
+use Rattle.refusal.specs.Order.{Check, check, verdict, decide, order, heldChecks}
 use Rattle.refusal.specs.declared.Verdict.the-variants.{Refused}
-use Rattle.refusal.proofs.Laws.{false-check, true-check, accepted-none-true, on-accepted, on-refused}
-use Rattle.packet.specs.Reading.{readChecks}
-use Rattle.receiver.specs.Handed.{packetChecks, readPacket, readChecked}
-use Rattle.receiver.specs.Reply.{roomMissing, answerOf, applied, applyExit}
-use Rattle.receiver.specs.Receive.{ReceiveExit, receiveExit, applyResult, apply, receive}
+use Rattle.refusal.proofs.Laws.{NoneTrue, true-check, none-true-accepted, precedesIn, skip-later, held-state, held-counts, held-none, on-accepted, on-refused}
+use Rattle.packet.specs.Reading.{payloadOf, readDatagram, readingChecks}
+use Rattle.packet.specs.declared.Packet.{Packet}
+use Rattle.packet.specs.declared.PacketType.{PacketType}
+use Rattle.packet.specs.declared.PacketType.the-variants as packetType
+use Rattle.packet.specs.declared.DatagramReading.{DatagramReading}
+use Rattle.packet.specs.declared.DatagramReading.the-variants as datagram
+use Rattle.packet.proofs.Laws.{reading-after, reading-before, Taken, taken-short, valid-taken, corrupted-taken}
+use Rattle.receiver.specs.Reading.{byType, isData, isNumberHigh, numberHigh, packetReading, readingOf, readPacket, readingAnswer, readAfter}
+use Rattle.receiver.specs.Reply.{roomMissing, answerOf, isRefused, applied, applyExit}
+use Rattle.receiver.specs.Receive.{ReceiveExit, receiveExit, applyResult, apply, Reception, noRoom, refusedExit, receivedExit, receiveChecks, receive, receiveUnchecked}
 use Rattle.receiver.specs.declared.Decision.{Decision}
 use Rattle.receiver.specs.declared.PacketReading.{PacketReading}
-use Rattle.receiver.specs.declared.PacketReading.the-variants as handed
+use Rattle.receiver.specs.declared.PacketReading.the-variants as reading
 use Rattle.receiver.specs.declared.Reply.{Reply}
 use Rattle.receiver.specs.declared.Reply.the-variants as reply
+use Rattle.receiver.specs.declared.ReadingAnswer.the-variants as read
 use Rattle.receiver.specs.declared.ReceiveAnswer.{ReceiveAnswer}
 use Rattle.receiver.specs.declared.ReceiveAnswer.the-variants as answer
-use Rattle.receiver.proofs.Reading.{before-full, read-refused, read-accepted}
 
--- the tags of what isn't Refused: of a packet, of an answer
-pub not-four : OneOf (0 ∷ 1 ∷ 2 ∷ 3 ∷ []) 4 → ⊥
-not-four k = miss (0 ∷ 1 ∷ 2 ∷ 3 ∷ []) 4 tt k
+-- 7 and 5 change nothing where a check before them is answered
+late : (room high : Bool) (s : Refusal) (cs : List Check) → verdict cs ≡ Refused s
+    → precedesIn order (entryOf s .number) 7 ≡ true → precedesIn order (entryOf s .number) 5 ≡ true
+    → verdict (check room Full ∷ check high Numbers ∷ cs) ≡ Refused s
+late room high s cs e p q = skip-later room Full s (check high Numbers ∷ cs) (skip-later high Numbers s cs e p) q
 
-pub not-two : OneOf (0 ∷ 1 ∷ []) 2 → ⊥
-not-two k = miss (0 ∷ 1 ∷ []) 2 tt k
+-- what is known of a datagram that was read
+pub record Read (broken counts : Bool) (raw : List ℕ) (h : PacketReading) : Type 0 where
+  pub state-sound : broken ≡ false
+  pub counts-low : counts ≡ false
+  pub is-read : h ≡ readPacket raw
+  pub taken : Taken raw
+  pub not-high : numberHigh (readDatagram raw) ≡ false
+  pub short : length (payloadOf raw) ≤ maxPayload
 
--- a datagram that isn't Refused
-abbrev pub Taken : PacketReading → Type 0
-Taken h = (s : Refusal) → h ≡ handed.Refused s → ⊥
+module _ (raw : List ℕ) where
+  high-or-read : (p : Packet) (b : Bool) (h : PacketReading) → cond b (read.Refused Numbers) (read.Reading (packetReading p true)) ≡ read.Reading h
+      → (b ≡ false) × (h ≡ packetReading p true)
+  high-or-read p true h e = let z : _≡_ {A = ℕ} 0 1 = cc in absurd (omega arith)
+  high-or-read p false h e = (refl, cc)
 
-pub taken : (broken counts : Bool) (raw : List ℕ) → Taken (readChecked broken counts raw) → (broken ≡ false) × (counts ≡ false) × (readChecked broken counts raw ≡ readPacket raw)
-unfolding readChecked
-taken true counts raw h = absurd (h State refl)
-taken false true raw h = absurd (h Counts refl)
-taken false false raw h = (refl, refl, refl)
+  by-reading : (x : DatagramReading) → readDatagram raw ≡ x → (h : PacketReading) → readingAnswer x ≡ read.Reading h → Read false false raw h
+  by-reading (datagram.Valid p) f h e =
+      let x = high-or-read p (isNumberHigh p) h e in
+      let t = valid-taken raw f in
+      record { state-sound = refl; counts-low = refl; is-read = rw f (x .1); taken = t; not-high = rw f (x .0); short = taken-short raw t }
+  by-reading (datagram.Corrupted p) f h e =
+      let t = corrupted-taken raw f in
+      record { state-sound = refl; counts-low = refl; is-read = rw f cc; taken = t; not-high = rw f refl; short = taken-short raw t }
+  by-reading (datagram.Refused r) f h e = let z : _≡_ {A = ℕ} 0 1 = cc in absurd (omega arith)
 
--- the verdict on a state that isn't broken, and on a datagram that is Refused, whatever is to be written
-unbroken : (full : Bool) (raw : List ℕ) → verdict (check false State ∷ check false Counts ∷ check full Full ∷ packetChecks raw) ≡ verdict (check full Full ∷ packetChecks raw)
-unbroken full raw = false-check State _ ∙ false-check Counts _
+  pub read-facts : (broken counts : Bool) (h : PacketReading) → readAfter (verdict (heldChecks broken counts)) raw ≡ read.Reading h → Read broken counts raw h
+  unfolding readAfter
+  read-facts true counts h e =
+      let d = sym (on-refused read.Refused (readingAnswer (readDatagram raw)) (held-state counts)) ∙ e in
+      let z : _≡_ {A = ℕ} 0 1 = cc in absurd (omega arith)
+  read-facts false true h e =
+      let d = sym (on-refused read.Refused (readingAnswer (readDatagram raw)) held-counts) ∙ e in
+      let z : _≡_ {A = ℕ} 0 1 = cc in absurd (omega arith)
+  read-facts false false h e =
+      by-reading (readDatagram raw) refl h (sym (on-accepted read.Refused (readingAnswer (readDatagram raw)) held-none) ∙ e)
 
-refused-verdict : (broken counts full : Bool) (raw : List ℕ) (s : Refusal) → readChecked broken counts raw ≡ handed.Refused s
-    → verdict (check broken State ∷ check counts Counts ∷ check full Full ∷ packetChecks raw) ≡ Refused s
-unfolding readChecked readChecks verdict firstOf numbered orElse order
-refused-verdict true counts full raw s e = ap Refused cc
-refused-verdict false true full raw s e = ap Refused cc
-refused-verdict false false full raw s e = unbroken full raw ∙ before-full full raw s (read-refused raw s e)
+-- number 7 of a datagram that was read
+pub read-low : (raw : List ℕ) (n : ℕ) → Taken raw → numberHigh (readDatagram raw) ≡ false → readPacket raw ≡ reading.Data n → n < seqNumLimit
+read-low raw n t h e = by-reading (readDatagram raw) refl h e where
+  by-type : (k : PacketType) (m : ℕ) → (isData k && leb seqNumLimit m) ≡ false → byType k m ≡ reading.Data n → n < seqNumLimit
+  by-type packetType.Data m h e = let same : m ≡ n = cc in rw (← same) (leb-false seqNumLimit m h)
+  by-type packetType.Ack m h e = let z : _≡_ {A = ℕ} 0 1 = cc in absurd (omega arith)
+  by-type packetType.Fin m h e = let z : _≡_ {A = ℕ} 0 1 = cc in absurd (omega arith)
 
-never-refused : (r : Reply) (s : Refusal) → answerOf r ≡ answer.Refused s → ⊥
-never-refused (reply.Ack n) s e = let z : _≡_ {A = ℕ} 0 1 = cc in omega arith
-never-refused reply.Silent s e = let z : _≡_ {A = ℕ} 0 1 = cc in omega arith
+  by-reading : (x : DatagramReading) → readDatagram raw ≡ x → numberHigh x ≡ false → readingOf x ≡ reading.Data n → n < seqNumLimit
+  by-reading (datagram.Valid p) f h e = by-type (p .«pkt_type») (p .«seq_num») h e
+  by-reading (datagram.Corrupted p) f h e = let z : _≡_ {A = ℕ} 0 1 = cc in absurd (omega arith)
+  by-reading (datagram.Refused r) f h e = absurd (t r f)
 
-module _ {R : Type 0} (broken counts : Bool) (r : R) (filled : ℕ) (d : Decision) (delivered : List ℕ) (after : ℕ → R) (raw output ack : List ℕ) where
-  pub refused-packet : (s : Refusal) → readChecked broken counts raw ≡ handed.Refused s → receiveExit (answer.Refused s) r output ack ≡ receive broken counts r filled d delivered after raw output ack
+module _ {R : Type 0} (x : Reception R) (raw output ack : List ℕ) where
+  refused-reading : (s : Refusal) (y : DatagramReading) → readDatagram raw ≡ y → readingAnswer y ≡ read.Refused s
+      → verdict (check (noRoom x output ack) Full ∷ check (numberHigh y) Numbers ∷ (readingChecks y ++ heldChecks false false)) ≡ Refused s
+  unfolding order
+  refused-reading s (datagram.Refused r) f e =
+      let same : r ≡ s = cc in
+      rw (← same)
+      (reading-before raw (noRoom x output ack) r Full _ refl f
+      (reading-before raw false r Numbers (check true r ∷ heldChecks false false) refl f (true-check r (heldChecks false false) (refl, (refl, tt)))))
+  refused-reading s (datagram.Corrupted p) f e = let z : _≡_ {A = ℕ} 0 1 = cc in absurd (omega arith)
+  refused-reading s (datagram.Valid p) f e = by-high (isNumberHigh p) e where
+    by-high : (b : Bool) → cond b (read.Refused Numbers) (read.Reading (packetReading p true)) ≡ read.Refused s
+        → verdict (check (noRoom x output ack) Full ∷ check b Numbers ∷ heldChecks false false) ≡ Refused s
+    by-high true g =
+        let same : Numbers ≡ s = cc in
+        rw (← same) (skip-later (noRoom x output ack) Full Numbers _ (true-check Numbers (heldChecks false false) (refl, (refl, tt))) refl)
+    by-high false g = let z : _≡_ {A = ℕ} 0 1 = cc in absurd (omega arith)
+
+  refused-verdict : (s : Refusal) (b c : Bool) → readAfter (verdict (heldChecks b c)) raw ≡ read.Refused s
+      → verdict (check (noRoom x output ack) Full ∷ check (numberHigh (readDatagram raw)) Numbers ∷ (readingChecks (readDatagram raw) ++ heldChecks b c)) ≡ Refused s
+  unfolding readAfter order
+  refused-verdict s true c e =
+      let d = sym (on-refused read.Refused (readingAnswer (readDatagram raw)) (held-state c)) ∙ e in
+      let same : State ≡ s = cc in
+      rw (← same) (late _ _ State _ (reading-after raw State (heldChecks true c) refl (held-state c)) refl refl)
+  refused-verdict s false true e =
+      let d = sym (on-refused read.Refused (readingAnswer (readDatagram raw)) held-counts) ∙ e in
+      let same : Counts ≡ s = cc in
+      rw (← same) (late _ _ Counts _ (reading-after raw Counts (heldChecks false true) refl held-counts) refl refl)
+  refused-verdict s false false e =
+      refused-reading s (readDatagram raw) refl (sym (on-accepted read.Refused (readingAnswer (readDatagram raw)) held-none) ∙ e)
+
+  pub receive-refused : (s : Refusal) → readAfter (verdict (heldChecks (x .stateBroken) (x .countsBroken))) raw ≡ read.Refused s
+      → refusedExit x output ack (answer.Refused s) ≡ receive x raw output ack
   unfolding receive
-  refused-packet s e =
-      sym (on-refused (λ (s : Refusal). receiveExit (answer.Refused s) r output ack) _ (refused-verdict broken counts _ raw s e))
+  receive-refused s e = sym (on-refused (λ (s : Refusal). refusedExit x output ack (answer.Refused s)) _ (refused-verdict s (x .stateBroken) (x .countsBroken) e))
 
-  -- with a datagram taken, by the room
-  beyond : Taken (readChecked broken counts raw) → (b : Bool) → roomMissing d (length delivered) filled output ack ≡ b
-      → verdict (check broken State ∷ check counts Counts ∷ check (roomMissing d (length delivered) filled output ack) Full ∷ packetChecks raw) ≡ verdict (check b Full ∷ packetChecks raw)
-  beyond h b g = let t = taken broken counts raw h in rw (t .0, t .1, g) (unbroken b raw)
+  -- nothing but 5 is left
+  pub receive-unchecked : x .stateBroken ≡ false → x .countsBroken ≡ false → Taken raw → numberHigh (readDatagram raw) ≡ false
+      → receiveUnchecked x output ack ≡ receive x raw output ack
+  unfolding receive receiveUnchecked
+  receive-unchecked b c t h = by-room (noRoom x output ack) refl (readDatagram raw) refl where
+    left : (y : DatagramReading) → readDatagram raw ≡ y → NoneTrue (check (numberHigh (readDatagram raw)) Numbers ∷ (readingChecks y ++ heldChecks (x .stateBroken) (x .countsBroken)))
+    left (datagram.Valid p) f = (h, (b, (c, tt)))
+    left (datagram.Corrupted p) f = (h, (b, (c, tt)))
+    left (datagram.Refused r) f = absurd (t r f)
 
-  reads : Taken (readChecked broken counts raw) → Taken (readPacket raw)
-  reads h s e = h s (taken broken counts raw h .2 ∙ e)
+    by-room : (m : Bool) → noRoom x output ack ≡ m → (y : DatagramReading) → readDatagram raw ≡ y
+        → cond (noRoom x output ack) (refusedExit x output ack (answer.Refused Full)) (receivedExit x output ack)
+        ≡ decide (verdict (receiveChecks x raw output ack)) (λ s. refusedExit x output ack (answer.Refused s)) (receivedExit x output ack)
+    by-room true e y f =
+        rw e
+        (sym (on-refused (λ (s : Refusal). refusedExit x output ack (answer.Refused s)) _ (true-check Full _ (left (readDatagram raw) refl))))
+    by-room false e y f =
+        rw e
+        (sym (on-accepted (λ (s : Refusal). refusedExit x output ack (answer.Refused s)) _ (none-true-accepted _ (refl, left (readDatagram raw) refl))))
 
-  pub refused-full : Taken (readChecked broken counts raw) → roomMissing d (length delivered) filled output ack ≡ true
-      → receiveExit (answer.Refused Full) r output ack ≡ receive broken counts r filled d delivered after raw output ack
-  unfolding receive
-  refused-full h g =
-      sym (on-refused (λ (s : Refusal). receiveExit (answer.Refused s) r output ack) _ (beyond h true g ∙ true-check Full (packetChecks raw) (accepted-none-true (packetChecks raw) (read-accepted raw (reads h)))))
+  pub receive-read : (h : PacketReading) → readAfter (verdict (heldChecks (x .stateBroken) (x .countsBroken))) raw ≡ read.Reading h
+      → receiveUnchecked x output ack ≡ receive x raw output ack
+  receive-read h e =
+      let k = read-facts raw (x .stateBroken) (x .countsBroken) h e in
+      receive-unchecked (k .state-sound) (k .counts-low) (k .taken) (k .not-high)
 
-  -- the functions below carried the decision out, delivering a part that is what is to be delivered
-  pub received : (part written acked : List ℕ) (n : ℕ) (a : ReceiveAnswer) → Taken (readChecked broken counts raw)
-      → roomMissing d (length delivered) filled output ack ≡ false → part ≡ delivered → a ≡ answerOf (d .reply) → applyExit n written acked ≡ applied d part filled output ack
-      → receiveExit a (after n) written acked ≡ receive broken counts r filled d delivered after raw output ack
-  unfolding receive
-  received part written acked n a h g p q v =
-      ap (λ (x : ReceiveAnswer). receiveExit x (after n) written acked) q ∙ ap (applyResult after d) (v ∙ ap (λ (l : List ℕ). applied d l filled output ack) p)
-      ∙ sym (on-accepted (λ (s : Refusal). receiveExit (answer.Refused s) r output ack) _ (beyond h false g ∙ false-check Full (packetChecks raw) ∙ read-accepted raw (reads h)))
+never-refused : (r : Reply) → isRefused (answerOf r) ≡ false
+never-refused (reply.Ack n) = refl
+never-refused reply.Silent = refl
 
-pub finish-done : (d : Decision) (payload : List ℕ) (filled : ℕ) (output ack written acked : List ℕ) (n : ℕ) (a : ReceiveAnswer) → roomMissing d (length payload) filled output ack ≡ false
+pub apply-done : (d : Decision) (payload : List ℕ) (filled : ℕ) (output ack written acked : List ℕ) (n : ℕ) (a : ReceiveAnswer) → roomMissing d (length payload) filled output ack ≡ false
     → a ≡ answerOf (d .reply) → applyExit n written acked ≡ applied d payload filled output ack → receiveExit a n written acked ≡ apply d payload filled output ack
 unfolding apply
-finish-done d payload filled output ack written acked n a g q v =
+apply-done d payload filled output ack written acked n a g q v =
     rw g (ap (λ (x : ReceiveAnswer). receiveExit x n written acked) q ∙ ap (applyResult (λ n. n) d) v)
 
--- a datagram that is taken, and `apply` of the decision on it
-module _ {R : Type 0} (broken counts : Bool) (r : R) (filled : ℕ) (d : PacketReading → Decision) (after : PacketReading → ℕ → R) (delivered raw output ack : List ℕ) (h : PacketReading) (v : ReceiveExit ℕ) (is-read : h ≡ readChecked broken counts raw) (t : Taken h) (e : v ≡ apply (d h) delivered filled output ack) where
-  taken-checked : Taken (readChecked broken counts raw)
-  taken-checked s q = t s (is-read ∙ q)
-
-  is-packet : h ≡ readPacket raw
-  is-packet = is-read ∙ taken broken counts raw taken-checked .2
-
-  abbrev Received : R → Type 0
-  Received s = receiveExit (v .answer) s (v .output) (v .ack) ≡ receive broken counts r filled (d (readPacket raw)) delivered (after (readPacket raw)) raw output ack
-
-  by-room : (b : Bool) → roomMissing (d (readPacket raw)) (length delivered) filled output ack ≡ b
-      → ((s : Refusal) → v .answer ≡ answer.Refused s → Received r) × (((s : Refusal) → v .answer ≡ answer.Refused s → ⊥) → Received (after h (v .receiver)))
-  unfolding apply
+-- `apply` of the decision is all that is left
+module _ {R : Type 0} (x : Reception R) (output ack : List ℕ) (v : ReceiveExit ℕ) (e : v ≡ apply (x .decision) (x .delivered) (x .filled) output ack) where
+  by-room : (b : Bool) → noRoom x output ack ≡ b
+      → (isRefused (v .answer) ≡ true → receiveExit (v .answer) (x .state) (v .output) (v .ack) ≡ receiveUnchecked x output ack)
+      × (isRefused (v .answer) ≡ false → receiveExit (v .answer) (x .after (v .receiver)) (v .output) (v .ack) ≡ receiveUnchecked x output ack)
+  unfolding apply receiveUnchecked
   by-room true g =
-      let full : v ≡ receiveExit (answer.Refused Full) filled output ack = e ∙ rw (is-packet, g) in (
-        λ s q. ap (λ (x : ReceiveExit ℕ). receiveExit (x .answer) r (x .output) (x .ack)) full ∙ refused-full broken counts r filled _ delivered (after (readPacket raw)) raw output ack taken-checked g,
-        λ n. absurd (n Full (ap (λ (x : ReceiveExit ℕ). x .answer) full)),
+      let full : v ≡ receiveExit (answer.Refused Full) (x .filled) output ack = e ∙ rw g in (
+        λ q. rw g (ap (λ (y : ReceiveExit ℕ). receiveExit (y .answer) (x .state) (y .output) (y .ack)) full),
+        λ q. let no = sym q ∙ ap (λ (y : ReceiveExit ℕ). isRefused (y .answer)) full in let z : _≡_ {A = ℕ} 0 1 = cc in absurd (omega arith),
       )
   by-room false g =
-      let done : v ≡ applyResult (λ n. n) (d (readPacket raw)) (applied (d (readPacket raw)) delivered filled output ack) = e ∙ rw (is-packet, g) in (
-        λ s q. absurd (never-refused (d (readPacket raw) .reply) s (sym (ap (λ (x : ReceiveExit ℕ). x .answer) done) ∙ q)),
-        λ n. rw is-packet (ap (λ (x : ReceiveExit ℕ). receiveExit (x .answer) (after (readPacket raw) (x .receiver)) (x .output) (x .ack)) done ∙ received broken counts r filled _ delivered (after (readPacket raw)) raw output ack delivered _ _ _ _ taken-checked g refl refl refl),
+      let done : v ≡ applyResult (λ n. n) (x .decision) (applied (x .decision) (x .delivered) (x .filled) output ack) = e ∙ rw g in (
+        λ q.
+            let no = sym q ∙ ap (λ (y : ReceiveExit ℕ). isRefused (y .answer)) done ∙ never-refused (x .decision .reply) in
+            let z : _≡_ {A = ℕ} 0 1 = cc in absurd (omega arith),
+        λ q. rw g (ap (λ (y : ReceiveExit ℕ). receiveExit (y .answer) (x .after (y .receiver)) (y .output) (y .ack)) done),
       )
 
-  pub finish-refused : (s : Refusal) → v .answer ≡ answer.Refused s → Received r
-  finish-refused = by-room _ refl .0
+  pub apply-refused : isRefused (v .answer) ≡ true → receiveExit (v .answer) (x .state) (v .output) (v .ack) ≡ receiveUnchecked x output ack
+  apply-refused = by-room _ refl .0
 
-  pub finished : ((s : Refusal) → v .answer ≡ answer.Refused s → ⊥) → Received (after h (v .receiver))
-  finished = by-room _ refl .1
+  pub apply-received : isRefused (v .answer) ≡ false → receiveExit (v .answer) (x .after (v .receiver)) (v .output) (v .ack) ≡ receiveUnchecked x output ack
+  apply-received = by-room _ refl .1

@@ -10,11 +10,11 @@ use Rattle.bounds.specs.Bounds.{countLimit}
 use Rattle.refusal.specs.Clauses.{anyOf}
 use Rattle.refusal.proofs.Laws.{none-of}
 use Rattle.window.proofs.Laws.{or-false-right}
-use Rattle.receiver.specs.State.{marksBroken, countsBroken}
+use Rattle.receiver.specs.State.{stateBroken, countsBroken}
 
-pub marks-low : (base filled : ℕ) (output : List ℕ) → marksBroken base filled output ≡ false → (base ≤ 4294901760) × (filled ≤ length output)
-unfolding marksBroken
-marks-low base filled output e = let none = none-of _ e in (ltb-false _ _ (none .0), ltb-false _ _ (none .1 .0))
+pub state-low : (base filled : ℕ) (output : List ℕ) → stateBroken base filled output ≡ false → (base ≤ 4294901760) × (filled ≤ length output)
+unfolding stateBroken
+state-low base filled output e = let none = none-of _ e in (ltb-false _ _ (none .0), ltb-false _ _ (none .1 .0))
 
 pub counts-low : (a b c : ℕ) → countsBroken a b c ≡ false → (a < countLimit) × (b < countLimit) × (c < countLimit)
 unfolding countsBroken

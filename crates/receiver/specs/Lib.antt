@@ -1,4 +1,4 @@
 pub mod State
-pub mod Handed
+pub mod Reading
 pub mod Reply
 pub mod Receive

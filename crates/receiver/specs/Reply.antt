@@ -1,7 +1,7 @@
 -- Document 01, "`delivered_data` becomes a lent output and its fill mark", "Turned away" 5, and arq/*.rs, `handle_packet`.
 use Prim.Native.Nat.{ℕ, _+_, _-_, _≤_}
 use mathlib.Core.List.{List, [], _++_}
-use mathlib.Core.Bool.{Bool, false, cond, _||_, _&&_}
+use mathlib.Core.Bool.{Bool, true, false, cond, _||_, _&&_}
 use mathlib.Core.Path.{_≡_}
 use lib.ListN.{length, take, drop}
 use lib.Dec.{ltb}
@@ -17,6 +17,11 @@ use Rattle.receiver.specs.declared.ReceiveAnswer.the-variants as answer
 abbrev pub answerOf : Reply → ReceiveAnswer
 answerOf (reply.Ack n) = answer.Ack n
 answerOf reply.Silent = answer.Silent
+
+abbrev pub isRefused : ReceiveAnswer → Bool
+isRefused (answer.Ack n) = false
+isRefused answer.Silent = false
+isRefused (answer.Refused r) = true
 
 -- the buffer for the ACK after a reply
 unfoldable pub ackAfter : Reply → List ℕ → List ℕ

@@ -9,8 +9,8 @@ use Rattle.refusal.specs.Clauses.{anyOf}
 use Rattle.refusal.specs.Counts.{countFull}
 
 -- 9: the base above 4,294,901,760; the fill mark above the output's length
-unfoldable pub marksBroken : ℕ → ℕ → List ℕ → Bool
-marksBroken base filled output = anyOf (ltb seqNumLimit base ∷ ltb (length output) filled ∷ [])
+unfoldable pub stateBroken : ℕ → ℕ → List ℕ → Bool
+stateBroken base filled output = anyOf (ltb seqNumLimit base ∷ ltb (length output) filled ∷ [])
 
 -- 8
 unfoldable pub countsBroken : ℕ → ℕ → ℕ → Bool

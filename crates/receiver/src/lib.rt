@@ -4,19 +4,20 @@ ghost use Prim.Native.Nat.{_+_, _≤_};
 ghost use lib.ListN.{length};
 ghost use lib.Dec.{ltb};
 ghost use mathlib.Core.Bool.{_&&_};
-ghost use Rattle.packet.specs.Reading.{payloadOf};
-ghost use Rattle.receiver.specs.State.{marksBroken, countsBroken};
-ghost use Rattle.receiver.specs.Handed.{readPacket, readChecked};
-ghost use Rattle.receiver.specs.Reply.{applyExit, applied, roomMissing, RoomFor, RoomForReply, ackAfter, answerOf};
+ghost use Rattle.packet.specs.Reading.{readDatagram};
+ghost use Rattle.receiver.specs.State.{stateBroken, countsBroken};
+ghost use Rattle.receiver.specs.Reading.{packetReading, isNumberHigh, readingAnswer, readAfter};
+ghost use Rattle.receiver.specs.Reply.{applyExit, applied, roomMissing, RoomFor, RoomForReply, ackAfter, answerOf, isRefused};
 ghost use Rattle.receiver.specs.Receive.{receiveExit, apply};
 use bounds::COUNT_LIMIT;
 use bounds::SEQ_NUM_LIMIT;
+use packet::DatagramReading;
 use packet::Packet;
-use packet::PacketAnswer;
 use packet::PacketType;
 use refusal::Refusal;
+use refusal::Verdict;
 
-// What a datagram handed to a receiver is.
+// What a packet that was read is to a receiver.
 pub enum PacketReading {
     // Valid, with its number.
     Data(u32),
@@ -25,6 +26,11 @@ pub enum PacketReading {
     Ack,
     // The checksum doesn't match.
     Corrupted,
+}
+
+// What a datagram is to a receiver.
+pub enum ReadingAnswer {
+    Reading(PacketReading),
     Refused(Refusal),
 }
 
@@ -64,67 +70,64 @@ impl Reply {
     }
 }
 
-// A datagram for a receiver: broken is whether line 9 is true of its state; a, b, c are its counters.
-pub fn read_checked(broken: bool, a: u64, b: u64, c: u64, raw: &[u8]) -> PacketReading
-    ensures { λ r. ⌜ r ≡ readChecked broken (countsBroken a b c) (now (raw .entry)) ⌝ }
-{
-    if broken {
-        return PacketReading::Refused(Refusal::State);
-    }
-    if counts_broken(a, b, c) {
-        return PacketReading::Refused(Refusal::Counts);
-    }
-    read_packet(raw)
-}
-
-fn read_packet(raw: &[u8]) -> PacketReading
-    ensures { λ r. ⌜ r ≡ readPacket (now (raw .entry)) ⌝ }
-{
-    let packet = match Packet::from_bytes(raw) {
-        PacketAnswer::Packet(p) => p,
-        PacketAnswer::Refused(r) => return PacketReading::Refused(r),
-    };
-    let payload = Packet::payload(raw);
-    if Packet::MAX_PAYLOAD_SIZE < payload.len() {
-        return PacketReading::Refused(Refusal::Long);
-    }
-    if !packet.is_valid_unchecked(payload) {
-        return PacketReading::Corrupted;
-    }
-    let seq_num = packet.seq_num;
-    let pkt_type = packet.pkt_type;
-    match pkt_type {
-        PacketType::Data => {
-            if SEQ_NUM_LIMIT <= seq_num {
-                PacketReading::Refused(Refusal::Numbers)
-            } else {
-                PacketReading::Data(seq_num)
-            }
+impl ReceiveAnswer {
+    pub fn is_refused(self) -> bool
+        ensures { λ r. ⌜ r ≡ isRefused self ⌝ }
+    {
+        match self {
+            ReceiveAnswer::Ack(_) => false,
+            ReceiveAnswer::Silent => false,
+            ReceiveAnswer::Refused(_) => true,
         }
-        PacketType::Ack => PacketReading::Ack,
-        PacketType::Fin => PacketReading::Fin(seq_num),
     }
 }
 
-// Carries a decision on a datagram out, or refuses it where a buffer is too short.
-pub fn finish_unchecked(
+// A datagram for a receiver, after the verdict on what it holds.
+pub fn read_after(verdict: Verdict, raw: &[u8]) -> ReadingAnswer
+    ensures { λ r. ⌜ r ≡ readAfter verdict (now (raw .entry)) ⌝ }
+{
+    match verdict {
+        Verdict::Accepted => read_packet(raw),
+        Verdict::Refused(r) => ReadingAnswer::Refused(r),
+    }
+}
+
+// A packet that was read, and whether its checksum matches.
+pub fn packet_reading(packet: Packet, valid: bool) -> PacketReading
+    ensures { λ r. ⌜ r ≡ packetReading packet valid ⌝ }
+{
+    if valid {
+        let seq_num = packet.seq_num;
+        let pkt_type = packet.pkt_type;
+        match pkt_type {
+            PacketType::Data => PacketReading::Data(seq_num),
+            PacketType::Ack => PacketReading::Ack,
+            PacketType::Fin => PacketReading::Fin(seq_num),
+        }
+    } else {
+        PacketReading::Corrupted
+    }
+}
+
+// Carries a decision out, or refuses it where a buffer is too short.
+pub fn apply_unchecked(
     decision: Decision,
-    raw: &[u8],
+    payload: &[u8],
     filled: usize,
     output: &mut [u8],
     ack: &mut [u8],
 ) -> ApplyResult
     requires { ⌜ filled ≤ length (now output) ⌝ }
-    ensures { λ r. ⌜ receiveExit (r .answer) (r .filled) (now (output .exit)) (now (ack .exit)) ≡ apply decision (payloadOf (now (raw .entry))) filled (now (output .entry)) (now (ack .entry)) ⌝ }
+    ensures { λ r. ⌜ receiveExit (r .answer) (r .filled) (now (output .exit)) (now (ack .exit))
+        ≡ apply decision (now (payload .entry)) filled (now (output .entry)) (now (ack .entry)) ⌝ }
 {
-    let payload = Packet::payload(raw);
     if room_missing_unchecked(decision, payload.len(), filled, output, ack) {
         return ApplyResult {
             filled,
             answer: ReceiveAnswer::Refused(Refusal::Full),
         };
     }
-    let end = carry_out_unchecked(decision, payload, filled, output, ack);
+    let end = apply_in_room_unchecked(decision, payload, filled, output, ack);
     let reply = decision.reply;
     ApplyResult {
         filled: end,
@@ -163,7 +166,7 @@ fn output_missing(deliver: bool, size: usize, left: usize) -> bool
 }
 
 // Carries a decision out: the payload to the output, the ACK to its buffer. Answers the fill mark.
-pub fn carry_out_unchecked(
+pub fn apply_in_room_unchecked(
     decision: Decision,
     payload: &[u8],
     filled: usize,
@@ -195,9 +198,9 @@ fn write_reply(reply: Reply, ack: &mut [u8])
     }
 }
 
-// Whether document 01's line 9 is true of a receiver's base and fill mark.
-pub fn marks_broken(base: u32, filled: usize, output: &[u8]) -> bool
-    ensures { λ r. ⌜ r ≡ marksBroken base filled (now (output .entry)) ⌝ }
+// Whether check 9 is true of a receiver's base and fill mark.
+pub fn state_broken(base: u32, filled: usize, output: &[u8]) -> bool
+    ensures { λ r. ⌜ r ≡ stateBroken base filled (now (output .entry)) ⌝ }
 {
     if SEQ_NUM_LIMIT < base {
         return true;
@@ -205,7 +208,7 @@ pub fn marks_broken(base: u32, filled: usize, output: &[u8]) -> bool
     output.len() < filled
 }
 
-// Whether document 01's line 8 is true of a receiver's counters.
+// Whether check 8 is true of a receiver's counters.
 pub fn counts_broken(a: u64, b: u64, c: u64) -> bool
     ensures { λ r. ⌜ r ≡ countsBroken a b c ⌝ }
 {
@@ -216,4 +219,33 @@ pub fn counts_broken(a: u64, b: u64, c: u64) -> bool
         return true;
     }
     COUNT_LIMIT <= c
+}
+
+fn read_packet(raw: &[u8]) -> ReadingAnswer
+    ensures { λ r. ⌜ r ≡ readingAnswer (readDatagram (now (raw .entry))) ⌝ }
+{
+    match Packet::read_datagram(raw) {
+        DatagramReading::Valid(packet) => {
+            if is_number_high(packet) {
+                return ReadingAnswer::Refused(Refusal::Numbers);
+            }
+            ReadingAnswer::Reading(packet_reading(packet, true))
+        }
+        DatagramReading::Corrupted(packet) => {
+            ReadingAnswer::Reading(packet_reading(packet, false))
+        }
+        DatagramReading::Refused(r) => ReadingAnswer::Refused(r),
+    }
+}
+
+// Whether check 7 is true of a valid packet.
+fn is_number_high(packet: Packet) -> bool
+    ensures { λ r. ⌜ r ≡ isNumberHigh packet ⌝ }
+{
+    let pkt_type = packet.pkt_type;
+    match pkt_type {
+        PacketType::Data => bounds::SEQ_NUM_LIMIT <= packet.seq_num,
+        PacketType::Ack => false,
+        PacketType::Fin => false,
+    }
 }

@@ -1,6 +1,6 @@
 -- Laws of the order of the checks, for crates above to cite.
 use Prim.Native.Nat.{ℕ}
-use mathlib.Core.Path.{_≡_, refl, ap, _∙_}
+use mathlib.Core.Path.{_≡_, refl, sym, ap, _∙_}
 use mathlib.Core.Bool.{Bool, true, false, cond, _||_}
 use mathlib.Core.List.{List, [], _∷_}
 use native.Mathlib.Omega.{arith}
@@ -8,7 +8,7 @@ use borrow.Author.Tests.{eq-eqb, eqb-true}
 use lib.Dec.{eqb}
 use Rattle.refusal.specs.Refusal.{entryOf}
 use Rattle.refusal.specs.Clauses.{anyOf}
-use Rattle.refusal.specs.Order.{Check, check, order, orElse, numbered, firstOf, verdict, decide}
+use Rattle.refusal.specs.Order.{Check, check, order, orElse, numbered, firstOf, verdict, decide, heldChecks}
 use Rattle.refusal.specs.declared.Refusal.{Refusal}
 use Rattle.refusal.specs.declared.Verdict.{Verdict}
 use Rattle.refusal.specs.declared.Verdict.the-variants.{Accepted, Refused}
@@ -30,12 +30,12 @@ unfolding orElse
 second-accepted Accepted w e = e
 second-accepted (Refused r) w e = let z : _≡_ {A = ℕ} 0 1 = cc in absurd (omega arith)
 
-has : ℕ → List ℕ → Bool
+abbrev pub has : ℕ → List ℕ → Bool
 has n [] = false
 has n (m ∷ ms) = cond (eqb n m) true (has n ms)
 
 in-order : (r : Refusal) → has (entryOf r .number) order ≡ true
-unfolding has order
+unfolding order
 in-order (Short n) = refl
 in-order (Kind b) = refl
 in-order (Cut n m) = refl
@@ -50,7 +50,7 @@ in-order Roll = refl
 
 -- every refusal's number stands in the order
 has-accepted : (n : ℕ) (ns : List ℕ) (cs : List Check) → firstOf ns cs ≡ Accepted → has n ns ≡ true → numbered n cs ≡ Accepted
-unfolding firstOf has
+unfolding firstOf
 has-accepted n [] cs e h = let z : _≡_ {A = ℕ} 0 1 = cc in absurd (omega arith)
 has-accepted n (m ∷ ms) cs e h = by-number (eqb n m) refl (has-accepted n ms cs (second-accepted (numbered m cs) (firstOf ms cs) e)) where
   by-number : (b : Bool) → eqb n m ≡ b → (has n ms ≡ true → numbered n cs ≡ Accepted) → numbered n cs ≡ Accepted
@@ -109,7 +109,7 @@ unfolding verdict
 false-check r cs = skip-first order r cs
 
 true-first : (ns : List ℕ) (r : Refusal) (cs : List Check) → NoneTrue cs → firstOf ns (check true r ∷ cs) ≡ cond (has (entryOf r .number) ns) (Refused r) Accepted
-unfolding firstOf numbered orElse has
+unfolding firstOf numbered orElse
 true-first [] r cs h = refl
 true-first (n ∷ ns) r cs h = rw (numbered-none-true n cs h) (by-number (eqb (entryOf r .number) n) (true-first ns r cs h)) where
   by-number : (b : Bool) → firstOf ns (check true r ∷ cs) ≡ cond (has (entryOf r .number) ns) (Refused r) Accepted
@@ -167,3 +167,101 @@ pub any-of-none : (bs : List Bool) → NoneOf bs → anyOf bs ≡ false
 unfolding anyOf
 any-of-none [] h = refl
 any-of-none (b ∷ bs) h = rw (h .0) (any-of-none bs (h .1))
+
+-- what holds of each check's refusal holds of the one that is answered
+abbrev pub EachRefusal : (Refusal → Type 0) → List Check → Type 0
+EachRefusal P [] = Prim.Unit {0}
+EachRefusal P (c ∷ cs) = P (c .refusal) × EachRefusal P cs
+
+module _ (P : Refusal → Type 0) (r : Refusal) where
+  of-either : (v w : Verdict) → orElse v w ≡ Refused r → (v ≡ Refused r → P r) → (w ≡ Refused r → P r) → P r
+  unfolding orElse
+  of-either Accepted w e h k = k e
+  of-either (Refused s) w e h k = h e
+
+  of-check : (n : ℕ) (c : Check) → P (c .refusal) → cond (eqb (entryOf (c .refusal) .number) n) (cond (c .fires) (Refused (c .refusal)) Accepted) Accepted ≡ Refused r → P r
+  of-check n c h e = by-tests (eqb (entryOf (c .refusal) .number) n) (c .fires) e where
+    by-tests : (a b : Bool) → cond a (cond b (Refused (c .refusal)) Accepted) Accepted ≡ Refused r → P r
+    by-tests true true e = let same : c .refusal ≡ r = cc in rw (← same) h
+    by-tests true false e = let z : _≡_ {A = ℕ} 0 1 = cc in absurd (omega arith)
+    by-tests false b e = let z : _≡_ {A = ℕ} 0 1 = cc in absurd (omega arith)
+
+  of-numbered : (n : ℕ) (cs : List Check) → EachRefusal P cs → numbered n cs ≡ Refused r → P r
+  unfolding numbered
+  of-numbered n [] h e = let z : _≡_ {A = ℕ} 0 1 = cc in absurd (omega arith)
+  of-numbered n (c ∷ cs) h e = of-either _ (numbered n cs) e (of-check n c (h .0)) (of-numbered n cs (h .1))
+
+  of-first : (ns : List ℕ) (cs : List Check) → EachRefusal P cs → firstOf ns cs ≡ Refused r → P r
+  unfolding firstOf
+  of-first [] cs h e = let z : _≡_ {A = ℕ} 0 1 = cc in absurd (omega arith)
+  of-first (n ∷ ns) cs h e = of-either (numbered n cs) (firstOf ns cs) e (of-numbered n cs h) (of-first ns cs h)
+
+  pub refused-one-of : (cs : List Check) → EachRefusal P cs → verdict cs ≡ Refused r → P r
+  unfolding verdict
+  refused-one-of cs h e = of-first order cs h e
+
+-- a check whose number comes later in the order changes nothing where an earlier one is answered
+abbrev pub precedesIn : List ℕ → ℕ → ℕ → Bool
+precedesIn [] a b = false
+precedesIn (n ∷ ns) a b = cond (eqb b n) false (cond (eqb a n) true (precedesIn ns a b))
+
+numbered-number : (n : ℕ) (cs : List Check) (s : Refusal) → numbered n cs ≡ Refused s → entryOf s .number ≡ n
+unfolding numbered orElse
+numbered-number n [] s e = let z : _≡_ {A = ℕ} 0 1 = cc in absurd (omega arith)
+numbered-number n (c ∷ cs) s e = by-tests (eqb (entryOf (c .refusal) .number) n) (c .fires) refl e (numbered-number n cs s) where
+  by-tests : (a b : Bool) → eqb (entryOf (c .refusal) .number) n ≡ a → orElse (cond a (cond b (Refused (c .refusal)) Accepted) Accepted) (numbered n cs) ≡ Refused s
+      → (numbered n cs ≡ Refused s → entryOf s .number ≡ n) → entryOf s .number ≡ n
+  by-tests true true k f rest = let same : c .refusal ≡ s = cc in rw (← same) (eqb-true _ n k)
+  by-tests true false k f rest = rest f
+  by-tests false b k f rest = rest f
+
+first-numbered : (ns : List ℕ) (cs : List Check) (s : Refusal) → firstOf ns cs ≡ Refused s → numbered (entryOf s .number) cs ≡ Refused s
+unfolding firstOf orElse
+first-numbered [] cs s e = let z : _≡_ {A = ℕ} 0 1 = cc in absurd (omega arith)
+first-numbered (n ∷ ns) cs s e = by-verdict (numbered n cs) refl e (first-numbered ns cs s) where
+  by-verdict : (v : Verdict) → numbered n cs ≡ v → orElse v (firstOf ns cs) ≡ Refused s → (firstOf ns cs ≡ Refused s → numbered (entryOf s .number) cs ≡ Refused s)
+      → numbered (entryOf s .number) cs ≡ Refused s
+  by-verdict Accepted k f rest = rest f
+  by-verdict (Refused r) k f rest = let own = k ∙ f in rw (numbered-number n cs s own) own
+
+skip-first-later : (ns : List ℕ) (b : Bool) (r s : Refusal) (cs : List Check) → firstOf ns cs ≡ Refused s → precedesIn ns (entryOf s .number) (entryOf r .number) ≡ true
+    → firstOf ns (check b r ∷ cs) ≡ Refused s
+unfolding firstOf numbered orElse
+skip-first-later [] b r s cs e h = let z : _≡_ {A = ℕ} 0 1 = cc in absurd (omega arith)
+skip-first-later (n ∷ ns) b r s cs e h =
+    by-number (eqb (entryOf r .number) n) refl h (skip-first-later ns b r s cs)
+  where
+    by-verdict : (v : Verdict) → numbered n cs ≡ v → orElse v (firstOf ns cs) ≡ Refused s → cond (eqb (entryOf s .number) n) true (precedesIn ns (entryOf s .number) (entryOf r .number)) ≡ true
+        → (firstOf ns cs ≡ Refused s → precedesIn ns (entryOf s .number) (entryOf r .number) ≡ true → firstOf ns (check b r ∷ cs) ≡ Refused s)
+        → orElse v (firstOf ns (check b r ∷ cs)) ≡ Refused s
+    by-verdict (Refused q) k f g rest = f
+    by-verdict Accepted k f g rest = by-own (eqb (entryOf s .number) n) refl g where
+      by-own : (a : Bool) → eqb (entryOf s .number) n ≡ a → cond a true (precedesIn ns (entryOf s .number) (entryOf r .number)) ≡ true → firstOf ns (check b r ∷ cs) ≡ Refused s
+      by-own false l m = rest f m
+      by-own true l m =
+          let never = sym (first-numbered ns cs s f) ∙ ap (λ (i : ℕ). numbered i cs) (eqb-true (entryOf s .number) n l) ∙ k in
+          let z : _≡_ {A = ℕ} 0 1 = cc in absurd (omega arith)
+
+    by-number : (a : Bool) → eqb (entryOf r .number) n ≡ a → cond a false (cond (eqb (entryOf s .number) n) true (precedesIn ns (entryOf s .number) (entryOf r .number))) ≡ true
+        → (firstOf ns cs ≡ Refused s → precedesIn ns (entryOf s .number) (entryOf r .number) ≡ true → firstOf ns (check b r ∷ cs) ≡ Refused s)
+        → orElse (orElse (cond a (cond b (Refused r) Accepted) Accepted) (numbered n cs)) (firstOf ns (check b r ∷ cs)) ≡ Refused s
+    by-number true k g rest = let z : _≡_ {A = ℕ} 0 1 = cc in absurd (omega arith)
+    by-number false k g rest = by-verdict (numbered n cs) refl e g rest
+
+pub skip-later : (b : Bool) (r s : Refusal) (cs : List Check) → verdict cs ≡ Refused s → precedesIn order (entryOf s .number) (entryOf r .number) ≡ true
+    → verdict (check b r ∷ cs) ≡ Refused s
+unfolding verdict
+skip-later b r s cs e h = skip-first-later order b r s cs e h
+
+-- 9 and 8, by what they are
+pub held-state : (counts : Bool) → verdict (heldChecks true counts) ≡ Refused State
+unfolding verdict firstOf numbered orElse order
+held-state counts = refl
+
+pub held-counts : verdict (heldChecks false true) ≡ Refused Counts
+unfolding verdict firstOf numbered orElse order
+held-counts = refl
+
+pub held-none : verdict (heldChecks false false) ≡ Accepted
+unfolding verdict firstOf numbered orElse order
+held-none = refl

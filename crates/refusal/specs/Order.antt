@@ -5,6 +5,7 @@ use mathlib.Core.List.{List, [], _∷_}
 use lib.Dec.{eqb}
 use Rattle.refusal.specs.Refusal.{entryOf}
 use Rattle.refusal.specs.declared.Refusal.{Refusal}
+use Rattle.refusal.specs.declared.Refusal.the-variants.{State, Counts}
 use Rattle.refusal.specs.declared.Verdict.{Verdict}
 use Rattle.refusal.specs.declared.Verdict.the-variants.{Accepted, Refused}
 
@@ -40,3 +41,7 @@ verdict cs = firstOf order cs
 unfoldable pub decide : {A : Type 0} → Verdict → (Refusal → A) → A → A
 decide Accepted f a = a
 decide (Refused r) f a = f r
+
+-- 9 and 8, of what a call holds
+abbrev pub heldChecks : Bool → Bool → List Check
+heldChecks stateBroken countsBroken = check stateBroken State ∷ check countsBroken Counts ∷ []

@@ -5,6 +5,7 @@ ghost use mathlib.Core.Path.{_≡_};
 ghost use Prim.Native.Nat.{_≤_};
 ghost use lib.ListN.{length};
 ghost use Rattle.refusal.specs.Refusal.{entryOf, wordOf, valuesOf};
+ghost use Rattle.refusal.specs.Order.{heldChecks, verdict};
 
 // A case for each line of the table, with the values that its line names.
 pub enum Refusal {
@@ -129,6 +130,19 @@ impl Refusal {
             },
         }
     }
+}
+
+// Checks 9 and 8 of what a call holds.
+pub fn held_verdict(state_broken: bool, counts_broken: bool) -> Verdict
+    ensures { λ r. ⌜ r ≡ verdict (heldChecks «state_broken» «counts_broken») ⌝ }
+{
+    if state_broken {
+        return Verdict::Refused(Refusal::State);
+    }
+    if counts_broken {
+        return Verdict::Refused(Refusal::Counts);
+    }
+    Verdict::Accepted
 }
 
 fn padded(letters: &[u8]) -> Word

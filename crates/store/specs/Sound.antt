@@ -20,8 +20,8 @@ outOfBounds length mark = ltb maxPayload length || ltb 2 mark
 
 -- a sender's slot, by whether its number is outstanding and may be acknowledged
 unfoldable pub senderSlotBroken : Bool → Bool → ℕ → ℕ → Bool
-senderSlotBroken outstanding may length mark =
-    outOfBounds length mark || cond outstanding (not (isFilled mark)) (isFilled mark) || (eqb mark 2 && not may)
+senderSlotBroken outstanding mayBeAcknowledged length mark =
+    outOfBounds length mark || cond outstanding (not (isFilled mark)) (isFilled mark) || (eqb mark 2 && not mayBeAcknowledged)
 
 -- a receiver's slot, by whether it is base's
 unfoldable pub receiverSlotBroken : Bool → ℕ → ℕ → Bool

@@ -86,20 +86,20 @@ pub fn empty_all_unchecked(store: &mut [u8], slots: usize)
 
 // Whether a sender's slots break document 01's line 9, with count numbers from base on outstanding.
 pub fn sender_slots_broken_unchecked(
+    selective: bool,
     store: &[u8],
     window: usize,
     base: u32,
     count: usize,
-    selective: bool,
 ) -> bool
     requires { ⌜ (0 < window) × (window * slotSize ≤ length (now store)) ⌝ }
     ensures { λ r. ⌜ r ≡ senderSlotsBroken selective (now (store .entry)) window base count ⌝ }
 {
     let first = base as usize % window;
     let acknowledged = mark_unchecked(store, first) == 2;
-    let behind = count - lower(count, window - first);
-    let to_the_end = sender_part_broken_unchecked(store, first, window, count, selective);
-    let from_the_start = sender_part_broken_unchecked(store, 0, first, behind, selective);
+    let behind = count - min(count, window - first);
+    let to_the_end = sender_part_broken_unchecked(selective, store, first, window, count);
+    let from_the_start = sender_part_broken_unchecked(selective, store, 0, first, behind);
     acknowledged | to_the_end | from_the_start
 }
 
@@ -222,16 +222,16 @@ fn next_slot_unchecked(slot: usize, window: usize) -> usize
 // Whether of the slots before `to` from `from` on the first count, outstanding, or the others, empty, break line 9; mark 2 at base is
 // left aside.
 fn sender_part_broken_unchecked(
+    selective: bool,
     store: &[u8],
     from: usize,
     to: usize,
     count: usize,
-    selective: bool,
 ) -> bool
     requires { ⌜ (from ≤ to) × (to * slotSize ≤ length (now store)) ⌝ }
     ensures { λ r. ⌜ r ≡ partBroken selective (now (store .entry)) from (to - from) count ⌝ }
 {
-    let middle = from + lower(count, to - from);
+    let middle = from + min(count, to - from);
     let high = highest_mark(selective);
     let outstanding = slots_outside_unchecked(store, from, middle, 1, high);
     let others = slots_outside_unchecked(store, middle, to, 0, 0);
@@ -272,7 +272,7 @@ fn slot_outside_unchecked(store: &[u8], slot: usize, low: u8, high: u8) -> bool
     (bounds::MAX_PAYLOAD_SIZE < length as usize) | (mark < low) | (high < mark)
 }
 
-fn lower(a: usize, b: usize) -> usize
+fn min(a: usize, b: usize) -> usize
     ensures { λ r. ⌜ r ≡ min a b ⌝ }
 {
     if a < b {

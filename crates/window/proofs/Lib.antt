@@ -1,6 +1,5 @@
 pub mod Sound
 pub mod Slots
-pub mod Handed
 pub mod Outstanding
 pub mod Acknowledging
 pub mod Resending

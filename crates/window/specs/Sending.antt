@@ -1,13 +1,13 @@
 -- Document 01, "Turned away" and "A full window is an ordinary answer"; arq/gbn.rs and arq/sr.rs, `new` and `send_chunk`.
-use Prim.Native.Nat.{ℕ, _+_}
+use Prim.Native.Nat.{ℕ, _+_, _*_, _≤_, _<_}
 use mathlib.Core.List.{List, [], _∷_, _++_}
 use mathlib.Core.Bool.{Bool, cond, _&&_}
 use lib.ListN.{length, drop}
 use lib.Dec.{ltb, eqb}
-use Rattle.bounds.specs.Bounds.{headerSize, seqNumLimit}
+use Rattle.bounds.specs.Bounds.{countLimit, headerSize, maxPayload, seqNumLimit, slotSize}
 use Rattle.refusal.specs.declared.Refusal.the-variants.{State, Counts, Setup, Numbers, Full}
 use Rattle.refusal.specs.Order.{Check, check, verdict, decide}
-use Rattle.packet.specs.Writing.{checkLong}
+use Rattle.packet.specs.Format.{checkLong}
 use Rattle.window.specs.State.{windowBroken, storeShort, outstanding, stateBroken, countsBroken}
 use Rattle.window.specs.Slots.{Sender, fresh, hold, firstDatagram}
 use Rattle.window.specs.declared.SendWindow.{SendWindow}
@@ -51,11 +51,23 @@ sendChecks selective v payload out =
     ∷ check (windowFree (v .window) && ltb (length out) (headerSize + length payload)) Full
     ∷ []
 
+abbrev pub sendChunkUnchecked : Sender → List ℕ → List ℕ → SendExit Sender
+sendChunkUnchecked v payload out =
+    let size = headerSize + length payload in
+    sendExit (sendAnswer.Sent size) (hold v payload) (firstDatagram v payload ++ drop size out)
+
 -- a full window is an ordinary answer
 unfoldable pub sendChunk : Bool → Sender → List ℕ → List ℕ → SendExit Sender
 sendChunk selective v payload out =
     decide (verdict (sendChecks selective v payload out))
     (λ r. sendExit (sendAnswer.Refused r) v out)
-    (cond (windowFree (v .window))
-    (sendExit (sendAnswer.Sent (headerSize + length payload)) (hold v payload) (firstDatagram v payload ++ drop (headerSize + length payload) out))
-    (sendExit sendAnswer.WindowFull v out))
+    (cond (windowFree (v .window)) (sendChunkUnchecked v payload out) (sendExit sendAnswer.WindowFull v out))
+
+-- what is asked below the entry point
+pub record CanSendChunk (v : Sender) (payload out : List ℕ) : Type 0 where
+  pub positive : 0 < v .window .«window_size»
+  pub room : v .window .«window_size» * slotSize ≤ length (v .store)
+  pub low : v .window .«next_seq_num» < seqNumLimit
+  pub count : v .window .«total_sent» < countLimit
+  pub short : length payload ≤ maxPayload
+  pub fits : headerSize + length payload ≤ length out

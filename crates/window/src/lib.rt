@@ -5,8 +5,8 @@ ghost use mathlib.Core.Bool.{true, false};
 ghost use lib.ListN.{length, drop};
 ghost use mathlib.Core.List.{_++_};
 ghost use Rattle.bounds.specs.Bounds.{countLimit, headerSize, maxPayload, seqNumLimit, slotSize};
-ghost use Rattle.window.specs.Acknowledgement.{readAck, ackDecision};
-ghost use Rattle.window.specs.Sending.{makeExit, makeWindow, sendExit, sendChunk};
+ghost use Rattle.window.specs.Acknowledgement.{inWindow, byPacket, byReading, ackDecision};
+ghost use Rattle.window.specs.Sending.{makeExit, makeWindow, sendExit, sendChunk, sendChunkUnchecked, CanSendChunk};
 ghost use Rattle.window.specs.Slots.{sender, fresh, slotFor, hold, firstDatagram, markRetransmitted, datagramFor, emptyFrom, release};
 ghost use Rattle.window.specs.Resending.{datagramsFrom, markFrom, timeoutExit, resend, resendOutstanding, outstandingDecision, Resendable};
 ghost use Rattle.store.specs.Slot.{slotAt, slotLength};
@@ -15,8 +15,8 @@ ghost use Rattle.window.specs.Outstanding.{inFlightCount, canSend, hasUn
 use bounds::COUNT_LIMIT;
 use bounds::MAX_WINDOW_SIZE;
 use bounds::SEQ_NUM_LIMIT;
+use packet::DatagramReading;
 use packet::Packet;
-use packet::PacketAnswer;
 use packet::PacketType;
 use refusal::CountAnswer;
 use refusal::Refusal;
@@ -47,16 +47,9 @@ pub struct SendResult {
     pub answer: SendAnswer,
 }
 
-// What a datagram handed to a sender is: a valid ACK with its number, or another.
-pub enum AckReading {
-    Ack(u32),
-    Other,
-    Refused(Refusal),
-}
-
-// Whether an ACK is accepted, decided before anything is written.
+// Whether an ACK is accepted, decided before anything is written: the number that it acknowledges, and the new base.
 pub enum AckDecision {
-    Accept(u32),
+    Accept { seq_num: u32, base: u32 },
     NotAccepted,
     Refused(Refusal),
 }
@@ -111,7 +104,7 @@ impl SendWindow {
         ensures { λ r. ⌜ sendExit (r .answer) (sender (r .window) (now (store .exit))) (now (out .exit)) ≡ sendChunk selective (sender self (now (store .entry))) (now (payload .entry)) (now (out .entry)) ⌝ }
     {
         let n = payload.len();
-        if self.state_broken(store, selective) {
+        if self.state_broken(selective, store) {
             return SendResult {
                 window: self,
                 answer: SendAnswer::Refused(Refusal::State),
@@ -185,17 +178,11 @@ impl SendWindow {
         }
     }
 
-    // Sends the lowest outstanding numbers again, at most so many.
-    pub fn resend_outstanding(
-        self,
-        selective: bool,
-        store: &mut [u8],
-        most: u32,
-        out: &mut [u8],
-    ) -> TimeoutResult
-        ensures { λ r. ⌜ timeoutExit (r .answer) (sender (r .window) (now (store .exit))) (now (out .exit)) ≡ resendOutstanding selective (sender self (now (store .entry))) most (now (out .entry)) ⌝ }
+    // Sends the lowest outstanding numbers of a Stop-and-Wait or Go-Back-N sender again, at most so many.
+    pub fn resend_outstanding(self, store: &mut [u8], most: u32, out: &mut [u8]) -> TimeoutResult
+        ensures { λ r. ⌜ timeoutExit (r .answer) (sender (r .window) (now (store .exit))) (now (out .exit)) ≡ resendOutstanding (sender self (now (store .entry))) most (now (out .entry)) ⌝ }
     {
-        match self.decide_timeout(store, selective, most) {
+        match self.decide_timeout(store, most) {
             TimeoutDecision::Resend { first, count } => {
                 self.resend_unchecked(store, first, count, out)
             }
@@ -230,11 +217,9 @@ impl SendWindow {
         payload: &[u8],
         out: &mut [u8],
     ) -> SendWindow
-        requires { ⌜ (0 < self .«window_size») × (self .«window_size» * slotSize ≤ length (now store)) ⌝ }
-        requires { ⌜ (self .«next_seq_num» < seqNumLimit) × (self .«total_sent» < countLimit) ⌝ }
-        requires { ⌜ (length (now payload) ≤ maxPayload) × (headerSize + length (now payload) ≤ length (now out)) ⌝ }
-        ensures { λ r. ⌜ sender r (now (store .exit)) ≡ hold (sender self (now (store .entry))) (now (payload .entry)) ⌝ }
-        ensures { λ r. ⌜ now (out .exit) ≡ firstDatagram (sender self (now (store .entry))) (now (payload .entry)) ++ drop (headerSize + length (now (payload .entry))) (now (out .entry)) ⌝ }
+        requires { ⌜ CanSendChunk (sender self (now store)) (now payload) (now out) ⌝ }
+        ensures { λ r. ⌜ sendExit (SendAnswer.Sent (headerSize + length (now (payload .entry)))) (sender r (now (store .exit))) (now (out .exit))
+            ≡ sendChunkUnchecked (sender self (now (store .entry))) (now (payload .entry)) (now (out .entry)) ⌝ }
     {
         let next = self.next_seq_num;
         let slot = next as usize % self.window_size;
@@ -377,42 +362,74 @@ impl SendWindow {
         self
     }
 
-    // What a datagram handed over as an ACK does; selective is set for a Selective Repeat sender.
-    pub fn decide_ack(self, store: &[u8], selective: bool, raw: &[u8]) -> AckDecision
+    // What a datagram as an ACK does; selective is set for a Selective Repeat sender, whose base moves otherwise.
+    pub fn decide_ack(self, selective: bool, store: &[u8], raw: &[u8]) -> AckDecision
         ensures { λ r. ⌜ r ≡ ackDecision selective self (now (store .entry)) (now (raw .entry)) ⌝ }
     {
-        if self.state_broken(store, selective) {
+        if self.state_broken(selective, store) {
             return AckDecision::Refused(Refusal::State);
         }
         if self.counts_broken() {
             return AckDecision::Refused(Refusal::Counts);
         }
-        match read_ack(raw) {
-            AckReading::Refused(r) => AckDecision::Refused(r),
-            AckReading::Other => AckDecision::NotAccepted,
-            AckReading::Ack(n) => {
-                if n < self.send_base {
-                    return AckDecision::NotAccepted;
-                }
-                if self.next_seq_num <= n {
-                    return AckDecision::NotAccepted;
-                }
-                AckDecision::Accept(n)
-            }
+        self.decide_reading(Packet::read_datagram(raw))
+    }
+
+    // The same of a datagram that was read, on a state that isn't refused.
+    pub fn decide_reading(self, reading: DatagramReading) -> AckDecision
+        ensures { λ r. ⌜ r ≡ byReading self reading ⌝ }
+    {
+        match reading {
+            DatagramReading::Valid(packet) => self.decide_packet(packet),
+            DatagramReading::Corrupted(_) => AckDecision::NotAccepted,
+            DatagramReading::Refused(r) => AckDecision::Refused(r),
         }
     }
 
-    // What a timeout of the lowest outstanding numbers does, at most so many.
-    pub fn decide_timeout(self, store: &[u8], selective: bool, most: u32) -> TimeoutDecision
-        ensures { λ r. ⌜ r ≡ outstandingDecision selective self (now (store .entry)) most ⌝ }
+    fn decide_packet(self, packet: Packet) -> AckDecision
+        ensures { λ r. ⌜ r ≡ byPacket self packet ⌝ }
     {
-        if self.state_broken(store, selective) {
+        let seq_num = packet.seq_num;
+        let pkt_type = packet.pkt_type;
+        match pkt_type {
+            PacketType::Ack => {
+                if seq_num < self.send_base {
+                    return AckDecision::NotAccepted;
+                }
+                if seq_num < self.next_seq_num {
+                    return AckDecision::Accept {
+                        seq_num,
+                        base: seq_num + 1,
+                    };
+                }
+                AckDecision::NotAccepted
+            }
+            PacketType::Data => AckDecision::NotAccepted,
+            PacketType::Fin => AckDecision::NotAccepted,
+        }
+    }
+
+    // Whether a number is one of those from send_base to next_seq_num - 1.
+    pub fn is_outstanding(self, seq_num: u32) -> bool
+        ensures { λ r. ⌜ r ≡ inWindow self «seq_num» ⌝ }
+    {
+        if seq_num < self.send_base {
+            return false;
+        }
+        seq_num < self.next_seq_num
+    }
+
+    // What a timeout of a Stop-and-Wait or Go-Back-N sender does: the lowest outstanding numbers, at most so many.
+    pub fn decide_timeout(self, store: &[u8], most: u32) -> TimeoutDecision
+        ensures { λ r. ⌜ r ≡ outstandingDecision self (now (store .entry)) most ⌝ }
+    {
+        if self.state_broken(false, store) {
             return TimeoutDecision::Refused(Refusal::State);
         }
         if self.counts_broken() {
             return TimeoutDecision::Refused(Refusal::Counts);
         }
-        let count = lower(most, self.next_seq_num - self.send_base);
+        let count = min(most, self.next_seq_num - self.send_base);
         if count == 0 {
             return TimeoutDecision::Nothing;
         }
@@ -423,7 +440,7 @@ impl SendWindow {
     }
 
     // Whether document 01's line 9 is true; selective is set for a Selective Repeat sender.
-    pub fn state_broken(self, store: &[u8], selective: bool) -> bool
+    pub fn state_broken(self, selective: bool, store: &[u8]) -> bool
         ensures { λ r. ⌜ r ≡ stateBroken selective self (now (store .entry)) ⌝ }
     {
         let window = self.window_size;
@@ -434,7 +451,7 @@ impl SendWindow {
             return true;
         }
         let count = (self.next_seq_num - self.send_base) as usize;
-        store::sender_slots_broken_unchecked(store, window, self.send_base, count, selective)
+        store::sender_slots_broken_unchecked(selective, store, window, self.send_base, count)
     }
 
     // Whether the clauses of line 9 that don't speak of the store are true.
@@ -482,36 +499,13 @@ pub fn store_short(store: &[u8], window: usize) -> bool
     store.len() / bounds::SLOT_SIZE < window
 }
 
-fn lower(a: u32, b: u32) -> u32
+fn min(a: u32, b: u32) -> u32
     ensures { λ r. ⌜ r ≡ min a b ⌝ }
 {
     if a < b {
         return a;
     }
     b
-}
-
-// What a datagram handed to a sender is.
-pub fn read_ack(raw: &[u8]) -> AckReading
-    ensures { λ r. ⌜ r ≡ readAck (now (raw .entry)) ⌝ }
-{
-    let packet = match Packet::from_bytes(raw) {
-        PacketAnswer::Packet(p) => p,
-        PacketAnswer::Refused(r) => return AckReading::Refused(r),
-    };
-    let payload = Packet::payload(raw);
-    if Packet::MAX_PAYLOAD_SIZE < payload.len() {
-        return AckReading::Refused(Refusal::Long);
-    }
-    if !packet.is_valid_unchecked(payload) {
-        return AckReading::Other;
-    }
-    let pkt_type = packet.pkt_type;
-    match pkt_type {
-        PacketType::Ack => AckReading::Ack(packet.seq_num),
-        PacketType::Data => AckReading::Other,
-        PacketType::Fin => AckReading::Other,
-    }
 }
 
 // Empties the slots of the numbers from `from` up to until.

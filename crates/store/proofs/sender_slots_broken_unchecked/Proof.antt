@@ -12,11 +12,11 @@ rem-first c = search needs
 mark-unchecked-requires : tie.Need-mark-unchecked-requires
 mark-unchecked-requires c κs = slot-in (c .before .args .store .now) (c .before .args .base) (c .before .args .window) (c .before .pre .0) (c .before .pre .1)
 
-sub-lower : tie.Need-sub-lower
-sub-lower c = omega (arith, mod-lt (c .before .before .args .base) (c .before .before .pre .0))
+sub-min : tie.Need-sub-min
+sub-min c = omega (arith, mod-lt (c .before .before .args .base) (c .before .before .pre .0))
 
-lower-requires : tie.Need-lower-requires
-lower-requires c κs = search needs
+min-requires : tie.Need-min-requires
+min-requires c κs = search needs
 
 sub-behind : tie.Need-sub-behind
 sub-behind c = search needs
@@ -30,7 +30,7 @@ sender-part-broken-unchecked-requires-2 c κs = (omega arith, omega (arith, mod-
 returns : tie.Need-returns
 returns c =
     let a = c .before .before .before .before .before .args in
-    rw (c .before .before .before .mark-unchecked .ensures, c .before .sender-part-broken-unchecked .ensures, c .sender-part-broken-unchecked2 .ensures, c .before .before .lower .ensures, sub-zero)
+    rw (c .before .before .before .mark-unchecked .ensures, c .before .sender-part-broken-unchecked .ensures, c .sender-part-broken-unchecked2 .ensures, c .before .before .min .ensures, sub-zero)
     (sender-scan (a .selective) (a .store .now) (a .window) (a .base) (a .count) (c .before .before .before .before .before .pre .0))
 
 pub sender-slots-broken-unchecked-spec : {M : Type 1} → statement M
@@ -39,8 +39,8 @@ sender-slots-broken-unchecked-spec =
     (tie.spec
     rem-first
     mark-unchecked-requires
-    sub-lower
-    lower-requires
+    sub-min
+    min-requires
     sub-behind
     sender-part-broken-unchecked-requires
     sender-part-broken-unchecked-requires-2

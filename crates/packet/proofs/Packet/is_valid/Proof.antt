@@ -1,5 +1,6 @@
-use mathlib.Core.Path.{sym, _∙_}
-use Rattle.packet.proofs.Read.{read-packet, read-refused, payload-below, validity-is, validity-none}
+use mathlib.Core.Path.{sym, ap, _∙_}
+use Rattle.packet.proofs.Datagrams.{payload-part}
+use Rattle.packet.proofs.Read.{declared-within, read-packet, read-refused, payload-below, validity-is, validity-none}
 use borrow.Author.Needs.{needs}
 use Rattle.packet.proofs.Packet.is_valid.Statement.{statement}
 use Rattle.packet.proofs.Packet.is_valid.Tie as tie
@@ -10,28 +11,20 @@ from-bytes-requires c κs = search needs
 enum-known-p : tie.Need-enum-known-p
 enum-known-p c = search needs
 
-payload-requires : tie.Need-payload-requires
-payload-requires c κs = search needs
+payload-unchecked-requires : tie.Need-payload-unchecked-requires
+payload-unchecked-requires c κs = declared-within _ (read-packet _ _ (sym (c .before .before .before .from-bytes .ensures) ∙ c .before .p .given .1))
 
 is-valid-unchecked-requires : tie.Need-is-valid-unchecked-requires
-is-valid-unchecked-requires c κs =
-    let raw = c .before .before .before .before .before .before .args .raw .now in
-    rw (c .payload .ensures) (payload-below raw (record { at = λ i. c .before .before .before .before .before .shared-slice-known .given i .fits }) (read-packet raw _ (sym (c .before .before .before .before .from-bytes .ensures) ∙ c .before .before .p .given .1)))
+is-valid-unchecked-requires c κs = rw (c .payload-unchecked .ensures ∙ payload-part _ _ (sym (c .before .before .before .before .from-bytes .ensures) ∙ c .before .before .p .given .1)) (payload-below _ (record { at = λ i. c .before .before .before .before .before .shared-slice-known .given i .fits }) (read-packet _ _ (sym (c .before .before .before .before .from-bytes .ensures) ∙ c .before .before .p .given .1)))
 
 enum-known-r : tie.Need-enum-known-r
 enum-known-r c = search needs
 
 returns : tie.Need-returns
-returns c =
-    let raw = c .before .before .before .before .before .before .before .before .args .raw .now in
-    let p = c .before .before .before .before .p .given .0 .0 in
-    simp (validity-is raw p (sym (c .before .before .before .before .before .before .from-bytes .ensures) ∙ c .before .before .before .before .p .given .1), ← (c .before .before .payload .ensures), ← (c .before .is-valid-unchecked .ensures), c .if1 .taken)
+returns c = sym (validity-is _ _ (sym (c .before .before .before .before .before .before .from-bytes .ensures) ∙ c .before .before .before .before .p .given .1) ∙ rw (← (c .before .before .payload-unchecked .ensures ∙ payload-part _ _ (sym (c .before .before .before .before .before .before .from-bytes .ensures) ∙ c .before .before .before .before .p .given .1)), ← (c .before .is-valid-unchecked .ensures), c .if1 .taken))
 
 returns-2 : tie.Need-returns-2
-returns-2 c =
-    let raw = c .before .before .before .before .before .before .before .before .args .raw .now in
-    let p = c .before .before .before .before .p .given .0 .0 in
-    simp (validity-is raw p (sym (c .before .before .before .before .before .before .from-bytes .ensures) ∙ c .before .before .before .before .p .given .1), ← (c .before .before .payload .ensures), ← (c .before .is-valid-unchecked .ensures), c .if1 .left)
+returns-2 c = sym (validity-is _ _ (sym (c .before .before .before .before .before .before .from-bytes .ensures) ∙ c .before .before .before .before .p .given .1) ∙ rw (← (c .before .before .payload-unchecked .ensures ∙ payload-part _ _ (sym (c .before .before .before .before .before .before .from-bytes .ensures) ∙ c .before .before .before .before .p .given .1)), ← (c .before .is-valid-unchecked .ensures), c .if1 .left))
 
 returns-3 : tie.Need-returns-3
 returns-3 c =
@@ -44,7 +37,7 @@ is-valid-spec =
     (tie.spec
     from-bytes-requires
     enum-known-p
-    payload-requires
+    payload-unchecked-requires
     is-valid-unchecked-requires
     enum-known-r
     returns

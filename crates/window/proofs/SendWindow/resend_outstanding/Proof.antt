@@ -1,3 +1,4 @@
+use mathlib.Core.Bool.{false}
 use Prim.Native.Nat.{min}
 use mathlib.Core.Path.{refl, sym, _∙_}
 use native.Mathlib.Omega.{arith}
@@ -19,12 +20,12 @@ enum-known-first c = search needs
 
 resend-unchecked-requires : tie.Need-resend-unchecked-requires
 resend-unchecked-requires c κs =
-    let d = decided (stateBroken (c .before .before .before .before .before .before .before .before .before .args .selective) (c .before .before .before .before .before .before .before .before .before .args .self) (c .before .before .before .before .before .before .before .before .before .args .store .now)) (countsBroken (c .before .before .before .before .before .before .before .before .before .args .self)) (c .before .before .before .before .before .before .before .before .before .args .self .«send_base») (min (c .before .before .before .before .before .before .before .before .before .args .most) (outstanding (c .before .before .before .before .before .before .before .before .before .args .self))) _ _ (sym (c .before .before .before .before .before .decide-timeout .ensures) ∙ c .before .before .before .first .given .1) in
-    let s = sound (c .before .before .before .before .before .before .before .before .before .args .selective) (c .before .before .before .before .before .before .before .before .before .args .self) (c .before .before .before .before .before .before .before .before .before .args .store .now) (d .state-sound) in
+    let d = decided (stateBroken false (c .before .before .before .before .before .before .before .before .before .args .self) (c .before .before .before .before .before .before .before .before .before .args .store .now)) (countsBroken (c .before .before .before .before .before .before .before .before .before .args .self)) (c .before .before .before .before .before .before .before .before .before .args .self .«send_base») (min (c .before .before .before .before .before .before .before .before .before .args .most) (outstanding (c .before .before .before .before .before .before .before .before .before .args .self))) _ _ (sym (c .before .before .before .before .before .decide-timeout .ensures) ∙ c .before .before .before .first .given .1) in
+    let s = sound false (c .before .before .before .before .before .before .before .before .before .args .self) (c .before .before .before .before .before .before .before .before .before .args .store .now) (d .state-sound) in
     let ordered = s .ordered in
     let first = d .first in
     let count = d .count in
-    (resendable (c .before .before .before .before .before .before .before .before .before .args .selective) (c .before .before .before .before .before .before .before .before .before .args .self) (c .before .before .before .before .before .before .before .before .before .args .store .now) _ _ s (omega arith) (omega arith), counts-low (c .before .before .before .before .before .before .before .before .before .args .self) (d .counts-low))
+    (resendable false (c .before .before .before .before .before .before .before .before .before .args .self) (c .before .before .before .before .before .before .before .before .before .args .store .now) _ _ s (omega arith) (omega arith), counts-low (c .before .before .before .before .before .before .before .before .before .args .self) (d .counts-low))
 
 enum-told : tie.Need-enum-told
 enum-told c = search needs
@@ -40,21 +41,21 @@ same-length-2 c = search needs
 
 returns : tie.Need-returns
 unfolding byTimeoutDecision
-returns c = by-decision (stateBroken (c .before .before .before .before .before .before .before .before .before .before .before .before .before .before .args .selective) (c .before .before .before .before .before .before .before .before .before .before .before .before .before .before .args .self) (c .before .before .before .before .before .before .before .before .before .before .before .before .before .before .args .store .now)) (countsBroken (c .before .before .before .before .before .before .before .before .before .before .before .before .before .before .args .self)) (sender (c .before .before .before .before .before .before .before .before .before .before .before .before .before .before .args .self) (c .before .before .before .before .before .before .before .before .before .before .before .before .before .before .args .store .now)) (c .before .before .before .before .before .before .before .before .before .before .before .before .before .before .args .self .«send_base») (min (c .before .before .before .before .before .before .before .before .before .before .before .before .before .before .args .most) (outstanding (c .before .before .before .before .before .before .before .before .before .before .before .before .before .before .args .self))) (c .before .before .before .before .before .before .before .before .before .before .before .before .before .before .args .out .now) _ (sym (c .before .before .before .before .before .before .before .before .before .before .decide-timeout .ensures) ∙ c .before .before .before .before .before .before .before .before .first .given .1) (c .before .before .before .before .resend-unchecked .ensures)
+returns c = by-decision (stateBroken false (c .before .before .before .before .before .before .before .before .before .before .before .before .before .before .args .self) (c .before .before .before .before .before .before .before .before .before .before .before .before .before .before .args .store .now)) (countsBroken (c .before .before .before .before .before .before .before .before .before .before .before .before .before .before .args .self)) (sender (c .before .before .before .before .before .before .before .before .before .before .before .before .before .before .args .self) (c .before .before .before .before .before .before .before .before .before .before .before .before .before .before .args .store .now)) (c .before .before .before .before .before .before .before .before .before .before .before .before .before .before .args .self .«send_base») (min (c .before .before .before .before .before .before .before .before .before .before .before .before .before .before .args .most) (outstanding (c .before .before .before .before .before .before .before .before .before .before .before .before .before .before .args .self))) (c .before .before .before .before .before .before .before .before .before .before .before .before .before .before .args .out .now) _ (sym (c .before .before .before .before .before .before .before .before .before .before .decide-timeout .ensures) ∙ c .before .before .before .before .before .before .before .before .first .given .1) (c .before .before .before .before .resend-unchecked .ensures)
 
 same-length-3 : tie.Need-same-length-3
 same-length-3 c = search needs
 
 returns-2 : tie.Need-returns-2
 unfolding byTimeoutDecision
-returns-2 c = by-decision (stateBroken (c .before .before .before .before .before .before .args .selective) (c .before .before .before .before .before .before .args .self) (c .before .before .before .before .before .before .args .store .now)) (countsBroken (c .before .before .before .before .before .before .args .self)) (sender (c .before .before .before .before .before .before .args .self) (c .before .before .before .before .before .before .args .store .now)) (c .before .before .before .before .before .before .args .self .«send_base») (min (c .before .before .before .before .before .before .args .most) (outstanding (c .before .before .before .before .before .before .args .self))) (c .before .before .before .before .before .before .args .out .now) _ (sym (c .before .before .decide-timeout .ensures) ∙ c .enum-told .given .1) refl
+returns-2 c = by-decision (stateBroken false (c .before .before .before .before .before .before .args .self) (c .before .before .before .before .before .before .args .store .now)) (countsBroken (c .before .before .before .before .before .before .args .self)) (sender (c .before .before .before .before .before .before .args .self) (c .before .before .before .before .before .before .args .store .now)) (c .before .before .before .before .before .before .args .self .«send_base») (min (c .before .before .before .before .before .before .args .most) (outstanding (c .before .before .before .before .before .before .args .self))) (c .before .before .before .before .before .before .args .out .now) _ (sym (c .before .before .decide-timeout .ensures) ∙ c .enum-told .given .1) refl
 
 same-length-4 : tie.Need-same-length-4
 same-length-4 c = search needs
 
 returns-3 : tie.Need-returns-3
 unfolding byTimeoutDecision
-returns-3 c = by-decision (stateBroken (c .before .before .before .before .before .before .before .args .selective) (c .before .before .before .before .before .before .before .args .self) (c .before .before .before .before .before .before .before .args .store .now)) (countsBroken (c .before .before .before .before .before .before .before .args .self)) (sender (c .before .before .before .before .before .before .before .args .self) (c .before .before .before .before .before .before .before .args .store .now)) (c .before .before .before .before .before .before .before .args .self .«send_base») (min (c .before .before .before .before .before .before .before .args .most) (outstanding (c .before .before .before .before .before .before .before .args .self))) (c .before .before .before .before .before .before .before .args .out .now) _ (sym (c .before .before .before .decide-timeout .ensures) ∙ c .before .r .given .1) refl
+returns-3 c = by-decision (stateBroken false (c .before .before .before .before .before .before .before .args .self) (c .before .before .before .before .before .before .before .args .store .now)) (countsBroken (c .before .before .before .before .before .before .before .args .self)) (sender (c .before .before .before .before .before .before .before .args .self) (c .before .before .before .before .before .before .before .args .store .now)) (c .before .before .before .before .before .before .before .args .self .«send_base») (min (c .before .before .before .before .before .before .before .args .most) (outstanding (c .before .before .before .before .before .before .before .args .self))) (c .before .before .before .before .before .before .before .args .out .now) _ (sym (c .before .before .before .decide-timeout .ensures) ∙ c .before .r .given .1) refl
 
 pub resend-outstanding-spec : {M : Type 1} → statement M
 resend-outstanding-spec =

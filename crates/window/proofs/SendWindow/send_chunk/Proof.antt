@@ -1,4 +1,3 @@
-use Rattle.window.proofs.Slots.{sending-is}
 use Prim.Native.Nat.{_-_}
 use mathlib.Core.Path.{sym, _∙_}
 use native.Mathlib.Omega.{arith}
@@ -72,7 +71,7 @@ send-chunk-unchecked-requires c κs =
     let s = sound _ _ _ (sym (c .before .before .before .before .before .before .before .before .before .before .before .before .state-broken .ensures) ∙ c .before .before .before .before .before .before .before .before .before .before .before .if1 .left) in
     let k = counts-low _ (sym (c .before .before .before .before .before .before .before .before .before .before .counts-broken .ensures) ∙ c .before .before .before .before .before .before .before .before .before .if2 .left) in
     let low = s .low in
-    ((s .positive, s .room), ((omega arith, k .0), (c .before .before .before .before .before .before .before .before .if3 .left, c .before .before .if6 .left)))
+    record { positive = s .positive; room = s .room; low = omega arith; count = k .0; short = c .before .before .before .before .before .before .before .before .if3 .left; fits = c .before .before .if6 .left }
 
 add-t20 : tie.Need-add-t20
 add-t20 c = search needs
@@ -87,7 +86,7 @@ returns-7 : tie.Need-returns-7
 unfolding sendChunk sendChecks verdict firstOf numbered orElse order decide
 returns-7 c =
     simp (sym (c .before .before .before .before .before .before .before .before .before .before .before .before .before .before .before .before .before .state-broken .ensures) ∙ c .before .before .before .before .before .before .before .before .before .before .before .before .before .before .before .before .if1 .left, sym (c .before .before .before .before .before .before .before .before .before .before .before .before .before .before .before .counts-broken .ensures) ∙ c .before .before .before .before .before .before .before .before .before .before .before .before .before .before .if2 .left, le-ltb _ _ (c .before .before .before .before .before .before .before .before .before .before .before .before .before .if3 .left), lt-ltb _ _ (c .before .before .before .before .before .before .before .before .before .before .if4 .left), ne-eqb _ _ (c .before .before .before .before .before .before .before .before .if5 .left), le-ltb _ _ (c .before .before .before .before .before .before .before .if6 .left))
-    (sending-is _ (c .before .before .before .before .send-chunk-unchecked .ensures .0) (c .before .before .before .before .send-chunk-unchecked .ensures .1))
+    (c .before .before .before .before .send-chunk-unchecked .ensures)
 
 pub send-chunk-spec : {M : Type 1} → statement M
 send-chunk-spec =

@@ -2,6 +2,7 @@ use mathlib.Core.Path.{_∙_}
 use native.Mathlib.Omega.{arith}
 use Rattle.store.proofs.Laws.{slot-in}
 use Rattle.window.specs.Slots.{hold}
+use Rattle.window.proofs.Slots.{sending-is}
 use borrow.Author.Needs.{needs}
 use Rattle.window.proofs.SendWindow.send_chunk_unchecked.Statement.{statement}
 use Rattle.window.proofs.SendWindow.send_chunk_unchecked.Tie as tie
@@ -13,7 +14,7 @@ rem-slot : tie.Need-rem-slot
 rem-slot c = search needs
 
 fill-unchecked-requires : tie.Need-fill-unchecked-requires
-fill-unchecked-requires c κs = (slot-in (c .before .before .before .before .before .args .store .now) (c .before .before .before .before .before .args .self .«next_seq_num») (c .before .before .before .before .before .args .self .«window_size») (c .before .before .before .before .before .pre .0 .0) (c .before .before .before .before .before .pre .0 .1), c .before .before .before .before .before .pre .1 .1 .0)
+fill-unchecked-requires c κs = (slot-in (c .before .before .before .before .before .args .store .now) (c .before .before .before .before .before .args .self .«next_seq_num») (c .before .before .before .before .before .args .self .«window_size») (c .before .before .before .before .before .pre .positive) (c .before .before .before .before .before .pre .room), c .before .before .before .before .before .pre .short)
 
 new-data-requires : tie.Need-new-data-requires
 new-data-requires c κs = search needs
@@ -28,7 +29,7 @@ add-self : tie.Need-add-self
 add-self c = search needs
 
 add-self-2 : tie.Need-add-self-2
-add-self-2 c = omega (arith, c .before .before .before .before .before .before .before .before .before .before .before .before .before .before .before .pre .1 .0 .1)
+add-self-2 c = omega (arith, c .before .before .before .before .before .before .before .before .before .before .before .before .before .before .before .pre .count)
 
 same-length : tie.Need-same-length
 same-length c = search needs
@@ -38,7 +39,7 @@ same-length-2 c = search needs
 
 returns : tie.Need-returns
 unfolding hold
-returns c = (rw (c .before .before .before .before .before .before .before .before .before .fill-unchecked .ensures), c .before .before .before .to-bytes-unchecked .ensures ∙ rw (c .before .before .before .before .before .compute-and-set-checksum-unchecked .ensures, c .before .before .before .before .before .before .new-data .ensures))
+returns c = sending-is _ (rw (c .before .before .before .before .before .before .before .before .before .fill-unchecked .ensures)) (c .before .before .before .to-bytes-unchecked .ensures ∙ rw (c .before .before .before .before .before .compute-and-set-checksum-unchecked .ensures, c .before .before .before .before .before .before .new-data .ensures))
 
 pub send-chunk-unchecked-spec : {M : Type 1} → statement M
 send-chunk-unchecked-spec =

@@ -6,8 +6,8 @@ use Rattle.octets.proofs.Laws.{part-written}
 use Rattle.receiver.specs.Reply.{applied}
 use Rattle.receiver.proofs.Replies.{room-output, room-ack, replied-is}
 use borrow.Author.Needs.{needs}
-use Rattle.receiver.proofs.carry_out_unchecked.Statement.{statement}
-use Rattle.receiver.proofs.carry_out_unchecked.Tie as tie
+use Rattle.receiver.proofs.apply_in_room_unchecked.Statement.{statement}
+use Rattle.receiver.proofs.apply_in_room_unchecked.Tie as tie
 
 write-reply-requires : tie.Need-write-reply-requires
 write-reply-requires c κs = room-ack (c .before .before .before .before .args .decision) (length (c .before .before .before .before .args .payload .now)) (c .before .before .before .before .args .filled) (c .before .before .before .before .args .output .now) (c .before .before .before .before .args .ack .now) (c .before .before .before .before .pre)
@@ -49,8 +49,8 @@ returns-2 : tie.Need-returns-2
 unfolding applied
 returns-2 c = simp (c .if1 .left) (replied-is (c .before .before .before .before .before .before .before .before .args .filled) refl (c .before .before .before .write-reply .ensures))
 
-pub carry-out-unchecked-spec : {M : Type 1} → statement M
-carry-out-unchecked-spec =
+pub apply-in-room-unchecked-spec : {M : Type 1} → statement M
+apply-in-room-unchecked-spec =
     tie.close
     (tie.spec
     write-reply-requires
