@@ -4,11 +4,11 @@ use mathlib.Core.List.{List}
 use mathlib.Core.Bool.{Bool, true, false, cond}
 use lib.Dec.{eqb}
 use Rattle.packet.specs.Reading.{payloadOf}
-use Rattle.receiver.specs.State.{marksBroken, countsBroken}
-use Rattle.receiver.specs.Handed.{readPacket}
-use Rattle.receiver.specs.Receive.{ReceiveExit, receive}
+use Rattle.receiver.specs.State.{stateBroken, countsBroken}
+use Rattle.receiver.specs.Reading.{readPacket}
+use Rattle.receiver.specs.Receive.{ReceiveExit, Reception, receive, receiveUnchecked}
 use Rattle.receiver.specs.declared.PacketReading.{PacketReading}
-use Rattle.receiver.specs.declared.PacketReading.the-variants as handed
+use Rattle.receiver.specs.declared.PacketReading.the-variants as reading
 use Rattle.receiver.specs.declared.Reply.{Reply}
 use Rattle.receiver.specs.declared.Reply.the-variants as reply
 use Rattle.go_back_n.specs.declared.GoBackNReceiver.{GoBackNReceiver}
@@ -36,11 +36,10 @@ dataDecision r n =
 
 -- every packet is counted; Fin is acknowledged by its own number; an ACK and a corrupted packet are not answered
 abbrev pub byKind : GoBackNReceiver → PacketReading → GoBackNDecision
-byKind r (handed.Data n) = dataDecision r n
-byKind r (handed.Fin n) = decided r false (reply.Ack n)
-byKind r handed.Ack = decided r false reply.Silent
-byKind r handed.Corrupted = decided r false reply.Silent
-byKind r (handed.Refused s) = decided r false reply.Silent
+byKind r (reading.Data n) = dataDecision r n
+byKind r (reading.Fin n) = decided r false (reply.Ack n)
+byKind r reading.Ack = decided r false reply.Silent
+byKind r reading.Corrupted = decided r false reply.Silent
 
 unfoldable pub decision : GoBackNReceiver → PacketReading → GoBackNDecision
 decision r h = byKind (state (r .«expected_seq») (r .filled) (r .«total_received» + 1) (r .«discarded_out_of_order») (r .«duplicate_acks_sent»)) h
@@ -49,6 +48,21 @@ decision r h = byKind (state (r .«expected_seq») (r .filled) (r .«total_recei
 abbrev pub withMark : GoBackNReceiver → ℕ → GoBackNReceiver
 withMark r filled = state (r .«expected_seq») filled (r .«total_received») (r .«discarded_out_of_order») (r .«duplicate_acks_sent»)
 
+-- what it brings to a packet
+abbrev pub reception : GoBackNReceiver → PacketReading → List ℕ → List ℕ → Reception GoBackNReceiver
+reception r h payload output = record {
+  state = r;
+  stateBroken = stateBroken (r .«expected_seq») (r .filled) output;
+  countsBroken = countsBroken (r .«total_received») (r .«discarded_out_of_order») (r .«duplicate_acks_sent»);
+  filled = r .filled;
+  decision = decision r h .decision;
+  delivered = payload;
+  after = withMark (decision r h .receiver);
+}
+
 abbrev pub handlePacket : GoBackNReceiver → List ℕ → List ℕ → List ℕ → ReceiveExit GoBackNReceiver
-handlePacket r raw output ack =
-    receive (marksBroken (r .«expected_seq») (r .filled) output) (countsBroken (r .«total_received») (r .«discarded_out_of_order») (r .«duplicate_acks_sent»)) r (r .filled) (decision r (readPacket raw) .decision) (payloadOf raw) (withMark (decision r (readPacket raw) .receiver)) raw output ack
+handlePacket r raw output ack = receive (reception r (readPacket raw) (payloadOf raw) output) raw output ack
+
+-- a packet that was read
+abbrev pub handlePacketUnchecked : GoBackNReceiver → PacketReading → List ℕ → List ℕ → List ℕ → ReceiveExit GoBackNReceiver
+handlePacketUnchecked r h payload output ack = receiveUnchecked (reception r h payload output) output ack

@@ -1,19 +1,23 @@
 // Go-Back-N: arq/gbn.rs of the reference.
 ghost use mathlib.Core.Path.{_≡_};
-ghost use Prim.Native.Nat.{_≤_, _<_};
+ghost use Prim.Native.Nat.{_*_, _≤_, _<_};
+ghost use lib.ListN.{length};
 ghost use mathlib.Core.Bool.{false};
-ghost use Rattle.bounds.specs.Bounds.{countLimit, seqNumLimit};
+ghost use Rattle.bounds.specs.Bounds.{countLimit, seqNumLimit, slotSize};
 ghost use Rattle.window.specs.Slots.{sender};
 ghost use Rattle.window.specs.Sending.{makeExit, makeWindow, sendExit, sendChunk};
 ghost use Rattle.window.specs.Acknowledgement.{ackExit};
 ghost use Rattle.window.specs.Resending.{timeoutExit};
 ghost use Rattle.window.specs.Outstanding.{canSend, inFlightCount, hasUnackedPackets};
-ghost use Rattle.go_back_n.specs.Sender.{madeWindow, handleAck, handleTimeout, handleTimeoutEarliest};
-ghost use Rattle.go_back_n.specs.Receiver.{newReceiver, decided, dataDecision, decision, handlePacket};
+ghost use Rattle.go_back_n.specs.Sender.{madeWindow, decideAck, acknowledged, handleAck, handleTimeout, handleTimeoutEarliest};
+ghost use Rattle.go_back_n.specs.Receiver.{newReceiver, decided, dataDecision, decision, handlePacket, handlePacketUnchecked};
 ghost use Rattle.receiver.specs.Receive.{receiveExit};
+ghost use Rattle.receiver.specs.State as receiverState;
 ghost use Rattle.receiver.specs.State.{countsBroken};
+use packet::Packet;
 use receiver::Decision;
 use receiver::PacketReading;
+use receiver::ReadingAnswer;
 use receiver::ReceiveAnswer;
 use receiver::Reply;
 use refusal::CountAnswer;
@@ -80,15 +84,11 @@ impl GoBackNSender {
     pub fn handle_ack(self, store: &mut [u8], raw: &[u8]) -> GoBackNAckResult
         ensures { λ r. ⌜ ackExit (r .answer) (sender (r .sender .window) (now (store .exit))) ≡ handleAck (sender (self .window) (now (store .entry))) (now (raw .entry)) ⌝ }
     {
-        let window = self.window;
-        match window.decide_ack(store, false, raw) {
-            AckDecision::Accept(n) => {
-                let window = window.release_unchecked(store, n + 1);
-                GoBackNAckResult {
-                    sender: GoBackNSender { window },
-                    answer: AckAnswer::Accepted,
-                }
-            }
+        match self.decide_ack(store, raw) {
+            AckDecision::Accept { seq_num, base: _ } => GoBackNAckResult {
+                sender: self.acknowledge_unchecked(store, seq_num),
+                answer: AckAnswer::Accepted,
+            },
             AckDecision::NotAccepted => GoBackNAckResult {
                 sender: self,
                 answer: AckAnswer::NotAccepted,
@@ -106,7 +106,7 @@ impl GoBackNSender {
     {
         let window = self.window;
         let all = bounds::MAX_WINDOW_SIZE as u32;
-        let result = window.resend_outstanding(false, store, all, out);
+        let result = window.resend_outstanding(store, all, out);
         let window = result.window;
         let answer = result.answer;
         GoBackNTimeoutResult {
@@ -120,13 +120,33 @@ impl GoBackNSender {
         ensures { λ r. ⌜ timeoutExit (r .answer) (sender (r .sender .window) (now (store .exit))) (now (out .exit)) ≡ handleTimeoutEarliest (sender (self .window) (now (store .entry))) (now (out .entry)) ⌝ }
     {
         let window = self.window;
-        let result = window.resend_outstanding(false, store, 1, out);
+        let result = window.resend_outstanding(store, 1, out);
         let window = result.window;
         let answer = result.answer;
         GoBackNTimeoutResult {
             sender: GoBackNSender { window },
             answer,
         }
+    }
+
+    // What a datagram as an ACK does.
+    pub fn decide_ack(self, store: &[u8], raw: &[u8]) -> AckDecision
+        ensures { λ r. ⌜ r ≡ decideAck (sender (self .window) (now (store .entry))) (now (raw .entry)) ⌝ }
+    {
+        let window = self.window;
+        window.decide_ack(false, store, raw)
+    }
+
+    // What the accepted ACK of an outstanding number does.
+    pub fn acknowledge_unchecked(self, store: &mut [u8], seq_num: u32) -> GoBackNSender
+        requires { ⌜ (0 < self .window .«window_size») × (self .window .«window_size» * slotSize ≤ length (now store)) ⌝ }
+        requires { ⌜ (self .window .«send_base» ≤ «seq_num») × («seq_num» < seqNumLimit) ⌝ }
+        ensures { λ r. ⌜ sender (r .window) (now (store .exit))
+            ≡ acknowledged (sender (self .window) (now (store .entry))) «seq_num» ⌝ }
+    {
+        let window = self.window;
+        let window = window.release_unchecked(store, seq_num + 1);
+        GoBackNSender { window }
     }
 
     pub fn can_send(self) -> TestAnswer
@@ -191,26 +211,42 @@ impl GoBackNReceiver {
         output: &mut [u8],
         ack: &mut [u8],
     ) -> GoBackNReceiveResult
-        ensures { λ r. ⌜ receiveExit (r .answer) (r .receiver) (now (output .exit)) (now (ack .exit)) ≡ handlePacket self (now (raw .entry)) (now (output .entry)) (now (ack .entry)) ⌝ }
+        ensures { λ r. ⌜ receiveExit (r .answer) (r .receiver) (now (output .exit)) (now (ack .exit))
+            ≡ handlePacket self (now (raw .entry)) (now (output .entry)) (now (ack .entry)) ⌝ }
     {
-        let handed = receiver::read_checked(
-            receiver::marks_broken(self.expected_seq, self.filled, output),
-            self.total_received,
-            self.discarded_out_of_order,
-            self.duplicate_acks_sent,
-            raw,
+        let held = refusal::held_verdict(
+            receiver::state_broken(self.expected_seq, self.filled, output),
+            receiver::counts_broken(self.total_received, self.discarded_out_of_order, self.duplicate_acks_sent),
         );
-        if let PacketReading::Refused(r) = handed {
-            return GoBackNReceiveResult {
+        match receiver::read_after(held, raw) {
+            ReadingAnswer::Reading(reading) => {
+                self.handle_packet_unchecked(reading, Packet::payload(raw), output, ack)
+            }
+            ReadingAnswer::Refused(r) => GoBackNReceiveResult {
                 receiver: self,
                 answer: ReceiveAnswer::Refused(r),
-            };
+            },
         }
-        let after = self.decide_unchecked(handed);
+    }
+
+    // A packet that was read.
+    pub fn handle_packet_unchecked(
+        self,
+        reading: PacketReading,
+        payload: &[u8],
+        output: &mut [u8],
+        ack: &mut [u8],
+    ) -> GoBackNReceiveResult
+        requires { ⌜ receiverState.stateBroken (self .«expected_seq») (self .filled) (now output) ≡ false ⌝ }
+        requires { ⌜ countsBroken (self .«total_received») (self .«discarded_out_of_order») (self .«duplicate_acks_sent») ≡ false ⌝ }
+        ensures { λ r. ⌜ receiveExit (r .answer) (r .receiver) (now (output .exit)) (now (ack .exit))
+            ≡ handlePacketUnchecked self reading (now (payload .entry)) (now (output .entry)) (now (ack .entry)) ⌝ }
+    {
+        let after = self.decide_unchecked(reading);
         let decision = after.decision;
-        let result = receiver::finish_unchecked(decision, raw, self.filled, output, ack);
+        let result = receiver::apply_unchecked(decision, payload, self.filled, output, ack);
         let answer = result.answer;
-        if let ReceiveAnswer::Refused(_) = answer {
+        if answer.is_refused() {
             return GoBackNReceiveResult {
                 receiver: self,
                 answer,
@@ -221,19 +257,18 @@ impl GoBackNReceiver {
         GoBackNReceiveResult { receiver, answer }
     }
 
-    // What a packet that isn't refused does to the state, and what is to be written.
-    pub fn decide_unchecked(mut self, handed: PacketReading) -> GoBackNDecision
+    // What a packet does to the state, and what is to be written.
+    pub fn decide_unchecked(mut self, reading: PacketReading) -> GoBackNDecision
         requires { ⌜ countsBroken (self .«total_received») (self .«discarded_out_of_order») (self .«duplicate_acks_sent») ≡ false ⌝ }
         requires { ⌜ self .«expected_seq» ≤ seqNumLimit ⌝ }
-        ensures { λ r. ⌜ r ≡ decision self handed ⌝ }
+        ensures { λ r. ⌜ r ≡ decision self reading ⌝ }
     {
         self.total_received = self.total_received + 1;
-        match handed {
+        match reading {
             PacketReading::Data(n) => self.decide_data(n),
             PacketReading::Fin(n) => self.decided(false, Reply::Ack(n)),
             PacketReading::Ack => self.decided(false, Reply::Silent),
             PacketReading::Corrupted => self.decided(false, Reply::Silent),
-            PacketReading::Refused(_) => self.decided(false, Reply::Silent),
         }
     }
 

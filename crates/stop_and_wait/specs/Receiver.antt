@@ -4,11 +4,11 @@ use mathlib.Core.List.{List}
 use mathlib.Core.Bool.{Bool, true, false, cond}
 use lib.Dec.{ltb, eqb}
 use Rattle.packet.specs.Reading.{payloadOf}
-use Rattle.receiver.specs.State.{marksBroken, countsBroken}
-use Rattle.receiver.specs.Handed.{readPacket}
-use Rattle.receiver.specs.Receive.{ReceiveExit, receive}
+use Rattle.receiver.specs.State.{stateBroken, countsBroken}
+use Rattle.receiver.specs.Reading.{readPacket}
+use Rattle.receiver.specs.Receive.{ReceiveExit, Reception, receive, receiveUnchecked}
 use Rattle.receiver.specs.declared.PacketReading.{PacketReading}
-use Rattle.receiver.specs.declared.PacketReading.the-variants as handed
+use Rattle.receiver.specs.declared.PacketReading.the-variants as reading
 use Rattle.receiver.specs.declared.Reply.{Reply}
 use Rattle.receiver.specs.declared.Reply.the-variants as reply
 use Rattle.stop_and_wait.specs.declared.StopAndWaitReceiver.{StopAndWaitReceiver}
@@ -36,11 +36,10 @@ dataDecision r n =
 
 -- every packet is counted; Fin is acknowledged by its own number; an ACK and a corrupted packet, which is counted apart, are not answered
 abbrev pub byKind : StopAndWaitReceiver → PacketReading → StopAndWaitDecision
-byKind r (handed.Data n) = dataDecision r n
-byKind r (handed.Fin n) = decided r false (reply.Ack n)
-byKind r handed.Ack = decided r false reply.Silent
-byKind r handed.Corrupted = decided (state (r .«expected_seq») (r .filled) (r .«total_received») (r .«duplicates_count») (r .«corrupted_count» + 1)) false reply.Silent
-byKind r (handed.Refused s) = decided r false reply.Silent
+byKind r (reading.Data n) = dataDecision r n
+byKind r (reading.Fin n) = decided r false (reply.Ack n)
+byKind r reading.Ack = decided r false reply.Silent
+byKind r reading.Corrupted = decided (state (r .«expected_seq») (r .filled) (r .«total_received») (r .«duplicates_count») (r .«corrupted_count» + 1)) false reply.Silent
 
 unfoldable pub decision : StopAndWaitReceiver → PacketReading → StopAndWaitDecision
 decision r h = byKind (state (r .«expected_seq») (r .filled) (r .«total_received» + 1) (r .«duplicates_count») (r .«corrupted_count»)) h
@@ -49,6 +48,21 @@ decision r h = byKind (state (r .«expected_seq») (r .filled) (r .«total_recei
 abbrev pub withMark : StopAndWaitReceiver → ℕ → StopAndWaitReceiver
 withMark r filled = state (r .«expected_seq») filled (r .«total_received») (r .«duplicates_count») (r .«corrupted_count»)
 
+-- what it brings to a packet
+abbrev pub reception : StopAndWaitReceiver → PacketReading → List ℕ → List ℕ → Reception StopAndWaitReceiver
+reception r h payload output = record {
+  state = r;
+  stateBroken = stateBroken (r .«expected_seq») (r .filled) output;
+  countsBroken = countsBroken (r .«total_received») (r .«duplicates_count») (r .«corrupted_count»);
+  filled = r .filled;
+  decision = decision r h .decision;
+  delivered = payload;
+  after = withMark (decision r h .receiver);
+}
+
 abbrev pub handlePacket : StopAndWaitReceiver → List ℕ → List ℕ → List ℕ → ReceiveExit StopAndWaitReceiver
-handlePacket r raw output ack =
-    receive (marksBroken (r .«expected_seq») (r .filled) output) (countsBroken (r .«total_received») (r .«duplicates_count») (r .«corrupted_count»)) r (r .filled) (decision r (readPacket raw) .decision) (payloadOf raw) (withMark (decision r (readPacket raw) .receiver)) raw output ack
+handlePacket r raw output ack = receive (reception r (readPacket raw) (payloadOf raw) output) raw output ack
+
+-- a packet that was read
+abbrev pub handlePacketUnchecked : StopAndWaitReceiver → PacketReading → List ℕ → List ℕ → List ℕ → ReceiveExit StopAndWaitReceiver
+handlePacketUnchecked r h payload output ack = receiveUnchecked (reception r h payload output) output ack

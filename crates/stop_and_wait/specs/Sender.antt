@@ -6,11 +6,12 @@ use lib.Dec.{ltb}
 use Rattle.refusal.specs.declared.Refusal.the-variants.{State}
 use Rattle.refusal.specs.Order.{check, verdict, decide}
 use Rattle.window.specs.State.{storeShort}
-use Rattle.window.specs.Slots.{Sender, sender, fresh, release}
+use Rattle.window.specs.Slots.{Sender, sender, fresh, markRetransmitted, release}
 use Rattle.window.specs.Outstanding.{unlessBroken}
 use Rattle.window.specs.Sending as window
 use Rattle.window.specs.Acknowledgement.{ackDecision, AckExit, byDecision}
 use Rattle.window.specs.Resending.{TimeoutExit, timeoutExit, resendOutstanding, outstandingDecision}
+use Rattle.window.specs.declared.AckDecision.{AckDecision}
 use Rattle.window.specs.declared.SendWindow.{SendWindow}
 use Rattle.window.specs.declared.SendAnswer.{SendAnswer}
 use Rattle.window.specs.declared.SendAnswer.the-variants as sendAnswer
@@ -75,14 +76,21 @@ sent s t = window.sendExit (t .answer) (endOf (bySend s (t .answer) (t .after .w
 abbrev pub sendChunk : End → List ℕ → List ℕ → window.SendExit End
 sendChunk v payload out = sent (v .sender) (window.sendChunk false (windowEnd v) payload out)
 
+-- below the entry point
+abbrev pub sendChunkUnchecked : End → List ℕ → List ℕ → window.SendExit End
+sendChunkUnchecked v payload out = sent (v .sender) (window.sendChunkUnchecked (windowEnd v) payload out)
+
 -- an accepted ACK: the next number, nothing in flight, the slot emptied
 abbrev pub acknowledged : End → ℕ → End
 acknowledged v n =
     endOf (state (v .sender .«current_seq» + 1) false (v .sender .«max_retries») 0 (v .sender .«total_sent») (v .sender .retransmissions))
     (release (windowEnd v) (n + 1) .store)
 
+abbrev pub decideAck : End → List ℕ → AckDecision
+decideAck v raw = ackDecision false (windowOf (v .sender)) (v .store) raw
+
 abbrev pub handleAck : End → List ℕ → AckExit End
-handleAck v raw = byDecision (ackDecision false (windowOf (v .sender)) (v .store) raw) v (acknowledged v)
+handleAck v raw = byDecision (decideAck v raw) v (acknowledged v)
 
 -- a timeout: the packet in flight again, one retry more, unless the retry limit is met
 abbrev pub retriesLeft : StopAndWaitSender → ℕ
@@ -97,8 +105,14 @@ abbrev pub timedOut : StopAndWaitSender → TimeoutExit Sender → TimeoutExit E
 timedOut s t = timeoutExit (t .answer) (endOf (byTimeout s (t .answer) (t .after .window)) (t .after .store)) (t .out)
 
 abbrev pub handleTimeout : End → List ℕ → TimeoutExit End
-handleTimeout v out = timedOut (v .sender) (resendOutstanding false (windowEnd v) (retriesLeft (v .sender)) out)
+handleTimeout v out = timedOut (v .sender) (resendOutstanding (windowEnd v) (retriesLeft (v .sender)) out)
+
+-- the packet in flight marked as sent again and counted, with one retry more
+abbrev pub markedAgain : End → End
+markedAgain v =
+    let w = markRetransmitted (windowEnd v) (v .sender .«current_seq») in
+    endOf (counted (v .sender) (v .sender .«in_flight») (v .sender .«current_retries» + 1) (w .window)) (w .store)
 
 -- decided before anything is written
 abbrev pub decideTimeout : End → TimeoutDecision
-decideTimeout v = outstandingDecision false (windowOf (v .sender)) (v .store) (retriesLeft (v .sender))
+decideTimeout v = outstandingDecision (windowOf (v .sender)) (v .store) (retriesLeft (v .sender))

@@ -1,21 +1,25 @@
 // Stop-and-Wait: arq/sw.rs of the reference.
 ghost use mathlib.Core.Path.{_≡_};
-ghost use Prim.Native.Nat.{ℕ, _-_, _≤_, _<_};
+ghost use Prim.Native.Nat.{ℕ, _+_, _-_, _≤_, _<_};
+ghost use lib.ListN.{length};
 ghost use mathlib.Core.Bool.{false};
-ghost use Rattle.bounds.specs.Bounds.{countLimit, seqNumLimit};
+ghost use Rattle.bounds.specs.Bounds.{countLimit, headerSize, seqNumLimit, slotSize};
 ghost use Rattle.window.specs.State.{numbersBroken};
 ghost use Rattle.window.specs.Outstanding.{unlessBroken};
-ghost use Rattle.window.specs.Sending.{makeExit, sendExit};
+ghost use Rattle.window.specs.Sending.{makeExit, sendExit, CanSendChunk};
 ghost use Rattle.window.specs.Acknowledgement.{ackExit};
 ghost use Rattle.window.specs.Resending.{timeoutExit};
 ghost use Rattle.window.specs.declared.TimeoutAnswer.the-variants as timeoutAnswer;
 ghost use Rattle.refusal.specs.declared.TestAnswer.the-variants as windowTest;
-ghost use Rattle.stop_and_wait.specs.Sender.{windowOf, endOf, newSender, canSend, isWaitingForAck, bySend, sendChunk, handleAck, retriesLeft, byTimeout, decideTimeout, handleTimeout};
-ghost use Rattle.stop_and_wait.specs.Receiver.{newReceiver, decided, dataDecision, decision, handlePacket};
+ghost use Rattle.stop_and_wait.specs.Sender.{windowOf, windowEnd, endOf, newSender, canSend, isWaitingForAck, bySend, sendChunk, sendChunkUnchecked, decideAck, acknowledged, handleAck, retriesLeft, markedAgain, byTimeout, decideTimeout, handleTimeout};
+ghost use Rattle.stop_and_wait.specs.Receiver.{newReceiver, decided, dataDecision, decision, handlePacket, handlePacketUnchecked};
 ghost use Rattle.receiver.specs.Receive.{receiveExit};
+ghost use Rattle.receiver.specs.State as receiverState;
 ghost use Rattle.receiver.specs.State.{countsBroken};
+use packet::Packet;
 use receiver::Decision;
 use receiver::PacketReading;
+use receiver::ReadingAnswer;
 use receiver::ReceiveAnswer;
 use receiver::Reply;
 use refusal::Refusal;
@@ -115,28 +119,11 @@ impl StopAndWaitSender {
     pub fn handle_ack(self, store: &mut [u8], raw: &[u8]) -> StopAndWaitAckResult
         ensures { λ r. ⌜ ackExit (r .answer) (endOf (r .sender) (now (store .exit))) ≡ handleAck (endOf self (now (store .entry))) (now (raw .entry)) ⌝ }
     {
-        if self.numbers_broken() {
-            return StopAndWaitAckResult {
-                sender: self,
-                answer: AckAnswer::Refused(Refusal::State),
-            };
-        }
-        let window = self.window_unchecked();
-        match window.decide_ack(store, false, raw) {
-            AckDecision::Accept(n) => {
-                window.release_unchecked(store, n + 1);
-                StopAndWaitAckResult {
-                    sender: StopAndWaitSender {
-                        current_seq: self.current_seq + 1,
-                        in_flight: false,
-                        max_retries: self.max_retries,
-                        current_retries: 0,
-                        total_sent: self.total_sent,
-                        retransmissions: self.retransmissions,
-                    },
-                    answer: AckAnswer::Accepted,
-                }
-            }
+        match self.decide_ack(store, raw) {
+            AckDecision::Accept { seq_num, base: _ } => StopAndWaitAckResult {
+                sender: self.acknowledge_unchecked(store, seq_num),
+                answer: AckAnswer::Accepted,
+            },
             AckDecision::NotAccepted => StopAndWaitAckResult {
                 sender: self,
                 answer: AckAnswer::NotAccepted,
@@ -174,6 +161,17 @@ impl StopAndWaitSender {
         }
     }
 
+    // What a datagram as an ACK does.
+    pub fn decide_ack(self, store: &[u8], raw: &[u8]) -> AckDecision
+        ensures { λ r. ⌜ r ≡ decideAck (endOf self (now (store .entry))) (now (raw .entry)) ⌝ }
+    {
+        if self.numbers_broken() {
+            return AckDecision::Refused(Refusal::State);
+        }
+        let window = self.window_unchecked();
+        window.decide_ack(false, store, raw)
+    }
+
     // What a timeout does.
     pub fn decide_timeout(self, store: &[u8]) -> TimeoutDecision
         ensures { λ r. ⌜ r ≡ decideTimeout (endOf self (now (store .entry))) ⌝ }
@@ -182,7 +180,54 @@ impl StopAndWaitSender {
             return TimeoutDecision::Refused(Refusal::State);
         }
         let window = self.window_unchecked();
-        window.decide_timeout(store, false, self.retries_left())
+        window.decide_timeout(store, self.retries_left())
+    }
+
+    // A chunk into the slot and as a datagram to the start of out.
+    pub fn send_chunk_unchecked(
+        self,
+        store: &mut [u8],
+        payload: &[u8],
+        out: &mut [u8],
+    ) -> StopAndWaitSender
+        requires { ⌜ numbersBroken (windowOf self) ≡ false ⌝ }
+        requires { ⌜ CanSendChunk (windowEnd (endOf self (now store))) (now payload) (now out) ⌝ }
+        ensures { λ r. ⌜ sendExit (SendAnswer.Sent (headerSize + length (now (payload .entry)))) (endOf r (now (store .exit))) (now (out .exit))
+            ≡ sendChunkUnchecked (endOf self (now (store .entry))) (now (payload .entry)) (now (out .entry)) ⌝ }
+    {
+        let window = self.window_unchecked();
+        let window = window.send_chunk_unchecked(store, payload, out);
+        self.after_send(SendAnswer::Sent(Packet::HEADER_SIZE + payload.len()), window)
+    }
+
+    // What the accepted ACK of the packet in flight does.
+    pub fn acknowledge_unchecked(mut self, store: &mut [u8], seq_num: u32) -> StopAndWaitSender
+        requires { ⌜ numbersBroken (windowOf self) ≡ false ⌝ }
+        requires { ⌜ (self .«current_seq» ≤ «seq_num») × («seq_num» < seqNumLimit) × (slotSize ≤ length (now store)) ⌝ }
+        ensures { λ r. ⌜ endOf r (now (store .exit)) ≡ acknowledged (endOf self (now (store .entry))) «seq_num» ⌝ }
+    {
+        let window = self.window_unchecked();
+        window.release_unchecked(store, seq_num + 1);
+        self.current_seq = self.current_seq + 1;
+        self.in_flight = false;
+        self.current_retries = 0;
+        self
+    }
+
+    // Marks the packet in flight as sent again and counts it.
+    pub fn mark_retransmitted_unchecked(self, store: &mut [u8]) -> StopAndWaitSender
+        requires { ⌜ (numbersBroken (windowOf self) ≡ false) × (slotSize ≤ length (now store)) ⌝ }
+        requires { ⌜ (self .«total_sent» < countLimit) × (self .retransmissions < countLimit) ⌝ }
+        requires { ⌜ self .«current_retries» < self .«max_retries» ⌝ }
+        ensures { λ r. ⌜ endOf r (now (store .exit)) ≡ markedAgain (endOf self (now (store .entry))) ⌝ }
+    {
+        let window = self.window_unchecked();
+        let window = window.mark_retransmitted_unchecked(store, self.current_seq);
+        let mut sender = self;
+        sender.current_retries = self.current_retries + 1;
+        sender.total_sent = window.total_sent;
+        sender.retransmissions = window.retransmissions;
+        sender
     }
 
     fn unless_broken(self, answer: bool) -> TestAnswer
@@ -208,7 +253,8 @@ impl StopAndWaitSender {
         bounds::SEQ_NUM_LIMIT < self.current_seq
     }
 
-    fn window_unchecked(self) -> SendWindow
+    // Its window of 1: base, next number and counters.
+    pub fn window_unchecked(self) -> SendWindow
         requires { ⌜ numbersBroken (windowOf self) ≡ false ⌝ }
         ensures { λ r. ⌜ r ≡ windowOf self ⌝ }
     {
@@ -313,26 +359,42 @@ impl StopAndWaitReceiver {
         output: &mut [u8],
         ack: &mut [u8],
     ) -> StopAndWaitReceiveResult
-        ensures { λ r. ⌜ receiveExit (r .answer) (r .receiver) (now (output .exit)) (now (ack .exit)) ≡ handlePacket self (now (raw .entry)) (now (output .entry)) (now (ack .entry)) ⌝ }
+        ensures { λ r. ⌜ receiveExit (r .answer) (r .receiver) (now (output .exit)) (now (ack .exit))
+            ≡ handlePacket self (now (raw .entry)) (now (output .entry)) (now (ack .entry)) ⌝ }
     {
-        let handed = receiver::read_checked(
-            receiver::marks_broken(self.expected_seq, self.filled, output),
-            self.total_received,
-            self.duplicates_count,
-            self.corrupted_count,
-            raw,
+        let held = refusal::held_verdict(
+            receiver::state_broken(self.expected_seq, self.filled, output),
+            receiver::counts_broken(self.total_received, self.duplicates_count, self.corrupted_count),
         );
-        if let PacketReading::Refused(r) = handed {
-            return StopAndWaitReceiveResult {
+        match receiver::read_after(held, raw) {
+            ReadingAnswer::Reading(reading) => {
+                self.handle_packet_unchecked(reading, Packet::payload(raw), output, ack)
+            }
+            ReadingAnswer::Refused(r) => StopAndWaitReceiveResult {
                 receiver: self,
                 answer: ReceiveAnswer::Refused(r),
-            };
+            },
         }
-        let after = self.decide_unchecked(handed);
+    }
+
+    // A packet that was read.
+    pub fn handle_packet_unchecked(
+        self,
+        reading: PacketReading,
+        payload: &[u8],
+        output: &mut [u8],
+        ack: &mut [u8],
+    ) -> StopAndWaitReceiveResult
+        requires { ⌜ receiverState.stateBroken (self .«expected_seq») (self .filled) (now output) ≡ false ⌝ }
+        requires { ⌜ countsBroken (self .«total_received») (self .«duplicates_count») (self .«corrupted_count») ≡ false ⌝ }
+        ensures { λ r. ⌜ receiveExit (r .answer) (r .receiver) (now (output .exit)) (now (ack .exit))
+            ≡ handlePacketUnchecked self reading (now (payload .entry)) (now (output .entry)) (now (ack .entry)) ⌝ }
+    {
+        let after = self.decide_unchecked(reading);
         let decision = after.decision;
-        let result = receiver::finish_unchecked(decision, raw, self.filled, output, ack);
+        let result = receiver::apply_unchecked(decision, payload, self.filled, output, ack);
         let answer = result.answer;
-        if let ReceiveAnswer::Refused(_) = answer {
+        if answer.is_refused() {
             return StopAndWaitReceiveResult {
                 receiver: self,
                 answer,
@@ -343,14 +405,14 @@ impl StopAndWaitReceiver {
         StopAndWaitReceiveResult { receiver, answer }
     }
 
-    // What a packet that isn't refused does to the state, and what is to be written.
-    pub fn decide_unchecked(mut self, handed: PacketReading) -> StopAndWaitDecision
+    // What a packet does to the state, and what is to be written.
+    pub fn decide_unchecked(mut self, reading: PacketReading) -> StopAndWaitDecision
         requires { ⌜ countsBroken (self .«total_received») (self .«duplicates_count») (self .«corrupted_count») ≡ false ⌝ }
         requires { ⌜ self .«expected_seq» ≤ seqNumLimit ⌝ }
-        ensures { λ r. ⌜ r ≡ decision self handed ⌝ }
+        ensures { λ r. ⌜ r ≡ decision self reading ⌝ }
     {
         self.total_received = self.total_received + 1;
-        match handed {
+        match reading {
             PacketReading::Data(n) => self.decide_data(n),
             PacketReading::Fin(n) => self.decided(false, Reply::Ack(n)),
             PacketReading::Ack => self.decided(false, Reply::Silent),
@@ -358,7 +420,6 @@ impl StopAndWaitReceiver {
                 self.corrupted_count = self.corrupted_count + 1;
                 self.decided(false, Reply::Silent)
             }
-            PacketReading::Refused(_) => self.decided(false, Reply::Silent),
         }
     }
 

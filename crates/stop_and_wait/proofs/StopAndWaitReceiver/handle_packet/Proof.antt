@@ -1,67 +1,66 @@
 use mathlib.Core.Path.{sym, _∙_}
-use Rattle.stop_and_wait.specs.Receiver.{decision, withMark}
-use Rattle.receiver.proofs.Laws.{not-four, not-two, taken, refused-packet, finish-refused, finished, marks-low}
+use Rattle.packet.specs.Reading.{payloadOf}
+use Rattle.receiver.specs.State.{stateBroken, countsBroken}
+use Rattle.receiver.specs.Reading.{readPacket}
+use Rattle.receiver.proofs.Laws.{read-facts, receive-refused, receive-read}
+use Rattle.stop_and_wait.specs.Receiver.{reception}
 use borrow.Author.Needs.{needs}
 use Rattle.stop_and_wait.proofs.StopAndWaitReceiver.handle_packet.Statement.{statement}
 use Rattle.stop_and_wait.proofs.StopAndWaitReceiver.handle_packet.Tie as tie
 
-marks-broken-requires : tie.Need-marks-broken-requires
-marks-broken-requires c κs = search needs
+state-broken-requires : tie.Need-state-broken-requires
+state-broken-requires c κs = search needs
 
-read-checked-requires : tie.Need-read-checked-requires
-read-checked-requires c κs = search needs
+counts-broken-requires : tie.Need-counts-broken-requires
+counts-broken-requires c κs = search needs
 
-enum-known-handed : tie.Need-enum-known-handed
-enum-known-handed c = search needs
+held-verdict-requires : tie.Need-held-verdict-requires
+held-verdict-requires c κs = search needs
+
+read-after-requires : tie.Need-read-after-requires
+read-after-requires c κs = search needs
+
+enum-known-reading : tie.Need-enum-known-reading
+enum-known-reading c = search needs
+
+payload-requires : tie.Need-payload-requires
+payload-requires c κs = search needs
+
+handle-packet-unchecked-requires : tie.Need-handle-packet-unchecked-requires
+handle-packet-unchecked-requires c κs = let f = read-facts (c .before .before .before .before .before .before .before .before .before .before .before .before .before .before .args .raw .now) (stateBroken (c .before .before .before .before .before .before .before .before .before .before .before .before .before .before .args .self .«expected_seq») (c .before .before .before .before .before .before .before .before .before .before .before .before .before .before .args .self .filled) (c .before .before .before .before .before .before .before .before .before .before .before .before .before .before .args .output .now)) (countsBroken (c .before .before .before .before .before .before .before .before .before .before .before .before .before .before .args .self .«total_received») (c .before .before .before .before .before .before .before .before .before .before .before .before .before .before .args .self .«duplicates_count») (c .before .before .before .before .before .before .before .before .before .before .before .before .before .before .args .self .«corrupted_count»)) (c .before .before .before .before .reading .given .0 .0) (rw (← (c .before .before .before .before .before .before .before .before .before .state-broken .ensures), ← (c .before .before .before .before .before .before .before .before .counts-broken .ensures), ← (c .before .before .before .before .before .before .before .held-verdict .ensures)) (sym (c .before .before .before .before .before .before .read-after .ensures) ∙ c .before .before .before .before .reading .given .1)) in (f .state-sound, f .counts-low)
+
+enum-known-r : tie.Need-enum-known-r
+enum-known-r c = search needs
 
 same-length : tie.Need-same-length
 same-length c = search needs
 
-returns : tie.Need-returns
-returns c = rw (← (c .before .before .before .before .marks-broken .ensures)) (refused-packet _ _ _ _ _ _ _ _ _ _ _ (sym (c .before .before .before .read-checked .ensures) ∙ c .before .handed .given .1))
-
-decide-unchecked-requires : tie.Need-decide-unchecked-requires
-decide-unchecked-requires c κs = let t = taken _ _ _ (λ s q. not-four (rw (c .before .read-checked .ensures ∙ q) at (c .match .keys2))) in (t .1, marks-low _ _ _ (sym (c .before .before .marks-broken .ensures) ∙ t .0) .0)
-
-finish-unchecked-requires : tie.Need-finish-unchecked-requires
-finish-unchecked-requires c κs = let t = taken _ _ _ (λ s q. not-four (rw (c .before .before .before .before .before .read-checked .ensures ∙ q) at (c .before .before .before .before .match .keys2))) in marks-low (c .before .before .before .before .before .before .before .before .before .before .before .args .self .«expected_seq») _ _ (sym (c .before .before .before .before .before .before .marks-broken .ensures) ∙ t .0) .1
-
-enum-told : tie.Need-enum-told
-enum-told c = search needs
-
 same-length-2 : tie.Need-same-length-2
 same-length-2 c = search needs
+
+returns : tie.Need-returns
+returns c = let f = read-facts (c .before .before .before .before .before .before .before .before .before .before .before .before .before .before .before .before .before .before .before .args .raw .now) (stateBroken (c .before .before .before .before .before .before .before .before .before .before .before .before .before .before .before .before .before .before .before .args .self .«expected_seq») (c .before .before .before .before .before .before .before .before .before .before .before .before .before .before .before .before .before .before .before .args .self .filled) (c .before .before .before .before .before .before .before .before .before .before .before .before .before .before .before .before .before .before .before .args .output .now)) (countsBroken (c .before .before .before .before .before .before .before .before .before .before .before .before .before .before .before .before .before .before .before .args .self .«total_received») (c .before .before .before .before .before .before .before .before .before .before .before .before .before .before .before .before .before .before .before .args .self .«duplicates_count») (c .before .before .before .before .before .before .before .before .before .before .before .before .before .before .before .before .before .before .before .args .self .«corrupted_count»)) (c .before .before .before .before .before .before .before .before .before .reading .given .0 .0) (rw (← (c .before .before .before .before .before .before .before .before .before .before .before .before .before .before .state-broken .ensures), ← (c .before .before .before .before .before .before .before .before .before .before .before .before .before .counts-broken .ensures), ← (c .before .before .before .before .before .before .before .before .before .before .before .before .held-verdict .ensures)) (sym (c .before .before .before .before .before .before .before .before .before .before .before .read-after .ensures) ∙ c .before .before .before .before .before .before .before .before .before .reading .given .1)) in c .before .before .before .before .handle-packet-unchecked .ensures ∙ rw (c .before .before .before .before .before .before .before .payload .ensures, f .is-read) (receive-read (reception (c .before .before .before .before .before .before .before .before .before .before .before .before .before .before .before .before .before .before .before .args .self) (readPacket (c .before .before .before .before .before .before .before .before .before .before .before .before .before .before .before .before .before .before .before .args .raw .now)) (payloadOf (c .before .before .before .before .before .before .before .before .before .before .before .before .before .before .before .before .before .before .before .args .raw .now)) (c .before .before .before .before .before .before .before .before .before .before .before .before .before .before .before .before .before .before .before .args .output .now)) _ _ _ (c .before .before .before .before .before .before .before .before .before .reading .given .0 .0) (rw (← (c .before .before .before .before .before .before .before .before .before .before .before .before .before .before .state-broken .ensures), ← (c .before .before .before .before .before .before .before .before .before .before .before .before .before .counts-broken .ensures), ← (c .before .before .before .before .before .before .before .before .before .before .before .before .held-verdict .ensures)) (sym (c .before .before .before .before .before .before .before .before .before .before .before .read-after .ensures) ∙ c .before .before .before .before .before .before .before .before .before .reading .given .1)))
 
 same-length-3 : tie.Need-same-length-3
 same-length-3 c = search needs
 
 returns-2 : tie.Need-returns-2
-returns-2 c = rw (← (c .before .before .before .before .before .before .before .before .before .before .before .before .before .marks-broken .ensures)) (finish-refused _ _ _ _ (λ h. decision (c .before .before .before .before .before .before .before .before .before .before .before .before .before .before .before .before .before .before .args .self) h .decision) (λ h. withMark (decision (c .before .before .before .before .before .before .before .before .before .before .before .before .before .before .before .before .before .before .args .self) h .receiver)) _ _ _ _ _ _ (c .before .before .before .before .before .before .before .before .before .before .before .before .read-checked .ensures) (λ s q. not-four (rw q at (c .before .before .before .before .before .before .before .before .before .before .before .match .keys2))) (c .before .before .before .before .before .before .finish-unchecked .ensures ∙ rw (c .before .before .before .before .before .before .before .before .before .before .decide-unchecked .ensures)) _ (c .enum-told .given .1))
-
-same-length-4 : tie.Need-same-length-4
-same-length-4 c = search needs
-
-same-length-5 : tie.Need-same-length-5
-same-length-5 c = search needs
-
-returns-3 : tie.Need-returns-3
-returns-3 c = rw (← (c .before .before .before .before .before .before .before .before .before .before .before .before .before .marks-broken .ensures), c .before .before .before .before .before .before .before .before .before .before .decide-unchecked .ensures) (finished _ _ _ _ (λ h. decision (c .before .before .before .before .before .before .before .before .before .before .before .before .before .before .before .before .before .before .args .self) h .decision) (λ h. withMark (decision (c .before .before .before .before .before .before .before .before .before .before .before .before .before .before .before .before .before .before .args .self) h .receiver)) _ _ _ _ _ _ (c .before .before .before .before .before .before .before .before .before .before .before .before .read-checked .ensures) (λ s q. not-four (rw q at (c .before .before .before .before .before .before .before .before .before .before .before .match .keys2))) (c .before .before .before .before .before .before .finish-unchecked .ensures ∙ rw (c .before .before .before .before .before .before .before .before .before .before .decide-unchecked .ensures)) (λ s q. not-two (rw q at (c .before .match2 .keys2))))
+returns-2 c = receive-refused (reception (c .before .before .before .before .before .before .before .before .before .before .before .args .self) (readPacket (c .before .before .before .before .before .before .before .before .before .before .before .args .raw .now)) (payloadOf (c .before .before .before .before .before .before .before .before .before .before .before .args .raw .now)) (c .before .before .before .before .before .before .before .before .before .before .before .args .output .now)) _ _ _ _ (rw (← (c .before .before .before .before .before .before .state-broken .ensures), ← (c .before .before .before .before .before .counts-broken .ensures), ← (c .before .before .before .before .held-verdict .ensures)) (sym (c .before .before .before .read-after .ensures) ∙ c .before .r .given .1))
 
 pub handle-packet-spec : {M : Type 1} → statement M
 handle-packet-spec =
     tie.close
     (tie.spec
-    marks-broken-requires
-    read-checked-requires
-    enum-known-handed
+    state-broken-requires
+    counts-broken-requires
+    held-verdict-requires
+    read-after-requires
+    enum-known-reading
+    payload-requires
+    handle-packet-unchecked-requires
+    enum-known-r
     same-length
-    returns
-    decide-unchecked-requires
-    finish-unchecked-requires
-    enum-told
     same-length-2
+    returns
     same-length-3
-    returns-2
-    same-length-4
-    same-length-5
-    returns-3)
+    returns-2)

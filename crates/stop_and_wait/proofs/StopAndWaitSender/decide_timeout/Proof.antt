@@ -28,8 +28,8 @@ decide-timeout-requires c κs = search needs
 returns-2 : tie.Need-returns-2
 returns-2 c =
     c .decide-timeout .ensures
-    ∙ ap (λ (w : SendWindow). outstandingDecision false w (c .before .before .before .before .before .before .args .store .now) (c .before .retries-left .result)) (c .before .before .window-unchecked .ensures)
-    ∙ ap (outstandingDecision false (windowOf (c .before .before .before .before .before .before .args .self)) (c .before .before .before .before .before .before .args .store .now)) (c .before .retries-left .ensures)
+    ∙ ap (λ (w : SendWindow). outstandingDecision w (c .before .before .before .before .before .before .args .store .now) (c .before .retries-left .result)) (c .before .before .window-unchecked .ensures)
+    ∙ ap (outstandingDecision (windowOf (c .before .before .before .before .before .before .args .self)) (c .before .before .before .before .before .before .args .store .now)) (c .before .retries-left .ensures)
 
 pub decide-timeout-spec : {M : Type 1} → statement M
 decide-timeout-spec =
