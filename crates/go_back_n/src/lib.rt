@@ -216,7 +216,11 @@ impl GoBackNReceiver {
     {
         let held = refusal::held_verdict(
             receiver::state_broken(self.expected_seq, self.filled, output),
-            receiver::counts_broken(self.total_received, self.discarded_out_of_order, self.duplicate_acks_sent),
+            receiver::counts_broken(
+                self.total_received,
+                self.discarded_out_of_order,
+                self.duplicate_acks_sent,
+            ),
         );
         match receiver::read_after(held, raw) {
             ReadingAnswer::Reading(reading) => {

@@ -2,9 +2,9 @@
 use Prim.Native.Nat.{ℕ, _≤_, _<_}
 use mathlib.Core.Path.{_≡_, refl, sym, ap, _∙_}
 use mathlib.Core.Bool.{Bool, true, false, cond}
-use mathlib.Core.List.{List, [], _∷_, _++_}
+use mathlib.Core.List.{List, [], _∷_, _++_, append-nil}
 use native.Mathlib.Omega.{arith}
-use borrow.Author.Tests.{ltb-false, lt-ltb, le-ltb, eqb-true}
+use borrow.Author.Tests.{ltb-false, lt-ltb, le-ltb, eqb-true, eq-eqb}
 use lib.ListN.{length}
 use lib.Dec.{ltb, eqb}
 use Rattle.bounds.specs.Bounds.{maxPayload}
@@ -15,7 +15,7 @@ use Rattle.refusal.specs.Order.{Check, check, order, verdict}
 use Rattle.refusal.specs.declared.Verdict.{Verdict}
 use Rattle.refusal.specs.declared.Verdict.the-variants.{Accepted, Refused}
 use Rattle.refusal.proofs.Laws.{false-check, true-check, accepted-none-true, none-true-accepted, on-accepted, on-refused, decide-refused, EachRefusal, refused-one-of, has, precedesIn, skip-later}
-use Rattle.packet.specs.Format.{matches}
+use Rattle.packet.specs.Format.{headerBytes, checksumOf, withChecksum, made, matches}
 use Rattle.packet.specs.Reading.{readChecks, headerOf, payloadPart, fromBytes, payloadOf, validity, givenChecks, readDatagram, readingChecks}
 use Rattle.packet.specs.declared.Packet.{Packet}
 use Rattle.packet.specs.declared.PacketAnswer.the-variants as packetAnswer
@@ -23,6 +23,7 @@ use Rattle.packet.specs.declared.ValidityAnswer.the-variants as validity
 use Rattle.packet.specs.declared.DatagramReading.{DatagramReading}
 use Rattle.packet.specs.declared.DatagramReading.the-variants as reading
 use Rattle.packet.proofs.Read.{read-packet, read-refused, read-header, payload-is, payload-none, validity-is}
+use Rattle.packet.proofs.RoundTrip.{read-back, payload-back}
 
 -- by what `from_bytes` answers
 module _ (raw : List ℕ) where
@@ -140,3 +141,18 @@ valid-is-valid raw p e =
         → validity raw ≡ cond b validityAnswer.Valid validityAnswer.Invalid → validity raw ≡ validityAnswer.Valid
     by-test true m f g = g
     by-test false m f g = let z : _≡_ {A = ℕ} 0 1 = cc in absurd (omega arith)
+
+-- a made datagram
+module _ (p : Packet) (payload : List ℕ) where
+  made-read : fromBytes (made p payload) ≡ packetAnswer.Packet (withChecksum p payload)
+  made-read = ap fromBytes (sym (append-nil (made p payload))) ∙ read-back (withChecksum p payload) payload []
+
+  pub made-payload : payloadOf (made p payload) ≡ payload
+  made-payload = ap payloadOf (sym (append-nil (made p payload))) ∙ payload-back (withChecksum p payload) payload []
+
+  made-matches : matches (withChecksum p payload) payload ≡ true
+  unfolding matches checksumOf headerBytes
+  made-matches = eq-eqb (checksumOf p payload) (checksumOf p payload) refl
+
+  pub made-given : length payload ≤ maxPayload → readDatagram (made p payload) ≡ reading.Valid (withChecksum p payload)
+  made-given h = given-packet (made p payload) (withChecksum p payload) made-read (rw made-payload h) ∙ rw (made-payload, made-matches)

@@ -13,7 +13,7 @@ use Rattle.refusal.specs.declared.Refusal.the-variants.{State, Counts, Numbers,
 use Rattle.refusal.specs.Refusal.{entryOf}
 use Rattle.refusal.specs.Order.{Check, check, verdict, decide, order, heldChecks}
 use Rattle.refusal.specs.declared.Verdict.the-variants.{Refused}
-use Rattle.refusal.proofs.Laws.{NoneTrue, true-check, none-true-accepted, precedesIn, skip-later, held-state, held-counts, held-none, on-accepted, on-refused}
+use Rattle.refusal.proofs.Laws.{NoneTrue, decided, true-check, none-true-accepted, precedesIn, skip-later, held-state, held-counts, held-none, on-accepted, on-refused}
 use Rattle.packet.specs.Reading.{payloadOf, readDatagram, readingChecks}
 use Rattle.packet.specs.declared.Packet.{Packet}
 use Rattle.packet.specs.declared.PacketType.{PacketType}
@@ -75,6 +75,25 @@ module _ (raw : List ℕ) where
   read-facts false false h e =
       by-reading (readDatagram raw) refl h (sym (on-accepted read.Refused (readingAnswer (readDatagram raw)) held-none) ∙ e)
 
+-- Data is read only in a valid packet; a taken datagram that isn't valid is corrupted
+pub data-valid : (raw : List ℕ) (n : ℕ) → ((p : Packet) → readDatagram raw ≡ datagram.Valid p → ⊥) → readPacket raw ≡ reading.Data n → ⊥
+data-valid raw n never e = by-reading (readDatagram raw) refl e where
+  by-reading : (x : DatagramReading) → readDatagram raw ≡ x → readingOf x ≡ reading.Data n → ⊥
+  by-reading (datagram.Valid p) f g = never p f
+  by-reading (datagram.Corrupted p) f g = let z : _≡_ {A = ℕ} 0 1 = cc in omega arith
+  by-reading (datagram.Refused r) f g = let z : _≡_ {A = ℕ} 0 1 = cc in omega arith
+
+pub not-valid-corrupted : (raw : List ℕ) → ((p : Packet) → readDatagram raw ≡ datagram.Valid p → ⊥) → readPacket raw ≡ reading.Corrupted
+not-valid-corrupted raw never = by-reading (readDatagram raw) refl where
+  by-reading : (x : DatagramReading) → readDatagram raw ≡ x → readingOf x ≡ reading.Corrupted
+  by-reading (datagram.Valid p) f = absurd (never p f)
+  by-reading (datagram.Corrupted p) f = refl
+  by-reading (datagram.Refused r) f = refl
+
+-- a valid packet's reading
+pub valid-reading : (raw : List ℕ) (p : Packet) → readDatagram raw ≡ datagram.Valid p → readPacket raw ≡ byType (p .«pkt_type») (p .«seq_num»)
+valid-reading raw p e = ap readingOf e
+
 -- number 7 of a datagram that was read
 pub read-low : (raw : List ℕ) (n : ℕ) → Taken raw → numberHigh (readDatagram raw) ≡ false → readPacket raw ≡ reading.Data n → n < seqNumLimit
 read-low raw n t h e = by-reading (readDatagram raw) refl h e where
@@ -87,6 +106,15 @@ read-low raw n t h e = by-reading (readDatagram raw) refl h e where
   by-reading (datagram.Valid p) f h e = by-type (p .«pkt_type») (p .«seq_num») h e
   by-reading (datagram.Corrupted p) f h e = let z : _≡_ {A = ℕ} 0 1 = cc in absurd (omega arith)
   by-reading (datagram.Refused r) f h e = absurd (t r f)
+
+-- what is known where a datagram isn't refused
+pub record ReceiveKnown {R : Type 0} (x : Reception R) (raw output ack : List ℕ) : Type 0 where
+  pub state-sound : x .stateBroken ≡ false
+  pub counts-low : x .countsBroken ≡ false
+  pub taken : Taken raw
+  pub not-high : numberHigh (readDatagram raw) ≡ false
+  pub room : noRoom x output ack ≡ false
+  pub short : length (payloadOf raw) ≤ maxPayload
 
 module _ {R : Type 0} (x : Reception R) (raw output ack : List ℕ) where
   refused-reading : (s : Refusal) (y : DatagramReading) → readDatagram raw ≡ y → readingAnswer y ≡ read.Refused s
@@ -144,6 +172,28 @@ module _ {R : Type 0} (x : Reception R) (raw output ack : List ℕ) where
     by-room false e y f =
         rw e
         (sym (on-accepted (λ (s : Refusal). refusedExit x output ack (answer.Refused s)) _ (none-true-accepted _ (refl, left (readDatagram raw) refl))))
+
+  -- a call is refused, or what is known where it isn't
+  pub receive-either : (P : ReceiveExit R → Type 0) → ((s : Refusal) → P (refusedExit x output ack (answer.Refused s)))
+      → (ReceiveKnown x raw output ack → P (receivedExit x output ack)) → P (receive x raw output ack)
+  unfolding receive
+  receive-either P refused received =
+      decided P (receiveChecks x raw output ack) _ _ refused (λ none. received (known (readDatagram raw) refl (none .0) (none .1 .0) (none .1 .1)))
+    where
+      known : (y : DatagramReading) → readDatagram raw ≡ y → noRoom x output ack ≡ false → numberHigh (readDatagram raw) ≡ false
+          → NoneTrue (readingChecks (readDatagram raw) ++ heldChecks (x .stateBroken) (x .countsBroken)) → ReceiveKnown x raw output ack
+      known (datagram.Valid p) f room high none =
+          let t = valid-taken raw f in
+          let held : NoneTrue (heldChecks (x .stateBroken) (x .countsBroken)) = rw f at none in
+          record { state-sound = held .0; counts-low = held .1 .0; taken = t; not-high = high; room = room; short = taken-short raw t }
+      known (datagram.Corrupted p) f room high none =
+          let t = corrupted-taken raw f in
+          let held : NoneTrue (heldChecks (x .stateBroken) (x .countsBroken)) = rw f at none in
+          record { state-sound = held .0; counts-low = held .1 .0; taken = t; not-high = high; room = room; short = taken-short raw t }
+      known (datagram.Refused r) f room high none =
+          let held : NoneTrue (check true r ∷ heldChecks (x .stateBroken) (x .countsBroken)) = rw f at none in
+          let fired = held .0 in
+          let z : _≡_ {A = ℕ} 0 1 = cc in absurd (omega arith)
 
   pub receive-read : (h : PacketReading) → readAfter (verdict (heldChecks (x .stateBroken) (x .countsBroken))) raw ≡ read.Reading h
       → receiveUnchecked x output ack ≡ receive x raw output ack

@@ -13,10 +13,10 @@ use Rattle.packet.specs.Reading.{payloadOf}
 use Rattle.store.specs.Slot.{slotBytes}
 use Rattle.store.specs.Sound.{receiverSlotsBroken, slotOf}
 use Rattle.store.proofs.Laws.{slot-in, put-length, slot-bytes-length, run-within}
-use Rattle.receiver.specs.Handed.{readPacket}
+use Rattle.receiver.specs.Reading.{readPacket}
 use Rattle.receiver.specs.declared.PacketReading.{PacketReading}
-use Rattle.receiver.specs.declared.PacketReading.the-variants as handed
-use Rattle.selective_repeat.specs.Receiver.{Receiver, receivingBroken, heldRun, inOrder, outOfOrder, duplicate, unanswered, decision, counted, afterPacket, handlePacket, Ready}
+use Rattle.receiver.specs.declared.PacketReading.the-variants as reading
+use Rattle.selective_repeat.specs.Receiver.{Receiver, receivingBroken, heldRun, inOrder, outOfOrder, duplicate, unanswered, decision, counted, afterPacket, reception, handlePacket, Ready}
 use Rattle.selective_repeat.specs.declared.SelectiveRepeatDecision.{SelectiveRepeatDecision}
 use Rattle.selective_repeat.proofs.States.{ready, not-broken, receiving-sound}
 use Rattle.refinement.specs.Good.{NoneHeldFrom, GoodSelectiveReceiver}
@@ -24,7 +24,8 @@ use Rattle.refinement.proofs.Writes.{emptied-length}
 use Rattle.refinement.proofs.Good.{none-below}
 use Rattle.refinement.proofs.Held.{slotBroken}
 use Rattle.refinement.proofs.GoodHeld.{held-slots, held-low, delivered-slots, delivered-low, run-stop, run-low}
-use Rattle.refinement.proofs.Receiving.{data-low, after-packet, outcome-mark}
+use Rattle.refinement.proofs.Receiving.{after-packet, outcome-mark}
+use Rattle.receiver.proofs.Laws.{read-low}
 use Rattle.refinement.proofs.SelectiveReceiver.{in-order, held-already, to-be-held, delivered-already, old, high, data-case, each-slot, selective-receives}
 
 -- all of it but the fill mark
@@ -87,7 +88,7 @@ module _ (v : Receiver) (payload : List ℕ) (k : Kept v) (short : length payloa
         none-high = rw e at (held-low (v .store) w base (s .positive) (s .room) slots (n - base) payload 4294901760 (omega arith) short (omega arith) (k .none-high));
       }
 
-  data-kept : (n filled : ℕ) → n < 4294901760 → Kept (afterPacket v payload (decision v (handed.Data n)) filled)
+  data-kept : (n filled : ℕ) → n < 4294901760 → Kept (afterPacket v payload (decision v (reading.Data n)) filled)
   data-kept n filled low = elim (data-case v n (k .sound .positive)) [
     | in-order e d ↦ by-decision filled d (delivered n filled (omega arith))
     | held-already h l m d ↦ by-decision filled d (counted-again n filled)
@@ -97,13 +98,12 @@ module _ (v : Receiver) (payload : List ℕ) (k : Kept v) (short : length payloa
     | high h d ↦ by-decision filled d (unchanged filled)
   ]
 
-  handed-kept : (h : PacketReading) (filled : ℕ) → ((n : ℕ) → h ≡ handed.Data n → n < 4294901760) → Kept (afterPacket v payload (decision v h) filled)
+  reading-kept : (h : PacketReading) (filled : ℕ) → ((n : ℕ) → h ≡ reading.Data n → n < 4294901760) → Kept (afterPacket v payload (decision v h) filled)
   unfolding decision
-  handed-kept (handed.Data n) filled low = data-kept n filled (low n refl)
-  handed-kept (handed.Fin n) filled low = unchanged filled
-  handed-kept handed.Ack filled low = unchanged filled
-  handed-kept handed.Corrupted filled low = unchanged filled
-  handed-kept (handed.Refused s) filled low = unchanged filled
+  reading-kept (reading.Data n) filled low = data-kept n filled (low n refl)
+  reading-kept (reading.Fin n) filled low = unchanged filled
+  reading-kept reading.Ack filled low = unchanged filled
+  reading-kept reading.Corrupted filled low = unchanged filled
 
 pub selective-receiver-good : (v : Receiver) (raw output ack : List ℕ) → GoodSelectiveReceiver v output
     → GoodSelectiveReceiver (handlePacket v raw output ack .receiver) (handlePacket v raw output ack .output)
@@ -112,8 +112,8 @@ selective-receiver-good v raw output ack g =
     let parts = receiving-sound (v .state) (v .store) output (g .sound) in
     let before : Kept v = record { sound = ready (v .state) (v .store) (parts .0); none-high = g .none-high } in
     let after = handlePacket v raw output ack .receiver in
-    let kept : Kept after = after-packet Kept _ _ v _ _ _ _ raw output ack before
-    (λ sound accepted short n. handed-kept v (payloadOf raw) before short (readPacket raw) n (λ m e. data-low raw m accepted e)) in
+    let kept : Kept after = after-packet Kept (reception v (readPacket raw) (payloadOf raw) output) raw output ack before
+    (λ k n. reading-kept v (payloadOf raw) before (k .short) (readPacket raw) n (λ m e. read-low raw m (k .taken) (k .not-high) e)) in
     let mark = outcome-mark SelectiveRepeat _ _ _ v raw output ack _ (selective-receives v raw output ack) (parts .1) in
     record {
       sound = any-of-none _ (not-broken (after .state) (after .store) (kept .sound), (le-ltb _ _ mark, tt));

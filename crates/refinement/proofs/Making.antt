@@ -14,7 +14,8 @@ use Rattle.refusal.proofs.Laws.{none-of, any-of-none}
 use Rattle.store.specs.Sound.{receiverSlotsBroken, slotOf}
 use Rattle.window.specs.State.{windowBroken, storeShort}
 use Rattle.window.specs.Slots.{fresh}
-use Rattle.selective_repeat.specs.Receiver.{receiver, state, receivingBroken, Ready}
+use Rattle.selective_repeat.specs.Receiver.{receiver, receivingBroken, Ready}
+use Rattle.selective_repeat.specs.Receiver as selective_repeat
 use Rattle.selective_repeat.proofs.States.{not-broken}
 use Rattle.refinement.specs.Follows.{heldIn, slotsRead, senderOf, receiverOf}
 use Rattle.refinement.specs.Good.{GoodSelectiveReceiver}
@@ -38,13 +39,13 @@ fresh-receiver-follows w store p =
     (λ i h. empty-none (slotOf (zeroed w store) w 0 i) (fresh-byte store w i 2 p (omega arith)) ∙ sym (getD-replicate w i none none h)) in
     rw held
 
-pub fresh-receiver-good : (w : ℕ) (store output : List ℕ) → windowBroken w ≡ false → storeShort store w ≡ false → GoodSelectiveReceiver (receiver (state w 0 0 0 0 0) (zeroed w store)) output
+pub fresh-receiver-good : (w : ℕ) (store output : List ℕ) → windowBroken w ≡ false → storeShort store w ≡ false → GoodSelectiveReceiver (receiver (selective_repeat.newReceiver w) (zeroed w store)) output
 unfolding receivingBroken windowBroken storeShort receiverSlotsBroken
 fresh-receiver-good w store output e f =
     let l = ltb-false w 1 (none-of _ e .0) in
     let r = ltb-false (length store) (w * 1404) f in
     let p : 0 < w = omega arith in
-    let sound : Ready (state w 0 0 0 0 0) (zeroed w store) =
+    let sound : Ready (selective_repeat.newReceiver w) (zeroed w store) =
     record {
       positive = p;
       small = ltb-false 32 w (none-of _ e .1 .0);
@@ -53,6 +54,6 @@ fresh-receiver-good w store output e f =
       slots = none-below w _ (λ k h. empty-slot (eqb k 0) _ _ (fresh-length store w k p) (fresh-byte store w k 2 p (omega arith)));
     } in
     record {
-      sound = any-of-none _ (not-broken (state w 0 0 0 0 0) (zeroed w store) sound, (le-ltb (length output) 0 (omega arith), tt));
+      sound = any-of-none _ (not-broken (selective_repeat.newReceiver w) (zeroed w store) sound, (le-ltb (length output) 0 (omega arith), tt));
       none-high = λ k h high. fresh-byte store w k 2 p (omega arith);
     }

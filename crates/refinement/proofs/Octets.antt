@@ -77,7 +77,7 @@ send-octets selective v payload out o q = elim (send-outcome selective v payload
 -- what holds of a state, and of whatever an accepted number makes of it, holds after an ACK
 pub after-ack : {S : Type 0} (P : S → Type 0) (d : AckDecision) (v : S) (accept : ℕ → S) → P v → ((n : ℕ) → P (accept n)) → P (byDecision d v accept .after)
 unfolding byDecision
-after-ack P (decision.Accept n) v accept before step = step n
+after-ack P (decision.Accept n base) v accept before step = step n
 after-ack P decision.NotAccepted v accept before step = before
 after-ack P (decision.Refused r) v accept before step = before
 

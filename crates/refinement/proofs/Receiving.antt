@@ -4,7 +4,6 @@ use mathlib.Core.Path.{_≡_, refl, sym, ap, _∙_}
 use mathlib.Core.Bool.{Bool, true, false, cond, _&&_}
 use mathlib.Core.List.{List, [], _∷_, _++_, append-assoc, flatten}
 use native.Mathlib.Omega.{arith}
-use borrow.Author.Tests.{leb-false, ltb-false}
 use lib.ListN.{length, take, drop, length-append}
 use lib.Seq.{take-at, drop-at, length-take-le}
 use lib.Dec.{ltb, leb, eqb}
@@ -13,43 +12,24 @@ use Rattle.protocol.specs.Machine
 use Rattle.protocol.specs.declared.ProtocolType.{ProtocolType}
 use Rattle.protocol.specs.declared.ProtocolType.the-variants.{StopAndWait, GoBackN, SelectiveRepeat}
 use Rattle.refusal.specs.declared.Refusal.{Refusal}
-use Rattle.refusal.specs.declared.Refusal.the-variants.{State, Counts, Full}
-use Rattle.refusal.specs.Order.{check, verdict}
-use Rattle.refusal.specs.declared.Verdict.the-variants.{Accepted}
-use Rattle.refusal.proofs.Laws.{accepted-none-true, none-true-accepted, on-accepted, decided}
-use Rattle.packet.specs.Format.{newPacket, made, matches}
-use Rattle.packet.specs.Reading.{headerOf, payloadOf}
-use Rattle.packet.specs.declared.PacketType.{PacketType}
+use Rattle.packet.specs.Format.{newPacket, made}
+use Rattle.packet.specs.Reading.{payloadOf}
 use Rattle.packet.specs.declared.PacketType.the-variants.{Ack}
-use Rattle.packet.specs.declared.PacketType.the-variants as packetType
 use Rattle.packet.proofs.Laws.{made-length}
 use Rattle.store.specs.Numbers.{writtenAt}
 use Rattle.store.proofs.Laws.{written-none, written-length}
-use Rattle.receiver.specs.Handed.{byType, isData, packetChecks, readPacket}
+use Rattle.receiver.specs.Reading.{readPacket}
 use Rattle.receiver.specs.Reply.{answerOf, ackAfter, roomMissing, applied, applyExit}
-use Rattle.receiver.specs.Receive.{ReceiveExit, receiveExit, applyResult, receive}
+use Rattle.receiver.specs.Receive.{ReceiveExit, receiveExit, Reception, receivedExit, receive}
 use Rattle.receiver.specs.declared.PacketReading.{PacketReading}
-use Rattle.receiver.specs.declared.PacketReading.the-variants as handed
+use Rattle.receiver.specs.declared.PacketReading.the-variants as reading
 use Rattle.receiver.specs.declared.Reply.{Reply}
 use Rattle.receiver.specs.declared.Reply.the-variants as reply
 use Rattle.receiver.specs.declared.Decision.{Decision}
 use Rattle.receiver.specs.declared.ReceiveAnswer.the-variants as answer
-use Rattle.receiver.proofs.Laws.{read-refused, room-output}
+use Rattle.receiver.proofs.Laws.{ReceiveKnown, receive-either, read-low, not-valid-corrupted, room-output}
 use Rattle.refinement.specs.Follows.{acksOf}
-use Rattle.refinement.specs.Copies.{AckOf, NoPacket}
-use Rattle.refinement.specs.Copies
-
--- valid Data that isn't Refused has a number below the limit
-by-type : (b : Bool) (t : PacketType) (m n : ℕ) → (b && isData t && leb 4294901760 m) ≡ false → cond b (byType t m) handed.Corrupted ≡ handed.Data n → n < 4294901760
-by-type true packetType.Data m n h e = let f : m ≡ n = cc in rw f at (leb-false 4294901760 m h)
-by-type true packetType.Ack m n h e = let z : _≡_ {A = ℕ} 0 1 = cc in absurd (omega arith)
-by-type true packetType.Fin m n h e = let z : _≡_ {A = ℕ} 0 1 = cc in absurd (omega arith)
-by-type false t m n h e = let z : _≡_ {A = ℕ} 0 1 = cc in absurd (omega arith)
-
-pub data-low : (raw : List ℕ) (n : ℕ) → verdict (packetChecks raw) ≡ Accepted → readPacket raw ≡ handed.Data n → n < 4294901760
-unfolding readPacket
-data-low raw n v e =
-    by-type (matches (headerOf raw) (payloadOf raw)) (headerOf raw .«pkt_type») (headerOf raw .«seq_num») n (accepted-none-true _ v .0) (sym (on-accepted handed.Refused _ v) ∙ e)
+use Rattle.refinement.specs.Copies.{AckOf, NotValid}
 
 -- bytes written behind the fill mark
 module _ (output bytes : List ℕ) (filled : ℕ) (mark : filled ≤ length output) where
@@ -76,12 +56,12 @@ pub record Ignored {R : Type 0} (view : R → ReceiverState) (filledOf : R → �
   pub follows : view (result .receiver) ≡ view r
   pub filled : filledOf (result .receiver) ≡ filledOf r
   pub output-is : result .output ≡ output
-  pub silent : NoPacket raw → (result .answer ≡ answer.Silent) × (result .ack ≡ ack)
+  pub silent : NotValid raw → (result .answer ≡ answer.Silent) × (result .ack ≡ ack)
 
 pub data ReceiveOutcome {R : Type 0} (p : ProtocolType) (w : ℕ) (view : R → ReceiverState) (filledOf : R → ℕ) (r : R) (raw output ack : List ℕ) (result : ReceiveExit R) : Type 0 where
   packet-refused : (s : Refusal) → result ≡ receiveExit (answer.Refused s) r output ack → ReceiveOutcome p w view filledOf r raw output ack result
-  not-data : ((n : ℕ) → readPacket raw ≡ handed.Data n → ⊥) → Ignored view filledOf r raw output ack result → ReceiveOutcome p w view filledOf r raw output ack result
-  data-taken : (n : ℕ) → readPacket raw ≡ handed.Data n → n < 4294901760 → Took view filledOf r output ack (Machine.receive p w (view r) (record { number = n; payload = payloadOf raw })) result
+  not-data : ((n : ℕ) → readPacket raw ≡ reading.Data n → ⊥) → Ignored view filledOf r raw output ack result → ReceiveOutcome p w view filledOf r raw output ack result
+  data-taken : (n : ℕ) → readPacket raw ≡ reading.Data n → n < 4294901760 → Took view filledOf r output ack (Machine.receive p w (view r) (record { number = n; payload = payloadOf raw })) result
       → ReceiveOutcome p w view filledOf r raw output ack result
 
 -- what is asked of a protocol, of a state that isn't broken: its decision on a packet is the machine's
@@ -93,29 +73,28 @@ pub record Follows {R : Type 0} (view : R → ReceiverState) (after : ℕ → R)
 pub record Leaves {R : Type 0} (view : R → ReceiverState) (after : ℕ → R) (r : R) (d : Decision) (h : PacketReading) : Type 0 where
   pub state : (filled : ℕ) → view (after filled) ≡ view r
   pub nothing : d .deliver ≡ false
-  pub silent : h ≡ handed.Corrupted → d .reply ≡ reply.Silent
+  pub silent : h ≡ reading.Corrupted → d .reply ≡ reply.Silent
 
 -- packets that are no Data, kind by kind
-pub other-kind : (P : PacketReading → Type 0) → ((n : ℕ) → P (handed.Fin n)) → P handed.Ack → P handed.Corrupted → ((s : Refusal) → P (handed.Refused s)) → (h : PacketReading) → ((n : ℕ) → h ≡ handed.Data n → ⊥) → P h
-other-kind P fin ack corrupted Refused (handed.Data n) no-number = absurd (no-number n refl)
-other-kind P fin ack corrupted Refused (handed.Fin n) no-number = fin n
-other-kind P fin ack corrupted Refused handed.Ack no-number = ack
-other-kind P fin ack corrupted Refused handed.Corrupted no-number = corrupted
-other-kind P fin ack corrupted Refused (handed.Refused s) no-number = Refused s
+pub other-kind : (P : PacketReading → Type 0) → ((n : ℕ) → P (reading.Fin n)) → P reading.Ack → P reading.Corrupted → (h : PacketReading) → ((n : ℕ) → h ≡ reading.Data n → ⊥) → P h
+other-kind P fin ack corrupted (reading.Data n) no-number = absurd (no-number n refl)
+other-kind P fin ack corrupted (reading.Fin n) no-number = fin n
+other-kind P fin ack corrupted reading.Ack no-number = ack
+other-kind P fin ack corrupted reading.Corrupted no-number = corrupted
 
-pub left : {R : Type 0} {view : R → ReceiverState} {after : ℕ → R} {r : R} {d : Decision} {h : PacketReading} → ((filled : ℕ) → view (after filled) ≡ view r) → d .deliver ≡ false → (h ≡ handed.Corrupted → d .reply ≡ reply.Silent)
+pub left : {R : Type 0} {view : R → ReceiverState} {after : ℕ → R} {r : R} {d : Decision} {h : PacketReading} → ((filled : ℕ) → view (after filled) ≡ view r) → d .deliver ≡ false → (h ≡ reading.Corrupted → d .reply ≡ reply.Silent)
     → Leaves view after r d h
 left same nothing silent = record { state = same; nothing = nothing; silent = silent }
 
-pub fin-valid : (n : ℕ) {a b : Reply} → handed.Fin n ≡ handed.Corrupted → a ≡ b
+pub fin-valid : (n : ℕ) {a b : Reply} → reading.Fin n ≡ reading.Corrupted → a ≡ b
 fin-valid n e = let z : _≡_ {A = ℕ} 0 1 = cc in absurd (omega arith)
 
 pub record Decides {R : Type 0} (p : ProtocolType) (w : ℕ) (view : R → ReceiverState) (filledOf : R → ℕ) (r : R) (broken : Bool) (after : ℕ → R) (d : Decision) (bytes raw output : List ℕ) : Type 0 where
   pub mark : broken ≡ false → filledOf r ≤ length output
   pub base-low : broken ≡ false → view r .base ≤ 4294901760
   pub with-mark : (filled : ℕ) → filledOf (after filled) ≡ filled
-  pub on-data : broken ≡ false → (n : ℕ) → readPacket raw ≡ handed.Data n → length (payloadOf raw) ≤ 1400 → Follows view after d bytes (Machine.receive p w (view r) (record { number = n; payload = payloadOf raw }))
-  pub on-other : ((n : ℕ) → readPacket raw ≡ handed.Data n → ⊥) → Leaves view after r d (readPacket raw)
+  pub on-data : broken ≡ false → (n : ℕ) → readPacket raw ≡ reading.Data n → length (payloadOf raw) ≤ 1400 → Follows view after d bytes (Machine.receive p w (view r) (record { number = n; payload = payloadOf raw }))
+  pub on-other : ((n : ℕ) → readPacket raw ≡ reading.Data n → ⊥) → Leaves view after r d (readPacket raw)
 
 -- the ACK in its buffer
 ack-front : (r : Reply) (n : ℕ) (ack : List ℕ) → answerOf r ≡ answer.Ack n → take 10 (ackAfter r ack) ≡ made (newPacket n Ack) []
@@ -186,68 +165,63 @@ carried-fits d bytes l filled output ack mark room e = by-deliver (d .deliver) r
     by-deliver true f g = rw g at (room-output d (length bytes) filled output ack (record { mark = mark; room = room }) f)
     by-deliver false f g = rw (← g) (omega arith)
 
-module _ {R : Type 0} (p : ProtocolType) (w : ℕ) (view : R → ReceiverState) (filledOf : R → ℕ) (broken counts : Bool) (r : R) (d : Decision) (bytes : List ℕ) (after : ℕ → R) (raw output ack : List ℕ)
-    (decides : Decides p w view filledOf r broken after d bytes raw output) where
-  abbrev result : ReceiveExit R
-  result = receive broken counts r (filledOf r) d bytes after raw output ack
+module _ {R : Type 0} (p : ProtocolType) (w : ℕ) (view : R → ReceiverState) (filledOf : R → ℕ) (x : Reception R) (raw output ack : List ℕ) (marked : x .filled ≡ filledOf (x .state))
+    (decides : Decides p w view filledOf (x .state) (x .stateBroken) (x .after) (x .decision) (x .delivered) raw output) where
+  abbrev r : R
+  r = x .state
 
-  took : broken ≡ false → roomMissing d (length bytes) (filledOf r) output ack ≡ false → result ≡ applyResult after d (applied d bytes (filledOf r) output ack)
-      → (q : Segment) → q .number < 4294901760 → Follows view after d bytes (Machine.receive p w (view r) q) → Took view filledOf r output ack (Machine.receive p w (view r) q) result
-  took sound room is q low f =
-      rw is (record {
+  abbrev d : Decision
+  d = x .decision
+
+  abbrev bytes : List ℕ
+  bytes = x .delivered
+
+  took : ReceiveKnown x raw output ack → (q : Segment) → q .number < 4294901760 → Follows view (x .after) d bytes (Machine.receive p w (view r) q)
+      → Took view filledOf r output ack (Machine.receive p w (view r) q) (receivedExit x output ack)
+  took k q low f =
+      rw marked (record {
         follows = f .state _;
         filled = decides .with-mark _ ∙ carried-filled d bytes _ (filledOf r) output ack (f .delivered);
         output-is = carried-output d bytes _ (filledOf r) output ack (f .delivered);
-        fits = carried-fits d bytes _ (filledOf r) output ack (decides .mark sound) room (f .delivered);
+        fits = carried-fits d bytes _ (filledOf r) output ack (decides .mark (k .state-sound)) (rw marked at (k .room)) (f .delivered);
         acks = f .acks;
         ack-made = λ n e.
-            let l = acks-low n q 4294901760 low p w (view r) (decides .base-low sound) (ap acksOf (sym e) ∙ f .acks) in
+            let l = acks-low n q 4294901760 low p w (view r) (decides .base-low (k .state-sound)) (ap acksOf (sym e) ∙ f .acks) in
             record { is = ap (take 10) (carried-ack d bytes (filledOf r) output ack) ∙ ack-front (d .reply) n ack e; low = omega arith };
       })
 
-  ignored : verdict (packetChecks raw) ≡ Accepted → result ≡ applyResult after d (applied d bytes (filledOf r) output ack) → Leaves view after r d (readPacket raw) → Ignored view filledOf r raw output ack result
+  ignored : Leaves view (x .after) r d (readPacket raw) → Ignored view filledOf r raw output ack (receivedExit x output ack)
   unfolding ackAfter
-  ignored v is l =
+  ignored l =
       let none : cond (d .deliver) bytes [] ≡ [] = rw (l .nothing) in
-      rw is (record {
+      rw marked (record {
         follows = l .state _;
         filled = decides .with-mark _ ∙ carried-filled d bytes [] (filledOf r) output ack none ∙ omega arith;
         output-is = carried-output d bytes [] (filledOf r) output ack none ∙ written-none output (filledOf r) [] refl;
-        silent = by-kind;
+        silent = λ invalid.
+            let s = l .silent (not-valid-corrupted raw invalid) in (rw s, carried-ack d bytes (filledOf r) output ack ∙ rw s);
       })
-    where
-      by-kind : NoPacket raw → (answerOf (d .reply) ≡ answer.Silent) × (applied d bytes (filledOf r) output ack .ack ≡ ack)
-      by-kind (Copies.NoPacket.refused s e) = let f = read-refused raw s e in let z : _≡_ {A = ℕ} 0 1 = cc in absurd (omega arith)
-      by-kind (Copies.NoPacket.corrupted e) = let s = l .silent e in (rw s, carried-ack d bytes (filledOf r) output ack ∙ rw s)
 
-  no-data : verdict (packetChecks raw) ≡ Accepted → result ≡ applyResult after d (applied d bytes (filledOf r) output ack) → ((n : ℕ) → readPacket raw ≡ handed.Data n → ⊥)
-      → ReceiveOutcome p w view filledOf r raw output ack result
-  no-data v is no-number = not-data no-number (ignored v is (decides .on-other no-number))
+  no-data : ((n : ℕ) → readPacket raw ≡ reading.Data n → ⊥) → ReceiveOutcome p w view filledOf r raw output ack (receivedExit x output ack)
+  no-data no-number = not-data no-number (ignored (decides .on-other no-number))
 
-  by-handed : broken ≡ false → roomMissing d (length bytes) (filledOf r) output ack ≡ false → verdict (packetChecks raw) ≡ Accepted → length (payloadOf raw) ≤ 1400
-      → result ≡ applyResult after d (applied d bytes (filledOf r) output ack) → (h : PacketReading) → readPacket raw ≡ h → ReceiveOutcome p w view filledOf r raw output ack result
-  by-handed sound room v short is (handed.Data n) e = let low = data-low raw n v e in data-taken n e low (took sound room is (record { number = n; payload = payloadOf raw }) low (decides .on-data sound n e short))
-  by-handed sound room v short is (handed.Fin m) e = no-data v is (λ n f. let z : _≡_ {A = ℕ} 0 1 = cc in omega arith)
-  by-handed sound room v short is handed.Ack e = no-data v is (λ n f. let z : _≡_ {A = ℕ} 0 1 = cc in omega arith)
-  by-handed sound room v short is handed.Corrupted e = no-data v is (λ n f. let z : _≡_ {A = ℕ} 0 1 = cc in omega arith)
-  by-handed sound room v short is (handed.Refused s) e = no-data v is (λ n f. let z : _≡_ {A = ℕ} 0 1 = cc in omega arith)
+  by-kind : ReceiveKnown x raw output ack → (h : PacketReading) → readPacket raw ≡ h → ReceiveOutcome p w view filledOf r raw output ack (receivedExit x output ack)
+  by-kind k (reading.Data n) e =
+      let low = read-low raw n (k .taken) (k .not-high) e in
+      data-taken n e low (took k (record { number = n; payload = payloadOf raw }) low (decides .on-data (k .state-sound) n e (k .short)))
+  by-kind k (reading.Fin m) e = no-data (λ n f. let g = sym e ∙ f in let z : _≡_ {A = ℕ} 0 1 = cc in omega arith)
+  by-kind k reading.Ack e = no-data (λ n f. let g = sym e ∙ f in let z : _≡_ {A = ℕ} 0 1 = cc in omega arith)
+  by-kind k reading.Corrupted e = no-data (λ n f. let g = sym e ∙ f in let z : _≡_ {A = ℕ} 0 1 = cc in omega arith)
 
-  pub receive-outcome : ReceiveOutcome p w view filledOf r raw output ack result
-  unfolding receive
+  pub receive-outcome : ReceiveOutcome p w view filledOf r raw output ack (receive x raw output ack)
   receive-outcome =
-      decided (λ (x : ReceiveExit R). result ≡ x → ReceiveOutcome p w view filledOf r raw output ack result)
-      (check broken State ∷ check counts Counts ∷ check (roomMissing d (length bytes) (filledOf r) output ack) Full ∷ packetChecks raw) _ _ (λ s. packet-refused s)
-      (λ none is. by-handed (none .0) (none .1 .1 .0) (none-true-accepted (packetChecks raw) (none .1 .1 .1)) (ltb-false 1400 (length (payloadOf raw)) (none .1 .1 .1 .1 .0)) is (readPacket raw) refl)
-      refl
+      receive-either x raw output ack (λ (y : ReceiveExit R). ReceiveOutcome p w view filledOf r raw output ack y) (λ s. packet-refused s refl)
+      (λ k. by-kind k (readPacket raw) refl)
 
--- what holds of the state, and of whatever a packet that isn't Refused makes of it, holds after the call
-pub after-packet : {R : Type 0} (P : R → Type 0) (broken counts : Bool) (r : R) (filled : ℕ) (d : Decision) (bytes : List ℕ) (after : ℕ → R) (raw output ack : List ℕ)
-    → P r → (broken ≡ false → verdict (packetChecks raw) ≡ Accepted → length (payloadOf raw) ≤ 1400 → (n : ℕ) → P (after n))
-    → P (receive broken counts r filled d bytes after raw output ack .receiver)
-unfolding receive
-after-packet {R} P broken counts r filled d bytes after raw output ack before step =
-    decided (λ (x : ReceiveExit R). P (x .receiver)) (check broken State ∷ check counts Counts ∷ check (roomMissing d (length bytes) filled output ack) Full ∷ packetChecks raw) _ _ (λ s. before)
-    (λ none. step (none .0) (none-true-accepted (packetChecks raw) (none .1 .1 .1)) (ltb-false 1400 (length (payloadOf raw)) (none .1 .1 .1 .1 .0)) _)
+-- what holds of the state, and of whatever a packet that isn't refused makes of it, holds after the call
+pub after-packet : {R : Type 0} (P : R → Type 0) (x : Reception R) (raw output ack : List ℕ) → P (x .state) → (ReceiveKnown x raw output ack → (n : ℕ) → P (x .after n))
+    → P (receive x raw output ack .receiver)
+after-packet {R} P x raw output ack before step = receive-either x raw output ack (λ (y : ReceiveExit R). P (y .receiver)) (λ s. before) (λ k. step k _)
 
 -- the output keeps its length, and the fill mark stays within it
 module _ {R : Type 0} (p : ProtocolType) (w : ℕ) (view : R → ReceiverState) (filledOf : R → ℕ) (r : R) (raw output ack : List ℕ) (result : ReceiveExit R)

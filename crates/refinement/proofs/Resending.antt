@@ -163,8 +163,8 @@ go-back-n-timeout v out =
     (λ g h. let o = sound false (v .window) (v .store) g .ordered in (omega arith, omega arith))
 
 -- the lowest outstanding numbers, at most so many
-pub lowest-sent-again : (selective : Bool) (v : Sender) (most : ℕ) (out : List ℕ)
-    → ResendOutcome selective v (v .window .«send_base») (min most (outstanding (v .window))) out (resendOutstanding selective v most out)
-lowest-sent-again selective v most out =
-    resend-outcome selective v (v .window .«send_base») (min most (outstanding (v .window))) out
-    (λ g h. let o = sound selective (v .window) (v .store) g .ordered in (omega arith, omega arith))
+pub lowest-sent-again : (v : Sender) (most : ℕ) (out : List ℕ)
+    → ResendOutcome false v (v .window .«send_base») (min most (outstanding (v .window))) out (resendOutstanding v most out)
+lowest-sent-again v most out =
+    resend-outcome false v (v .window .«send_base») (min most (outstanding (v .window))) out
+    (λ g h. let o = sound false (v .window) (v .store) g .ordered in (omega arith, omega arith))

@@ -15,10 +15,10 @@ use Rattle.packet.specs.Reading.{payloadOf}
 use Rattle.store.specs.Slot.{slotAt, slotMark}
 use Rattle.store.specs.Sound.{receiverTest, receiverSlotsBroken, slotOf}
 use Rattle.store.proofs.Laws.{none-found}
-use Rattle.receiver.specs.Handed.{readPacket}
+use Rattle.receiver.specs.Reading.{readPacket}
 use Rattle.receiver.specs.Reply.{answerOf}
 use Rattle.receiver.specs.declared.PacketReading.{PacketReading}
-use Rattle.receiver.specs.declared.PacketReading.the-variants as handed
+use Rattle.receiver.specs.declared.PacketReading.the-variants as reading
 use Rattle.selective_repeat.specs.Receiver.{Receiver, inOrder, outOfOrder, duplicate, unanswered, dataDecision, decision, counted, deliveredBytes, afterPacket, handlePacket, Ready}
 use Rattle.selective_repeat.specs.declared.SelectiveRepeatDecision.{SelectiveRepeatDecision}
 use Rattle.selective_repeat.proofs.States.{ready, receiving-sound}
@@ -36,14 +36,14 @@ each-slot v r k h = none-found (v .state .«window_size») k (receiverTest (v .s
 
 -- what is decided on Data, by its number
 pub data DataCase (v : Receiver) (n : ℕ) : Type 0 where
-  in-order : n ≡ v .state .«recv_base» → decision v (handed.Data n) ≡ inOrder (counted v) n → DataCase v n
+  in-order : n ≡ v .state .«recv_base» → decision v (reading.Data n) ≡ inOrder (counted v) n → DataCase v n
   held-already : v .state .«recv_base» < n → n < v .state .«recv_base» + v .state .«window_size» → slotMark (slotAt (v .store) (n % v .state .«window_size»)) ≡ 1
-      → decision v (handed.Data n) ≡ duplicate (counted v) n → DataCase v n
+      → decision v (reading.Data n) ≡ duplicate (counted v) n → DataCase v n
   to-be-held : v .state .«recv_base» < n → n < v .state .«recv_base» + v .state .«window_size» → (slotMark (slotAt (v .store) (n % v .state .«window_size»)) ≡ 1 → ⊥)
-      → decision v (handed.Data n) ≡ outOfOrder (counted v) n → DataCase v n
-  delivered-already : n < v .state .«recv_base» → v .state .«recv_base» ≤ n + v .state .«window_size» → decision v (handed.Data n) ≡ duplicate (counted v) n → DataCase v n
-  old : n + v .state .«window_size» < v .state .«recv_base» → decision v (handed.Data n) ≡ unanswered (counted v .state) → DataCase v n
-  high : v .state .«recv_base» + v .state .«window_size» ≤ n → decision v (handed.Data n) ≡ unanswered (counted v .state) → DataCase v n
+      → decision v (reading.Data n) ≡ outOfOrder (counted v) n → DataCase v n
+  delivered-already : n < v .state .«recv_base» → v .state .«recv_base» ≤ n + v .state .«window_size» → decision v (reading.Data n) ≡ duplicate (counted v) n → DataCase v n
+  old : n + v .state .«window_size» < v .state .«recv_base» → decision v (reading.Data n) ≡ unanswered (counted v .state) → DataCase v n
+  high : v .state .«recv_base» + v .state .«window_size» ≤ n → decision v (reading.Data n) ≡ unanswered (counted v .state) → DataCase v n
 
 module _ (v : Receiver) (n : ℕ) (positive : 0 < v .state .«window_size») where
   case-above : v .state .«recv_base» < n → n < v .state .«recv_base» + v .state .«window_size» → Dec (slotMark (slotAt (v .store) (n % v .state .«window_size»)) ≡ 1) → DataCase v n
@@ -104,7 +104,7 @@ module _ (v : Receiver) (payload : List ℕ) where
     abbrev machine : Received
     machine = Machine.receiveSelective w (selectiveView v) (record { number = n; payload = payload })
 
-    data-in-order : n ≡ base → decision v (handed.Data n) ≡ inOrder (counted v) n → FollowsBy (decision v (handed.Data n)) machine
+    data-in-order : n ≡ base → decision v (reading.Data n) ≡ inOrder (counted v) n → FollowsBy (decision v (reading.Data n)) machine
     unfolding deliveredBytes flatten
     data-in-order e d =
         by-decision d (ap (λ (k : ℕ). Machine.receiveSelective w (selectiveView v) (record { number = k; payload = payload })) e ∙ at-base (v .store) w base (r .positive) (r .room) slots payload)
@@ -117,7 +117,7 @@ module _ (v : Receiver) (payload : List ℕ) where
     low-mark : base < n → n < base + w → slotMark (slotAt (v .store) (n % w)) < 2
     low-mark h k = let z : base + (n - base) ≡ n = omega arith in rw z at (marks-low (v .store) w base (r .positive) (r .room) slots (n - base) (omega arith))
 
-    selective-data : FollowsBy (decision v (handed.Data n)) (Machine.receive SelectiveRepeat w (selectiveView v) (record { number = n; payload = payload }))
+    selective-data : FollowsBy (decision v (reading.Data n)) (Machine.receive SelectiveRepeat w (selectiveView v) (record { number = n; payload = payload }))
     unfolding Machine.receive
     selective-data = elim (data-case v n (r .positive)) [
       | in-order e d ↦ data-in-order e d
@@ -129,16 +129,16 @@ module _ (v : Receiver) (payload : List ℕ) where
       | high h d ↦ by-decision d (too-high (v .store) w base (r .positive) (r .room) slots n payload h) (nothing-delivered (unanswered (counted v .state)) [] refl refl _ (λ filled. refl))
     ]
 
-  selective-other : (h : PacketReading) → ((n : ℕ) → h ≡ handed.Data n → ⊥) → Leaves selectiveView (afterPacket v payload (decision v h)) v (decision v h .decision) h
+  selective-other : (h : PacketReading) → ((n : ℕ) → h ≡ reading.Data n → ⊥) → Leaves selectiveView (afterPacket v payload (decision v h)) v (decision v h .decision) h
   unfolding decision
   selective-other =
       other-kind (λ h. Leaves selectiveView (afterPacket v payload (decision v h)) v (decision v h .decision) h)
-      (λ n. left (λ filled. refl) refl (fin-valid n)) (left (λ filled. refl) refl (λ e. refl)) (left (λ filled. refl) refl (λ e. refl)) (λ s. left (λ filled. refl) refl (λ e. refl))
+      (λ n. left (λ filled. refl) refl (fin-valid n)) (left (λ filled. refl) refl (λ e. refl)) (left (λ filled. refl) refl (λ e. refl))
 
 pub selective-receives : (v : Receiver) (raw output ack : List ℕ)
     → ReceiveOutcome SelectiveRepeat (v .state .«window_size») selectiveView (λ u. u .state .filled) v raw output ack (handlePacket v raw output ack)
 selective-receives v raw output ack =
-    receive-outcome SelectiveRepeat (v .state .«window_size») selectiveView (λ u. u .state .filled) _ _ v _ _ _ raw output ack
+    receive-outcome SelectiveRepeat (v .state .«window_size») selectiveView (λ u. u .state .filled) _ raw output ack refl
     (record {
       mark = λ e. receiving-sound (v .state) (v .store) output e .1;
       base-low = λ e. ready (v .state) (v .store) (receiving-sound (v .state) (v .store) output e .0) .low;

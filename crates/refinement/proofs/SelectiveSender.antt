@@ -20,7 +20,7 @@ use Rattle.refinement.proofs.Acknowledging.{AckOutcome, ack-outcome}
 use Rattle.refinement.proofs.Resending.{ResendOutcome, resend-outcome}
 use Rattle.refinement.proofs.SelectiveAck.{markedSender, marked-sound, marked-follows, slid-follows, slid-good}
 
-module _ (v : Sender) (n : ℕ) (a : Accepted true (v .window) (v .store) n) where
+module _ (v : Sender) (n : ℕ) (a : Accepted true (v .window) (v .store) n (n + 1)) where
   sound : SoundWith (λ k. true) v
   sound = base-too true v (good-sound true v (not-broken true (v .window) (v .store) (a .state)))
 

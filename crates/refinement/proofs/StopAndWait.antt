@@ -43,7 +43,7 @@ waiting : (current n : ℕ) (flight : Bool) → current ≤ n → n < cond fligh
 waiting current n true h k = (refl, omega arith)
 waiting current n false h k = absurd (omega arith)
 
-acknowledged-window : (v : End) (n : ℕ) → Accepted false (windowOf (v .sender)) (v .store) n → windowEnd (acknowledged v n) ≡ release (windowEnd v) (n + 1)
+acknowledged-window : (v : End) (n : ℕ) → Accepted false (windowOf (v .sender)) (v .store) n (n + 1) → windowEnd (acknowledged v n) ≡ release (windowEnd v) (n + 1)
 unfolding release
 acknowledged-window v n a =
     let w = waiting (v .sender .«current_seq») n (v .sender .«in_flight») (a .from) (a .below) in
@@ -71,8 +71,8 @@ unfolding markFrom markRetransmitted
 marked-window v n zero = refl
 marked-window v n (suc k) = marked-window (markRetransmitted v n) (n + 1) k
 
-pub stop-and-wait-timeout : (v : End) (out : List ℕ) → windowEnd (handleTimeout v out .after) ≡ resendOutstanding false (windowEnd v) (retriesLeft (v .sender)) out .after
-stop-and-wait-timeout v out = elim (lowest-sent-again false (windowEnd v) (retriesLeft (v .sender)) out) [
+pub stop-and-wait-timeout : (v : End) (out : List ℕ) → windowEnd (handleTimeout v out .after) ≡ resendOutstanding (windowEnd v) (retriesLeft (v .sender)) out .after
+stop-and-wait-timeout v out = elim (lowest-sent-again (windowEnd v) (retriesLeft (v .sender)) out) [
   | timeout-refused s e ↦ rw e
   | nothing-sent z e ↦ rw e
   | sent-again s ↦ let n = v .sender .«current_seq» in

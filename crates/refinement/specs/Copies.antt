@@ -7,14 +7,11 @@ use Rattle.bounds.specs.Bounds.{maxPayload, seqNumLimit}
 use Rattle.protocol.specs.Machine.{Segment}
 use Rattle.octets.specs.Octets.{Octets}
 use Rattle.octets.specs.Flip.{flip}
-use Rattle.refusal.specs.declared.Refusal.{Refusal}
 use Rattle.packet.specs.Format.{newPacket, made}
 use Rattle.packet.specs.declared.Packet.{Packet}
 use Rattle.packet.specs.declared.PacketType.the-variants.{Data, Ack}
-use Rattle.window.specs.Acknowledgement.{readAck}
-use Rattle.window.specs.declared.AckReading.the-variants as ackRead
-use Rattle.receiver.specs.Handed.{readPacket}
-use Rattle.receiver.specs.declared.PacketReading.the-variants as handed
+use Rattle.packet.specs.Reading.{readDatagram}
+use Rattle.packet.specs.declared.DatagramReading.the-variants as reading
 
 -- a Data datagram that was made of a segment
 pub record DataOf (q : Segment) (raw : List ℕ) : Type 0 where
@@ -42,11 +39,13 @@ pub record Flipped (original raw : List ℕ) : Type 0 where
   pub not-6 : byte ≡ 6 → ⊥
   pub not-7 : byte ≡ 7 → ⊥
 
--- a receiver, a sender, doesn't take it for a packet
-pub data NoPacket (raw : List ℕ) : Type 0 where
-  refused : (r : Refusal) → readPacket raw ≡ handed.Refused r → NoPacket raw
-  corrupted : readPacket raw ≡ handed.Corrupted → NoPacket raw
+-- no valid packet is read in it
+abbrev pub NotValid : List ℕ → Type 0
+NotValid raw = (p : Packet) → readDatagram raw ≡ reading.Valid p → ⊥
 
-pub data NoAck (raw : List ℕ) : Type 0 where
-  refused : (r : Refusal) → readAck raw ≡ ackRead.Refused r → NoAck raw
-  other : readAck raw ≡ ackRead.Other → NoAck raw
+-- a valid ACK of number n is read in it
+pub record IsAck (raw : List ℕ) (n : ℕ) : Type 0 where
+  pub packet : Packet
+  pub read : readDatagram raw ≡ reading.Valid packet
+  pub kind : packet .«pkt_type» ≡ Ack
+  pub number : packet .«seq_num» ≡ n

@@ -18,7 +18,7 @@ use Rattle.store.proofs.Ring.{set-number, set-number-other}
 use Rattle.window.specs.State.{outstanding}
 use Rattle.window.specs.Slots.{Sender, slotFor, emptyFrom, release}
 use Rattle.window.proofs.Laws.{Sound}
-use Rattle.selective_repeat.specs.Sender.{markAcknowledged, acknowledgedRun, advance, acknowledgeOne}
+use Rattle.selective_repeat.specs.Sender.{markAcknowledged, acknowledgedRun, advance, baseAfter, acknowledgeOne}
 
 -- runs over slots with the same marks
 run-same : (mark : ℕ) (a b : List ℕ) (w n k : ℕ) → ((i : ℕ) → i < k → marked mark a w (n + i) ≡ marked mark b w (n + i)) → markedRun mark a w n k ≡ markedRun mark b w n k
@@ -122,6 +122,10 @@ module _ (v : Sender) (n : ℕ) (s : Sound true (v .window) (v .store)) (from : 
         let f = eqb-true n (v .window .«send_base») e in
         rw e (run-more (outstanding (v .window)) (omega arith) (s .few) f)
     by-number false e = rw e (stays (eqb-false n (v .window .«send_base») e))
+
+  pub acknowledge-base : acknowledgeOne v n .window .«send_base» ≡ baseAfter v n
+  unfolding acknowledgeOne release
+  acknowledge-base = ap (λ (k : ℕ). v .window .«send_base» + k) advance-is
 
   -- base stays: the number is marked
   pub marked-only : advance v n ≡ 0 → markAcknowledged v n ≡ acknowledgeOne v n

@@ -12,7 +12,7 @@ use Rattle.store.specs.Numbers.{PayloadsIn}
 use Rattle.store.proofs.Laws.{receiver-slot-short, run-within}
 use Rattle.window.specs.State.{windowBroken, storeShort}
 use Rattle.receiver.specs.declared.PacketReading.{PacketReading}
-use Rattle.receiver.specs.declared.PacketReading.the-variants as handed
+use Rattle.receiver.specs.declared.PacketReading.the-variants as reading
 use Rattle.selective_repeat.specs.Receiver.{Receiver, Ready, stateBroken, receivingBroken, held, inOrder, outOfOrder, duplicate, unanswered, dataDecision, decision, counted, released}
 use Rattle.selective_repeat.specs.declared.SelectiveRepeatReceiver.{SelectiveRepeatReceiver}
 use Rattle.selective_repeat.specs.declared.SelectiveRepeatDecision.{SelectiveRepeatDecision}
@@ -77,8 +77,7 @@ data-releases v n h =
 
 pub releases : (v : Receiver) (h : PacketReading) → 0 < v .state .«window_size» → Releases (v .state .«window_size») (decision v h)
 unfolding decision
-releases v (handed.Data n) p = data-releases (counted v) n p
-releases v (handed.Fin n) p = record { few = p; none = λ f. refl }
-releases v handed.Ack p = record { few = p; none = λ f. refl }
-releases v handed.Corrupted p = record { few = p; none = λ f. refl }
-releases v (handed.Refused s) p = record { few = p; none = λ f. refl }
+releases v (reading.Data n) p = data-releases (counted v) n p
+releases v (reading.Fin n) p = record { few = p; none = λ f. refl }
+releases v reading.Ack p = record { few = p; none = λ f. refl }
+releases v reading.Corrupted p = record { few = p; none = λ f. refl }

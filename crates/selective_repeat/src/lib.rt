@@ -12,16 +12,23 @@ ghost use Rattle.window.specs.Resending.{timeoutExit};
 ghost use Rattle.window.specs.Outstanding.{canSend};
 ghost use Rattle.receiver.specs.Reply.{applyExit, applied, RoomFor};
 ghost use Rattle.receiver.specs.Receive.{receiveExit};
-ghost use Rattle.selective_repeat.specs.Sender.{madeWindow, advance, acknowledgeOne, handleAck, due, decideTimeout, handleTimeout, inFlightCount};
-ghost use Rattle.selective_repeat.specs.Receiver.{receiver, makeReceiver, stateBroken, receivingBroken, countersBroken, released, decided, dataDecision, decision, deliveredBytes, changedSlots, Ready, bufferedCount, handlePacket};
+ghost use Rattle.selective_repeat.specs.Sender.{madeWindow, baseAfter, acknowledgeOne, decideAck, handleAck};
+ghost use Rattle.selective_repeat.specs.Sender.{due, decideTimeout, handleTimeout};
+ghost use Rattle.selective_repeat.specs.Sender.{inFlightCount, inFlightCountUnchecked};
+ghost use Rattle.selective_repeat.specs.Receiver.{receiver, makeReceiver, bufferedCount};
+ghost use Rattle.selective_repeat.specs.Receiver.{stateBroken, receivingBroken, countersBroken, Ready};
+ghost use Rattle.selective_repeat.specs.Receiver.{released, decided, dataDecision, decision};
+ghost use Rattle.selective_repeat.specs.Receiver.{deliveredBytes, changedSlots, handlePacket, handlePacketUnchecked};
 use packet::Packet;
 use receiver::Decision;
 use receiver::PacketReading;
+use receiver::ReadingAnswer;
 use receiver::ReceiveAnswer;
 use receiver::Reply;
 use refusal::CountAnswer;
 use refusal::Refusal;
 use refusal::TestAnswer;
+use refusal::Verdict;
 use window::AckAnswer;
 use window::AckDecision;
 use window::SendAnswer;
@@ -73,7 +80,8 @@ impl SelectiveRepeatSender {
         payload: &[u8],
         out: &mut [u8],
     ) -> SelectiveRepeatSendResult
-        ensures { λ r. ⌜ sendExit (r .answer) (sender (r .sender .window) (now (store .exit))) (now (out .exit)) ≡ sendChunk true (sender (self .window) (now (store .entry))) (now (payload .entry)) (now (out .entry)) ⌝ }
+        ensures { λ r. ⌜ sendExit (r .answer) (sender (r .sender .window) (now (store .exit))) (now (out .exit))
+            ≡ sendChunk true (sender (self .window) (now (store .entry))) (now (payload .entry)) (now (out .entry)) ⌝ }
     {
         let window = self.window;
         let sent = window.send_chunk(true, store, payload, out);
@@ -87,13 +95,12 @@ impl SelectiveRepeatSender {
 
     // A datagram as an ACK.
     pub fn handle_ack(self, store: &mut [u8], raw: &[u8]) -> SelectiveRepeatAckResult
-        ensures { λ r. ⌜ ackExit (r .answer) (sender (r .sender .window) (now (store .exit))) ≡ handleAck (sender (self .window) (now (store .entry))) (now (raw .entry)) ⌝ }
+        ensures { λ r. ⌜ ackExit (r .answer) (sender (r .sender .window) (now (store .exit)))
+            ≡ handleAck (sender (self .window) (now (store .entry))) (now (raw .entry)) ⌝ }
     {
-        let window = self.window;
-        match window.decide_ack(store, true, raw) {
-            AckDecision::Accept(n) => {
-                let moved = advance_unchecked(window, store, n);
-                let window = acknowledge_one_unchecked(window, store, n, moved);
+        match self.decide_ack(store, raw) {
+            AckDecision::Accept { seq_num, base } => {
+                let window = acknowledge_one(self.window, store, seq_num, base);
                 SelectiveRepeatAckResult {
                     sender: SelectiveRepeatSender { window },
                     answer: AckAnswer::Accepted,
@@ -117,7 +124,8 @@ impl SelectiveRepeatSender {
         seq_num: u32,
         out: &mut [u8],
     ) -> SelectiveRepeatTimeoutResult
-        ensures { λ r. ⌜ timeoutExit (r .answer) (sender (r .sender .window) (now (store .exit))) (now (out .exit)) ≡ handleTimeout (sender (self .window) (now (store .entry))) «seq_num» (now (out .entry)) ⌝ }
+        ensures { λ r. ⌜ timeoutExit (r .answer) (sender (r .sender .window) (now (store .exit))) (now (out .exit))
+            ≡ handleTimeout (sender (self .window) (now (store .entry))) «seq_num» (now (out .entry)) ⌝ }
     {
         let window = self.window;
         match self.decide_timeout(store, seq_num) {
@@ -141,18 +149,33 @@ impl SelectiveRepeatSender {
         }
     }
 
+    // What a datagram as an ACK does: the number that it acknowledges, and the base after it.
+    pub fn decide_ack(self, store: &[u8], raw: &[u8]) -> AckDecision
+        ensures { λ r. ⌜ r ≡ decideAck (sender (self .window) (now (store .entry))) (now (raw .entry)) ⌝ }
+    {
+        let window = self.window;
+        match window.decide_ack(true, store, raw) {
+            AckDecision::Accept { seq_num, base: _ } => AckDecision::Accept {
+                seq_num,
+                base: base_after(window, store, seq_num),
+            },
+            AckDecision::NotAccepted => AckDecision::NotAccepted,
+            AckDecision::Refused(r) => AckDecision::Refused(r),
+        }
+    }
+
     // What a number's timeout does.
     pub fn decide_timeout(self, store: &[u8], seq_num: u32) -> TimeoutDecision
         ensures { λ r. ⌜ r ≡ decideTimeout (sender (self .window) (now (store .entry))) «seq_num» ⌝ }
     {
         let window = self.window;
-        if window.state_broken(store, true) {
+        if window.state_broken(true, store) {
             return TimeoutDecision::Refused(Refusal::State);
         }
         if window.counts_broken() {
             return TimeoutDecision::Refused(Refusal::Counts);
         }
-        if !due_unchecked(window, store, seq_num) {
+        if !self.is_due_unchecked(store, seq_num) {
             return TimeoutDecision::Nothing;
         }
         TimeoutDecision::Resend {
@@ -173,63 +196,76 @@ impl SelectiveRepeatSender {
         ensures { λ r. ⌜ r ≡ inFlightCount (sender (self .window) (now (store .entry))) ⌝ }
     {
         let window = self.window;
-        if window.state_broken(store, true) {
-            return CountAnswer::Refused(Refusal::State);
+        match refusal::held_verdict(window.state_broken(true, store), window.counts_broken()) {
+            Verdict::Accepted => CountAnswer::Count(self.in_flight_count_unchecked(store)),
+            Verdict::Refused(r) => CountAnswer::Refused(r),
         }
-        if window.counts_broken() {
-            return CountAnswer::Refused(Refusal::Counts);
+    }
+
+    // What an accepted ACK of an outstanding number does.
+    pub fn acknowledge_unchecked(self, store: &mut [u8], seq_num: u32) -> SelectiveRepeatSender
+        requires { ⌜ windowState.stateBroken true (self .window) (now store) ≡ false ⌝ }
+        requires { ⌜ inWindow (self .window) «seq_num» ≡ true ⌝ }
+        ensures { λ r. ⌜ sender (r .window) (now (store .exit))
+            ≡ acknowledgeOne (sender (self .window) (now (store .entry))) «seq_num» ⌝ }
+    {
+        let window = self.window;
+        let base = base_after(window, store, seq_num);
+        SelectiveRepeatSender {
+            window: acknowledge_one(window, store, seq_num, base),
         }
+    }
+
+    // Whether a number is outstanding and not acknowledged.
+    pub fn is_due_unchecked(self, store: &[u8], seq_num: u32) -> bool
+        requires { ⌜ 0 < self .window .«window_size» ⌝ }
+        requires { ⌜ self .window .«window_size» * slotSize ≤ length (now store) ⌝ }
+        ensures { λ r. ⌜ r ≡ due (sender (self .window) (now (store .entry))) «seq_num» ⌝ }
+    {
+        let window = self.window;
+        if !window.is_outstanding(seq_num) {
+            return false;
+        }
+        store::mark_unchecked(store, seq_num as usize % window.window_size) != 2
+    }
+
+    pub fn in_flight_count_unchecked(self, store: &[u8]) -> usize
+        requires { ⌜ windowState.stateBroken true (self .window) (now store) ≡ false ⌝ }
+        ensures { λ r. ⌜ r ≡ inFlightCountUnchecked (sender (self .window) (now (store .entry))) ⌝ }
+    {
+        let window = self.window;
         let base = window.send_base;
-        CountAnswer::Count(store::marked_count_unchecked(
-            store,
-            window.window_size,
-            base,
-            (window.next_seq_num - base) as usize,
-            1,
-        ))
+        let outstanding = (window.next_seq_num - base) as usize;
+        store::marked_count_unchecked(store, window.window_size, base, outstanding, 1)
     }
 }
 
-// How far send_base moves when an outstanding number is acknowledged: at send_base past it and those acknowledged after it.
-fn advance_unchecked(window: SendWindow, store: &[u8], n: u32) -> u32
-    requires { ⌜ (0 < window .«window_size») × (window .«window_size» * slotSize ≤ length (now store)) ⌝ }
-    requires { ⌜ (window .«send_base» < window .«next_seq_num») × (windowState.outstanding window ≤ maxWindow) ⌝ }
-    ensures { λ r. ⌜ r ≡ advance (sender window (now (store .entry))) n ⌝ }
+// The base after the ACK of an outstanding number: at send_base past it and those acknowledged after it.
+fn base_after(window: SendWindow, store: &[u8], n: u32) -> u32
+    requires { ⌜ windowState.stateBroken true window (now store) ≡ false ⌝ }
+    requires { ⌜ inWindow window n ≡ true ⌝ }
+    ensures { λ r. ⌜ r ≡ baseAfter (sender window (now (store .entry))) n ⌝ }
 {
     let base = window.send_base;
     if n != base {
-        return 0;
+        return base;
     }
     let others = (window.next_seq_num - base - 1) as usize;
     let run = store::marked_run_unchecked(store, window.window_size, base + 1, others, 2);
-    1 + run as u32
+    base + 1 + run as u32
 }
 
 // Marks an outstanding number as acknowledged, or releases those that send_base moves past.
-fn acknowledge_one_unchecked(window: SendWindow, store: &mut [u8], n: u32, moved: u32) -> SendWindow
+fn acknowledge_one(window: SendWindow, store: &mut [u8], n: u32, base: u32) -> SendWindow
     requires { ⌜ (windowState.stateBroken true window (now store) ≡ false) × (inWindow window n ≡ true) ⌝ }
-    requires { ⌜ moved ≡ advance (sender window (now store)) n ⌝ }
+    requires { ⌜ base ≡ baseAfter (sender window (now store)) n ⌝ }
     ensures { λ r. ⌜ sender r (now (store .exit)) ≡ acknowledgeOne (sender window (now (store .entry))) n ⌝ }
 {
-    if moved == 0 {
+    if base == window.send_base {
         store::set_mark_unchecked(store, n as usize % window.window_size, 2);
         return window;
     }
-    window.release_unchecked(store, window.send_base + moved)
-}
-
-// Whether a number is outstanding and not acknowledged.
-fn due_unchecked(window: SendWindow, store: &[u8], n: u32) -> bool
-    requires { ⌜ (0 < window .«window_size») × (window .«window_size» * slotSize ≤ length (now store)) ⌝ }
-    ensures { λ r. ⌜ r ≡ due (sender window (now (store .entry))) n ⌝ }
-{
-    if n < window.send_base {
-        return false;
-    }
-    if window.next_seq_num <= n {
-        return false;
-    }
-    store::mark_unchecked(store, n as usize % window.window_size) != 2
+    window.release_unchecked(store, base)
 }
 
 pub struct SelectiveRepeatReceiver {
@@ -309,33 +345,85 @@ impl SelectiveRepeatReceiver {
         output: &mut [u8],
         ack: &mut [u8],
     ) -> SelectiveRepeatReceiveResult
-        ensures { λ r. ⌜ receiveExit (r .answer) (receiver (r .receiver) (now (store .exit))) (now (output .exit)) (now (ack .exit)) ≡ handlePacket (receiver self (now (store .entry))) (now (raw .entry)) (now (output .entry)) (now (ack .entry)) ⌝ }
+        ensures { λ r. ⌜ receiveExit (r .answer) (receiver (r .receiver) (now (store .exit)))
+            (now (output .exit)) (now (ack .exit))
+            ≡ handlePacket (receiver self (now (store .entry))) (now (raw .entry))
+            (now (output .entry)) (now (ack .entry)) ⌝ }
     {
-        let handed = receiver::read_checked(
+        let verdict = refusal::held_verdict(
             self.receiving_broken(store, output),
-            self.total_received,
-            self.buffered_out_of_order,
-            self.duplicates_count,
-            raw,
+            self.counts_broken(),
         );
-        if let PacketReading::Refused(r) = handed {
-            return SelectiveRepeatReceiveResult {
+        match receiver::read_after(verdict, raw) {
+            ReadingAnswer::Reading(reading) => {
+                self.handle_packet_unchecked(store, reading, Packet::payload(raw), output, ack)
+            }
+            ReadingAnswer::Refused(r) => SelectiveRepeatReceiveResult {
                 receiver: self,
                 answer: ReceiveAnswer::Refused(r),
-            };
+            },
         }
-        let payload = Packet::payload(raw);
-        let after = self.decide_unchecked(store, handed);
+    }
+
+    // How many payloads are held.
+    pub fn buffered_count(self, store: &[u8]) -> CountAnswer
+        ensures { λ r. ⌜ r ≡ bufferedCount (receiver self (now (store .entry))) ⌝ }
+    {
+        match refusal::held_verdict(self.state_broken(store), self.counts_broken()) {
+            Verdict::Accepted => {
+                let window = self.window_size;
+                let base = self.recv_base;
+                CountAnswer::Count(store::marked_count_unchecked(store, window, base, window, 1))
+            }
+            Verdict::Refused(r) => CountAnswer::Refused(r),
+        }
+    }
+
+    // Whether check 9 is true of all but the fill mark.
+    pub fn state_broken(self, store: &[u8]) -> bool
+        ensures { λ r. ⌜ r ≡ stateBroken self (now (store .entry)) ⌝ }
+    {
+        let window = self.window_size;
+        let base = self.recv_base;
+        if window::window_broken(window) {
+            return true;
+        }
+        if window::store_short(store, window) {
+            return true;
+        }
+        if bounds::SEQ_NUM_LIMIT < base {
+            return true;
+        }
+        store::receiver_slots_broken_unchecked(store, window, base)
+    }
+
+    // A packet that was read, with its payload; refused only where a buffer is too short.
+    pub fn handle_packet_unchecked(
+        self,
+        store: &mut [u8],
+        reading: PacketReading,
+        payload: &[u8],
+        output: &mut [u8],
+        ack: &mut [u8],
+    ) -> SelectiveRepeatReceiveResult
+        requires { ⌜ (receivingBroken self (now store) (now output) ≡ false) × (countersBroken self ≡ false) ⌝ }
+        requires { ⌜ length (now payload) ≤ maxPayload ⌝ }
+        ensures { λ r. ⌜ receiveExit (r .answer) (receiver (r .receiver) (now (store .exit)))
+            (now (output .exit)) (now (ack .exit))
+            ≡ handlePacketUnchecked (receiver self (now (store .entry))) reading
+            (now (payload .entry)) (now (output .entry)) (now (ack .entry)) ⌝ }
+    {
+        let after = self.decide_unchecked(store, reading);
         let decision = after.decision;
         let change = after.change;
-        let size = self.delivered_length_unchecked(store, payload, change);
+        let size = self.delivered_length(store, change, payload);
         if receiver::room_missing_unchecked(decision, size, self.filled, output, ack) {
             return SelectiveRepeatReceiveResult {
                 receiver: self,
                 answer: ReceiveAnswer::Refused(Refusal::Full),
             };
         }
-        let filled = self.carry_out_unchecked(store, decision, change, payload, output, ack);
+        let filled = self.apply_in_room(store, decision, change, payload, output, ack);
         let reply = decision.reply;
         let mut receiver = after.receiver;
         receiver.filled = filled;
@@ -345,41 +433,22 @@ impl SelectiveRepeatReceiver {
         }
     }
 
-    // How many payloads are held.
-    pub fn buffered_count(self, store: &[u8]) -> CountAnswer
-        ensures { λ r. ⌜ r ≡ bufferedCount (receiver self (now (store .entry))) ⌝ }
-    {
-        if self.state_broken(store) {
-            return CountAnswer::Refused(Refusal::State);
-        }
-        if receiver::counts_broken(
-            self.total_received,
-            self.buffered_out_of_order,
-            self.duplicates_count,
-        ) {
-            return CountAnswer::Refused(Refusal::Counts);
-        }
-        let window = self.window_size;
-        CountAnswer::Count(store::marked_count_unchecked(store, window, self.recv_base, window, 1))
-    }
-
     // What a packet that isn't refused does to the state, and what is to be written.
     pub fn decide_unchecked(
         mut self,
         store: &[u8],
-        handed: PacketReading,
+        reading: PacketReading,
     ) -> SelectiveRepeatDecision
         requires { ⌜ stateBroken self (now store) ≡ false ⌝ }
         requires { ⌜ countersBroken self ≡ false ⌝ }
-        ensures { λ r. ⌜ r ≡ decision (receiver self (now (store .entry))) handed ⌝ }
+        ensures { λ r. ⌜ r ≡ decision (receiver self (now (store .entry))) reading ⌝ }
     {
         self.total_received = self.total_received + 1;
-        match handed {
+        match reading {
             PacketReading::Data(n) => self.decide_data(store, n),
             PacketReading::Fin(n) => self.decided(false, Reply::Ack(n), SlotChange::Unchanged),
             PacketReading::Ack => self.decided(false, Reply::Silent, SlotChange::Unchanged),
             PacketReading::Corrupted => self.decided(false, Reply::Silent, SlotChange::Unchanged),
-            PacketReading::Refused(_) => self.decided(false, Reply::Silent, SlotChange::Unchanged),
         }
     }
 
@@ -422,9 +491,10 @@ impl SelectiveRepeatReceiver {
     }
 
     // The length of the payload and the held payloads that are delivered after it.
-    fn delivered_length_unchecked(self, store: &[u8], payload: &[u8], change: SlotChange) -> usize
+    fn delivered_length(self, store: &[u8], change: SlotChange, payload: &[u8]) -> usize
         requires { ⌜ Ready self (now store) × (released change < self .«window_size») ⌝ }
-        ensures { λ r. ⌜ r ≡ length (deliveredBytes (receiver self (now (store .entry))) (now (payload .entry)) change) ⌝ }
+        ensures { λ r. ⌜ r
+            ≡ length (deliveredBytes (receiver self (now (store .entry))) (now (payload .entry)) change) ⌝ }
     {
         let held = store::payloads_length_unchecked(
             store,
@@ -436,7 +506,7 @@ impl SelectiveRepeatReceiver {
     }
 
     // Carries a decision out: payloads to the output, the ACK to its buffer, the slots. Answers the fill mark.
-    fn carry_out_unchecked(
+    fn apply_in_room(
         self,
         store: &mut [u8],
         decision: Decision,
@@ -447,11 +517,15 @@ impl SelectiveRepeatReceiver {
     ) -> usize
         requires { ⌜ Ready self (now store) × (released change < self .«window_size») ⌝ }
         requires { ⌜ (decision .deliver ≡ false → released change ≡ 0) × (length (now payload) ≤ maxPayload) ⌝ }
-        requires { ⌜ RoomFor decision (length (deliveredBytes (receiver self (now store)) (now payload) change)) (self .filled) (now output) (now ack) ⌝ }
-        ensures { λ r. ⌜ applyExit r (now (output .exit)) (now (ack .exit)) ≡ applied decision (deliveredBytes (receiver self (now (store .entry))) (now (payload .entry)) change) (self .filled) (now (output .entry)) (now (ack .entry)) ⌝ }
-        ensures { λ _. ⌜ now (store .exit) ≡ changedSlots (receiver self (now (store .entry))) (now (payload .entry)) change ⌝ }
+        requires { ⌜ RoomFor decision (length (deliveredBytes (receiver self (now store)) (now payload) change))
+            (self .filled) (now output) (now ack) ⌝ }
+        ensures { λ r. ⌜ applyExit r (now (output .exit)) (now (ack .exit))
+            ≡ applied decision (deliveredBytes (receiver self (now (store .entry))) (now (payload .entry)) change)
+            (self .filled) (now (output .entry)) (now (ack .entry)) ⌝ }
+        ensures { λ _. ⌜ now (store .exit)
+            ≡ changedSlots (receiver self (now (store .entry))) (now (payload .entry)) change ⌝ }
     {
-        let filled = receiver::carry_out_unchecked(decision, payload, self.filled, output, ack);
+        let filled = receiver::apply_in_room_unchecked(decision, payload, self.filled, output, ack);
         let end = store::copy_payloads_unchecked(
             store,
             self.window_size,
@@ -460,14 +534,16 @@ impl SelectiveRepeatReceiver {
             output,
             filled,
         );
-        self.change_slots_unchecked(store, change, payload);
+        self.change_slots(store, change, payload);
         end
     }
 
     // Holds the payload, or empties the slots of the payloads that were delivered.
-    fn change_slots_unchecked(self, store: &mut [u8], change: SlotChange, payload: &[u8])
-        requires { ⌜ Ready self (now store) × (released change < self .«window_size») × (length (now payload) ≤ maxPayload) ⌝ }
-        ensures { λ _. ⌜ now (store .exit) ≡ changedSlots (receiver self (now (store .entry))) (now (payload .entry)) change ⌝ }
+    fn change_slots(self, store: &mut [u8], change: SlotChange, payload: &[u8])
+        requires { ⌜ Ready self (now store) × (released change < self .«window_size») ⌝ }
+        requires { ⌜ length (now payload) ≤ maxPayload ⌝ }
+        ensures { λ _. ⌜ now (store .exit)
+            ≡ changedSlots (receiver self (now (store .entry))) (now (payload .entry)) change ⌝ }
     {
         let window = self.window_size;
         let next = self.recv_base + 1;
@@ -482,7 +558,7 @@ impl SelectiveRepeatReceiver {
         }
     }
 
-    // Whether document 01's line 9 is true, with the fill mark.
+    // Whether check 9 is true, with the fill mark.
     fn receiving_broken(self, store: &[u8], output: &[u8]) -> bool
         ensures { λ r. ⌜ r ≡ receivingBroken self (now (store .entry)) (now (output .entry)) ⌝ }
     {
@@ -492,21 +568,11 @@ impl SelectiveRepeatReceiver {
         output.len() < self.filled
     }
 
-    // Whether document 01's line 9 is true of all but the fill mark.
-    pub fn state_broken(self, store: &[u8]) -> bool
-        ensures { λ r. ⌜ r ≡ stateBroken self (now (store .entry)) ⌝ }
+    // Whether check 8 is true.
+    fn counts_broken(self) -> bool
+        ensures { λ r. ⌜ r ≡ countersBroken self ⌝ }
     {
-        let window = self.window_size;
-        let base = self.recv_base;
-        if window::window_broken(window) {
-            return true;
-        }
-        if window::store_short(store, window) {
-            return true;
-        }
-        if bounds::SEQ_NUM_LIMIT < base {
-            return true;
-        }
-        store::receiver_slots_broken_unchecked(store, window, base)
+        let received = self.total_received;
+        receiver::counts_broken(received, self.buffered_out_of_order, self.duplicates_count)
     }
 }

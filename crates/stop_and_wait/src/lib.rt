@@ -197,7 +197,10 @@ impl StopAndWaitSender {
     {
         let window = self.window_unchecked();
         let window = window.send_chunk_unchecked(store, payload, out);
-        self.after_send(SendAnswer::Sent(Packet::HEADER_SIZE + payload.len()), window)
+        self.after_send(
+            SendAnswer::Sent(Packet::HEADER_SIZE + payload.len()),
+            window,
+        )
     }
 
     // What the accepted ACK of the packet in flight does.
@@ -364,7 +367,11 @@ impl StopAndWaitReceiver {
     {
         let held = refusal::held_verdict(
             receiver::state_broken(self.expected_seq, self.filled, output),
-            receiver::counts_broken(self.total_received, self.duplicates_count, self.corrupted_count),
+            receiver::counts_broken(
+                self.total_received,
+                self.duplicates_count,
+                self.corrupted_count,
+            ),
         );
         match receiver::read_after(held, raw) {
             ReadingAnswer::Reading(reading) => {

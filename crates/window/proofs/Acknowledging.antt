@@ -52,6 +52,15 @@ module _ (selective : Bool) (s : SendWindow) (store raw : List ℕ) where
     by-reading (reading.Corrupted p) = on-accepted decision.Refused _ held-none
     by-reading (reading.Refused r) = on-refused decision.Refused _ (true-check r (heldChecks false false) (refl, (refl, tt)))
 
+  -- a refusal, or what the reading says on a state that isn't refused
+  pub ack-either : (P : AckDecision → Type 0) → ((r : Refusal) → P (decision.Refused r))
+      → (stateBroken selective s store ≡ false → countsBroken s ≡ false → P (byReading s (readDatagram raw))) → P (ackDecision selective s store raw)
+  ack-either P refused read = by-state (stateBroken selective s store) (countsBroken s) refl refl where
+    by-state : (b c : Bool) → stateBroken selective s store ≡ b → countsBroken s ≡ c → P (ackDecision selective s store raw)
+    by-state true c f g = rw (ack-state f) (refused State)
+    by-state false true f g = rw (ack-counts f g) (refused Counts)
+    by-state false false f g = rw (ack-read f g) (read f g)
+
   by-type : (n base m : ℕ) (t : PacketType) → byType s t m ≡ decision.Accept n base → (inWindow s n ≡ true) × (base ≡ n + 1)
   by-type n base m packetType.Data e = let z : _≡_ {A = ℕ} 0 1 = cc in absurd (omega arith)
   by-type n base m packetType.Fin e = let z : _≡_ {A = ℕ} 0 1 = cc in absurd (omega arith)

@@ -1,6 +1,8 @@
 use mathlib.Core.Path.{sym, _∙_}
-use Prim.Native.Nat.{_-_}
-use Rattle.refusal.specs.Order.{order, orElse, numbered, firstOf, verdict, decide}
+use native.Mathlib.Omega.{arith}
+use Rattle.refusal.specs.Order.{heldChecks}
+use Rattle.refusal.specs.declared.CountAnswer.the-variants as count
+use Rattle.refusal.proofs.Laws.{accepted-none-true, on-accepted, on-refused}
 use Rattle.selective_repeat.specs.Receiver.{bufferedCount}
 use Rattle.selective_repeat.proofs.States.{ready}
 use borrow.Author.Needs.{needs}
@@ -10,31 +12,38 @@ use Rattle.selective_repeat.proofs.SelectiveRepeatReceiver.buffered_cou
 state-broken-requires : tie.Need-state-broken-requires
 state-broken-requires c κs = search needs
 
-returns : tie.Need-returns
-unfolding bufferedCount verdict firstOf numbered orElse order decide
-returns c = simp (sym (c .before .state-broken .ensures) ∙ c .if1 .taken)
-
 counts-broken-requires : tie.Need-counts-broken-requires
 counts-broken-requires c κs = search needs
 
-returns-2 : tie.Need-returns-2
-unfolding bufferedCount verdict firstOf numbered orElse order decide
-returns-2 c = simp (sym (c .before .before .before .state-broken .ensures) ∙ c .before .before .if1 .left, sym (c .before .counts-broken .ensures) ∙ c .if2 .taken)
+held-verdict-requires : tie.Need-held-verdict-requires
+held-verdict-requires c κs = search needs
+
+enum-told : tie.Need-enum-told
+enum-told c = search needs
 
 marked-count-unchecked-requires : tie.Need-marked-count-unchecked-requires
-marked-count-unchecked-requires c κs = let s = ready (c .before .before .before .before .before .args .self) (c .before .before .before .before .before .args .store .now) (sym (c .before .before .before .state-broken .ensures) ∙ c .before .before .if1 .left) in let few = s .small in (s .positive, s .room, omega arith)
+marked-count-unchecked-requires c κs = let s = ready (c .before .before .before .before .before .before .args .self) (c .before .before .before .before .before .before .args .store .now) (sym (c .before .before .before .before .state-broken .ensures) ∙ accepted-none-true (heldChecks (c .before .before .before .before .state-broken .result) (c .before .before .before .counts-broken .result)) (sym (c .before .before .held-verdict .ensures) ∙ c .enum-told .given .1) .0) in let few = s .small in (s .positive, s .room, omega arith)
 
-returns-3 : tie.Need-returns-3
-unfolding bufferedCount verdict firstOf numbered orElse order decide
-returns-3 c = simp (sym (c .before .before .before .before .state-broken .ensures) ∙ c .before .before .before .if1 .left, sym (c .before .before .counts-broken .ensures) ∙ c .before .if2 .left, c .marked-count-unchecked .ensures)
+enum-known-r : tie.Need-enum-known-r
+enum-known-r c = search needs
+
+returns : tie.Need-returns
+unfolding bufferedCount
+returns c = rw (← (c .before .before .before .before .before .state-broken .ensures), ← (c .before .before .before .before .counts-broken .ensures), ← (c .before .before .before .held-verdict .ensures), c .marked-count-unchecked .ensures) (sym (on-accepted count.Refused _ (c .before .enum-told .given .1)))
+
+returns-2 : tie.Need-returns-2
+unfolding bufferedCount
+returns-2 c = rw (← (c .before .before .before .before .before .state-broken .ensures), ← (c .before .before .before .before .counts-broken .ensures), ← (c .before .before .before .held-verdict .ensures)) (sym (on-refused count.Refused _ (c .before .r .given .1)))
 
 pub buffered-count-spec : {M : Type 1} → statement M
 buffered-count-spec =
     tie.close
     (tie.spec
     state-broken-requires
-    returns
     counts-broken-requires
-    returns-2
+    held-verdict-requires
+    enum-told
     marked-count-unchecked-requires
-    returns-3)
+    enum-known-r
+    returns
+    returns-2)

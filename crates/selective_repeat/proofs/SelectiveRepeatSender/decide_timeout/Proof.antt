@@ -24,15 +24,15 @@ counts-broken-requires c κs = search needs
 returns-2 : tie.Need-returns-2
 returns-2 c = sym (decision-counts (stateBroken true (c .before .before .before .before .before .before .args .self .window) (c .before .before .before .before .before .before .args .store .now)) (countsBroken (c .before .before .before .before .before .before .args .self .window)) (c .before .before .before .before .before .before .args .seq-num) (cond (due (sender (c .before .before .before .before .before .before .args .self .window) (c .before .before .before .before .before .before .args .store .now)) (c .before .before .before .before .before .before .args .seq-num)) 1 0) (sym (c .before .before .before .state-broken .ensures) ∙ c .before .before .if1 .left) (sym (c .before .counts-broken .ensures) ∙ c .if2 .taken))
 
-due-unchecked-requires : tie.Need-due-unchecked-requires
-due-unchecked-requires c κs = let s = sound true (c .before .before .before .before .before .before .args .self .window) (c .before .before .before .before .before .before .args .store .now) (sym (c .before .before .before .state-broken .ensures) ∙ c .before .before .if1 .left) in (s .positive, s .room)
+is-due-unchecked-requires : tie.Need-is-due-unchecked-requires
+is-due-unchecked-requires c κs = let s = sound true (c .before .before .before .before .before .before .args .self .window) (c .before .before .before .before .before .before .args .store .now) (sym (c .before .before .before .state-broken .ensures) ∙ c .before .before .if1 .left) in (s .positive, s .room)
 
 returns-3 : tie.Need-returns-3
-returns-3 c = sym (decision-nothing (stateBroken true (c .before .before .before .before .before .before .before .before .args .self .window) (c .before .before .before .before .before .before .before .before .args .store .now)) (countsBroken (c .before .before .before .before .before .before .before .before .args .self .window)) (c .before .before .before .before .before .before .before .before .args .seq-num) (cond (due (sender (c .before .before .before .before .before .before .before .before .args .self .window) (c .before .before .before .before .before .before .before .before .args .store .now)) (c .before .before .before .before .before .before .before .before .args .seq-num)) 1 0) (sym (c .before .before .before .before .before .state-broken .ensures) ∙ c .before .before .before .before .if1 .left) (sym (c .before .before .before .counts-broken .ensures) ∙ c .before .before .if2 .left) (ap (λ (b : Bool). cond b 1 0) (sym (c .before .due-unchecked .ensures) ∙ not-true (c .before .due-unchecked .result) (c .if3 .taken))))
+returns-3 c = sym (decision-nothing (stateBroken true (c .before .before .before .before .before .before .before .before .args .self .window) (c .before .before .before .before .before .before .before .before .args .store .now)) (countsBroken (c .before .before .before .before .before .before .before .before .args .self .window)) (c .before .before .before .before .before .before .before .before .args .seq-num) (cond (due (sender (c .before .before .before .before .before .before .before .before .args .self .window) (c .before .before .before .before .before .before .before .before .args .store .now)) (c .before .before .before .before .before .before .before .before .args .seq-num)) 1 0) (sym (c .before .before .before .before .before .state-broken .ensures) ∙ c .before .before .before .before .if1 .left) (sym (c .before .before .before .counts-broken .ensures) ∙ c .before .before .if2 .left) (ap (λ (b : Bool). cond b 1 0) (sym (c .before .is-due-unchecked .ensures) ∙ not-true (c .before .is-due-unchecked .result) (c .if3 .taken))))
 
 returns-4 : tie.Need-returns-4
 returns-4 c =
-    let one : _≡_ {A = ℕ} (cond (due (sender (c .before .before .before .before .before .before .before .before .args .self .window) (c .before .before .before .before .before .before .before .before .args .store .now)) (c .before .before .before .before .before .before .before .before .args .seq-num)) 1 0) 1 = ap (λ (b : Bool). cond b 1 0) (sym (c .before .due-unchecked .ensures) ∙ not-false (c .before .due-unchecked .result) (c .if3 .left)) in
+    let one : _≡_ {A = ℕ} (cond (due (sender (c .before .before .before .before .before .before .before .before .args .self .window) (c .before .before .before .before .before .before .before .before .args .store .now)) (c .before .before .before .before .before .before .before .before .args .seq-num)) 1 0) 1 = ap (λ (b : Bool). cond b 1 0) (sym (c .before .is-due-unchecked .ensures) ∙ not-false (c .before .is-due-unchecked .result) (c .if3 .left)) in
     ap (decision.Resend (c .before .before .before .before .before .before .before .before .args .seq-num)) (sym one) ∙ sym (decision-resend (stateBroken true (c .before .before .before .before .before .before .before .before .args .self .window) (c .before .before .before .before .before .before .before .before .args .store .now)) (countsBroken (c .before .before .before .before .before .before .before .before .args .self .window)) (c .before .before .before .before .before .before .before .before .args .seq-num) (cond (due (sender (c .before .before .before .before .before .before .before .before .args .self .window) (c .before .before .before .before .before .before .before .before .args .store .now)) (c .before .before .before .before .before .before .before .before .args .seq-num)) 1 0) (sym (c .before .before .before .before .before .state-broken .ensures) ∙ c .before .before .before .before .if1 .left) (sym (c .before .before .before .counts-broken .ensures) ∙ c .before .before .if2 .left) (λ e. omega (arith, one)))
 
 pub decide-timeout-spec : {M : Type 1} → statement M
@@ -43,6 +43,6 @@ decide-timeout-spec =
     returns
     counts-broken-requires
     returns-2
-    due-unchecked-requires
+    is-due-unchecked-requires
     returns-3
     returns-4)

@@ -5,11 +5,11 @@ use Rattle.store.proofs.Laws.{slot-in}
 use native.Mathlib.Nat.{add-sub-cancel-left}
 use Rattle.window.specs.Slots.{emptyFrom}
 use borrow.Author.Needs.{needs}
-use Rattle.selective_repeat.proofs.SelectiveRepeatReceiver.change_slots_unchecked.Statement.{statement}
-use Rattle.selective_repeat.proofs.SelectiveRepeatReceiver.change_slots_unchecked.Tie as tie
+use Rattle.selective_repeat.proofs.SelectiveRepeatReceiver.change_slots.Statement.{statement}
+use Rattle.selective_repeat.proofs.SelectiveRepeatReceiver.change_slots.Tie as tie
 
 add-next : tie.Need-add-next
-add-next c = omega (arith, c .before .before .before .pre .0 .low)
+add-next c = omega (arith, c .before .before .before .pre .0 .0 .low)
 
 enum-told : tie.Need-enum-told
 enum-told c = search needs
@@ -21,29 +21,29 @@ cast-fill-unchecked : tie.Need-cast-fill-unchecked
 cast-fill-unchecked c = search needs
 
 rem-fill-unchecked : tie.Need-rem-fill-unchecked
-rem-fill-unchecked c = c .before .before .before .before .before .before .before .pre .0 .positive
+rem-fill-unchecked c = c .before .before .before .before .before .before .before .pre .0 .0 .positive
 
 fill-unchecked-requires : tie.Need-fill-unchecked-requires
-fill-unchecked-requires c κs = (slot-in (c .before .before .before .before .before .before .before .args .store .now) (c .before .before .change .given .0 .0) (c .before .before .before .before .before .before .before .args .self .«window_size») (c .before .before .before .before .before .before .before .pre .0 .positive) (c .before .before .before .before .before .before .before .pre .0 .room), c .before .before .before .before .before .before .before .pre .2)
+fill-unchecked-requires c κs = (slot-in (c .before .before .before .before .before .before .before .args .store .now) (c .before .before .change .given .0 .0) (c .before .before .before .before .before .before .before .args .self .«window_size») (c .before .before .before .before .before .before .before .pre .0 .0 .positive) (c .before .before .before .before .before .before .before .pre .0 .0 .room), c .before .before .before .before .before .before .before .pre .1)
 
 enum-known-change-2 : tie.Need-enum-known-change-2
 enum-known-change-2 c = search needs
 
 cast-empty-slots-unchecked : tie.Need-cast-empty-slots-unchecked
 cast-empty-slots-unchecked c =
-    let few = rw (c .before .before .change2 .given .1) at (c .before .before .before .before .before .before .before .pre .1) in
-    let small = c .before .before .before .before .before .before .before .pre .0 .small in
+    let few = rw (c .before .before .change2 .given .1) at (c .before .before .before .before .before .before .before .pre .0 .1) in
+    let small = c .before .before .before .before .before .before .before .pre .0 .0 .small in
     omega arith
 
 add-empty-slots-unchecked : tie.Need-add-empty-slots-unchecked
 add-empty-slots-unchecked c =
-    let few = rw (c .before .before .change2 .given .1) at (c .before .before .before .before .before .before .before .pre .1) in
-    let small = c .before .before .before .before .before .before .before .pre .0 .small in
-    let low = c .before .before .before .before .before .before .before .pre .0 .low in
+    let few = rw (c .before .before .change2 .given .1) at (c .before .before .before .before .before .before .before .pre .0 .1) in
+    let small = c .before .before .before .before .before .before .before .pre .0 .0 .small in
+    let low = c .before .before .before .before .before .before .before .pre .0 .0 .low in
     omega arith
 
 empty-slots-unchecked-requires : tie.Need-empty-slots-unchecked-requires
-empty-slots-unchecked-requires c κs = (c .before .before .before .before .before .before .before .pre .0 .positive, c .before .before .before .before .before .before .before .pre .0 .room, omega arith)
+empty-slots-unchecked-requires c κs = (c .before .before .before .before .before .before .before .pre .0 .0 .positive, c .before .before .before .before .before .before .before .pre .0 .0 .room, omega arith)
 
 returns : tie.Need-returns
 returns c = rw (c .enum-told .given .1)
@@ -62,8 +62,8 @@ returns-3 c =
     rw (c .before .before .before .before .before .change2 .given .1) (c .before .before .empty-slots-unchecked .ensures
     ∙ ap (emptyFrom (c .before .before .before .before .before .before .before .before .before .before .args .store .now) (c .before .before .before .before .before .before .before .before .before .before .args .self .«window_size») (c .before .before .before .before .before .before .before .before .before .before .args .self .«recv_base» + 1)) (add-sub-cancel-left (c .before .before .before .before .before .before .before .before .before .before .args .self .«recv_base» + 1) (c .before .before .before .before .before .change2 .given .0 .0)))
 
-pub change-slots-unchecked-spec : {M : Type 1} → statement M
-change-slots-unchecked-spec =
+pub change-slots-spec : {M : Type 1} → statement M
+change-slots-spec =
     tie.close
     (tie.spec
     add-next

@@ -5,8 +5,8 @@ use Rattle.selective_repeat.specs.Receiver.{released, deliveredBytes}
 use Rattle.selective_repeat.proofs.States.{payloads-in}
 use lib.ListN.{length-append}
 use borrow.Author.Needs.{needs}
-use Rattle.selective_repeat.proofs.SelectiveRepeatReceiver.delivered_length_unchecked.Statement.{statement}
-use Rattle.selective_repeat.proofs.SelectiveRepeatReceiver.delivered_length_unchecked.Tie as tie
+use Rattle.selective_repeat.proofs.SelectiveRepeatReceiver.delivered_length.Statement.{statement}
+use Rattle.selective_repeat.proofs.SelectiveRepeatReceiver.delivered_length.Tie as tie
 
 add-payloads-length-unchecked : tie.Need-add-payloads-length-unchecked
 add-payloads-length-unchecked c = omega (arith, c .before .before .before .pre .0 .low)
@@ -33,8 +33,8 @@ returns : tie.Need-returns
 unfolding deliveredBytes
 returns c = rw (c .payloads-length-unchecked .ensures .0, c .before .released .ensures) (sym (length-append (c .before .before .before .before .before .args .payload .now) _))
 
-pub delivered-length-unchecked-spec : {M : Type 1} → statement M
-delivered-length-unchecked-spec =
+pub delivered-length-spec : {M : Type 1} → statement M
+delivered-length-spec =
     tie.close
     (tie.spec
     add-payloads-length-unchecked
