@@ -1,5 +1,5 @@
 -- Lists of calls that compute, bytes and all, one for each protocol: chunks A and B, a first datagram that comes only with a bit flipped, copies
--- that come twice or late, ACKs lost; and a resending of what is then outstanding.
+-- that come twice or late, ACKs lost; and a resending of what is then outstanding, with a timeout that finds nothing to send.
 use Prim.Native.Nat.{ℕ, zero, suc, _*_, _<_}
 use mathlib.Core.Path.{_≡_, refl}
 use mathlib.Core.List.{List, [], _∷_}
@@ -37,7 +37,7 @@ use Rattle.protocol.specs.declared.ProtocolType.the-variants.{StopAndWait, GoBa
 use Rattle.delivery.specs.Calls.{Call, whole, flipped, send, timeout, toReceiver, toSender, World, datagrams, step, run, Admissible, fedBy, fedIn}
 use Rattle.protocol.specs.PlainMachine.{plainStart, plainSend, plainData, plainAck, plainCall, plainStep, plainRun, plainOutstanding}
 use Rattle.delivery.specs.Ends.{SingleTimeout, one, GoBackNTimeout, all, earliest, ends, freshEnds, Made}
-use Rattle.delivery.specs.Demand3.{plainAfter, ResendsAll, Demand3}
+use Rattle.delivery.specs.Demand3.{plainAfter, resendStart, ResendsAll, Demand3}
 use Rattle.delivery.proofs.Demand3.{demand-3}
 
 abbrev start : (p : ProtocolType) → ℕ → ℕ → World (ends p)
@@ -60,7 +60,7 @@ record Computed (p : ProtocolType) (w limit : ℕ) (cs ds : List (Call (ends p .
   output-is : ends p .output (run (ends p) (start p w limit) cs .receiver) ≡ output
   receiver-at : ends p .receiverBase (run (ends p) (start p w limit) cs .receiver) ≡ receiverAt
   sender-at : ends p .senderBase (run (ends p) (start p w limit) cs .sender) ≡ senderAt
-  resending : ResendsAll p w (ends p) (run (ends p) (start p w limit) cs) (plainAfter p w (ends p) (start p w limit) cs) (plainOutstanding (plainAfter p w (ends p) (start p w limit) cs)) [] [] ds
+  resending : ResendsAll p w (ends p) (resendStart (ends p) (run (ends p) (start p w limit) cs) (plainAfter p w (ends p) (start p w limit) cs)) ds
 
 -- Stop-and-Wait: the first comes again late, after B was sent
 abbrev stopAndWait : List (Call SingleTimeout)
@@ -79,9 +79,9 @@ selectiveRepeat =
     send (65 ∷ []) buffer ∷ send (66 ∷ []) buffer ∷ toReceiver (flipped 0 10 3) buffer ∷ toReceiver (whole 1) buffer ∷ toReceiver (whole 1) buffer
     ∷ timeout 0 buffer ∷ toReceiver (whole 2) buffer ∷ toSender (whole 2) ∷ toSender (whole 2) ∷ []
 
-computed : Computed StopAndWait 1 3 stopAndWait (timeout one buffer ∷ toReceiver (whole 3) buffer ∷ toSender (whole 2) ∷ []) (65 ∷ []) 1 1
-    × Computed GoBackN 2 0 goBackN (timeout earliest buffer ∷ toReceiver (whole 4) buffer ∷ toSender (whole 2) ∷ []) (65 ∷ []) 1 1
-    × Computed SelectiveRepeat 2 0 selectiveRepeat (timeout 1 buffer ∷ toReceiver (whole 3) buffer ∷ toSender (whole 3) ∷ []) (65 ∷ 66 ∷ []) 2 1
+computed : Computed StopAndWait 1 3 stopAndWait (timeout one buffer ∷ toReceiver (whole 3) buffer ∷ toSender (whole 2) ∷ timeout one buffer ∷ []) (65 ∷ []) 1 1
+    × Computed GoBackN 2 0 goBackN (timeout earliest buffer ∷ toReceiver (whole 4) buffer ∷ toSender (whole 2) ∷ timeout all buffer ∷ []) (65 ∷ []) 1 1
+    × Computed SelectiveRepeat 2 0 selectiveRepeat (timeout 0 buffer ∷ timeout 1 buffer ∷ toReceiver (whole 3) buffer ∷ toSender (whole 3) ∷ []) (65 ∷ 66 ∷ []) 2 1
 unfolding words onesAdd onesSum checksum flip anyOf order orElse numbered firstOf verdict decide headerBytes datagram checksumOf matches readChecks headerOf payloadPart payloadOf slotAt slotBytes putSlot slot.slotPayload anyBelow senderSlotBroken senderSlotsBroken receiverSlotBroken receiverSlotsBroken markedRun payloadsFrom windowBroken storeShort window.numbersBroken window.stateBroken window.countsBroken fresh hold markRetransmitted datagramFor emptyFrom release sendChecks sendChunk datagramsFrom markFrom resend readAck ackDecision byDecision countsBroken readPacket ackAfter roomMissing applied receive acknowledgeOne sr.stateBroken sr.receivingBroken sr.dataDecision sr.decision sr.deliveredBytes datagrams step run stopAndWaitReceiver.decision stopAndWaitReceiver.dataDecision goBackNReceiver.decision goBackNReceiver.dataDecision marksBroken fedBy fedIn plainStart plainSend plainData plainAck plainCall plainStep plainRun plainOutstanding
 computed = (
   record {
@@ -89,21 +89,21 @@ computed = (
     output-is = refl;
     receiver-at = refl;
     sender-at = refl;
-    resending = (refl, refl, (refl, refl, refl, (refl, refl, refl, (refl, refl, refl))));
+    resending = (refl, ((refl, refl, refl), ((refl, refl, refl), (refl, (refl, refl, refl)))));
   },
   record {
     fair = (byte 65 (lit< tt), (byte 66 (lit< tt), (lit< tt, ((lit< tt, lit< tt, lit< tt, (λ e. let z : _≡_ {A = ℕ} 10 6 = e in omega arith), (λ e. let z : _≡_ {A = ℕ} 10 7 = e in omega arith)), (tt, (lit< tt, (lit< tt, (lit< tt, tt))))))));
     output-is = refl;
     receiver-at = refl;
     sender-at = refl;
-    resending = (refl, refl, (refl, refl, refl, (refl, refl, refl, (refl, refl, refl))));
+    resending = (refl, ((refl, refl, refl), ((refl, refl, refl), (refl, (refl, refl, refl)))));
   },
   record {
     fair = (byte 65 (lit< tt), (byte 66 (lit< tt), ((lit< tt, lit< tt, lit< tt, (λ e. let z : _≡_ {A = ℕ} 10 6 = e in omega arith), (λ e. let z : _≡_ {A = ℕ} 10 7 = e in omega arith)), (lit< tt, (lit< tt, (tt, (lit< tt, (lit< tt, (lit< tt, tt)))))))));
     output-is = refl;
     receiver-at = refl;
     sender-at = refl;
-    resending = (refl, refl, (refl, refl, refl, (refl, refl, refl, (refl, refl, refl))));
+    resending = (refl, (refl, ((refl, refl, refl), ((refl, refl, refl), (refl, refl, refl)))));
   },
 )
 

@@ -1,3 +1,4 @@
+pub mod Lists
 pub mod Datagrams
 pub mod Follow
 pub mod Simulation
@@ -11,3 +12,4 @@ pub mod Making
 pub mod Progress
 pub mod AnyBytes
 pub mod Examples
+pub mod Laws

@@ -29,7 +29,7 @@ pub acks-added : (replies : List (List ℕ)) (ns : List ℕ) (written : List ℕ
 acks-added replies ns written packets more h e k =
     rw (e, datagrams-flatten packets (acks-framed packets more k)) (each-append AckBytes replies ns packets more h k)
 
-none-added : (sent : List (List ℕ)) (written : List ℕ) → written ≡ [] → sent ++ datagrams written ≡ sent
+pub none-added : (sent : List (List ℕ)) (written : List ℕ) → written ≡ [] → sent ++ datagrams written ≡ sent
 unfolding datagrams
 none-added sent written e = rw e (append-nil sent)
 
@@ -58,7 +58,7 @@ module _ (p : ProtocolType) (w : ℕ) (E : Ends) (F : Follow p w E) (rest : List
     pub follows : Follows (step E v c) (trace.step p w m event)
 
   module _ (v : World E) (m : trace.World) (f : Follows v m) where
-    sender-kept : (d : Done (E .Sender)) → SenderKept E (F .SenderIs) d (m .sender) → Follows (bySender v d) m
+    pub sender-kept : (d : Done (E .Sender)) → SenderKept E (F .SenderIs) d (m .sender) → Follows (bySender v d) m
     sender-kept d k =
         rw (none-added (v .sent) (d .written) (k .nothing))
         record { sender = k .after; receiver = f .receiver; sent = f .sent; replies = f .replies; output = f .output; unwritten = f .unwritten }

@@ -29,9 +29,9 @@ use Rattle.selective_repeat.specs.Sender as selectiveRepeat
 use Rattle.selective_repeat.specs.Receiver as selectiveRepeatReceiver
 use Rattle.stop_and_wait.specs.declared.StopAndWaitSenderAnswer.the-variants as stopAndWaitMade
 use Rattle.selective_repeat.specs.declared.SelectiveRepeatReceiverAnswer.the-variants as selectiveRepeatMade
+use Rattle.protocol.specs.PlainMachine.{WindowFits}
 use Rattle.protocol.specs.declared.ProtocolType.{ProtocolType}
 use Rattle.protocol.specs.declared.ProtocolType.the-variants.{StopAndWait, GoBackN, SelectiveRepeat}
-use Rattle.protocol.specs.Trace.{WindowFits}
 use Rattle.delivery.specs.Calls.{Done, done, Ends, World, fresh}
 
 -- the bytes that an answer says were written, and whether the call was done

@@ -8,8 +8,8 @@ use native.Mathlib.Decide.{ℕ-discrete, decLt}
 use lib.ListN.{length}
 use Rattle.protocol.specs.Runs.{upFrom}
 use Rattle.protocol.specs.Machine.{Chunk, Segment, SenderState, ReceiverState, Received, nextNumber, send, segmentsFrom, acknowledge, receive}
-use Rattle.protocol.specs.PlainMachine.{PlainState, plainStart, plainStep, sendChunk, handleTimeout, handleData, handleAck}
-use Rattle.protocol.specs.Trace.{World, newWorld, Event, sent, resent, received, acknowledged, other, step, run, Allowed, Admissible, callOf, WindowFits}
+use Rattle.protocol.specs.PlainMachine.{PlainState, plainStart, plainStep, sendChunk, handleTimeout, handleData, handleAck, WindowFits}
+use Rattle.protocol.specs.Trace.{World, newWorld, Event, sent, resent, received, acknowledged, other, step, run, Allowed, Admissible, callOf}
 use Rattle.protocol.specs.KuroseRoss.{Data, Packet, corrupt, notcorrupt, ReceiverDid, rdt3Send, rdt3Timeout, rdt3SenderRcv, rdt3ReceiverRcv, rdt3Packet, rdt3Waits, rdt3SenderOf, rdt3Answer, gbnReceiverRcv, gbnPacket, gbnReceiverOf, gbnAnswer, SrSender, srPacket, SrSenderIs}
 use Rattle.protocol.specs.KuroseRossRuns.{srTimeouts, book, BookWorld, newBookWorld, atSender, atReceiver, bookStep, bookRun, SenderIs, ReceiverIs, WorldIs, InOrderOnly, NumberLikeBook, AckLikeBook, LikeBook, AllLikeBook}
 use Rattle.protocol.specs.declared.ProtocolType.{ProtocolType}

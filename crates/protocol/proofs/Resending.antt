@@ -11,8 +11,8 @@ use lib.Dec.{leb, ltb, eqb}
 use borrow.Author.Tests.{leb-true, leb-false, eqb-false, lt-ltb, le-leb, ne-eqb}
 use Rattle.protocol.specs.Runs.{lead, upFrom}
 use Rattle.protocol.specs.Machine.{Segment, SenderState, nextNumber, segmentAt, segmentsFrom, isAcknowledged, acknowledge, lateAcks, receive, receiveInOrder}
-use Rattle.protocol.specs.PlainMachine.{PlainState, note, withD, withReceiver, plainData, plainAck, plainCall, plainStep, plainRun}
-use Rattle.protocol.specs.Trace.{World, Event, sent, resent, received, acknowledged, other, step, Allowed, Admissible, callOf, WindowFits, isOutstanding, outstandingOf, outstanding, ResendsAll}
+use Rattle.protocol.specs.PlainMachine.{sendChunk, handleTimeout, handleData, handleAck, PlainState, note, withD, withReceiver, plainData, plainAck, plainCall, plainStep, plainRun, WindowFits}
+use Rattle.protocol.specs.Trace.{World, Event, sent, resent, received, acknowledged, other, step, Allowed, Admissible, callOf, isOutstanding, outstandingOf, outstanding, ResendsAll}
 use Rattle.protocol.specs.declared.ProtocolType.{ProtocolType}
 use Rattle.protocol.specs.declared.ProtocolType.the-variants.{StopAndWait, GoBackN, SelectiveRepeat}
 use Rattle.protocol.proofs.Every.{Every, every-nil, every-append, every-mono, every-head, every-tail}
@@ -386,7 +386,11 @@ through p w v s numbers segments acks [] o i f c r =
     let l : length (s .sent) ≤ s .A = at-end (isSelective p) w v s i c′ in
     record { fair = tt; same-sent = refl; last-D = omega arith; last-A = omega arith }
 through p w v s numbers segments acks (sent x ∷ es) o i f c r = absurd r
-through p w v s numbers segments acks (other x ∷ es) o i f c r = absurd r
+through p w v s numbers segments acks (other handleTimeout ∷ es) o i f c r =
+    followed p w v s (other handleTimeout) es tt refl (through p w v s numbers segments acks es o i f c r)
+through p w v s numbers segments acks (other (sendChunk x) ∷ es) o i f c r = absurd r
+through p w v s numbers segments acks (other (handleData n) ∷ es) o i f c r = absurd r
+through p w v s numbers segments acks (other (handleAck n) ∷ es) o i f c r = absurd r
 through p w v s numbers segments acks (resent n k ∷ es) o i f c r =
     let a : Allowed w v (resent n k) = resent-allowed w v n k numbers (f .still) (r .0) (r .1) in
     followed p w v s (resent n k) es a refl

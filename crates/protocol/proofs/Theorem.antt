@@ -6,8 +6,8 @@ use native.Mathlib.Omega.{arith}
 use lib.ListN.{length, take}
 use lib.Seq.{take-length}
 use Rattle.protocol.specs.Machine.{Segment, segmentsFrom, receive}
-use Rattle.protocol.specs.PlainMachine.{PlainState, plainStart, plainStep, plainRun, Fed}
-use Rattle.protocol.specs.Trace.{World, newWorld, Event, resent, received, acknowledged, step, run, Admissible, callOf, plainAfter, WindowFits, Claim, outstanding, ResendsAll, AllDelivered}
+use Rattle.protocol.specs.PlainMachine.{PlainState, plainStart, plainStep, plainRun, Fed, WindowFits}
+use Rattle.protocol.specs.Trace.{World, newWorld, Event, resent, received, acknowledged, step, run, Admissible, callOf, plainAfter, Claim, outstanding, ResendsAll, AllDelivered}
 use Rattle.protocol.specs.declared.ProtocolType.{ProtocolType}
 use Rattle.protocol.proofs.Invariant.{isSelective}
 use Rattle.protocol.proofs.Safety.{from-start, claimed}

@@ -1,5 +1,6 @@
 -- Document 01, "A plain machine keeps a list S of chunks and two numbers, D and A": it knows nothing of the ends.
 use Prim.Native.Nat.{ℕ, zero, suc, _+_, _-_}
+use mathlib.Core.Path.{_≡_}
 use mathlib.Core.Bool.{Bool, true, false, cond}
 use mathlib.Core.List.{List, [], _∷_, _++_}
 use lib.ListN.{length, getD}
@@ -87,3 +88,14 @@ notNoted marks (n ∷ ns) = cond (getD marks n false) (notNoted marks ns) (n ∷
 
 unfoldable pub plainOutstanding : PlainState → List ℕ
 plainOutstanding s = notNoted (s .atSender) (upFrom (s .A) (length (s .sent) - s .A))
+
+-- Stop-and-Wait's window is 1
+abbrev pub WindowFits : ProtocolType → ℕ → Type 0
+WindowFits StopAndWait w = w ≡ 1
+WindowFits GoBackN w = Unit {0}
+WindowFits SelectiveRepeat w = Unit {0}
+
+-- x stands first in a list
+abbrev pub First : {X : Type 0} → X → List X → Type 0
+First x [] = ⊥
+First x (y ∷ ys) = x ≡ y

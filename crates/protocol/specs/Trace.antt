@@ -6,9 +6,8 @@ use mathlib.Core.List.{List, [], _∷_, _++_, map, List·Memᴰ}
 use lib.ListN.{length, take, drop}
 use Rattle.protocol.specs.Runs.{upFrom}
 use Rattle.protocol.specs.Machine.{Chunk, Segment, SenderState, ReceiverState, newSender, newReceiver, nextNumber, send, segmentsFrom, inWindow, isAcknowledged, acknowledge, receive}
-use Rattle.protocol.specs.PlainMachine.{Call, sendChunk, handleTimeout, handleData, handleAck, PlainState, plainStart, plainRun, Fed, fed, plainOutstanding}
+use Rattle.protocol.specs.PlainMachine.{Call, sendChunk, handleTimeout, handleData, handleAck, PlainState, plainStart, plainRun, Fed, fed, plainOutstanding, First}
 use Rattle.protocol.specs.declared.ProtocolType.{ProtocolType}
-use Rattle.protocol.specs.declared.ProtocolType.the-variants.{StopAndWait, GoBackN, SelectiveRepeat}
 
 -- both ends, the chunks delivered, the segments that the sender made and the numbers that the receiver acknowledged, oldest first
 pub record World : Type 0 where
@@ -94,12 +93,6 @@ callOf (other c) = fed c false
 abbrev pub plainAfter : ProtocolType → ℕ → List Event → PlainState
 plainAfter p w es = plainRun p w plainStart (map callOf es)
 
--- Stop-and-Wait's window is 1
-abbrev pub WindowFits : ProtocolType → ℕ → Type 0
-WindowFits StopAndWait w = w ≡ 1
-WindowFits GoBackN w = Unit {0}
-WindowFits SelectiveRepeat w = Unit {0}
-
 -- outstanding: sent, and not acknowledged
 abbrev pub isOutstanding : SenderState → ℕ → Bool
 isOutstanding s n = inWindow s n && not (isAcknowledged s n)
@@ -124,14 +117,9 @@ pub record Claim (w : ℕ) (v : World) (s : PlainState) : Type 0 where
   pub rest-held : v .sender .chunks ≡ drop (s .A) (s .sent)
   pub outstanding-is : outstanding (v .sender) ≡ plainOutstanding s
 
--- x stands first in a list
-abbrev pub First : {X : Type 0} → X → List X → Type 0
-First x [] = ⊥
-First x (y ∷ ys) = x ≡ y
-
 -- One resending, however its calls, segments and ACKs interleave. Still to come are: the numbers to be sent again, as far as they are
--- outstanding; the segments made and not yet handed over; the ACKs made and not yet handed over. Each event takes what stands first; at
--- the end nothing is left.
+-- outstanding; the segments made and not yet handed over; the ACKs made and not yet handed over. Each event takes what stands first, but a
+-- timeout after which nothing is sent; at the end nothing is left.
 abbrev pub ResendsAll : ProtocolType → ℕ → World → List ℕ → List Segment → List ℕ → List Event → Type 0
 ResendsAll p w v numbers segments acks [] = (numbers ≡ []) × (segments ≡ []) × (acks ≡ [])
 ResendsAll p w v numbers segments acks (sent c ∷ es) = ⊥
@@ -143,7 +131,10 @@ ResendsAll p w v numbers segments acks (received q ∷ es) =
 ResendsAll p w v numbers segments acks (acknowledged n ∷ es) =
     First n acks
     × ResendsAll p w (step p w v (acknowledged n)) (outstandingOf (acknowledge p (v .sender) n) numbers) segments (drop 1 acks) es
-ResendsAll p w v numbers segments acks (other c ∷ es) = ⊥
+ResendsAll p w v numbers segments acks (other handleTimeout ∷ es) = ResendsAll p w v numbers segments acks es
+ResendsAll p w v numbers segments acks (other (sendChunk c) ∷ es) = ⊥
+ResendsAll p w v numbers segments acks (other (handleData n) ∷ es) = ⊥
+ResendsAll p w v numbers segments acks (other (handleAck n) ∷ es) = ⊥
 
 -- what one resending of all outstanding chunks leaves: S as it was, D and A at its end, and all of it delivered
 pub record AllDelivered (s : PlainState) (v : World) (t : PlainState) : Type 0 where
