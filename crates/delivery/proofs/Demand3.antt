@@ -191,7 +191,7 @@ selective-repeat-receiver w = record {
   refused = λ r raw output ack. not-received _ _ r (r .state .filled) _ _ _ raw output ack;
 }
 
-follows : (p : ProtocolType) (w : ℕ) → Follow p w (ends p)
+unfoldable pub follows : (p : ProtocolType) (w : ℕ) → Follow p w (ends p)
 follows StopAndWait w = calls-follow StopAndWait w false stopAndWait.windowEnd stopAndWait.sendChunk _ _ _ stop-and-wait-sender stopAndWaitView _ _ _ _ (stop-and-wait-receiver w)
 follows GoBackN w = calls-follow GoBackN w false (λ u. u) (sendChunk false) _ _ _ go-back-n-sender goBackNView _ _ _ _ (go-back-n-receiver w)
 follows SelectiveRepeat w = calls-follow SelectiveRepeat w true (λ u. u) (sendChunk true) _ _ _ selective-repeat-sender selectiveView _ _ _ _ (selective-repeat-receiver w)
@@ -248,7 +248,7 @@ fresh-follow SelectiveRepeat w limit sending receiving output m =
     }
 
 -- at the start all of the output is behind the fill mark
-fresh-start : (p : ProtocolType) (w limit : ℕ) (sending receiving output : List ℕ) → Made p w sending receiving
+pub fresh-start : (p : ProtocolType) (w limit : ℕ) (sending receiving output : List ℕ) → Made p w sending receiving
     → Follows p w (ends p) (follows p w) (ends p .unwritten (freshEnds p w limit sending receiving output .receiver)) (freshEnds p w limit sending receiving output) (newWorld p w)
 fresh-start StopAndWait w limit sending receiving output m = fresh-follow StopAndWait w limit sending receiving output m
 fresh-start GoBackN w limit sending receiving output m = fresh-follow GoBackN w limit sending receiving output m

@@ -12,4 +12,5 @@ pub mod Making
 pub mod Progress
 pub mod AnyBytes
 pub mod Examples
+pub mod KuroseRoss
 pub mod Laws

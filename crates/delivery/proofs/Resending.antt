@@ -16,7 +16,7 @@ use Rattle.protocol.specs.Trace.{Event, callOf}
 use Rattle.protocol.proofs.Laws.{isSelective, Invariant, Own, Every, every-nil, every-append, every-mono, every-head, every-tail, step-ok, claimed}
 use Rattle.delivery.specs.Calls.{whole, flipped, Call, send, timeout, toReceiver, toSender, Ends, World, datagrams, step, run, numberOf, fedBy, fedIn}
 use Rattle.delivery.specs.Demand3.{isOutstanding, outstandingOf, madeBy, ResendState, resendStart, ResendsAll}
-use Rattle.delivery.proofs.Datagrams.{DataBytes, AckBytes, Each, each-length, datagrams-flatten, data-framed, data-number, data-numbers, ack-number}
+use Rattle.delivery.proofs.Datagrams.{DataBytes, AckBytes, Each, each-length, datagrams-flatten, data-framed, data-number, data-numbers, numbers-from, count-from, ack-number}
 use Rattle.delivery.proofs.Follow.{SentAgain, Follow}
 use Rattle.delivery.proofs.Simulation.{data-added, acks-added, none-added, Follows, sender-kept, sent-again, packet-taken, ack-taken}
 
@@ -27,17 +27,6 @@ none-left : {X Y : Type 0} (R : X → Y → Type 0) (xs : List X) (ys : List Y) 
 none-left R [] [] h e = refl
 none-left R [] (y ∷ ys) h e = absurd h
 none-left R (x ∷ xs) ys h e = let z : _≡_ {A = ℕ} (suc (length xs)) 0 = ap length e in absurd (omega arith)
-
--- the numbers sent again
-numbers-from : (s : SenderState) (n k : ℕ) → map (λ q. q .number) (segmentsFrom s n k) ≡ upFrom n k
-unfolding segmentsFrom
-numbers-from s n zero = refl
-numbers-from s n (suc k) = ap (λ (l : List ℕ). n ∷ l) (numbers-from s (suc n) k)
-
-count-from : (s : SenderState) (n k : ℕ) → length (segmentsFrom s n k) ≡ k
-unfolding segmentsFrom
-count-from s n zero = refl
-count-from s n (suc k) = ap suc (count-from s (suc n) k)
 
 -- what is acknowledged at the sender is what is noted there
 abbrev SameMarks : SenderState → PlainState → Type 0

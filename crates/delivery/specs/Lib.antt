@@ -1,5 +1,6 @@
 pub mod Calls
 pub mod Demand3
+pub mod KuroseRoss
 pub mod Ends
 pub mod AnyBytes
 pub mod KnownAnswers

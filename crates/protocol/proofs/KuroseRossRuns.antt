@@ -213,7 +213,7 @@ run-like-book p w b v s (e ∷ es) o i f k h =
     run-like-book p w (bookStep (book p w) b e) (step p w v e) (plainStep p w s (callOf e)) es o (step-ok p w v s e o i (f .0)) (f .1) (k .1)
     (step-like-book p w b v s e o i (f .0) (k .0) h)
 
-start-like-book : (p : ProtocolType) (w : ℕ) (f : ℕ → Packet) → WorldIs p w (newBookWorld (book p w) f) (newWorld p w)
+pub start-like-book : (p : ProtocolType) (w : ℕ) (f : ℕ → Packet) → WorldIs p w (newBookWorld (book p w) f) (newWorld p w)
 unfolding newWorld
 start-like-book StopAndWait w f =
     record { sender-is = refl; receiver-is = refl; same-delivered = refl; same-packets = refl; same-acks = refl }

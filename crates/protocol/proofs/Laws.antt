@@ -5,3 +5,4 @@ pub use Rattle.protocol.proofs.Safety.{step-ok, run-ok, from-start, cla
 pub use Rattle.protocol.proofs.Resending.{Resent, resending-ok}
 pub use Rattle.protocol.proofs.Every.{Every, every-nil, every-cons, every-append, every-snoc, every-mono, every-head, every-tail}
 pub use Rattle.protocol.proofs.Marks.{On}
+pub use Rattle.protocol.proofs.KuroseRossRuns.{step-like-book, start-like-book, like-book, selective-repeat-like-book}
