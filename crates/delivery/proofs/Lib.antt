@@ -13,4 +13,5 @@ pub mod Progress
 pub mod AnyBytes
 pub mod Examples
 pub mod KuroseRoss
+pub mod NotRefused
 pub mod Laws

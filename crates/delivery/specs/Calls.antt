@@ -37,14 +37,16 @@ pub data Call (Timeout : Type 0) : Type 0 where
   toReceiver : Copy → List ℕ → Call Timeout
   toSender : Copy → Call Timeout
 
--- what a call left: the state, the bytes that it wrote to its buffer, and whether it was done: not refused, no full window, no retry limit
+-- what a call left: the state, the bytes that it wrote to its buffer; whether it was done: not refused, no full window, no retry limit;
+-- and whether it was refused
 pub record Done (S : Type 0) : Type 0 where
   pub after : S
   pub written : List ℕ
   pub isDone : Bool
+  pub isRefused : Bool
 
-abbrev pub done : {S : Type 0} → S → List ℕ → Bool → Done S
-done s written isDone = record { after = s; written = written; isDone = isDone }
+abbrev pub done : {S : Type 0} → S → List ℕ → Bool → Bool → Done S
+done s written isDone isRefused = record { after = s; written = written; isDone = isDone; isRefused = isRefused }
 
 -- the two ends of a protocol, each state with its store, the receiver's with its output
 pub record Ends : Type 1 where

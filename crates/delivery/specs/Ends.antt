@@ -2,7 +2,7 @@
 use Prim.Native.Nat.{ℕ, _*_}
 use mathlib.Core.List.{List, [], _++_}
 use mathlib.Core.Path.{_≡_}
-use mathlib.Core.Bool.{Bool, true, false}
+use mathlib.Core.Bool.{Bool, true, false, not}
 use lib.ListN.{take, drop, replicate}
 use Rattle.bounds.specs.Bounds.{slotSize}
 use Rattle.octets.specs.Octets.{Octets}
@@ -45,8 +45,13 @@ isSent (sendAnswer.Sent n) = true
 isSent sendAnswer.WindowFull = false
 isSent (sendAnswer.Refused r) = false
 
+abbrev pub isSendRefused : SendAnswer → Bool
+isSendRefused (sendAnswer.Sent n) = false
+isSendRefused sendAnswer.WindowFull = false
+isSendRefused (sendAnswer.Refused r) = true
+
 abbrev pub bySending : {S : Type 0} → SendExit S → Done S
-bySending x = done (x .after) (bytesSent (x .answer) (x .out)) (isSent (x .answer))
+bySending x = done (x .after) (bytesSent (x .answer) (x .out)) (isSent (x .answer)) (isSendRefused (x .answer))
 
 abbrev pub bytesResent : TimeoutAnswer → List ℕ → List ℕ
 bytesResent (timeoutAnswer.Resent n) out = take n out
@@ -58,8 +63,13 @@ isResent (timeoutAnswer.Resent n) = true
 isResent timeoutAnswer.Nothing = false
 isResent (timeoutAnswer.Refused r) = false
 
+abbrev pub isTimeoutRefused : TimeoutAnswer → Bool
+isTimeoutRefused (timeoutAnswer.Resent n) = false
+isTimeoutRefused timeoutAnswer.Nothing = false
+isTimeoutRefused (timeoutAnswer.Refused r) = true
+
 abbrev pub byResending : {S : Type 0} → TimeoutExit S → Done S
-byResending x = done (x .after) (bytesResent (x .answer) (x .out)) (isResent (x .answer))
+byResending x = done (x .after) (bytesResent (x .answer) (x .out)) (isResent (x .answer)) (isTimeoutRefused (x .answer))
 
 abbrev pub isHandled : AckAnswer → Bool
 isHandled ackAnswer.Accepted = true
@@ -67,7 +77,7 @@ isHandled ackAnswer.NotAccepted = true
 isHandled (ackAnswer.Refused r) = false
 
 abbrev pub byAcknowledging : {S : Type 0} → AckExit S → Done S
-byAcknowledging x = done (x .after) [] (isHandled (x .answer))
+byAcknowledging x = done (x .after) [] (isHandled (x .answer)) (not (isHandled (x .answer)))
 
 abbrev pub bytesReplied : ReceiveAnswer → List ℕ → List ℕ
 bytesReplied (receiveAnswer.Ack n) ack = take 10 ack
@@ -88,7 +98,8 @@ abbrev pub withOutput : {R : Type 0} → R → List ℕ → WithOutput R
 withOutput r output = record { receiver = r; output = output }
 
 abbrev pub byReceiving : {R : Type 0} → ReceiveExit R → Done (WithOutput R)
-byReceiving x = done (withOutput (x .receiver) (x .output)) (bytesReplied (x .answer) (x .ack)) (isReceived (x .answer))
+byReceiving x =
+    done (withOutput (x .receiver) (x .output)) (bytesReplied (x .answer) (x .ack)) (isReceived (x .answer)) (not (isReceived (x .answer)))
 
 -- two ends by their calls: sending, timeout, ACK, packet; and by their bases and the receiver's fill mark
 abbrev pub endsOf : {S R T : Type 0} → (S → List ℕ → List ℕ → SendExit S) → (S → T → List ℕ → TimeoutExit S) → (S → List ℕ → AckExit S)
