@@ -20,7 +20,7 @@ use Rattle.delivery.proofs.Datagrams.{DataBytes, AckBytes, Each, each-l
 use Rattle.delivery.proofs.Follow.{SentAgain, Follow}
 use Rattle.delivery.proofs.Simulation.{data-added, acks-added, none-added, Follows, sender-kept, sent-again, packet-taken, ack-taken}
 
-false≠true : _≡_ {A = Bool} false true → ⊥
+pub false≠true : _≡_ {A = Bool} false true → ⊥
 false≠true e = let z : _≡_ {A = ℕ} 0 1 = ap (λ (b : Bool). cond b 1 0) e in omega arith
 
 none-left : {X Y : Type 0} (R : X → Y → Type 0) (xs : List X) (ys : List Y) → Each R xs ys → xs ≡ [] → ys ≡ []

@@ -125,8 +125,8 @@ at-end b w v s i c = all-acknowledged b w v s i (λ n l. by n (c .comes n l))
 -- ---- a segment is handed to the receiver
 
 -- the sender's part of the plain machine is as before
-record SenderSame (s t : PlainState) : Type 0 where
-  same-sent : t .sent ≡ s .sent
+pub record SenderSame (s t : PlainState) : Type 0 where
+  pub same-sent : t .sent ≡ s .sent
   same-A : t .A ≡ s .A
   same-noted : t .atSender ≡ s .atSender
 
@@ -134,7 +134,7 @@ sender-same : (x : Bool) (t s : PlainState) → SenderSame s t → SenderSame s 
 sender-same true t s u = u
 sender-same false t s u = record { same-sent = refl; same-A = refl; same-noted = refl }
 
-data-same : (p : ProtocolType) (w : ℕ) (s : PlainState) (n : ℕ) → SenderSame s (plainData p w s n)
+pub data-same : (p : ProtocolType) (w : ℕ) (s : PlainState) (n : ℕ) → SenderSame s (plainData p w s n)
 unfolding plainData
 data-same StopAndWait w s n = sender-same (eqb n (s .D)) (withD s (s .D + 1)) s (record { same-sent = refl; same-A = refl; same-noted = refl })
 data-same GoBackN w s n = sender-same (eqb n (s .D)) (withD s (s .D + 1)) s (record { same-sent = refl; same-A = refl; same-noted = refl })
