@@ -5,5 +5,6 @@ pub mod InOrder
 pub mod Noted
 pub mod SelectiveRepeat
 pub mod Limits
+pub mod NoneRefused
 pub mod Examples
 pub mod Laws

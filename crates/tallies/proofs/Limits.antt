@@ -34,7 +34,7 @@ use Rattle.tallies.proofs.InOrder.{stop-and-wait-receiver, go-back-n-re
 use Rattle.tallies.proofs.SelectiveRepeat.{selective-repeat-receiver}
 
 -- ---- senders
-resent-by-sent : (a : Answered) → resentBy a ≤ sentBy a
+pub resent-by-sent : (a : Answered) → resentBy a ≤ sentBy a
 resent-by-sent (sent a out) = omega arith
 resent-by-sent (resent a out) = omega arith
 resent-by-sent (acknowledged a) = omega arith
@@ -44,7 +44,7 @@ unfolding total
 resent-within [] = omega arith
 resent-within (x ∷ xs) = let one = resent-by-sent x in let more = resent-within xs in omega arith
 
-counts-sound : (a b : ℕ) → a < countLimit → b < countLimit → anyOf (countFull a ∷ countFull b ∷ []) ≡ false
+pub counts-sound : (a b : ℕ) → a < countLimit → b < countLimit → anyOf (countFull a ∷ countFull b ∷ []) ≡ false
 unfolding anyOf
 counts-sound a b h k = rw (lt-leb countLimit a h, lt-leb countLimit b k)
 
@@ -76,7 +76,7 @@ module _ (store : List ℕ) where
   selective-repeat-sender-no-8 w cs h = sender-sound selectiveRepeatSender _ _ (from-zero selectiveRepeatSender selective-repeat-counted (fresh w store) refl refl cs) h
 
 -- ---- receivers
-one-more : (b : Bool) (m n : ℕ) → m ≤ n → cond b (suc m) m ≤ suc n
+pub one-more : (b : Bool) (m n : ℕ) → m ≤ n → cond b (suc m) m ≤ suc n
 one-more true m n h = omega arith
 one-more false m n h = omega arith
 
@@ -85,7 +85,7 @@ unfolding count
 count-within test [] = omega arith
 count-within test (h ∷ hs) = one-more (test hs h) (count test hs) (length hs) (count-within test hs)
 
-length-cond : (b : Bool) (h : PacketReading) (hs : List PacketReading) → length (cond b (h ∷ hs) hs) ≡ cond b (suc (length hs)) (length hs)
+pub length-cond : (b : Bool) (h : PacketReading) (hs : List PacketReading) → length (cond b (h ∷ hs) hs) ≡ cond b (suc (length hs)) (length hs)
 length-cond true h hs = refl
 length-cond false h hs = refl
 
@@ -99,7 +99,7 @@ readings-within handle r hs (c ∷ cs) =
     let size = length-cond (isReceived (x .answer)) (readPacket (c .raw)) hs in
     omega (arith, one, more, size)
 
-receiver-sound : (hs : List PacketReading) (f g : List PacketReading → PacketReading → Bool) → length hs < countLimit → receiver.countsBroken (length hs) (count f hs) (count g hs) ≡ false
+pub receiver-sound : (hs : List PacketReading) (f g : List PacketReading → PacketReading → Bool) → length hs < countLimit → receiver.countsBroken (length hs) (count f hs) (count g hs) ≡ false
 unfolding receiver.countsBroken anyOf
 receiver-sound hs f g h =
     let a = count-within f hs in
