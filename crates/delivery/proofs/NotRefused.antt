@@ -4,7 +4,7 @@ use mathlib.Core.Path.{_≡_, refl, sym, ap, _∙_, subst}
 use mathlib.Core.List.{List, [], _∷_, _++_, flatten, append-nil}
 use mathlib.Core.Bool.{Bool, true, false, cond, _&&_, _||_}
 use native.Mathlib.Omega.{arith}
-use native.Mathlib.Nat.{min-le-left, min-le-right, mul-le-mul-right}
+use native.Mathlib.Nat.{mul-suc}
 use borrow.Author.Tests.{le-ltb, ne-eqb}
 use lib.ListN.{length, take, drop, replicate, length-append, length-drop, length-replicate, take-append-drop}
 use lib.Seq.{length-take-le}
@@ -13,11 +13,11 @@ use Rattle.refusal.proofs.Laws.{any-of-none}
 use Rattle.bounds.specs.Bounds.{headerSize, maxPayload, maxDatagram, seqNumLimit}
 use Rattle.protocol.specs.declared.ProtocolType.{ProtocolType}
 use Rattle.protocol.specs.declared.ProtocolType.the-variants.{StopAndWait, GoBackN, SelectiveRepeat}
-use Rattle.protocol.specs.Machine.{Segment, SenderState, ReceiverState, nextNumber, receive}
-use Rattle.protocol.specs.PlainMachine.{PlainState, plainStep, WindowFits}
+use Rattle.protocol.specs.Machine.{Segment, SenderState, ReceiverState, nextNumber, segmentsFrom, receive}
+use Rattle.protocol.specs.PlainMachine.{PlainState, plainStart, plainStep, WindowFits}
 use Rattle.protocol.specs.Trace as trace
-use Rattle.protocol.specs.Trace.{callOf}
-use Rattle.protocol.proofs.Laws.{isSelective, Invariant, step-ok, claimed, plain-sent}
+use Rattle.protocol.specs.Trace.{callOf, newWorld}
+use Rattle.protocol.proofs.Laws.{isSelective, Invariant, at-start, chunks-length, step-ok, claimed, plain-sent}
 use Rattle.window.specs.Slots as slots
 use Rattle.window.specs.State.{outstanding, stateBroken, countsBroken}
 use Rattle.window.specs.Sending.{windowFree, sendChecks, sendChunk}
@@ -43,15 +43,15 @@ use Rattle.selective_repeat.proofs.Laws.{due-within, receiving-sound}
 use Rattle.refinement.specs.Good.{Good}
 use Rattle.refinement.specs.Copies.{DataOf, AckOf}
 use Rattle.refinement.proofs.Laws.{next-number, marks-good, flatten-append}
-use Rattle.delivery.specs.Calls.{whole, flipped, Call, send, timeout, toReceiver, toSender, World, Allowed}
-use Rattle.delivery.specs.Ends.{isSendRefused, isTimeoutRefused, isHandled, isReceived, WithOutput, withOutput, all, earliest, goBackNTimeout, ends}
+use Rattle.delivery.specs.Calls.{whole, flipped, Call, send, timeout, toReceiver, toSender, World, step, run, Allowed, Admissible}
+use Rattle.delivery.specs.Ends.{isSendRefused, isTimeoutRefused, isHandled, isReceived, WithOutput, withOutput, all, earliest, goBackNTimeout, ends, freshEnds, Made}
 use Rattle.delivery.specs.Room.{chunksIn, resentMost, Fits, NotRefused}
-use Rattle.delivery.proofs.Datagrams.{DataBytes, AckBytes, each-at}
+use Rattle.delivery.proofs.Datagrams.{DataBytes, AckBytes, each-at, each-length, count-from}
 use Rattle.delivery.proofs.SenderFollows.{SenderIs}
 use Rattle.delivery.proofs.ReceiverFollows.{ReceiverIs, packet-follows}
 use Rattle.delivery.proofs.Instances.{ReceiverCalls, calls-follow}
-use Rattle.delivery.proofs.Simulation.{Follows}
-use Rattle.delivery.proofs.Demand3.{GoodOf, follows, stop-and-wait-receiver, go-back-n-receiver, selective-repeat-receiver}
+use Rattle.delivery.proofs.Simulation.{Follows, one-step}
+use Rattle.delivery.proofs.Demand3.{GoodOf, follows, fresh-start, stop-and-wait-receiver, go-back-n-receiver, selective-repeat-receiver}
 use Rattle.delivery.proofs.Resending.{false≠true}
 use Rattle.delivery.proofs.Progress.{send-accepted, timeout-accepted, again-within, ack-handled, data-received, data-applied}
 
@@ -321,3 +321,43 @@ module _ (p : ProtocolType) (w : ℕ) (o : WindowFits p w) (rest : List ℕ) (v 
       let n = each-at AckBytes [] (v .replies) (m .acks) j (f .replies) a in
       ack-done p w (v .sender) (m .sender) (f .sender) few _ (n .other) (n .belongs)
   not-refused (toSender (flipped j k b)) a fits low = λ e. absurd (false≠true e)
+
+-- ---- the datagrams that a list makes: at most a window's for each call
+segments-more : (p : ProtocolType) (w : ℕ) (m : trace.World) (s : PlainState) (e : trace.Event) → Invariant (isSelective p) w m s → trace.Allowed w m e
+    → length (trace.step p w m e .segments) ≤ length (m .segments) + w
+unfolding trace.step
+segments-more p w m s (trace.sent c) i a = let l = length-append (m .segments) (record { number = nextNumber (m .sender); payload = c } ∷ []) in omega (arith, l, a)
+segments-more p w m s (trace.resent n k) i a =
+    let l = length-append (m .segments) (segmentsFrom (m .sender) n k) in
+    let c = chunks-length (i .ends) in
+    omega (arith, l, count-from (m .sender) n k, c, i .ends .fits, a .0, a .1)
+segments-more p w m s (trace.received q) i a = omega arith
+segments-more p w m s (trace.acknowledged n) i a = omega arith
+segments-more p w m s (trace.other c) i a = omega arith
+
+module _ (p : ProtocolType) (w : ℕ) (o : WindowFits p w) (rest : List ℕ) where
+  sent-more : (v : World (ends p)) (m : trace.World) (s : PlainState) → Follows p w (ends p) (follows p w) rest v m → Invariant (isSelective p) w m s → (cs : List (Call (ends p .Timeout)))
+      → Admissible (ends p) v cs → length (run (ends p) v cs .sent) ≤ length (v .sent) + w * length cs
+  unfolding run
+  sent-more v m s f i [] a = omega arith
+  sent-more v m s f i (c ∷ cs) a =
+      let one = one-step p w (ends p) (follows p w) rest v m f c (a .0) in
+      let more = segments-more p w m s (one .event) i (one .allowed) in
+      let now = each-length DataBytes (v .sent) (m .segments) (f .sent) in
+      let then = each-length DataBytes (step (ends p) v c .sent) (trace.step p w m (one .event) .segments) (one .follows .sent) in
+      let rest-of = sent-more (step (ends p) v c) (trace.step p w m (one .event)) (plainStep p w s (callOf (one .event))) (one .follows) (step-ok p w m s (one .event) o i (one .allowed)) cs (a .1) in
+      let times : w * length (c ∷ cs) ≡ w * length cs + w = mul-suc w (length cs) in
+      omega (arith, more, now, then, rest-of, times)
+
+pub fresh-none : (p : ProtocolType) (w limit : ℕ) (sending receiving output : List ℕ) → freshEnds p w limit sending receiving output .sent ≡ []
+fresh-none StopAndWait w limit sending receiving output = refl
+fresh-none GoBackN w limit sending receiving output = refl
+fresh-none SelectiveRepeat w limit sending receiving output = refl
+
+pub sent-within : (p : ProtocolType) (w limit : ℕ) (sending receiving output : List ℕ) → Made p w sending receiving → (cs : List (Call (ends p .Timeout)))
+    → Admissible (ends p) (freshEnds p w limit sending receiving output) cs → length (run (ends p) (freshEnds p w limit sending receiving output) cs .sent) ≤ w * length cs
+sent-within p w limit sending receiving output m cs a =
+    let v = freshEnds p w limit sending receiving output in
+    let l = sent-more p w (m .window) _ v (newWorld p w) plainStart (fresh-start p w limit sending receiving output m) (at-start p w) cs a in
+    let z : length (v .sent) ≡ 0 = ap length (fresh-none p w limit sending receiving output) in
+    omega (arith, l, z)

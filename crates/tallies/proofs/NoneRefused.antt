@@ -32,7 +32,7 @@ use Rattle.delivery.specs.Room.{chunksIn, Fits, AllFit, Suffices, NotRefused, N
 use Rattle.delivery.proofs.Laws.{Grown, sent-grows}
 use Rattle.delivery.proofs.Simulation.{Follows, one-step}
 use Rattle.delivery.proofs.Demand3.{follows, fresh-start}
-use Rattle.delivery.proofs.NotRefused.{senderCounts, receiverCounts, not-refused}
+use Rattle.delivery.proofs.NotRefused.{senderCounts, receiverCounts, not-refused, fresh-none}
 use Rattle.tallies.specs.Readings.{isOlder, isCorrupted, isOutOfOrder, isAnsweredAgain, isBuffered, isDuplicate, count, expected}
 use Rattle.tallies.specs.Receivers.{Handling, readingsWith, stopAndWaitAfter, goBackNAfter, selectiveRepeatAfter}
 use Rattle.tallies.specs.Senders.{Answered, sentBy, resentBy, SenderCalls, afterCall, answerTo, stopAndWaitSender, goBackNSender, selectiveRepeatSender}
@@ -205,11 +205,6 @@ unfolding expected count
 fresh-read StopAndWait w limit sending receiving output = record { readings = []; counted = refl; few = omega arith }
 fresh-read GoBackN w limit sending receiving output = record { readings = []; counted = refl; few = omega arith }
 fresh-read SelectiveRepeat w limit sending receiving output = record { readings = []; counted = fresh-kept w receiving; few = omega arith }
-
-fresh-none : (p : ProtocolType) (w limit : ℕ) (sending receiving output : List ℕ) → freshEnds p w limit sending receiving output .sent ≡ []
-fresh-none StopAndWait w limit sending receiving output = refl
-fresh-none GoBackN w limit sending receiving output = refl
-fresh-none SelectiveRepeat w limit sending receiving output = refl
 
 pub none-refused : (p : ProtocolType) (w limit : ℕ) (sending receiving output : List ℕ) → Made p w sending receiving → (cs : List (Call (ends p .Timeout)))
     → Admissible (ends p) (freshEnds p w limit sending receiving output) cs → Suffices p w (freshEnds p w limit sending receiving output) cs
