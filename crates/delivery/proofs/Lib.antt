@@ -11,7 +11,7 @@ pub mod Demand3
 pub mod Making
 pub mod Progress
 pub mod AnyBytes
-pub mod Examples
 pub mod KuroseRoss
 pub mod NotRefused
 pub mod Laws
+pub mod Examples

@@ -27,13 +27,17 @@ use Rattle.stop_and_wait.specs.Receiver as stopAndWait
 use Rattle.go_back_n.specs.Receiver as goBackN
 use Rattle.selective_repeat.specs.Receiver as selectiveRepeat
 use Rattle.delivery.specs.Calls.{datagrams}
-use Rattle.delivery.specs.Ends.{GoBackNTimeout, all}
+use Rattle.protocol.specs.declared.ProtocolType.the-variants.{StopAndWait, GoBackN, SelectiveRepeat}
+use Rattle.delivery.specs.Ends.{GoBackNTimeout, all, ends}
+use Rattle.delivery.specs.Room.{NoneRefused}
+use Rattle.delivery.proofs.Examples as delivery
 use Rattle.delivery.specs.AnyBytes.{SenderCall, send, timeout}
 use Rattle.tallies.specs.Readings.{count, expected, noted}
 use Rattle.tallies.specs.Receivers as receivers
 use Rattle.tallies.specs.Receivers.{readingsWith, stopAndWaitAfter, goBackNAfter, selectiveRepeatAfter}
 use Rattle.tallies.specs.Senders as senders
 use Rattle.tallies.specs.Senders.{Answered, sent, resent, acknowledged, sentBy, resentBy, total, retriesFrom, retries, goBackNSender}
+use Rattle.tallies.proofs.NoneRefused.{none-refused}
 use Rattle.tallies.proofs.Limits.{go-back-n-sender-no-8, go-back-n-receiver-no-8}
 
 -- a chunk sent; two datagrams of ten bytes sent again; an ACK accepted, one that isn't; a send refused
@@ -109,3 +113,12 @@ sendings-no-8 = go-back-n-sender-no-8 store 1 sendings (rw two-written (lit< tt)
 pub two-received-no-8 : (c d : receivers.Call) → let r = receivers.afterCalls goBackN.handlePacket goBackN.newReceiver (c ∷ d ∷ []) in
     receiver.countsBroken (r .«total_received») (r .«discarded_out_of_order») (r .«duplicate_acks_sent») ≡ false
 two-received-no-8 c d = go-back-n-receiver-no-8 (c ∷ d ∷ []) (lit< tt)
+
+-- ---- lists in which no call is refused
+pub lists-not-refused : NoneRefused (ends StopAndWait) (delivery.start StopAndWait 1 3) delivery.stopAndWait × NoneRefused (ends GoBackN) (delivery.start GoBackN 2 0) delivery.goBackN
+    × NoneRefused (ends SelectiveRepeat) (delivery.start SelectiveRepeat 2 0) delivery.selectiveRepeat
+lists-not-refused = (
+  none-refused StopAndWait 1 3 _ _ _ delivery.stop-and-wait-made delivery.stopAndWait (delivery.computed .0 .fair) delivery.stop-and-wait-suffices,
+  none-refused GoBackN 2 0 _ _ _ (delivery.two-made GoBackN tt) delivery.goBackN (delivery.computed .1 .fair) delivery.go-back-n-suffices,
+  none-refused SelectiveRepeat 2 0 _ _ _ (delivery.two-made SelectiveRepeat tt) delivery.selectiveRepeat (delivery.computed .2 .fair) delivery.selective-repeat-suffices,
+)
