@@ -13,12 +13,14 @@ use Rattle.delivery.specs.Calls.{copyBytes, isWhole, Call, send, timeout
 abbrev pub plainAfter : ProtocolType → ℕ → (E : Ends) → World E → List (Call (E .Timeout)) → PlainState
 plainAfter p w E v cs = plainRun p w plainStart (fedIn E v cs)
 
--- of the world v, reached from start, and the plain machine s; the output is all that was written of the one at the start
+-- of the world v, reached from start, and the plain machine s; the output is all that was written of the one at the
+-- start
 pub record Claim (E : Ends) (w : ℕ) (start v : World E) (s : PlainState) : Type 0 where
   pub receiver-base : E .receiverBase (v .receiver) ≡ s .D
   pub sender-base : E .senderBase (v .sender) ≡ s .A
   pub first-delivered : E .output (v .receiver) ≡ flatten (take (s .D) (s .sent))
-  pub nothing-else-written : E .unwritten (v .receiver) ≡ drop (length (E .output (v .receiver))) (E .unwritten (start .receiver))
+  pub nothing-else-written : E .unwritten (v .receiver)
+      ≡ drop (length (E .output (v .receiver))) (E .unwritten (start .receiver))
   pub within-sent : s .D ≤ length (s .sent)
   pub not-negative : s .A ≤ s .D
   pub in-window : s .D - s .A ≤ w
@@ -32,8 +34,8 @@ abbrev pub outstandingOf : PlainState → List ℕ → List ℕ
 outstandingOf s [] = []
 outstandingOf s (n ∷ ns) = cond (isOutstanding s n) (n ∷ outstandingOf s ns) (outstandingOf s ns)
 
--- Where a resending stands: the world and the plain machine; and what is still to come: the numbers to be sent again, as far as they are
--- still outstanding, and the datagrams and the ACKs made and not yet handed over, each in its order.
+-- Where a resending stands: the world and the plain machine; and what is still to come: the numbers to be sent again,
+-- as far as they are still outstanding, and the datagrams and the ACKs made and not yet handed over, each in its order.
 pub record ResendState (E : Ends) : Type 0 where
   pub world : World E
   pub plain : PlainState
@@ -79,12 +81,13 @@ resendStep p w E r c = record {
   replies = repliesLeft c (madeBy E (r .world) c) (r .replies);
 }
 
--- A call of a resending: no new chunk; a timeout sends what comes next, or nothing; a copy handed over is whole and the one that comes
--- next, and isn't refused.
+-- A call of a resending: no new chunk; a timeout sends what comes next, or nothing; a copy handed over is whole and the
+-- one that comes next, and isn't refused.
 abbrev pub Resends : (E : Ends) → ResendState E → Call (E .Timeout) → Type 0
 Resends E r (send payload buffer) = ⊥
 Resends E r (timeout t buffer) =
-    take (length (madeBy E (r .world) (timeout t buffer))) (r .numbers) ≡ map numberOf (madeBy E (r .world) (timeout t buffer))
+    take (length (madeBy E (r .world) (timeout t buffer))) (r .numbers)
+    ≡ map numberOf (madeBy E (r .world) (timeout t buffer))
 Resends E r (toReceiver c buffer) =
     (isWhole c ≡ true)
     × First (copyBytes (r .world .sent) c) (r .packets)
@@ -110,5 +113,6 @@ pub record Resent (E : Ends) (w : ℕ) (start v : World E) (before after : Plain
 -- Demand 3 of a list of calls cs from v: the claim after it, and what any resending ds that follows leaves.
 pub record Demand3 (p : ProtocolType) (w : ℕ) (E : Ends) (v : World E) (cs : List (Call (E .Timeout))) : Type 0 where
   pub claim : Claim E w v (run E v cs) (plainAfter p w E v cs)
-  pub resent : (ds : List (Call (E .Timeout))) → ResendsAll p w E (resendStart E (run E v cs) (plainAfter p w E v cs)) ds
+  pub resent : (ds : List (Call (E .Timeout)))
+      → ResendsAll p w E (resendStart E (run E v cs) (plainAfter p w E v cs)) ds
       → Resent E w v (run E v (cs ++ ds)) (plainAfter p w E v cs) (plainAfter p w E v (cs ++ ds))

@@ -99,10 +99,12 @@ withOutput r output = record { receiver = r; output = output }
 
 abbrev pub byReceiving : {R : Type 0} → ReceiveExit R → Done (WithOutput R)
 byReceiving x =
-    done (withOutput (x .receiver) (x .output)) (bytesReplied (x .answer) (x .ack)) (isReceived (x .answer)) (not (isReceived (x .answer)))
+    done (withOutput (x .receiver) (x .output)) (bytesReplied (x .answer) (x .ack))
+    (isReceived (x .answer)) (not (isReceived (x .answer)))
 
 -- two ends by their calls: sending, timeout, ACK, packet; and by their bases and the receiver's fill mark
-abbrev pub endsOf : {S R T : Type 0} → (S → List ℕ → List ℕ → SendExit S) → (S → T → List ℕ → TimeoutExit S) → (S → List ℕ → AckExit S)
+abbrev pub endsOf : {S R T : Type 0} → (S → List ℕ → List ℕ → SendExit S) → (S → T → List ℕ → TimeoutExit S)
+    → (S → List ℕ → AckExit S)
     → (R → List ℕ → List ℕ → List ℕ → ReceiveExit R) → (S → ℕ) → (R → ℕ) → (R → ℕ) → Ends
 endsOf {S} {R} {T} send timeout ack packet senderBase receiverBase filled = record {
   Sender = S;
@@ -124,7 +126,8 @@ pub data SingleTimeout : Type 0 where
 
 abbrev pub stopAndWaitEnds : Ends
 stopAndWaitEnds =
-    endsOf {T = SingleTimeout} stopAndWait.sendChunk (λ v t out. stopAndWait.handleTimeout v out) stopAndWait.handleAck stopAndWaitReceiver.handlePacket
+    endsOf {T = SingleTimeout} stopAndWait.sendChunk (λ v t out. stopAndWait.handleTimeout v out) stopAndWait.handleAck
+    stopAndWaitReceiver.handlePacket
     (λ v. v .sender .«current_seq») (λ r. r .«expected_seq») (λ r. r .filled)
 
 -- Go-Back-N: all outstanding numbers, or only the earliest
@@ -138,7 +141,8 @@ goBackNTimeout v earliest out = goBackN.handleTimeoutEarliest v out
 
 abbrev pub goBackNEnds : Ends
 goBackNEnds =
-    endsOf (sendChunk false) goBackNTimeout goBackN.handleAck goBackNReceiver.handlePacket (λ v. v .window .«send_base») (λ r. r .«expected_seq») (λ r. r .filled)
+    endsOf (sendChunk false) goBackNTimeout goBackN.handleAck goBackNReceiver.handlePacket
+    (λ v. v .window .«send_base») (λ r. r .«expected_seq») (λ r. r .filled)
 
 -- Selective Repeat: a timeout is of a number
 abbrev pub selectiveRepeatEnds : Ends
@@ -154,13 +158,19 @@ ends SelectiveRepeat = selectiveRepeatEnds
 -- Fresh ends: what making leaves, of any stores and output; limit is Stop-and-Wait's greatest number of retries.
 abbrev pub freshEnds : (p : ProtocolType) → ℕ → ℕ → List ℕ → List ℕ → List ℕ → World (ends p)
 freshEnds StopAndWait w limit sending receiving output =
-    fresh stopAndWaitEnds (stopAndWait.endOf (stopAndWait.state 0 false limit 0 0 0) (slots.fresh 1 sending .store)) (withOutput stopAndWaitReceiver.newReceiver output)
-freshEnds GoBackN w limit sending receiving output = fresh goBackNEnds (slots.fresh w sending) (withOutput goBackNReceiver.newReceiver output)
+    fresh stopAndWaitEnds (stopAndWait.endOf (stopAndWait.state 0 false limit 0 0 0) (slots.fresh 1 sending .store))
+    (withOutput stopAndWaitReceiver.newReceiver output)
+freshEnds GoBackN w limit sending receiving output =
+    fresh goBackNEnds (slots.fresh w sending) (withOutput goBackNReceiver.newReceiver output)
 freshEnds SelectiveRepeat w limit sending receiving output =
     fresh selectiveRepeatEnds (slots.fresh w sending)
-    (withOutput (selectiveRepeatReceiver.receiver (selectiveRepeatReceiver.state w 0 0 0 0 0) (replicate (w * slotSize) 0 ++ drop (w * slotSize) receiving)) output)
+    (withOutput
+    (selectiveRepeatReceiver.receiver (selectiveRepeatReceiver.state w 0 0 0 0 0)
+    (replicate (w * slotSize) 0 ++ drop (w * slotSize) receiving))
+    output)
 
--- What making asks: the window within bounds, Stop-and-Wait's 1, and stores that aren't short; the bytes of the sender's store are bytes.
+-- What making asks: the window within bounds, Stop-and-Wait's 1, and stores that aren't short; the bytes of the
+-- sender's store are bytes.
 abbrev pub ReceivingRoom : ProtocolType → ℕ → List ℕ → Type 0
 ReceivingRoom StopAndWait w store = Unit {0}
 ReceivingRoom GoBackN w store = Unit {0}
@@ -173,13 +183,17 @@ pub record Made (p : ProtocolType) (w : ℕ) (sending receiving : List ℕ) : Ty
   pub receiving-room : ReceivingRoom p w receiving
   pub octets : Octets sending
 
--- The fresh ends are what the makers answer and leave in their stores; a Stop-and-Wait or Go-Back-N receiver is made of nothing.
+-- The fresh ends are what the makers answer and leave in their stores; a Stop-and-Wait or Go-Back-N receiver is made of
+-- nothing.
 abbrev pub FromMaking : (p : ProtocolType) → ℕ → ℕ → List ℕ → List ℕ → List ℕ → Type 0
 FromMaking StopAndWait w limit sending receiving output =
-    stopAndWait.newSender limit sending ≡ makeExit (stopAndWaitMade.Sender (freshEnds StopAndWait w limit sending receiving output .sender .sender)) (freshEnds StopAndWait w limit sending receiving output .sender .store)
+    let v = freshEnds StopAndWait w limit sending receiving output .sender in
+    stopAndWait.newSender limit sending ≡ makeExit (stopAndWaitMade.Sender (v .sender)) (v .store)
 FromMaking GoBackN w limit sending receiving output =
-    makeWindow w sending ≡ makeExit (makeAnswer.Window (freshEnds GoBackN w limit sending receiving output .sender .window)) (freshEnds GoBackN w limit sending receiving output .sender .store)
+    let v = freshEnds GoBackN w limit sending receiving output .sender in
+    makeWindow w sending ≡ makeExit (makeAnswer.Window (v .window)) (v .store)
 FromMaking SelectiveRepeat w limit sending receiving output =
-    (makeWindow w sending ≡ makeExit (makeAnswer.Window (freshEnds SelectiveRepeat w limit sending receiving output .sender .window)) (freshEnds SelectiveRepeat w limit sending receiving output .sender .store))
-    × (selectiveRepeatReceiver.makeReceiver w receiving
-    ≡ makeExit (selectiveRepeatMade.Receiver (freshEnds SelectiveRepeat w limit sending receiving output .receiver .receiver .state)) (freshEnds SelectiveRepeat w limit sending receiving output .receiver .receiver .store))
+    let v = freshEnds SelectiveRepeat w limit sending receiving output .sender in
+    let r = freshEnds SelectiveRepeat w limit sending receiving output .receiver .receiver in
+    (makeWindow w sending ≡ makeExit (makeAnswer.Window (v .window)) (v .store))
+    × (selectiveRepeatReceiver.makeReceiver w receiving ≡ makeExit (selectiveRepeatMade.Receiver (r .state)) (r .store))

@@ -21,7 +21,8 @@ use Rattle.delivery.specs.Demand3.{madeBy}
 abbrev pub segmentIn : List ℕ → Segment
 segmentIn raw = record { number = numberOf raw; payload = payloadOf raw }
 
--- What happened by a call: it took effect, or it didn't. A timeout sends as many datagrams as it made, from the number of the first on.
+-- What happened by a call: it took effect, or it didn't. A timeout sends as many datagrams as it made, from the number
+-- of the first on.
 unfoldable pub eventBy : (E : Ends) → World E → Call (E .Timeout) → trace.Event
 eventBy E v (send payload buffer) =
     cond (E .sendChunk (v .sender) payload buffer .isDone) (trace.sent payload) (trace.other (plain.sendChunk payload))
@@ -51,7 +52,8 @@ senderIn SelectiveRepeat v = senderOf v
 abbrev pub receiverIn : (p : ProtocolType) → ends p .Receiver → ReceiverState
 receiverIn StopAndWait r = inOrderReceiverOf (r .receiver .«expected_seq»)
 receiverIn GoBackN r = inOrderReceiverOf (r .receiver .«expected_seq»)
-receiverIn SelectiveRepeat r = receiverOf (r .receiver .state .«window_size») (r .receiver .state .«recv_base») (r .receiver .store)
+receiverIn SelectiveRepeat r =
+    receiverOf (r .receiver .state .«window_size») (r .receiver .state .«recv_base») (r .receiver .store)
 
 abbrev pub worldIn : (p : ProtocolType) → World (ends p) → trace.World
 worldIn p v = record {
@@ -67,8 +69,8 @@ abbrev pub CallsLikeBook : (p : ProtocolType) → World (ends p) → List (Call 
 CallsLikeBook p v [] = Unit {0}
 CallsLikeBook p v (c ∷ cs) = LikeBook p (worldIn p v) (eventBy (ends p) v c) × CallsLikeBook p (step (ends p) v c) cs
 
--- The ends hold what the book's do, the output is what the book delivered, and what was made are the book's packets and ACKs, in the
--- same order.
+-- The ends hold what the book's do, the output is what the book delivered, and what was made are the book's packets and
+-- ACKs, in the same order.
 pub record HoldsBook (p : ProtocolType) (w : ℕ) (b : BookWorld (book p w)) (v : World (ends p)) : Type 0 where
   pub sender-is : SenderIs p w (b .sender) (senderIn p (v .sender))
   pub receiver-is : ReceiverIs p w (b .receiver) (receiverIn p (v .receiver))

@@ -36,14 +36,15 @@ abbrev pub AllFit : (p : ProtocolType) → ℕ → List (Call (ends p .Timeout))
 AllFit p w [] = Unit {0}
 AllFit p w (c ∷ cs) = Fits p w c × AllFit p w cs
 
--- the output has room for all chunks, their numbers stay below the limit, and so do the counters: the datagrams that the sender makes, and
--- the calls, of which each raises a receiver's counter by at most one
-pub record Suffices (p : ProtocolType) (w : ℕ) (start : World (ends p)) (cs : List (Call (ends p .Timeout))) : Type 0 where
-  pub buffers : AllFit p w cs
-  pub output : length (flatten (chunksIn cs)) ≤ length (ends p .unwritten (start .receiver))
-  pub numbers : length (chunksIn cs) ≤ seqNumLimit
-  pub datagrams : length (run (ends p) start cs .sent) < countLimit
-  pub calls : length cs < countLimit
+-- the output has room for all chunks, their numbers stay below the limit, and so do the counters: the datagrams that
+-- the sender makes, and the calls, of which each raises a receiver's counter by at most one
+pub record Suffices (p : ProtocolType) (w : ℕ) (start : World (ends p)) (cs : List (Call (ends p .Timeout))) : Type 0
+  where
+    pub buffers : AllFit p w cs
+    pub output : length (flatten (chunksIn cs)) ≤ length (ends p .unwritten (start .receiver))
+    pub numbers : length (chunksIn cs) ≤ seqNumLimit
+    pub datagrams : length (run (ends p) start cs .sent) < countLimit
+    pub calls : length cs < countLimit
 
 -- a call isn't refused; a flipped copy may be
 abbrev pub NotRefused : (E : Ends) → World E → Call (E .Timeout) → Type 0

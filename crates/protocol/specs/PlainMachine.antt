@@ -9,7 +9,8 @@ use Rattle.protocol.specs.Runs.{lead, upFrom}
 use Rattle.protocol.specs.declared.ProtocolType.{ProtocolType}
 use Rattle.protocol.specs.declared.ProtocolType.the-variants.{StopAndWait, GoBackN, SelectiveRepeat}
 
--- the calls: a chunk to send, a timeout, Data of a number handed to the receiver, an ACK of a number handed to the sender
+-- the calls: a chunk to send, a timeout, Data of a number handed to the receiver, an ACK of a number handed to the
+-- sender
 pub data Call : Type 0 where
   sendChunk : List ℕ → Call
   handleTimeout : Call
@@ -48,7 +49,13 @@ abbrev pub withSender : PlainState → List Bool → PlainState
 withSender s marks = record { sent = s .sent; D = s .D; A = lead marks; atReceiver = s .atReceiver; atSender = marks }
 
 unfoldable pub plainSend : PlainState → List ℕ → PlainState
-plainSend s c = record { sent = s .sent ++ (c ∷ []); D = s .D; A = s .A; atReceiver = s .atReceiver; atSender = s .atSender }
+plainSend s c = record {
+  sent = s .sent ++ (c ∷ []);
+  D = s .D;
+  A = s .A;
+  atReceiver = s .atReceiver;
+  atSender = s .atSender;
+}
 
 unfoldable pub plainData : ProtocolType → ℕ → PlainState → ℕ → PlainState
 plainData StopAndWait w s n = cond (eqb n (s .D)) (withD s (s .D + 1)) s

@@ -1,4 +1,5 @@
--- The two ends of a protocol and the line between them: what happens, one event after the other, and what each end made so far.
+-- The two ends of a protocol and the line between them: what happens, one event after the other, and what each end made
+-- so far.
 use mathlib.Core.Path.{_≡_}
 use Prim.Native.Nat.{ℕ, _+_, _-_, _≤_, _<_}
 use mathlib.Core.Bool.{Bool, true, false, cond, not, _&&_}
@@ -9,7 +10,8 @@ use Rattle.protocol.specs.Machine.{Chunk, Segment, SenderState, Receiver
 use Rattle.protocol.specs.PlainMachine.{Call, sendChunk, handleTimeout, handleData, handleAck, PlainState, plainStart, plainRun, Fed, fed, plainOutstanding, First}
 use Rattle.protocol.specs.declared.ProtocolType.{ProtocolType}
 
--- both ends, the chunks delivered, the segments that the sender made and the numbers that the receiver acknowledged, oldest first
+-- both ends, the chunks delivered, the segments that the sender made and the numbers that the receiver acknowledged,
+-- oldest first
 pub record World : Type 0 where
   pub sender : SenderState
   pub receiver : ReceiverState
@@ -20,8 +22,8 @@ pub record World : Type 0 where
 unfoldable pub newWorld : ProtocolType → ℕ → World
 newWorld p w = record { sender = newSender; receiver = newReceiver p w; delivered = []; segments = []; acks = [] }
 
--- a chunk sent; k numbers from n on sent again; a segment handed to the receiver whole; an ACK handed to the sender whole;
--- a call without effect: refused, a full window, a flipped copy, a timeout after which nothing is sent
+-- a chunk sent; k numbers from n on sent again; a segment handed to the receiver whole; an ACK handed to the sender
+-- whole; a call without effect: refused, a full window, a flipped copy, a timeout after which nothing is sent
 pub data Event : Type 0 where
   sent : Chunk → Event
   resent : ℕ → ℕ → Event
@@ -68,8 +70,8 @@ unfoldable pub run : ProtocolType → ℕ → World → List Event → World
 run p w v [] = v
 run p w v (e ∷ es) = run p w (step p w v e) es
 
--- a chunk is sent only if the window isn't full, only what the sender holds is sent again, and each end is handed only copies of
--- what the other made before
+-- a chunk is sent only if the window isn't full, only what the sender holds is sent again, and each end is handed only
+-- copies of what the other made before
 abbrev pub Allowed : ℕ → World → Event → Type 0
 Allowed w v (sent c) = length (v .sender .chunks) < w
 Allowed w v (resent n k) = (v .sender .base ≤ n) × (n + k ≤ nextNumber (v .sender))
@@ -117,9 +119,9 @@ pub record Claim (w : ℕ) (v : World) (s : PlainState) : Type 0 where
   pub rest-held : v .sender .chunks ≡ drop (s .A) (s .sent)
   pub outstanding-is : outstanding (v .sender) ≡ plainOutstanding s
 
--- One resending, however its calls, segments and ACKs interleave. Still to come are: the numbers to be sent again, as far as they are
--- outstanding; the segments made and not yet handed over; the ACKs made and not yet handed over. Each event takes what stands first, but a
--- timeout after which nothing is sent; at the end nothing is left.
+-- One resending, however its calls, segments and ACKs interleave. Still to come are: the numbers to be sent again, as
+-- far as they are outstanding; the segments made and not yet handed over; the ACKs made and not yet handed over. Each
+-- event takes what stands first, but a timeout after which nothing is sent; at the end nothing is left.
 abbrev pub ResendsAll : ProtocolType → ℕ → World → List ℕ → List Segment → List ℕ → List Event → Type 0
 ResendsAll p w v numbers segments acks [] = (numbers ≡ []) × (segments ≡ []) × (acks ≡ [])
 ResendsAll p w v numbers segments acks (sent c ∷ es) = ⊥
@@ -127,10 +129,12 @@ ResendsAll p w v numbers segments acks (resent n k ∷ es) =
     (0 < k) × (take k numbers ≡ upFrom n k)
     × ResendsAll p w (step p w v (resent n k)) (drop k numbers) (segments ++ segmentsFrom (v .sender) n k) acks es
 ResendsAll p w v numbers segments acks (received q ∷ es) =
-    First q segments × ResendsAll p w (step p w v (received q)) numbers (drop 1 segments) (acks ++ receive p w (v .receiver) q .acks) es
+    First q segments
+    × ResendsAll p w (step p w v (received q)) numbers (drop 1 segments) (acks ++ receive p w (v .receiver) q .acks) es
 ResendsAll p w v numbers segments acks (acknowledged n ∷ es) =
     First n acks
-    × ResendsAll p w (step p w v (acknowledged n)) (outstandingOf (acknowledge p (v .sender) n) numbers) segments (drop 1 acks) es
+    × ResendsAll p w (step p w v (acknowledged n)) (outstandingOf (acknowledge p (v .sender) n) numbers) segments
+    (drop 1 acks) es
 ResendsAll p w v numbers segments acks (other handleTimeout ∷ es) = ResendsAll p w v numbers segments acks es
 ResendsAll p w v numbers segments acks (other (sendChunk c) ∷ es) = ⊥
 ResendsAll p w v numbers segments acks (other (handleData n) ∷ es) = ⊥

@@ -1,4 +1,5 @@
--- Document 01, "Invented tallies: .. from the history of calls": what a list of calls with any bytes says of a sender's counters.
+-- Document 01, "Invented tallies: .. from the history of calls": what a list of calls with any bytes says of a sender's
+-- counters.
 use Prim.Native.Nat.{ℕ, _+_}
 use mathlib.Core.Path.{_≡_}
 use mathlib.Core.List.{List, [], _∷_}
@@ -74,7 +75,8 @@ pub record SenderCounted (P : SenderCalls) (xs : List Answered) (s : P .Sender) 
   pub sent-is : P .totalSent s ≡ total sentBy xs
   pub resent-is : P .retransmissions s ≡ total resentBy xs
 
--- Stop-and-Wait's retries: the datagrams sent again since the last chunk that was sent and the last ACK that was accepted
+-- Stop-and-Wait's retries: the datagrams sent again since the last chunk that was sent and the last ACK that was
+-- accepted
 abbrev pub isAccepted : AckAnswer → Bool
 isAccepted ackAnswer.Accepted = true
 isAccepted ackAnswer.NotAccepted = false
