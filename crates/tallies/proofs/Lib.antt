@@ -6,5 +6,6 @@ pub mod Noted
 pub mod SelectiveRepeat
 pub mod Limits
 pub mod NoneRefused
+pub mod HandOvers
 pub mod Examples
 pub mod Laws

@@ -58,7 +58,7 @@ pub record SentIs (p : ProtocolType) (s : ends p .Sender) (made : List (List ℕ
   pub all : sentCount p s ≡ length made
   pub again : resentCount p s ≤ length made
 
-sender-few : (p : ProtocolType) (s : ends p .Sender) (made : List (List ℕ)) → SentIs p s made → length made < countLimit → senderCounts p s ≡ false
+pub sender-few : (p : ProtocolType) (s : ends p .Sender) (made : List (List ℕ)) → SentIs p s made → length made < countLimit → senderCounts p s ≡ false
 unfolding window.countsBroken
 sender-few StopAndWait s made h few = let a = h .all in let b = h .again in counts-sound (sentCount StopAndWait s) (resentCount StopAndWait s) (omega arith) (omega arith)
 sender-few GoBackN s made h few = let a = h .all in let b = h .again in counts-sound (sentCount GoBackN s) (resentCount GoBackN s) (omega arith) (omega arith)
@@ -75,7 +75,7 @@ raised p s t a made more h c e =
     let u = h .again in
     record { all = omega arith; again = omega arith }
 
-sent-step : (p : ProtocolType) (v : World (ends p)) (c : Call (ends p .Timeout)) → SentIs p (v .sender) (v .sent) → SentIs p (step (ends p) v c .sender) (step (ends p) v c .sent)
+pub sent-step : (p : ProtocolType) (v : World (ends p)) (c : Call (ends p .Timeout)) → SentIs p (v .sender) (v .sent) → SentIs p (step (ends p) v c .sender) (step (ends p) v c .sent)
 unfolding step
 sent-step p v (toReceiver c buffer) h = h
 sent-step StopAndWait v (send payload buffer) h = raised StopAndWait (v .sender) _ _ (v .sent) _ h (stop-and-wait-counted (v .sender) (any.send payload buffer)) refl
@@ -99,7 +99,7 @@ pub record ReadIs (p : ProtocolType) (w : ℕ) (r : ends p .Receiver) (calls : �
   pub counted : Read p w r readings
   pub few : length readings ≤ calls
 
-receiver-few : (p : ProtocolType) (w : ℕ) (r : ends p .Receiver) (calls : ℕ) → ReadIs p w r calls → calls < countLimit → receiverCounts p r ≡ false
+pub receiver-few : (p : ProtocolType) (w : ℕ) (r : ends p .Receiver) (calls : ℕ) → ReadIs p w r calls → calls < countLimit → receiverCounts p r ≡ false
 receiver-few StopAndWait w r calls h few =
     let l = h .few in
     subst (λ (q : StopAndWaitReceiver). receiver.countsBroken (q .«total_received») (q .«duplicates_count») (q .«corrupted_count») ≡ false) (sym (h .counted)) (receiver-sound (h .readings) isOlder (λ earlier. isCorrupted) (omega arith))
@@ -116,7 +116,7 @@ read-more x raw hs calls h = rw (length-cond (isReceived (x .answer)) (readPacke
 read-later : (p : ProtocolType) (w : ℕ) (r : ends p .Receiver) (calls : ℕ) → ReadIs p w r calls → ReadIs p w r (suc calls)
 read-later p w r calls h = let l = h .few in record { readings = h .readings; counted = h .counted; few = omega arith }
 
-read-step : (p : ProtocolType) (w : ℕ) (v : World (ends p)) (c : Call (ends p .Timeout)) (calls : ℕ) → ReadIs p w (v .receiver) calls → ReadIs p w (step (ends p) v c .receiver) (suc calls)
+pub read-step : (p : ProtocolType) (w : ℕ) (v : World (ends p)) (c : Call (ends p .Timeout)) (calls : ℕ) → ReadIs p w (v .receiver) calls → ReadIs p w (step (ends p) v c .receiver) (suc calls)
 unfolding step
 read-step p w v (send payload buffer) calls h = read-later p w (v .receiver) calls h
 read-step p w v (timeout t buffer) calls h = read-later p w (v .receiver) calls h
@@ -164,11 +164,11 @@ first-within (toSender c) cs = omega arith
 -- ---- the list
 module _ (p : ProtocolType) (w : ℕ) (o : WindowFits p w) (rest : List ℕ) where
   -- where the list has come: after so many calls
-  record Reached (v : World (ends p)) (m : trace.World) (s : PlainState) (calls : ℕ) : Type 0 where
-    follows-it : Follows p w (ends p) (follows p w) rest v m
-    invariant : Invariant (isSelective p) w m s
-    sent-is : SentIs p (v .sender) (v .sent)
-    read-is : ReadIs p w (v .receiver) calls
+  pub record Reached (v : World (ends p)) (m : trace.World) (s : PlainState) (calls : ℕ) : Type 0 where
+    pub follows-it : Follows p w (ends p) (follows p w) rest v m
+    pub invariant : Invariant (isSelective p) w m s
+    pub sent-is : SentIs p (v .sender) (v .sent)
+    pub read-is : ReadIs p w (v .receiver) calls
 
   from-there : (v : World (ends p)) (m : trace.World) (s : PlainState) (calls : ℕ) → Reached v m s calls → (cs : List (Call (ends p .Timeout))) → Admissible (ends p) v cs → AllFit p w cs
       → length (flatten (s .sent)) + length (flatten (chunksIn cs)) ≤ length rest → length (s .sent) + length (chunksIn cs) ≤ seqNumLimit
