@@ -7,6 +7,7 @@ use lib.ListN.{length}
 use Rattle.bounds.specs.Bounds.{headerSize, maxPayload, maxDatagram, seqNumLimit, countLimit}
 use Rattle.protocol.specs.declared.ProtocolType.{ProtocolType}
 use Rattle.protocol.specs.declared.ProtocolType.the-variants.{StopAndWait, GoBackN, SelectiveRepeat}
+use Rattle.protocol.specs.PlainMachine.{PlainState, plainOutstanding}
 use Rattle.delivery.specs.Calls.{copyBytes, isWhole, Call, send, timeout, toReceiver, toSender, Ends, World, step, run}
 use Rattle.delivery.specs.Ends.{all, earliest, ends}
 
@@ -57,3 +58,19 @@ NotRefused E v (toSender c) = isWhole c ≡ true → E .handleAck (v .sender) (c
 abbrev pub NoneRefused : (E : Ends) → World E → List (Call (E .Timeout)) → Type 0
 NoneRefused E v [] = Unit {0}
 NoneRefused E v (c ∷ cs) = NotRefused E v c × NoneRefused E (step E v c) cs
+
+-- What a resending asks of the world v where it starts, with the plain machine s, after so many calls: the output has
+-- room for all of S, and numbers and counters leave room for what is sent again and handed over. rest is the output
+-- behind the fill mark of the fresh receiver.
+pub record RoomToResend (p : ProtocolType) (rest : List ℕ) (v : World (ends p)) (s : PlainState) (calls : ℕ) : Type 0
+  where
+    pub output : length (flatten (s .sent)) ≤ length rest
+    pub numbers : length (s .sent) ≤ seqNumLimit
+    pub datagrams-few : length (v .sent) + length (plainOutstanding s) < countLimit
+    pub calls-few : calls + (length (plainOutstanding s) + length (plainOutstanding s)) + 1 < countLimit
+
+-- the retry limit isn't met
+abbrev pub RetryLeft : (p : ProtocolType) → ends p .Sender → Type 0
+RetryLeft StopAndWait s = s .sender .«current_retries» < s .sender .«max_retries»
+RetryLeft GoBackN s = Unit {0}
+RetryLeft SelectiveRepeat s = Unit {0}

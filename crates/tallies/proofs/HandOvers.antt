@@ -9,11 +9,11 @@ use lib.Seq.{drop-cons, drop-drop, drop-append-le}
 use Rattle.bounds.specs.Bounds.{seqNumLimit, countLimit}
 use Rattle.protocol.specs.declared.ProtocolType.{ProtocolType}
 use Rattle.protocol.specs.declared.ProtocolType.the-variants.{StopAndWait, GoBackN, SelectiveRepeat}
-use Rattle.protocol.specs.PlainMachine.{PlainState, plainStep, WindowFits, First}
+use Rattle.protocol.specs.PlainMachine.{PlainState, plainStep, plainRun, WindowFits, First}
 use Rattle.protocol.specs.Trace as trace
 use Rattle.protocol.specs.Trace.{callOf}
 use Rattle.protocol.proofs.Laws.{isSelective, Invariant, step-ok, chunksFed, plain-sent}
-use Rattle.delivery.specs.Calls.{Copy, whole, Call, send, timeout, toReceiver, toSender, Ends, World, datagrams, step, Allowed, fedBy}
+use Rattle.delivery.specs.Calls.{Copy, whole, Call, send, timeout, toReceiver, toSender, Ends, World, datagrams, step, run, Allowed, Admissible, fedBy, fedIn}
 use Rattle.delivery.specs.Ends.{ends}
 use Rattle.delivery.specs.Demand3.{madeBy, ResendState, Resends, resendStep, ResendsAll}
 use Rattle.delivery.specs.Room.{NotRefused}
@@ -26,7 +26,7 @@ use Rattle.tallies.proofs.NoneRefused.{Reached, sender-few, receiver-fe
 first-left : (l : List (List ℕ)) (i : ℕ) → i < length l → First (getD l i []) (drop i l)
 first-left l i h = rw (drop-cons l i [] h) refl
 
-none-fed : (b : Bool) → _≡_ {A = List (List ℕ)} (cond b [] []) []
+pub none-fed : (b : Bool) → _≡_ {A = List (List ℕ)} (cond b [] []) []
 none-fed true = refl
 none-fed false = refl
 
@@ -44,6 +44,10 @@ same-S p w s E v (timeout t buffer) h = absurd h
 same-S p w s E v (toReceiver c buffer) h = plain-sent p w s _ ∙ ap (λ (l : List (List ℕ)). s .sent ++ l) (none-fed (fedBy E v (toReceiver c buffer) .effect)) ∙ append-nil (s .sent)
 same-S p w s E v (toSender c) h = plain-sent p w s _ ∙ ap (λ (l : List (List ℕ)). s .sent ++ l) (none-fed (fedBy E v (toSender c) .effect)) ∙ append-nil (s .sent)
 
+pub timeout-S : (p : ProtocolType) (w : ℕ) (s : PlainState) (E : Ends) (v : World E) (t : E .Timeout) (buffer : List ℕ) → plainStep p w s (fedBy E v (timeout t buffer)) .sent ≡ s .sent
+unfolding fedBy
+timeout-S p w s E v t buffer = plain-sent p w s _ ∙ ap (λ (l : List (List ℕ)). s .sent ++ l) (none-fed (fedBy E v (timeout t buffer) .effect)) ∙ append-nil (s .sent)
+
 ack-makes-none : (p : ProtocolType) (v : World (ends p)) (c : Copy) → step (ends p) v (toSender c) .sent ≡ v .sent
 unfolding step datagrams
 ack-makes-none StopAndWait v c = append-nil (v .sent)
@@ -60,7 +64,7 @@ module _ (p : ProtocolType) (w : ℕ) (o : WindowFits p w) (rest : List ℕ) whe
   enough-after : (s t : PlainState) (made : List (List ℕ)) → t .sent ≡ s .sent → Enough s made → Enough t made
   enough-after s t made e h = record { room = rw e (h .room); numbers = rw e (h .numbers); datagrams-few = h .datagrams-few }
 
-  reached-after : (v : World (ends p)) (m : trace.World) (s : PlainState) (calls : ℕ) (r : Reached p w o rest v m s calls) (c : Call (ends p .Timeout)) (a : Allowed v c)
+  pub reached-after : (v : World (ends p)) (m : trace.World) (s : PlainState) (calls : ℕ) (r : Reached p w o rest v m s calls) (c : Call (ends p .Timeout)) (a : Allowed v c)
       → Reached p w o rest (step (ends p) v c) (trace.step p w m (one-step p w (ends p) (follows p w) rest v m (r .follows-it) c a .event)) (plainStep p w s (fedBy (ends p) v c)) (suc calls)
   reached-after v m s calls r c a =
       let one = one-step p w (ends p) (follows p w) rest v m (r .follows-it) c a in
@@ -70,6 +74,19 @@ module _ (p : ProtocolType) (w : ℕ) (o : WindowFits p w) (rest : List ℕ) whe
         sent-is = sent-step p v c (r .sent-is);
         read-is = read-step p w v c calls (r .read-is);
       }
+
+  -- after a list of calls
+  pub record ReachedBy (v : World (ends p)) (s : PlainState) (calls : ℕ) : Type 0 where
+    pub machine : trace.World
+    pub reached : Reached p w o rest v machine s calls
+
+  pub reached-run : (v : World (ends p)) (m : trace.World) (s : PlainState) (calls : ℕ) → Reached p w o rest v m s calls → (cs : List (Call (ends p .Timeout))) → Admissible (ends p) v cs
+      → ReachedBy (run (ends p) v cs) (plainRun p w s (fedIn (ends p) v cs)) (calls + length cs)
+  unfolding run fedIn plainRun
+  reached-run v m s calls r [] a = let e : calls ≡ calls + 0 = omega arith in record { machine = m; reached = subst (Reached p w o rest v m s) e r }
+  reached-run v m s calls r (c ∷ cs) a =
+      let e : suc calls + length cs ≡ calls + suc (length cs) = omega arith in
+      subst (ReachedBy _ _) e (reached-run (step (ends p) v c) _ (plainStep p w s (fedBy (ends p) v c)) (suc calls) (reached-after v m s calls r c (a .0)) cs (a .1))
 
   -- an ACK is no call of the receiver
   reached-ack : (v : World (ends p)) (m : trace.World) (s : PlainState) (calls : ℕ) (r : Reached p w o rest v m s calls) (j : ℕ) (a : j < length (v .replies))

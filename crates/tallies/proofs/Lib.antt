@@ -7,5 +7,6 @@ pub mod SelectiveRepeat
 pub mod Limits
 pub mod NoneRefused
 pub mod HandOvers
+pub mod SomeResending
 pub mod Examples
 pub mod Laws

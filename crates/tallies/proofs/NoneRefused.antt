@@ -206,6 +206,16 @@ fresh-read StopAndWait w limit sending receiving output = record { readings = []
 fresh-read GoBackN w limit sending receiving output = record { readings = []; counted = refl; few = omega arith }
 fresh-read SelectiveRepeat w limit sending receiving output = record { readings = []; counted = fresh-kept w receiving; few = omega arith }
 
+pub fresh-reached : (p : ProtocolType) (w limit : ℕ) (sending receiving output : List ℕ) (m : Made p w sending receiving)
+    → Reached p w (m .window) (ends p .unwritten (freshEnds p w limit sending receiving output .receiver)) (freshEnds p w limit sending receiving output) (newWorld p w) plainStart 0
+fresh-reached p w limit sending receiving output m =
+    record {
+      follows-it = fresh-start p w limit sending receiving output m;
+      invariant = at-start p w;
+      sent-is = rw (fresh-none p w limit sending receiving output) (fresh-sent p w limit sending receiving output);
+      read-is = fresh-read p w limit sending receiving output;
+    }
+
 pub none-refused : (p : ProtocolType) (w limit : ℕ) (sending receiving output : List ℕ) → Made p w sending receiving → (cs : List (Call (ends p .Timeout)))
     → Admissible (ends p) (freshEnds p w limit sending receiving output) cs → Suffices p w (freshEnds p w limit sending receiving output) cs
     → NoneRefused (ends p) (freshEnds p w limit sending receiving output) cs
@@ -213,10 +223,5 @@ unfolding plainStart flatten
 none-refused p w limit sending receiving output m cs a h =
     let v = freshEnds p w limit sending receiving output in
     from-there p w (m .window) (ends p .unwritten (v .receiver)) v (newWorld p w) plainStart 0
-    (record {
-      follows-it = fresh-start p w limit sending receiving output m;
-      invariant = at-start p w;
-      sent-is = rw (fresh-none p w limit sending receiving output) (fresh-sent p w limit sending receiving output);
-      read-is = fresh-read p w limit sending receiving output;
-    })
+    (fresh-reached p w limit sending receiving output m)
     cs a (h .buffers) (omega (arith, h .output)) (omega (arith, h .numbers)) (h .datagrams) (omega (arith, h .calls))
