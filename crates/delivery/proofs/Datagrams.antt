@@ -10,8 +10,11 @@ use Rattle.packet.proofs.Laws.{read-back, read-header}
 use Rattle.packet.specs.Reading.{declared}
 use Rattle.packet.specs.declared.Packet.{Packet}
 use Rattle.packet.specs.declared.PacketType.the-variants.{Ack}
-use Rattle.protocol.specs.Machine.{Segment}
+use Rattle.protocol.specs.Runs.{upFrom}
+use Rattle.protocol.specs.Machine.{Segment, SenderState, segmentsFrom}
 use Rattle.refinement.specs.Copies.{DataOf, AckOf}
+use Rattle.refinement.proofs.Laws.{data-payload}
+use Rattle.delivery.specs.KuroseRoss.{segmentIn}
 use Rattle.delivery.specs.Calls.{cut, datagrams, numberOf}
 
 -- raw is a datagram of the segment q; the datagram that acknowledges n
@@ -109,6 +112,9 @@ made-number p payload =
 pub data-number : (raw : List ℕ) (q : Segment) → DataBytes raw q → numberOf raw ≡ q .number
 data-number raw q h = rw (h .is) (made-number (h .packet) (q .payload)) ∙ h .number
 
+pub data-segment : (raw : List ℕ) (q : Segment) → DataBytes raw q → segmentIn raw ≡ q
+data-segment raw q h = rw (data-number raw q h, data-payload q raw h) refl
+
 pub ack-number : (raw : List ℕ) (n : ℕ) → AckBytes raw n → numberOf raw ≡ n
 ack-number raw n h = rw (h .is) (made-number (newPacket n Ack) [])
 
@@ -117,3 +123,14 @@ data-numbers [] [] h = refl
 data-numbers [] (q ∷ qs) h = absurd h
 data-numbers (raw ∷ raws) [] h = absurd h
 data-numbers (raw ∷ raws) (q ∷ qs) h = rw (data-number raw q (h .0), data-numbers raws qs (h .1)) refl
+
+-- the numbers sent again
+pub numbers-from : (s : SenderState) (n k : ℕ) → map (λ q. q .number) (segmentsFrom s n k) ≡ upFrom n k
+unfolding segmentsFrom
+numbers-from s n zero = refl
+numbers-from s n (suc k) = ap (λ (l : List ℕ). n ∷ l) (numbers-from s (suc n) k)
+
+pub count-from : (s : SenderState) (n k : ℕ) → length (segmentsFrom s n k) ≡ k
+unfolding segmentsFrom
+count-from s n zero = refl
+count-from s n (suc k) = ap suc (count-from s (suc n) k)

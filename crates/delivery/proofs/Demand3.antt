@@ -9,10 +9,11 @@ use lib.Dec.{ltb, leb, eqb}
 use borrow.Author.Tests.{ltb-false}
 use Rattle.refusal.proofs.Laws.{none-of}
 use Rattle.octets.specs.Octets.{Octets}
+use Rattle.protocol.specs.PlainMachine.{WindowFits}
 use Rattle.protocol.specs.declared.ProtocolType.{ProtocolType}
 use Rattle.protocol.specs.declared.ProtocolType.the-variants.{StopAndWait, GoBackN, SelectiveRepeat}
 use Rattle.protocol.specs.Machine.{newSender}
-use Rattle.protocol.specs.Trace.{newWorld, WindowFits}
+use Rattle.protocol.specs.Trace.{newWorld}
 use Rattle.packet.specs.Reading.{payloadOf}
 use Rattle.window.specs.State.{outstanding, windowBroken, storeShort}
 use Rattle.window.specs.Slots as slots
@@ -33,9 +34,10 @@ use Rattle.selective_repeat.specs.Sender as selectiveRepeat
 use Rattle.selective_repeat.specs.Receiver as sr
 use Rattle.refinement.specs.Good.{GoodSelectiveReceiver}
 use Rattle.refinement.proofs.Laws.{ResendOutcome, timeout-refused, nothing-sent, sent-again, after-packet, after-ack, marks-octets, go-back-n-ack, go-back-n-ack-octets, go-back-n-timeout, lowest-sent-again, goBackNView, go-back-n-receives, go-back-n-receiver-good, stopAndWaitView, stop-and-wait-send, stop-and-wait-timeout, stop-and-wait-ack, stop-and-wait-ack-octets, stop-and-wait-made, marks-good, stop-and-wait-receives, stop-and-wait-receiver-good, selective-ack, selective-ack-octets, selective-timeout, selectiveView, selective-receives, selective-receiver-good, fresh-good, fresh-octets, fresh-follows, zeroed, fresh-receiver-follows, fresh-receiver-good}
-use Rattle.delivery.specs.Calls.{Call, Admissible}
+use Rattle.delivery.specs.Calls.{Call, World, Admissible}
 use Rattle.delivery.specs.Ends.{SingleTimeout, GoBackNTimeout, all, earliest, goBackNTimeout, WithOutput, ends, freshEnds, Made}
-use Rattle.delivery.specs.Demand3.{Demand3}
+use Rattle.delivery.specs.Demand3.{plainAfter, Claim, Demand3}
+use Rattle.delivery.proofs.Lists.{Reached}
 use Rattle.delivery.proofs.Follow.{Follow}
 use Rattle.delivery.proofs.SenderFollows.{SenderIs, not-handled}
 use Rattle.delivery.proofs.ReceiverFollows.{ReceiverIs, not-received}
@@ -189,7 +191,7 @@ selective-repeat-receiver w = record {
   refused = λ r raw output ack. not-received _ _ r (r .state .filled) _ _ _ raw output ack;
 }
 
-follows : (p : ProtocolType) (w : ℕ) → Follow p w (ends p)
+unfoldable pub follows : (p : ProtocolType) (w : ℕ) → Follow p w (ends p)
 follows StopAndWait w = calls-follow StopAndWait w false stopAndWait.windowEnd stopAndWait.sendChunk _ _ _ stop-and-wait-sender stopAndWaitView _ _ _ _ (stop-and-wait-receiver w)
 follows GoBackN w = calls-follow GoBackN w false (λ u. u) (sendChunk false) _ _ _ go-back-n-sender goBackNView _ _ _ _ (go-back-n-receiver w)
 follows SelectiveRepeat w = calls-follow SelectiveRepeat w true (λ u. u) (sendChunk true) _ _ _ selective-repeat-sender selectiveView _ _ _ _ (selective-repeat-receiver w)
@@ -246,7 +248,7 @@ fresh-follow SelectiveRepeat w limit sending receiving output m =
     }
 
 -- at the start all of the output is behind the fill mark
-fresh-start : (p : ProtocolType) (w limit : ℕ) (sending receiving output : List ℕ) → Made p w sending receiving
+pub fresh-start : (p : ProtocolType) (w limit : ℕ) (sending receiving output : List ℕ) → Made p w sending receiving
     → Follows p w (ends p) (follows p w) (ends p .unwritten (freshEnds p w limit sending receiving output .receiver)) (freshEnds p w limit sending receiving output) (newWorld p w)
 fresh-start StopAndWait w limit sending receiving output m = fresh-follow StopAndWait w limit sending receiving output m
 fresh-start GoBackN w limit sending receiving output m = fresh-follow GoBackN w limit sending receiving output m
@@ -257,3 +259,9 @@ pub demand-3 : (p : ProtocolType) (w limit : ℕ) (sending receiving output : Li
     → (cs : List (Call (ends p .Timeout))) → Admissible (ends p) (freshEnds p w limit sending receiving output) cs → Demand3 p w (ends p) (freshEnds p w limit sending receiving output) cs
 demand-3 p w limit sending receiving output m cs l =
     from-calls p w (m .window) (ends p) (follows p w) (freshEnds p w limit sending receiving output) (fresh-start p w limit sending receiving output m) cs l
+
+-- of a world to which an admissible list of calls leads
+pub reached-claim : (p : ProtocolType) (w limit : ℕ) (sending receiving output : List ℕ) → Made p w sending receiving → {now : World (ends p)}
+    → (r : Reached (ends p) (freshEnds p w limit sending receiving output) now)
+    → Claim (ends p) w (freshEnds p w limit sending receiving output) now (plainAfter p w (ends p) (freshEnds p w limit sending receiving output) (r .calls))
+reached-claim p w limit sending receiving output m r = rw (← r .leads) (demand-3 p w limit sending receiving output m (r .calls) (r .admissible) .claim)

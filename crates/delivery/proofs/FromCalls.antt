@@ -6,26 +6,16 @@ use native.Mathlib.Omega.{arith}
 use lib.ListN.{length}
 use lib.Seq.{take-all}
 use Rattle.protocol.specs.declared.ProtocolType.{ProtocolType}
-use Rattle.protocol.specs.PlainMachine.{PlainState, plainStart, Fed, plainRun, plainOutstanding}
+use Rattle.protocol.specs.PlainMachine.{PlainState, plainStart, Fed, plainRun, plainOutstanding, WindowFits}
 use Rattle.protocol.specs.Trace as trace
-use Rattle.protocol.specs.Trace.{callOf, newWorld, WindowFits}
+use Rattle.protocol.specs.Trace.{callOf, newWorld}
 use Rattle.protocol.proofs.Laws.{isSelective, Invariant, run-ok, from-start, claimed, resending-ok, plain-append}
 use Rattle.delivery.specs.Calls.{Call, Ends, World, step, run, Admissible, fedBy, fedIn}
-use Rattle.delivery.specs.Demand3.{plainAfter, Claim, ResendsAll, Resent, Demand3}
+use Rattle.delivery.specs.Demand3.{plainAfter, Claim, resendStart, ResendsAll, Resent, Demand3}
+use Rattle.delivery.proofs.Lists.{run-append, fed-append}
 use Rattle.delivery.proofs.Follow.{Follow}
 use Rattle.delivery.proofs.Simulation.{Follows, every-list}
 use Rattle.delivery.proofs.Resending.{resent-as}
-
--- lists of calls, one after the other
-run-append : (E : Ends) (v : World E) (cs ds : List (Call (E .Timeout))) → run E v (cs ++ ds) ≡ run E (run E v cs) ds
-unfolding run
-run-append E v [] ds = refl
-run-append E v (c ∷ cs) ds = run-append E (step E v c) cs ds
-
-fed-append : (E : Ends) (v : World E) (cs ds : List (Call (E .Timeout))) → fedIn E v (cs ++ ds) ≡ fedIn E v cs ++ fedIn E (run E v cs) ds
-unfolding run fedIn
-fed-append E v [] ds = refl
-fed-append E v (c ∷ cs) ds = ap (λ (l : List Fed). fedBy E v c ∷ l) (fed-append E (step E v c) cs ds)
 
 module _ (p : ProtocolType) (w : ℕ) (o : WindowFits p w) (E : Ends) (F : Follow p w E) (start : World E) where
   abbrev rest : List ℕ
@@ -46,7 +36,7 @@ module _ (p : ProtocolType) (w : ℕ) (o : WindowFits p w) (E : Ends) (F : Follo
 
   -- a resending that follows
   after-resending : (v : World E) (m : trace.World) (s : PlainState) → Follows p w E F rest v m → Invariant (isSelective p) w m s
-      → (ds : List (Call (E .Timeout))) → ResendsAll p w E v s (plainOutstanding s) [] [] ds → Resent E w start (run E v ds) s (plainRun p w s (fedIn E v ds))
+      → (ds : List (Call (E .Timeout))) → ResendsAll p w E (resendStart E v s) ds → Resent E w start (run E v ds) s (plainRun p w s (fedIn E v ds))
   after-resending v m s f i ds r =
       let u = resent-as p w o E F rest v m s f i ds r in
       let a = resending-ok p w m s (u .events) o i (u .resending) in

@@ -60,7 +60,7 @@ pub record ReceiverCalls (p : ProtocolType) (w : ℕ) {R : Type 0} (view : R →
   pub outcome : (r : R) (raw output ack : List ℕ) → Good r output → ReceiveOutcome p w view filled r raw output ack (packet r raw output ack)
   pub good : (r : R) (raw output ack : List ℕ) → Good r output → Good (packet r raw output ack .receiver) (packet r raw output ack .output)
   pub refused : (r : R) (raw output ack : List ℕ) → isReceived (packet r raw output ack .answer) ≡ false
-      → byReceiving (packet r raw output ack) ≡ record { after = withOutput r output; written = []; isDone = false }
+      → byReceiving (packet r raw output ack) ≡ record { after = withOutput r output; written = []; isDone = false; isRefused = true }
 
 pub flipped-of : (raw : List ℕ) (j b : ℕ) → Flips raw j b → Flipped raw (flip raw j b)
 flipped-of raw j b f = record { byte = j; bit = b; is = refl; bit-low = f .bit; byte-in = f .within; not-6 = f .not-6; not-7 = f .not-7 }

@@ -1,3 +1,4 @@
+pub mod Lists
 pub mod Datagrams
 pub mod Follow
 pub mod Simulation
@@ -10,4 +11,7 @@ pub mod Demand3
 pub mod Making
 pub mod Progress
 pub mod AnyBytes
+pub mod KuroseRoss
+pub mod NotRefused
+pub mod Laws
 pub mod Examples

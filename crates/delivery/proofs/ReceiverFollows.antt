@@ -40,12 +40,12 @@ answered reply.Silent = refl
 
 pub not-received : {R : Type 0} (broken counts : Bool) (r : R) (filled : ℕ) (d : Decision) (bytes : List ℕ) (after : ℕ → R) (raw output ack : List ℕ)
     → isReceived (receiver.receive broken counts r filled d bytes after raw output ack .answer) ≡ false
-    → byReceiving (receiver.receive broken counts r filled d bytes after raw output ack) ≡ record { after = withOutput r output; written = []; isDone = false }
+    → byReceiving (receiver.receive broken counts r filled d bytes after raw output ack) ≡ record { after = withOutput r output; written = []; isDone = false; isRefused = true }
 unfolding receiver.receive
 not-received broken counts r filled d bytes after raw output ack h = by-verdict _ refl
   where
     by-verdict : (v : Verdict) → verdict (check broken State ∷ check counts Counts ∷ check (roomMissing d (length bytes) filled output ack) Full ∷ packetChecks raw) ≡ v
-        → byReceiving (receiver.receive broken counts r filled d bytes after raw output ack) ≡ record { after = withOutput r output; written = []; isDone = false }
+        → byReceiving (receiver.receive broken counts r filled d bytes after raw output ack) ≡ record { after = withOutput r output; written = []; isDone = false; isRefused = true }
     by-verdict (Refused s) e = ap byReceiving (on-refused _ _ e)
     by-verdict Accepted e = false-true (sym h ∙ ap (λ (x : ReceiveExit _). isReceived (x .answer)) (on-accepted _ _ e) ∙ answered (d .reply))
 
@@ -127,7 +127,7 @@ module _ (p : ProtocolType) (w : ℕ) (R : Type 0) (view : R → ReceiverState) 
               each = rw (← (ap (λ (z : Received). z .acks) same), ← t .acks) (each-reply (y .answer) (y .ack) (t .ack-made));
             }
 
-    pub packet-kept : byReceiving y ≡ record { after = x; written = []; isDone = false } → Kept x (byReceiving y) m
+    pub packet-kept : byReceiving y ≡ record { after = x; written = []; isDone = false; isRefused = true } → Kept x (byReceiving y) m
     packet-kept e = rw e (record { after = h; nothing = refl; output = refl; behind = refl })
 
     mark-after : filledOf (y .receiver) ≤ length (y .output)

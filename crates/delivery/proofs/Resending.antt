@@ -10,34 +10,23 @@ use lib.Dec.{leb, ltb}
 use Rattle.protocol.specs.declared.ProtocolType.{ProtocolType}
 use Rattle.protocol.specs.Runs.{upFrom}
 use Rattle.protocol.specs.Machine.{Segment, SenderState, nextNumber, segmentsFrom, receive}
-use Rattle.protocol.specs.PlainMachine.{PlainState, plainStep, plainOutstanding}
+use Rattle.protocol.specs.PlainMachine.{handleTimeout, PlainState, plainStep, plainOutstanding, WindowFits}
 use Rattle.protocol.specs.Trace as trace
-use Rattle.protocol.specs.Trace.{Event, callOf, WindowFits}
+use Rattle.protocol.specs.Trace.{Event, callOf}
 use Rattle.protocol.proofs.Laws.{isSelective, Invariant, Own, Every, every-nil, every-append, every-mono, every-head, every-tail, step-ok, claimed}
 use Rattle.delivery.specs.Calls.{whole, flipped, Call, send, timeout, toReceiver, toSender, Ends, World, datagrams, step, run, numberOf, fedBy, fedIn}
-use Rattle.delivery.specs.Demand3.{isOutstanding, outstandingOf, ResendsAll}
-use Rattle.delivery.proofs.Datagrams.{DataBytes, AckBytes, Each, each-length, datagrams-flatten, data-framed, data-number, data-numbers, ack-number}
+use Rattle.delivery.specs.Demand3.{isOutstanding, outstandingOf, madeBy, ResendState, resendStart, ResendsAll}
+use Rattle.delivery.proofs.Datagrams.{DataBytes, AckBytes, Each, each-length, datagrams-flatten, data-framed, data-number, data-numbers, numbers-from, count-from, ack-number}
 use Rattle.delivery.proofs.Follow.{SentAgain, Follow}
-use Rattle.delivery.proofs.Simulation.{data-added, acks-added, Follows, sent-again, packet-taken, ack-taken}
+use Rattle.delivery.proofs.Simulation.{data-added, acks-added, none-added, Follows, sender-kept, sent-again, packet-taken, ack-taken}
 
-false≠true : _≡_ {A = Bool} false true → ⊥
+pub false≠true : _≡_ {A = Bool} false true → ⊥
 false≠true e = let z : _≡_ {A = ℕ} 0 1 = ap (λ (b : Bool). cond b 1 0) e in omega arith
 
 none-left : {X Y : Type 0} (R : X → Y → Type 0) (xs : List X) (ys : List Y) → Each R xs ys → xs ≡ [] → ys ≡ []
 none-left R [] [] h e = refl
 none-left R [] (y ∷ ys) h e = absurd h
 none-left R (x ∷ xs) ys h e = let z : _≡_ {A = ℕ} (suc (length xs)) 0 = ap length e in absurd (omega arith)
-
--- the numbers sent again
-numbers-from : (s : SenderState) (n k : ℕ) → map (λ q. q .number) (segmentsFrom s n k) ≡ upFrom n k
-unfolding segmentsFrom
-numbers-from s n zero = refl
-numbers-from s n (suc k) = ap (λ (l : List ℕ). n ∷ l) (numbers-from s (suc n) k)
-
-count-from : (s : SenderState) (n k : ℕ) → length (segmentsFrom s n k) ≡ k
-unfolding segmentsFrom
-count-from s n zero = refl
-count-from s n (suc k) = ap suc (count-from s (suc n) k)
 
 -- what is acknowledged at the sender is what is noted there
 abbrev SameMarks : SenderState → PlainState → Type 0
@@ -89,7 +78,7 @@ module _ (p : ProtocolType) (w : ℕ) (o : WindowFits p w) (E : Ends) (F : Follo
       → Going v m s packets replies qs ns → (e : E .handleTimeout (v .sender) t buffer .isDone ≡ true)
       → (k : SentAgain E (F .SenderIs) (E .handleTimeout (v .sender) t buffer) (m .sender))
       → Going (step E v (timeout t buffer)) (trace.step p w m (trace.resent (k .first) (k .count))) (plainStep p w s (fedBy E v (timeout t buffer)))
-      (packets ++ datagrams (E .handleTimeout (v .sender) t buffer .written)) replies (qs ++ segmentsFrom (m .sender) (k .first) (k .count)) ns
+      (packets ++ madeBy E v (timeout t buffer)) replies (qs ++ segmentsFrom (m .sender) (k .first) (k .count)) ns
   unfolding step trace.step fedBy
   going-timeout v m s packets replies qs ns t buffer g e k =
       record {
@@ -98,6 +87,22 @@ module _ (p : ProtocolType) (w : ℕ) (o : WindowFits p w) (E : Ends) (F : Follo
         packets-are = data-added packets qs _ (k .packets) _ (g .packets-are) (k .wrote) (k .each);
         replies-are = g .replies-are;
         segments-made = every-append (every-mono (λ q h. Memᴰ·append-left _ h) (g .segments-made)) (record { all = λ q h. Memᴰ·append-right (m .segments) h });
+        acks-made = g .acks-made;
+      }
+
+  -- one after which nothing is sent
+  going-nothing : (v : World E) (m : trace.World) (s : PlainState) (packets replies : List (List ℕ)) (qs : List Segment) (ns : List ℕ) (t : E .Timeout) (buffer : List ℕ)
+      → Going v m s packets replies qs ns → E .handleTimeout (v .sender) t buffer .isDone ≡ false
+      → Going (step E v (timeout t buffer)) m (plainStep p w s (fedBy E v (timeout t buffer))) (packets ++ madeBy E v (timeout t buffer)) replies qs ns
+  unfolding step fedBy plainStep
+  going-nothing v m s packets replies qs ns t buffer g e =
+      let k = F .not-resent (v .sender) (m .sender) t buffer (g .follows .sender) e in
+      record {
+        follows = sender-kept p w E F rest v m (g .follows) (E .handleTimeout (v .sender) t buffer) k;
+        invariant = rw e (g .invariant);
+        packets-are = rw (none-added packets (E .handleTimeout (v .sender) t buffer .written) (k .nothing)) (g .packets-are);
+        replies-are = g .replies-are;
+        segments-made = g .segments-made;
         acks-made = g .acks-made;
       }
 
@@ -145,6 +150,12 @@ module _ (p : ProtocolType) (w : ℕ) (o : WindowFits p w) (E : Ends) (F : Follo
         follows = rest .follows;
       }
 
+  nothing-before : (v : World E) (m : trace.World) (numbers : List ℕ) (qs : List Segment) (ns : List ℕ) (t : E .Timeout) (buffer : List ℕ) (cs : List (Call (E .Timeout)))
+      → E .handleTimeout (v .sender) t buffer .isDone ≡ false → ResentAs (step E v (timeout t buffer)) m numbers qs ns cs → ResentAs v m numbers qs ns (timeout t buffer ∷ cs)
+  unfolding fedIn fedBy run trace.run trace.step
+  nothing-before v m numbers qs ns t buffer cs e rest =
+      record { events = trace.other handleTimeout ∷ rest .events; resending = rest .resending; same-fed = rw (e, rest .same-fed) refl; follows = rest .follows }
+
   packet-before : (v : World E) (m : trace.World) (numbers : List ℕ) (q : Segment) (qs : List Segment) (ns : List ℕ) (i : ℕ) (buffer : List ℕ) (cs : List (Call (E .Timeout)))
       → DataBytes (getD (v .sent) i []) q → E .handlePacket (v .receiver) (getD (v .sent) i []) buffer .isDone ≡ true
       → ResentAs (step E v (toReceiver (whole i) buffer)) (trace.step p w m (trace.received q)) numbers qs (ns ++ receive p w (m .receiver) q .acks) cs
@@ -171,8 +182,30 @@ module _ (p : ProtocolType) (w : ℕ) (o : WindowFits p w) (E : Ends) (F : Follo
         follows = rest .follows;
       }
 
+  -- a timeout before the others, whatever it sends; `next` is what follows it
+  timeout-first : (v : World E) (m : trace.World) (s : PlainState) (numbers : List ℕ) (packets replies : List (List ℕ)) (qs : List Segment) (ns : List ℕ) (t : E .Timeout) (buffer : List ℕ)
+      (cs : List (Call (E .Timeout))) → Going v m s packets replies qs ns
+      → take (length (madeBy E v (timeout t buffer))) numbers ≡ map numberOf (madeBy E v (timeout t buffer))
+      → (next : (m′ : trace.World) (qs′ : List Segment) → Going (step E v (timeout t buffer)) m′ (plainStep p w s (fedBy E v (timeout t buffer))) (packets ++ madeBy E v (timeout t buffer)) replies qs′ ns
+      → ResentAs (step E v (timeout t buffer)) m′ (drop (length (madeBy E v (timeout t buffer))) numbers) qs′ ns cs)
+      → (b : Bool) → E .handleTimeout (v .sender) t buffer .isDone ≡ b → ResentAs v m numbers qs ns (timeout t buffer ∷ cs)
+  timeout-first v m s numbers packets replies qs ns t buffer cs g h next true e =
+      let k = F .resent (v .sender) (m .sender) t buffer (g .follows .sender) e in
+      let made : madeBy E v (timeout t buffer) ≡ k .packets = rw (k .wrote) (datagrams-flatten (k .packets) (data-framed (k .packets) _ (k .each))) in
+      let count : length (madeBy E v (timeout t buffer)) ≡ k .count = ap length made ∙ each-length DataBytes (k .packets) _ (k .each) ∙ count-from (m .sender) (k .first) (k .count) in
+      timeout-before v m numbers qs ns t buffer cs k e
+      (ap (λ (j : ℕ). take j numbers) (sym count) ∙ h ∙ ap (map numberOf) made ∙ data-numbers (k .packets) _ (k .each) ∙ numbers-from (m .sender) (k .first) (k .count))
+      (subst (λ (j : ℕ). ResentAs (step E v (timeout t buffer)) (trace.step p w m (trace.resent (k .first) (k .count))) (drop j numbers) (qs ++ segmentsFrom (m .sender) (k .first) (k .count)) ns cs) count
+      (next _ _ (going-timeout v m s packets replies qs ns t buffer g e k)))
+  timeout-first v m s numbers packets replies qs ns t buffer cs g h next false e =
+      let k = F .not-resent (v .sender) (m .sender) t buffer (g .follows .sender) e in
+      nothing-before v m numbers qs ns t buffer cs e
+      (subst (λ (made : List (List ℕ)). ResentAs (step E v (timeout t buffer)) m (drop (length made) numbers) qs ns cs) (none-added [] (E .handleTimeout (v .sender) t buffer .written) (k .nothing))
+      (next m qs (going-nothing v m s packets replies qs ns t buffer g e)))
+
   resending-follows : (v : World E) (m : trace.World) (s : PlainState) (numbers : List ℕ) (packets replies : List (List ℕ)) (qs : List Segment) (ns : List ℕ)
-      → Going v m s packets replies qs ns → (cs : List (Call (E .Timeout))) → ResendsAll p w E v s numbers packets replies cs → ResentAs v m numbers qs ns cs
+      → Going v m s packets replies qs ns → (cs : List (Call (E .Timeout)))
+      → ResendsAll p w E (record { world = v; plain = s; numbers = numbers; packets = packets; replies = replies }) cs → ResentAs v m numbers qs ns cs
   unfolding fedIn run trace.run
   resending-follows v m s numbers packets replies qs ns g [] h =
       record {
@@ -181,38 +214,31 @@ module _ (p : ProtocolType) (w : ℕ) (o : WindowFits p w) (E : Ends) (F : Follo
         same-fed = refl;
         follows = g .follows;
       }
-  resending-follows v m s numbers packets replies qs ns g (send payload buffer ∷ cs) h = absurd h
+  resending-follows v m s numbers packets replies qs ns g (send payload buffer ∷ cs) h = absurd (h .0)
   resending-follows v m s numbers packets replies qs ns g (timeout t buffer ∷ cs) h =
-      let k = F .resent (v .sender) (m .sender) t buffer (g .follows .sender) (h .0) in
-      let made : datagrams (E .handleTimeout (v .sender) t buffer .written) ≡ k .packets = rw (k .wrote) (datagrams-flatten (k .packets) (data-framed (k .packets) _ (k .each))) in
-      let count : length (datagrams (E .handleTimeout (v .sender) t buffer .written)) ≡ k .count = ap length made ∙ each-length DataBytes (k .packets) _ (k .each) ∙ count-from (m .sender) (k .first) (k .count) in
-      timeout-before v m numbers qs ns t buffer cs k (h .0)
-      (ap (λ (j : ℕ). take j numbers) (sym count) ∙ h .1 ∙ ap (map numberOf) made ∙ data-numbers (k .packets) _ (k .each) ∙ numbers-from (m .sender) (k .first) (k .count))
-      (subst (λ (j : ℕ). ResentAs (step E v (timeout t buffer)) (trace.step p w m (trace.resent (k .first) (k .count))) (drop j numbers) (qs ++ segmentsFrom (m .sender) (k .first) (k .count)) ns cs) count
-      (resending-follows (step E v (timeout t buffer)) (trace.step p w m (trace.resent (k .first) (k .count))) _ _ _ replies (qs ++ segmentsFrom (m .sender) (k .first) (k .count)) ns
-      (going-timeout v m s packets replies qs ns t buffer g (h .0) k) cs (h .2)))
-  resending-follows v m s numbers [] replies qs ns g (toReceiver (whole i) buffer ∷ cs) h = absurd (h .1)
+      timeout-first v m s numbers packets replies qs ns t buffer cs g (h .0) (λ m′ qs′ next. resending-follows (step E v (timeout t buffer)) m′ _ _ _ replies qs′ ns next cs (h .1)) _ refl
+  resending-follows v m s numbers [] replies qs ns g (toReceiver (whole i) buffer ∷ cs) h = absurd (h .0 .1)
   resending-follows v m s numbers (raw ∷ packets) replies [] ns g (toReceiver (whole i) buffer ∷ cs) h = absurd (g .packets-are)
   resending-follows v m s numbers (raw ∷ packets) replies (q ∷ qs) ns g (toReceiver (whole i) buffer ∷ cs) h =
-      let d : DataBytes (getD (v .sent) i []) q = rw (h .1) (g .packets-are .0) in
-      packet-before v m numbers q qs ns i buffer cs d (h .2)
+      let d : DataBytes (getD (v .sent) i []) q = rw (h .0 .1) (g .packets-are .0) in
+      packet-before v m numbers q qs ns i buffer cs d (h .0 .2)
       (resending-follows (step E v (toReceiver (whole i) buffer)) (trace.step p w m (trace.received q)) _ numbers packets _ qs (ns ++ receive p w (m .receiver) q .acks)
-      (going-packet v m s raw packets replies q qs ns i buffer g d (h .2)) cs (h .3))
-  resending-follows v m s numbers packets replies qs ns g (toReceiver (flipped i j b) buffer ∷ cs) h = absurd (false≠true (h .0))
-  resending-follows v m s numbers packets [] qs ns g (toSender (whole i) ∷ cs) h = absurd (h .1)
+      (going-packet v m s raw packets replies q qs ns i buffer g d (h .0 .2)) cs (h .1))
+  resending-follows v m s numbers packets replies qs ns g (toReceiver (flipped i j b) buffer ∷ cs) h = absurd (false≠true (h .0 .0))
+  resending-follows v m s numbers packets [] qs ns g (toSender (whole i) ∷ cs) h = absurd (h .0 .1)
   resending-follows v m s numbers packets (raw ∷ replies) qs [] g (toSender (whole i) ∷ cs) h = absurd (g .replies-are)
   resending-follows v m s numbers packets (raw ∷ replies) qs (n ∷ ns) g (toSender (whole i) ∷ cs) h =
-      let d : AckBytes (getD (v .replies) i []) n = rw (h .1) (g .replies-are .0) in
-      let next = going-ack v m s raw packets replies qs n ns i g d (h .2) in
+      let d : AckBytes (getD (v .replies) i []) n = rw (h .0 .1) (g .replies-are .0) in
+      let next = going-ack v m s raw packets replies qs n ns i g d (h .0 .2) in
       let same = same-outstanding (isSelective p) w (trace.step p w m (trace.acknowledged n)) (plainStep p w s (fedBy E v (toSender (whole i)))) (next .invariant) numbers in
-      ack-before v m numbers qs n ns i cs d (h .2)
+      ack-before v m numbers qs n ns i cs d (h .0 .2)
       (subst (λ (l : List ℕ). ResentAs (step E v (toSender (whole i))) (trace.step p w m (trace.acknowledged n)) l qs ns cs) same
-      (resending-follows (step E v (toSender (whole i))) (trace.step p w m (trace.acknowledged n)) (plainStep p w s (fedBy E v (toSender (whole i)))) _ packets replies qs ns next cs (h .3)))
-  resending-follows v m s numbers packets replies qs ns g (toSender (flipped i j b) ∷ cs) h = absurd (false≠true (h .0))
+      (resending-follows (step E v (toSender (whole i))) (trace.step p w m (trace.acknowledged n)) (plainStep p w s (fedBy E v (toSender (whole i)))) _ packets replies qs ns next cs (h .1)))
+  resending-follows v m s numbers packets replies qs ns g (toSender (flipped i j b) ∷ cs) h = absurd (false≠true (h .0 .0))
 
   -- from its start
   pub resent-as : (v : World E) (m : trace.World) (s : PlainState) → Follows p w E F rest v m → Invariant (isSelective p) w m s
-      → (cs : List (Call (E .Timeout))) → ResendsAll p w E v s (plainOutstanding s) [] [] cs → ResentAs v m (trace.outstanding (m .sender)) [] [] cs
+      → (cs : List (Call (E .Timeout))) → ResendsAll p w E (resendStart E v s) cs → ResentAs v m (trace.outstanding (m .sender)) [] [] cs
   resent-as v m s f i cs h =
       subst (λ (ns : List ℕ). ResentAs v m ns [] [] cs) (sym (claimed (isSelective p) w m s i .outstanding-is))
       (resending-follows v m s (plainOutstanding s) [] [] [] []

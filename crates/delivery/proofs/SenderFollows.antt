@@ -124,7 +124,7 @@ module _ (E : Ends) (view : E .Sender → slots.Sender) (selective : Bool) (w : 
     ]
 
 -- the datagrams of k numbers from n on, with their segments
-each-datagram : (v : slots.Sender) (m : SenderState) (n k : ℕ) → ((i : ℕ) → n ≤ i → i < n + k → DataOf (segmentAt m i) (datagramFor v i)) → Each DataBytes (map (datagramFor v) (upFrom n k)) (segmentsFrom m n k)
+pub each-datagram : (v : slots.Sender) (m : SenderState) (n k : ℕ) → ((i : ℕ) → n ≤ i → i < n + k → DataOf (segmentAt m i) (datagramFor v i)) → Each DataBytes (map (datagramFor v) (upFrom n k)) (segmentsFrom m n k)
 unfolding segmentsFrom
 each-datagram v m n zero h = tt
 each-datagram v m n (suc k) h = (h n (omega arith) (omega arith), each-datagram v m (suc n) k (λ i f g. h i (omega arith) (omega arith)))

@@ -1,20 +1,22 @@
 -- Ends that follow the machine, call by call, follow it over every list of calls.
 use Prim.Native.Nat.{ℕ, zero, suc, _+_, _-_, _≤_, _<_}
-use mathlib.Core.Path.{_≡_, refl, sym, ap, _∙_}
+use mathlib.Core.Path.{_≡_, refl, sym, ap, ap₂, _∙_}
 use mathlib.Core.List.{List, [], _∷_, _++_, map, List·Memᴰ, append-nil, flatten}
 use mathlib.Core.Bool.{Bool, true, false, cond, _&&_}
 use lib.ListN.{length, getD, take, drop, length-append}
 use lib.Seq.{drop-drop}
+use native.Mathlib.Omega.{arith}
 use Rattle.octets.specs.Octets.{Octets}
 use Rattle.octets.specs.Flip.{flip}
 use Rattle.protocol.specs.declared.ProtocolType.{ProtocolType}
 use Rattle.protocol.specs.PlainMachine as plain
 use Rattle.protocol.specs.PlainMachine.{Fed, fed, plainStart, plainRun}
-use Rattle.protocol.specs.Machine.{Segment, SenderState, ReceiverState, nextNumber, segmentsFrom, acknowledge, receive}
+use Rattle.protocol.specs.Machine.{Segment, SenderState, ReceiverState, nextNumber, segmentAt, segmentsFrom, acknowledge, receive}
 use Rattle.protocol.specs.Trace as trace
 use Rattle.protocol.specs.Trace.{Event, callOf, newWorld}
 use Rattle.delivery.specs.Calls.{Copy, whole, flipped, copyBytes, IsCopy, isWhole, Call, send, timeout, toReceiver, toSender, Done, Ends, World, fresh, datagrams, bySender, byReceiver, step, run, Allowed, Admissible, numberOf, fedBy, fedIn}
-use Rattle.delivery.proofs.Datagrams.{DataBytes, AckBytes, Each, Paired, each-append, each-at, each-length, datagrams-flatten, data-framed, acks-framed, data-number, ack-number}
+use Rattle.delivery.specs.KuroseRoss.{eventBy}
+use Rattle.delivery.proofs.Datagrams.{DataBytes, AckBytes, Each, Paired, each-append, each-at, each-length, datagrams-flatten, data-framed, acks-framed, data-number, data-segment, ack-number, count-from}
 use Rattle.refinement.proofs.Laws.{flatten-append}
 use Rattle.delivery.proofs.Follow.{SenderKept, ReceiverKept, ChunkSent, SentAgain, PacketTaken, Flips, Follow}
 
@@ -29,7 +31,7 @@ pub acks-added : (replies : List (List ℕ)) (ns : List ℕ) (written : List ℕ
 acks-added replies ns written packets more h e k =
     rw (e, datagrams-flatten packets (acks-framed packets more k)) (each-append AckBytes replies ns packets more h k)
 
-none-added : (sent : List (List ℕ)) (written : List ℕ) → written ≡ [] → sent ++ datagrams written ≡ sent
+pub none-added : (sent : List (List ℕ)) (written : List ℕ) → written ≡ [] → sent ++ datagrams written ≡ sent
 unfolding datagrams
 none-added sent written e = rw e (append-nil sent)
 
@@ -38,6 +40,18 @@ behind : (delivered more : List (List ℕ)) (rest : List ℕ) → drop (length (
 behind delivered more rest =
     drop-drop (length (flatten more)) (length (flatten delivered)) rest
     ∙ ap (λ (n : ℕ). drop n rest) (sym (length-append (flatten delivered) (flatten more)) ∙ ap length (sym (flatten-append delivered more)))
+
+-- datagrams sent again, by the number of the first and how many they are
+again-is : (s : SenderState) (written : List ℕ) (n k : ℕ) (packets : List (List ℕ)) → 0 < k → written ≡ flatten packets → Each DataBytes packets (segmentsFrom s n k)
+    → trace.resent n k ≡ trace.resent (numberOf (getD (datagrams written) 0 [])) (length (datagrams written))
+unfolding segmentsFrom
+again-is s written n zero packets l e h = absurd (omega arith)
+again-is s written n (suc k) [] l e h = absurd h
+again-is s written n (suc k) (raw ∷ raws) l e h =
+    let made : datagrams written ≡ raw ∷ raws = rw e (datagrams-flatten (raw ∷ raws) (data-framed (raw ∷ raws) (segmentsFrom s n (suc k)) h)) in
+    let first : numberOf (getD (datagrams written) 0 []) ≡ n = ap (λ (l : List (List ℕ)). numberOf (getD l 0 [])) made ∙ data-number raw (segmentAt s n) (h .0) in
+    let count : length (datagrams written) ≡ suc k = ap length made ∙ each-length DataBytes (raw ∷ raws) (segmentsFrom s n (suc k)) h ∙ count-from s n (suc k) in
+    ap₂ trace.resent (sym first) (sym count)
 
 -- rest: the output behind its fill mark at the start
 module _ (p : ProtocolType) (w : ℕ) (E : Ends) (F : Follow p w E) (rest : List ℕ) where
@@ -54,11 +68,12 @@ module _ (p : ProtocolType) (w : ℕ) (E : Ends) (F : Follow p w E) (rest : List
   pub record Stepped (v : World E) (m : trace.World) (c : Call (E .Timeout)) : Type 0 where
     pub event : Event
     pub allowed : trace.Allowed w m event
+    pub event-is : event ≡ eventBy E v c
     pub same-fed : callOf event ≡ fedBy E v c
     pub follows : Follows (step E v c) (trace.step p w m event)
 
   module _ (v : World E) (m : trace.World) (f : Follows v m) where
-    sender-kept : (d : Done (E .Sender)) → SenderKept E (F .SenderIs) d (m .sender) → Follows (bySender v d) m
+    pub sender-kept : (d : Done (E .Sender)) → SenderKept E (F .SenderIs) d (m .sender) → Follows (bySender v d) m
     sender-kept d k =
         rw (none-added (v .sent) (d .written) (k .nothing))
         record { sender = k .after; receiver = f .receiver; sent = f .sent; replies = f .replies; output = f .output; unwritten = f .unwritten }
@@ -84,14 +99,15 @@ module _ (p : ProtocolType) (w : ℕ) (E : Ends) (F : Follow p w E) (rest : List
         }
 
     step-send : (payload buffer : List ℕ) → Octets payload → (b : Bool) → E .sendChunk (v .sender) payload buffer .isDone ≡ b → Stepped v m (send payload buffer)
-    unfolding step fedBy trace.step
+    unfolding step fedBy eventBy trace.step
     step-send payload buffer o true e =
         let k = F .sent (v .sender) (m .sender) payload buffer (f .sender) o e in
-        record { event = trace.sent payload; allowed = k .free; same-fed = rw e refl; follows = chunk-sent payload buffer o e }
+        record { event = trace.sent payload; allowed = k .free; event-is = rw e refl; same-fed = rw e refl; follows = chunk-sent payload buffer o e }
     step-send payload buffer o false e =
         record {
           event = trace.other (plain.sendChunk payload);
           allowed = tt;
+          event-is = rw e refl;
           same-fed = rw e refl;
           follows = sender-kept (E .sendChunk (v .sender) payload buffer) (F .not-sent (v .sender) (m .sender) payload buffer (f .sender) e);
         }
@@ -111,14 +127,15 @@ module _ (p : ProtocolType) (w : ℕ) (E : Ends) (F : Follow p w E) (rest : List
         }
 
     step-timeout : (t : E .Timeout) (buffer : List ℕ) → (b : Bool) → E .handleTimeout (v .sender) t buffer .isDone ≡ b → Stepped v m (timeout t buffer)
-    unfolding step fedBy trace.step
+    unfolding step fedBy eventBy trace.step
     step-timeout t buffer true e =
         let k = F .resent (v .sender) (m .sender) t buffer (f .sender) e in
-        record { event = trace.resent (k .first) (k .count); allowed = (k .low, k .high); same-fed = rw e refl; follows = sent-again t buffer k }
+        record { event = trace.resent (k .first) (k .count); allowed = (k .low, k .high); event-is = rw e (again-is (m .sender) _ (k .first) (k .count) (k .packets) (k .some) (k .wrote) (k .each)); same-fed = rw e refl; follows = sent-again t buffer k }
     step-timeout t buffer false e =
         record {
           event = trace.other plain.handleTimeout;
           allowed = tt;
+          event-is = rw e refl;
           same-fed = rw e refl;
           follows = sender-kept (E .handleTimeout (v .sender) t buffer) (F .not-resent (v .sender) (m .sender) t buffer (f .sender) e);
         }
@@ -139,12 +156,13 @@ module _ (p : ProtocolType) (w : ℕ) (E : Ends) (F : Follow p w E) (rest : List
         }
 
     step-packet : (i : ℕ) (buffer : List ℕ) → i < length (v .sent) → (b : Bool) → E .handlePacket (v .receiver) (getD (v .sent) i []) buffer .isDone ≡ b → Stepped v m (toReceiver (whole i) buffer)
-    unfolding step fedBy trace.step
+    unfolding step fedBy eventBy trace.step
     step-packet i buffer h true e =
         let q = each-at DataBytes [] (v .sent) (m .segments) i (f .sent) h in
         record {
           event = trace.received (q .other);
           allowed = q .member;
+          event-is = rw (e, data-segment _ (q .other) (q .belongs)) refl;
           same-fed = rw (e, data-number _ (q .other) (q .belongs)) refl;
           follows = packet-taken (getD (v .sent) i []) buffer (q .other) (q .belongs) e;
         }
@@ -152,17 +170,19 @@ module _ (p : ProtocolType) (w : ℕ) (E : Ends) (F : Follow p w E) (rest : List
         record {
           event = trace.other (plain.handleData (numberOf (getD (v .sent) i [])));
           allowed = tt;
+          event-is = rw e refl;
           same-fed = rw e refl;
           follows = receiver-kept (E .handlePacket (v .receiver) (getD (v .sent) i []) buffer) (F .packet-refused (v .receiver) (m .receiver) (getD (v .sent) i []) buffer (f .receiver) e);
         }
 
     step-packet-flipped : (i j b : ℕ) (buffer : List ℕ) → IsCopy (v .sent) (flipped i j b) → Stepped v m (toReceiver (flipped i j b) buffer)
-    unfolding step fedBy trace.step
+    unfolding step fedBy eventBy trace.step
     step-packet-flipped i j b buffer h =
         let q = each-at DataBytes [] (v .sent) (m .segments) i (f .sent) (h .0) in
         record {
           event = trace.other (plain.handleData (numberOf (flip (getD (v .sent) i []) j b)));
           allowed = tt;
+          event-is = refl;
           same-fed = refl;
           follows =
               receiver-kept (E .handlePacket (v .receiver) (flip (getD (v .sent) i []) j b) buffer)
@@ -179,12 +199,13 @@ module _ (p : ProtocolType) (w : ℕ) (E : Ends) (F : Follow p w E) (rest : List
         record { sender = k .after; receiver = f .receiver; sent = f .sent; replies = f .replies; output = f .output; unwritten = f .unwritten }
 
     step-ack : (i : ℕ) → i < length (v .replies) → (b : Bool) → E .handleAck (v .sender) (getD (v .replies) i []) .isDone ≡ b → Stepped v m (toSender (whole i))
-    unfolding step fedBy trace.step
+    unfolding step fedBy eventBy trace.step
     step-ack i h true e =
         let q = each-at AckBytes [] (v .replies) (m .acks) i (f .replies) h in
         record {
           event = trace.acknowledged (q .other);
           allowed = q .member;
+          event-is = rw (e, ack-number _ (q .other) (q .belongs)) refl;
           same-fed = rw (e, ack-number _ (q .other) (q .belongs)) refl;
           follows = ack-taken (getD (v .replies) i []) (q .other) (q .belongs) e;
         }
@@ -192,17 +213,19 @@ module _ (p : ProtocolType) (w : ℕ) (E : Ends) (F : Follow p w E) (rest : List
         record {
           event = trace.other (plain.handleAck (numberOf (getD (v .replies) i [])));
           allowed = tt;
+          event-is = rw e refl;
           same-fed = rw e refl;
           follows = sender-kept (E .handleAck (v .sender) (getD (v .replies) i [])) (F .ack-refused (v .sender) (m .sender) (getD (v .replies) i []) (f .sender) e);
         }
 
     step-ack-flipped : (i j b : ℕ) → IsCopy (v .replies) (flipped i j b) → Stepped v m (toSender (flipped i j b))
-    unfolding step fedBy trace.step
+    unfolding step fedBy eventBy trace.step
     step-ack-flipped i j b h =
         let q = each-at AckBytes [] (v .replies) (m .acks) i (f .replies) (h .0) in
         record {
           event = trace.other (plain.handleAck (numberOf (flip (getD (v .replies) i []) j b)));
           allowed = tt;
+          event-is = refl;
           same-fed = refl;
           follows =
               sender-kept (E .handleAck (v .sender) (flip (getD (v .replies) i []) j b))

@@ -1,5 +1,6 @@
--- Document 01, demand 3: lists of calls (a chunk to send, a timeout, a datagram handed to the receiver, an ACK handed to the sender) over
--- two ends, and what each end made so far. An end is handed only copies of what the other made before, whole or with one bit flipped.
+-- Document 01, demand 3: lists of calls (a chunk to send, a timeout, a datagram handed to the receiver, an ACK handed
+-- to the sender) over two ends, and what each end made so far. An end is handed only copies of what the other made
+-- before, whole or with one bit flipped.
 use Prim.Native.Nat.{ℕ, zero, suc, _+_, _<_}
 use mathlib.Core.Path.{_≡_}
 use mathlib.Core.List.{List, [], _∷_, _++_}
@@ -30,21 +31,24 @@ abbrev pub IsCopy : List (List ℕ) → Copy → Type 0
 IsCopy made (whole i) = i < length made
 IsCopy made (flipped i j b) = (i < length made) × (j < length (getD made i [])) × (b < 8) × (j ≡ 6 → ⊥) × (j ≡ 7 → ⊥)
 
--- a call with the buffers lent to it: a payload and the datagram's buffer; a timeout and the datagrams' buffer; a copy and the ACK's buffer; a copy
+-- a call with the buffers lent to it: a payload and the datagram's buffer; a timeout and the datagrams' buffer; a copy
+-- and the ACK's buffer; a copy
 pub data Call (Timeout : Type 0) : Type 0 where
   send : List ℕ → List ℕ → Call Timeout
   timeout : Timeout → List ℕ → Call Timeout
   toReceiver : Copy → List ℕ → Call Timeout
   toSender : Copy → Call Timeout
 
--- what a call left: the state, the bytes that it wrote to its buffer, and whether it was done: not refused, no full window, no retry limit
+-- what a call left: the state, the bytes that it wrote to its buffer; whether it was done: not refused, no full window,
+-- no retry limit; and whether it was refused
 pub record Done (S : Type 0) : Type 0 where
   pub after : S
   pub written : List ℕ
   pub isDone : Bool
+  pub isRefused : Bool
 
-abbrev pub done : {S : Type 0} → S → List ℕ → Bool → Done S
-done s written isDone = record { after = s; written = written; isDone = isDone }
+abbrev pub done : {S : Type 0} → S → List ℕ → Bool → Bool → Done S
+done s written isDone isRefused = record { after = s; written = written; isDone = isDone; isRefused = isRefused }
 
 -- the two ends of a protocol, each state with its store, the receiver's with its output
 pub record Ends : Type 1 where
@@ -75,16 +79,27 @@ fresh E s r = record { sender = s; receiver = r; sent = []; replies = [] }
 abbrev pub cut : ℕ → List ℕ → List (List ℕ)
 cut zero raw = []
 cut (suc n) [] = []
-cut (suc n) (x ∷ raw) = take (headerSize + declared (x ∷ raw)) (x ∷ raw) ∷ cut n (drop (headerSize + declared (x ∷ raw)) (x ∷ raw))
+cut (suc n) (x ∷ raw) =
+    take (headerSize + declared (x ∷ raw)) (x ∷ raw) ∷ cut n (drop (headerSize + declared (x ∷ raw)) (x ∷ raw))
 
 unfoldable pub datagrams : List ℕ → List (List ℕ)
 datagrams raw = cut (length raw) raw
 
 abbrev pub bySender : {E : Ends} → World E → Done (E .Sender) → World E
-bySender v d = record { sender = d .after; receiver = v .receiver; sent = v .sent ++ datagrams (d .written); replies = v .replies }
+bySender v d = record {
+  sender = d .after;
+  receiver = v .receiver;
+  sent = v .sent ++ datagrams (d .written);
+  replies = v .replies;
+}
 
 abbrev pub byReceiver : {E : Ends} → World E → Done (E .Receiver) → World E
-byReceiver v d = record { sender = v .sender; receiver = d .after; sent = v .sent; replies = v .replies ++ datagrams (d .written) }
+byReceiver v d = record {
+  sender = v .sender;
+  receiver = d .after;
+  sent = v .sent;
+  replies = v .replies ++ datagrams (d .written);
+}
 
 unfoldable pub step : (E : Ends) → World E → Call (E .Timeout) → World E
 step E v (send payload buffer) = bySender v (E .sendChunk (v .sender) payload buffer)
@@ -115,8 +130,12 @@ numberOf raw = headerOf raw .«seq_num»
 unfoldable pub fedBy : (E : Ends) → World E → Call (E .Timeout) → Fed
 fedBy E v (send payload buffer) = fed (plain.sendChunk payload) (E .sendChunk (v .sender) payload buffer .isDone)
 fedBy E v (timeout t buffer) = fed plain.handleTimeout (E .handleTimeout (v .sender) t buffer .isDone)
-fedBy E v (toReceiver c buffer) = fed (plain.handleData (numberOf (copyBytes (v .sent) c))) (isWhole c && E .handlePacket (v .receiver) (copyBytes (v .sent) c) buffer .isDone)
-fedBy E v (toSender c) = fed (plain.handleAck (numberOf (copyBytes (v .replies) c))) (isWhole c && E .handleAck (v .sender) (copyBytes (v .replies) c) .isDone)
+fedBy E v (toReceiver c buffer) =
+    fed (plain.handleData (numberOf (copyBytes (v .sent) c)))
+    (isWhole c && E .handlePacket (v .receiver) (copyBytes (v .sent) c) buffer .isDone)
+fedBy E v (toSender c) =
+    fed (plain.handleAck (numberOf (copyBytes (v .replies) c)))
+    (isWhole c && E .handleAck (v .sender) (copyBytes (v .replies) c) .isDone)
 
 unfoldable pub fedIn : (E : Ends) → World E → List (Call (E .Timeout)) → List Fed
 fedIn E v [] = []

@@ -2,7 +2,7 @@
 use Prim.Native.Nat.{ℕ, _*_}
 use mathlib.Core.List.{List, [], _++_}
 use mathlib.Core.Path.{_≡_}
-use mathlib.Core.Bool.{Bool, true, false}
+use mathlib.Core.Bool.{Bool, true, false, not}
 use lib.ListN.{take, drop, replicate}
 use Rattle.bounds.specs.Bounds.{slotSize}
 use Rattle.octets.specs.Octets.{Octets}
@@ -29,9 +29,9 @@ use Rattle.selective_repeat.specs.Sender as selectiveRepeat
 use Rattle.selective_repeat.specs.Receiver as selectiveRepeatReceiver
 use Rattle.stop_and_wait.specs.declared.StopAndWaitSenderAnswer.the-variants as stopAndWaitMade
 use Rattle.selective_repeat.specs.declared.SelectiveRepeatReceiverAnswer.the-variants as selectiveRepeatMade
+use Rattle.protocol.specs.PlainMachine.{WindowFits}
 use Rattle.protocol.specs.declared.ProtocolType.{ProtocolType}
 use Rattle.protocol.specs.declared.ProtocolType.the-variants.{StopAndWait, GoBackN, SelectiveRepeat}
-use Rattle.protocol.specs.Trace.{WindowFits}
 use Rattle.delivery.specs.Calls.{Done, done, Ends, World, fresh}
 
 -- the bytes that an answer says were written, and whether the call was done
@@ -45,8 +45,13 @@ isSent (sendAnswer.Sent n) = true
 isSent sendAnswer.WindowFull = false
 isSent (sendAnswer.Refused r) = false
 
+abbrev pub isSendRefused : SendAnswer → Bool
+isSendRefused (sendAnswer.Sent n) = false
+isSendRefused sendAnswer.WindowFull = false
+isSendRefused (sendAnswer.Refused r) = true
+
 abbrev pub bySending : {S : Type 0} → SendExit S → Done S
-bySending x = done (x .after) (bytesSent (x .answer) (x .out)) (isSent (x .answer))
+bySending x = done (x .after) (bytesSent (x .answer) (x .out)) (isSent (x .answer)) (isSendRefused (x .answer))
 
 abbrev pub bytesResent : TimeoutAnswer → List ℕ → List ℕ
 bytesResent (timeoutAnswer.Resent n) out = take n out
@@ -58,8 +63,13 @@ isResent (timeoutAnswer.Resent n) = true
 isResent timeoutAnswer.Nothing = false
 isResent (timeoutAnswer.Refused r) = false
 
+abbrev pub isTimeoutRefused : TimeoutAnswer → Bool
+isTimeoutRefused (timeoutAnswer.Resent n) = false
+isTimeoutRefused timeoutAnswer.Nothing = false
+isTimeoutRefused (timeoutAnswer.Refused r) = true
+
 abbrev pub byResending : {S : Type 0} → TimeoutExit S → Done S
-byResending x = done (x .after) (bytesResent (x .answer) (x .out)) (isResent (x .answer))
+byResending x = done (x .after) (bytesResent (x .answer) (x .out)) (isResent (x .answer)) (isTimeoutRefused (x .answer))
 
 abbrev pub isHandled : AckAnswer → Bool
 isHandled ackAnswer.Accepted = true
@@ -67,7 +77,7 @@ isHandled ackAnswer.NotAccepted = true
 isHandled (ackAnswer.Refused r) = false
 
 abbrev pub byAcknowledging : {S : Type 0} → AckExit S → Done S
-byAcknowledging x = done (x .after) [] (isHandled (x .answer))
+byAcknowledging x = done (x .after) [] (isHandled (x .answer)) (not (isHandled (x .answer)))
 
 abbrev pub bytesReplied : ReceiveAnswer → List ℕ → List ℕ
 bytesReplied (receiveAnswer.Ack n) ack = take 10 ack
@@ -88,10 +98,13 @@ abbrev pub withOutput : {R : Type 0} → R → List ℕ → WithOutput R
 withOutput r output = record { receiver = r; output = output }
 
 abbrev pub byReceiving : {R : Type 0} → ReceiveExit R → Done (WithOutput R)
-byReceiving x = done (withOutput (x .receiver) (x .output)) (bytesReplied (x .answer) (x .ack)) (isReceived (x .answer))
+byReceiving x =
+    done (withOutput (x .receiver) (x .output)) (bytesReplied (x .answer) (x .ack))
+    (isReceived (x .answer)) (not (isReceived (x .answer)))
 
 -- two ends by their calls: sending, timeout, ACK, packet; and by their bases and the receiver's fill mark
-abbrev pub endsOf : {S R T : Type 0} → (S → List ℕ → List ℕ → SendExit S) → (S → T → List ℕ → TimeoutExit S) → (S → List ℕ → AckExit S)
+abbrev pub endsOf : {S R T : Type 0} → (S → List ℕ → List ℕ → SendExit S) → (S → T → List ℕ → TimeoutExit S)
+    → (S → List ℕ → AckExit S)
     → (R → List ℕ → List ℕ → List ℕ → ReceiveExit R) → (S → ℕ) → (R → ℕ) → (R → ℕ) → Ends
 endsOf {S} {R} {T} send timeout ack packet senderBase receiverBase filled = record {
   Sender = S;
@@ -113,7 +126,8 @@ pub data SingleTimeout : Type 0 where
 
 abbrev pub stopAndWaitEnds : Ends
 stopAndWaitEnds =
-    endsOf {T = SingleTimeout} stopAndWait.sendChunk (λ v t out. stopAndWait.handleTimeout v out) stopAndWait.handleAck stopAndWaitReceiver.handlePacket
+    endsOf {T = SingleTimeout} stopAndWait.sendChunk (λ v t out. stopAndWait.handleTimeout v out) stopAndWait.handleAck
+    stopAndWaitReceiver.handlePacket
     (λ v. v .sender .«current_seq») (λ r. r .«expected_seq») (λ r. r .filled)
 
 -- Go-Back-N: all outstanding numbers, or only the earliest
@@ -127,7 +141,8 @@ goBackNTimeout v earliest out = goBackN.handleTimeoutEarliest v out
 
 abbrev pub goBackNEnds : Ends
 goBackNEnds =
-    endsOf (sendChunk false) goBackNTimeout goBackN.handleAck goBackNReceiver.handlePacket (λ v. v .window .«send_base») (λ r. r .«expected_seq») (λ r. r .filled)
+    endsOf (sendChunk false) goBackNTimeout goBackN.handleAck goBackNReceiver.handlePacket
+    (λ v. v .window .«send_base») (λ r. r .«expected_seq») (λ r. r .filled)
 
 -- Selective Repeat: a timeout is of a number
 abbrev pub selectiveRepeatEnds : Ends
@@ -143,13 +158,19 @@ ends SelectiveRepeat = selectiveRepeatEnds
 -- Fresh ends: what making leaves, of any stores and output; limit is Stop-and-Wait's greatest number of retries.
 abbrev pub freshEnds : (p : ProtocolType) → ℕ → ℕ → List ℕ → List ℕ → List ℕ → World (ends p)
 freshEnds StopAndWait w limit sending receiving output =
-    fresh stopAndWaitEnds (stopAndWait.endOf (stopAndWait.state 0 false limit 0 0 0) (slots.fresh 1 sending .store)) (withOutput stopAndWaitReceiver.newReceiver output)
-freshEnds GoBackN w limit sending receiving output = fresh goBackNEnds (slots.fresh w sending) (withOutput goBackNReceiver.newReceiver output)
+    fresh stopAndWaitEnds (stopAndWait.endOf (stopAndWait.state 0 false limit 0 0 0) (slots.fresh 1 sending .store))
+    (withOutput stopAndWaitReceiver.newReceiver output)
+freshEnds GoBackN w limit sending receiving output =
+    fresh goBackNEnds (slots.fresh w sending) (withOutput goBackNReceiver.newReceiver output)
 freshEnds SelectiveRepeat w limit sending receiving output =
     fresh selectiveRepeatEnds (slots.fresh w sending)
-    (withOutput (selectiveRepeatReceiver.receiver (selectiveRepeatReceiver.state w 0 0 0 0 0) (replicate (w * slotSize) 0 ++ drop (w * slotSize) receiving)) output)
+    (withOutput
+    (selectiveRepeatReceiver.receiver (selectiveRepeatReceiver.state w 0 0 0 0 0)
+    (replicate (w * slotSize) 0 ++ drop (w * slotSize) receiving))
+    output)
 
--- What making asks: the window within bounds, Stop-and-Wait's 1, and stores that aren't short; the bytes of the sender's store are bytes.
+-- What making asks: the window within bounds, Stop-and-Wait's 1, and stores that aren't short; the bytes of the
+-- sender's store are bytes.
 abbrev pub ReceivingRoom : ProtocolType → ℕ → List ℕ → Type 0
 ReceivingRoom StopAndWait w store = Unit {0}
 ReceivingRoom GoBackN w store = Unit {0}
@@ -162,13 +183,17 @@ pub record Made (p : ProtocolType) (w : ℕ) (sending receiving : List ℕ) : Ty
   pub receiving-room : ReceivingRoom p w receiving
   pub octets : Octets sending
 
--- The fresh ends are what the makers answer and leave in their stores; a Stop-and-Wait or Go-Back-N receiver is made of nothing.
+-- The fresh ends are what the makers answer and leave in their stores; a Stop-and-Wait or Go-Back-N receiver is made of
+-- nothing.
 abbrev pub FromMaking : (p : ProtocolType) → ℕ → ℕ → List ℕ → List ℕ → List ℕ → Type 0
 FromMaking StopAndWait w limit sending receiving output =
-    stopAndWait.newSender limit sending ≡ makeExit (stopAndWaitMade.Sender (freshEnds StopAndWait w limit sending receiving output .sender .sender)) (freshEnds StopAndWait w limit sending receiving output .sender .store)
+    let v = freshEnds StopAndWait w limit sending receiving output .sender in
+    stopAndWait.newSender limit sending ≡ makeExit (stopAndWaitMade.Sender (v .sender)) (v .store)
 FromMaking GoBackN w limit sending receiving output =
-    makeWindow w sending ≡ makeExit (makeAnswer.Window (freshEnds GoBackN w limit sending receiving output .sender .window)) (freshEnds GoBackN w limit sending receiving output .sender .store)
+    let v = freshEnds GoBackN w limit sending receiving output .sender in
+    makeWindow w sending ≡ makeExit (makeAnswer.Window (v .window)) (v .store)
 FromMaking SelectiveRepeat w limit sending receiving output =
-    (makeWindow w sending ≡ makeExit (makeAnswer.Window (freshEnds SelectiveRepeat w limit sending receiving output .sender .window)) (freshEnds SelectiveRepeat w limit sending receiving output .sender .store))
-    × (selectiveRepeatReceiver.makeReceiver w receiving
-    ≡ makeExit (selectiveRepeatMade.Receiver (freshEnds SelectiveRepeat w limit sending receiving output .receiver .receiver .state)) (freshEnds SelectiveRepeat w limit sending receiving output .receiver .receiver .store))
+    let v = freshEnds SelectiveRepeat w limit sending receiving output .sender in
+    let r = freshEnds SelectiveRepeat w limit sending receiving output .receiver .receiver in
+    (makeWindow w sending ≡ makeExit (makeAnswer.Window (v .window)) (v .store))
+    × (selectiveRepeatReceiver.makeReceiver w receiving ≡ makeExit (selectiveRepeatMade.Receiver (r .state)) (r .store))

@@ -10,8 +10,8 @@ use lib.Dec.{leb, ltb, eqb}
 use borrow.Author.Tests.{leb-true, eqb-true, eqb-false, lt-ltb, le-leb, lt-leb}
 use Rattle.protocol.specs.Machine.{Chunk, Segment, SenderState, nextNumber, moveBase, accept, acknowledge, lateAcks, receiveInOrder}
 use Rattle.protocol.specs.Machine
-use Rattle.protocol.specs.PlainMachine.{PlainState, withD, withA, plainAck}
-use Rattle.protocol.specs.Trace.{World, acknowledged, step, WindowFits}
+use Rattle.protocol.specs.PlainMachine.{PlainState, withD, withA, plainAck, WindowFits}
+use Rattle.protocol.specs.Trace.{World, acknowledged, step}
 use Rattle.protocol.specs.declared.ProtocolType.{ProtocolType}
 use Rattle.protocol.specs.declared.ProtocolType.the-variants.{StopAndWait, GoBackN, SelectiveRepeat}
 use Rattle.protocol.proofs.Every.{Every, every-nil, every-cons, every-append, every-snoc, every-mono}

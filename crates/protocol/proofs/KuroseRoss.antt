@@ -45,6 +45,14 @@ rdt3-send s c e =
     let z : s .base + 0 ≡ s .base = omega arith in
     rw e (ap (λ (n : ℕ). senderDid (waitForAck (s .base % 2) (makePkt (s .base % 2) c)) (makePkt (n % 2) c ∷ [])) (sym z))
 
+-- while an ACK is waited for: the packet kept stays
+pub rdt3-full : (s : SenderState) (c : Chunk) → 1 ≤ length (s .chunks) → rdt3Send (rdt3SenderOf s) c ≡ senderDid (rdt3SenderOf s) []
+rdt3-full s c l = go (s .base) (s .chunks) l
+  where
+    go : (n : ℕ) (cs : List Chunk) → 1 ≤ length cs → rdt3Send (rdt3Waits n cs) c ≡ senderDid (rdt3Waits n cs) []
+    go n [] l = absurd (omega arith)
+    go n (d ∷ cs) l = refl
+
 pub rdt3-timeout : (s : SenderState) → length (s .chunks) ≤ 1
     → rdt3Timeout (rdt3SenderOf s) ≡ senderDid (rdt3SenderOf s) (map rdt3Packet (segmentsFrom s (s .base) (length (s .chunks))))
 unfolding segmentsFrom

@@ -8,8 +8,8 @@ use native.Mathlib.Decide.{ℕ-discrete, decLt}
 use lib.ListN.{length}
 use Rattle.protocol.specs.Runs.{upFrom}
 use Rattle.protocol.specs.Machine.{Chunk, Segment, SenderState, ReceiverState, Received, nextNumber, send, segmentsFrom, acknowledge, receive}
-use Rattle.protocol.specs.PlainMachine.{PlainState, plainStart, plainStep, sendChunk, handleTimeout, handleData, handleAck}
-use Rattle.protocol.specs.Trace.{World, newWorld, Event, sent, resent, received, acknowledged, other, step, run, Allowed, Admissible, callOf, WindowFits}
+use Rattle.protocol.specs.PlainMachine.{PlainState, plainStart, plainStep, sendChunk, handleTimeout, handleData, handleAck, WindowFits}
+use Rattle.protocol.specs.Trace.{World, newWorld, Event, sent, resent, received, acknowledged, other, step, run, Allowed, Admissible, callOf}
 use Rattle.protocol.specs.KuroseRoss.{Data, Packet, corrupt, notcorrupt, ReceiverDid, rdt3Send, rdt3Timeout, rdt3SenderRcv, rdt3ReceiverRcv, rdt3Packet, rdt3Waits, rdt3SenderOf, rdt3Answer, gbnReceiverRcv, gbnPacket, gbnReceiverOf, gbnAnswer, SrSender, srPacket, SrSenderIs}
 use Rattle.protocol.specs.KuroseRossRuns.{srTimeouts, book, BookWorld, newBookWorld, atSender, atReceiver, bookStep, bookRun, SenderIs, ReceiverIs, WorldIs, InOrderOnly, NumberLikeBook, AckLikeBook, LikeBook, AllLikeBook}
 use Rattle.protocol.specs.declared.ProtocolType.{ProtocolType}
@@ -213,7 +213,7 @@ run-like-book p w b v s (e ∷ es) o i f k h =
     run-like-book p w (bookStep (book p w) b e) (step p w v e) (plainStep p w s (callOf e)) es o (step-ok p w v s e o i (f .0)) (f .1) (k .1)
     (step-like-book p w b v s e o i (f .0) (k .0) h)
 
-start-like-book : (p : ProtocolType) (w : ℕ) (f : ℕ → Packet) → WorldIs p w (newBookWorld (book p w) f) (newWorld p w)
+pub start-like-book : (p : ProtocolType) (w : ℕ) (f : ℕ → Packet) → WorldIs p w (newBookWorld (book p w) f) (newWorld p w)
 unfolding newWorld
 start-like-book StopAndWait w f =
     record { sender-is = refl; receiver-is = refl; same-delivered = refl; same-packets = refl; same-acks = refl }

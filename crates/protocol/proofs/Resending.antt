@@ -11,8 +11,8 @@ use lib.Dec.{leb, ltb, eqb}
 use borrow.Author.Tests.{leb-true, leb-false, eqb-false, lt-ltb, le-leb, ne-eqb}
 use Rattle.protocol.specs.Runs.{lead, upFrom}
 use Rattle.protocol.specs.Machine.{Segment, SenderState, nextNumber, segmentAt, segmentsFrom, isAcknowledged, acknowledge, lateAcks, receive, receiveInOrder}
-use Rattle.protocol.specs.PlainMachine.{PlainState, note, withD, withReceiver, plainData, plainAck, plainCall, plainStep, plainRun}
-use Rattle.protocol.specs.Trace.{World, Event, sent, resent, received, acknowledged, other, step, Allowed, Admissible, callOf, WindowFits, isOutstanding, outstandingOf, outstanding, ResendsAll}
+use Rattle.protocol.specs.PlainMachine.{sendChunk, handleTimeout, handleData, handleAck, PlainState, note, withD, withReceiver, plainData, plainAck, plainCall, plainStep, plainRun, WindowFits}
+use Rattle.protocol.specs.Trace.{World, Event, sent, resent, received, acknowledged, other, step, Allowed, Admissible, callOf, isOutstanding, outstandingOf, outstanding, ResendsAll}
 use Rattle.protocol.specs.declared.ProtocolType.{ProtocolType}
 use Rattle.protocol.specs.declared.ProtocolType.the-variants.{StopAndWait, GoBackN, SelectiveRepeat}
 use Rattle.protocol.proofs.Every.{Every, every-nil, every-append, every-mono, every-head, every-tail}
@@ -125,8 +125,8 @@ at-end b w v s i c = all-acknowledged b w v s i (λ n l. by n (c .comes n l))
 -- ---- a segment is handed to the receiver
 
 -- the sender's part of the plain machine is as before
-record SenderSame (s t : PlainState) : Type 0 where
-  same-sent : t .sent ≡ s .sent
+pub record SenderSame (s t : PlainState) : Type 0 where
+  pub same-sent : t .sent ≡ s .sent
   same-A : t .A ≡ s .A
   same-noted : t .atSender ≡ s .atSender
 
@@ -134,7 +134,7 @@ sender-same : (x : Bool) (t s : PlainState) → SenderSame s t → SenderSame s 
 sender-same true t s u = u
 sender-same false t s u = record { same-sent = refl; same-A = refl; same-noted = refl }
 
-data-same : (p : ProtocolType) (w : ℕ) (s : PlainState) (n : ℕ) → SenderSame s (plainData p w s n)
+pub data-same : (p : ProtocolType) (w : ℕ) (s : PlainState) (n : ℕ) → SenderSame s (plainData p w s n)
 unfolding plainData
 data-same StopAndWait w s n = sender-same (eqb n (s .D)) (withD s (s .D + 1)) s (record { same-sent = refl; same-A = refl; same-noted = refl })
 data-same GoBackN w s n = sender-same (eqb n (s .D)) (withD s (s .D + 1)) s (record { same-sent = refl; same-A = refl; same-noted = refl })
@@ -386,7 +386,11 @@ through p w v s numbers segments acks [] o i f c r =
     let l : length (s .sent) ≤ s .A = at-end (isSelective p) w v s i c′ in
     record { fair = tt; same-sent = refl; last-D = omega arith; last-A = omega arith }
 through p w v s numbers segments acks (sent x ∷ es) o i f c r = absurd r
-through p w v s numbers segments acks (other x ∷ es) o i f c r = absurd r
+through p w v s numbers segments acks (other handleTimeout ∷ es) o i f c r =
+    followed p w v s (other handleTimeout) es tt refl (through p w v s numbers segments acks es o i f c r)
+through p w v s numbers segments acks (other (sendChunk x) ∷ es) o i f c r = absurd r
+through p w v s numbers segments acks (other (handleData n) ∷ es) o i f c r = absurd r
+through p w v s numbers segments acks (other (handleAck n) ∷ es) o i f c r = absurd r
 through p w v s numbers segments acks (resent n k ∷ es) o i f c r =
     let a : Allowed w v (resent n k) = resent-allowed w v n k numbers (f .still) (r .0) (r .1) in
     followed p w v s (resent n k) es a refl

@@ -9,8 +9,8 @@ use lib.Dec.{leb, ltb}
 use borrow.Author.Tests.{le-leb, lt-ltb}
 use Rattle.protocol.specs.Runs.{upFrom}
 use Rattle.protocol.specs.Machine.{Segment, nextNumber, isAcknowledged, receive}
-use Rattle.protocol.specs.PlainMachine.{PlainState, notNoted, plainOutstanding, plainStart, plainData, plainAck, plainCall, plainStep, plainRun}
-use Rattle.protocol.specs.Trace.{World, newWorld, Event, sent, resent, received, acknowledged, other, step, run, Allowed, Admissible, callOf, plainAfter, WindowFits, outstanding, Claim}
+use Rattle.protocol.specs.PlainMachine.{PlainState, notNoted, plainOutstanding, plainStart, plainData, plainAck, plainCall, plainStep, plainRun, WindowFits}
+use Rattle.protocol.specs.Trace.{World, newWorld, Event, sent, resent, received, acknowledged, other, step, run, Allowed, Admissible, callOf, plainAfter, outstanding, Claim}
 use Rattle.protocol.specs.declared.ProtocolType.{ProtocolType}
 use Rattle.protocol.specs.declared.ProtocolType.the-variants.{StopAndWait, GoBackN, SelectiveRepeat}
 use Rattle.protocol.proofs.Invariant.{isSelective, Invariant, at-start, chunks-length, sent-ok, resent-ok}

@@ -1,22 +1,55 @@
 -- Demand 3 for the two ends over numbers and chunks: after every fair list, and after one resending that follows it.
-use mathlib.Core.Path.{_≡_, refl, ap, ap₂, _∙_}
-use mathlib.Core.List.{List, [], _∷_, _++_, map, map-append}
-use Prim.Native.Nat.{ℕ}
+use mathlib.Core.Path.{_≡_, refl, sym, ap, ap₂, _∙_}
+use mathlib.Core.List.{List, [], _∷_, _++_, map, map-append, append-nil}
+use mathlib.Core.Bool.{Bool, true, false, cond}
+use lib.Dec.{leb, eqb}
+use Prim.Native.Nat.{ℕ, _+_}
 use native.Mathlib.Omega.{arith}
 use lib.ListN.{length, take}
 use lib.Seq.{take-length}
 use Rattle.protocol.specs.Machine.{Segment, segmentsFrom, receive}
-use Rattle.protocol.specs.PlainMachine.{PlainState, plainStart, plainStep, plainRun, Fed}
-use Rattle.protocol.specs.Trace.{World, newWorld, Event, resent, received, acknowledged, step, run, Admissible, callOf, plainAfter, WindowFits, Claim, outstanding, ResendsAll, AllDelivered}
+use Rattle.protocol.specs.PlainMachine.{Call, sendChunk, handleTimeout, handleData, handleAck, PlainState, plainStart, withA, plainSend, plainAck, plainCall, plainStep, plainRun, Fed, fed, WindowFits}
+use Rattle.protocol.specs.Trace.{World, newWorld, Event, resent, received, acknowledged, step, run, Admissible, callOf, plainAfter, Claim, outstanding, ResendsAll, AllDelivered}
 use Rattle.protocol.specs.declared.ProtocolType.{ProtocolType}
+use Rattle.protocol.specs.declared.ProtocolType.the-variants.{StopAndWait, GoBackN, SelectiveRepeat}
 use Rattle.protocol.proofs.Invariant.{isSelective}
 use Rattle.protocol.proofs.Safety.{from-start, claimed}
-use Rattle.protocol.proofs.Resending.{Resent, resending-ok}
+use Rattle.protocol.proofs.Resending.{Resent, resending-ok, data-same}
 
 pub plain-append : (p : ProtocolType) (w : ℕ) (s : PlainState) (es fs : List Fed) → plainRun p w s (es ++ fs) ≡ plainRun p w (plainRun p w s es) fs
 unfolding plainRun
 plain-append p w s [] fs = refl
 plain-append p w s (e ∷ es) fs = plain-append p w (plainStep p w s e) es fs
+
+-- S grows only by a chunk that was sent
+abbrev pub chunksOf : Call → List (List ℕ)
+chunksOf (sendChunk c) = c ∷ []
+chunksOf handleTimeout = []
+chunksOf (handleData n) = []
+chunksOf (handleAck n) = []
+
+abbrev pub chunksFed : Fed → List (List ℕ)
+chunksFed f = cond (f .effect) (chunksOf (f .call)) []
+
+pub plain-sent : (p : ProtocolType) (w : ℕ) (s : PlainState) (f : Fed) → plainStep p w s f .sent ≡ s .sent ++ chunksFed f
+unfolding plainStep plainCall plainSend plainAck
+plain-sent p w s f = by-effect (f .effect) (f .call)
+  where
+    kept : (b : Bool) (t : PlainState) → t .sent ≡ s .sent → cond b t s .sent ≡ s .sent ++ []
+    kept true t e = e ∙ sym (append-nil (s .sent))
+    kept false t e = sym (append-nil (s .sent))
+
+    acked : (p : ProtocolType) (n : ℕ) → plainAck p s n .sent ≡ s .sent ++ []
+    acked StopAndWait n = kept (eqb n (s .A)) (withA s (s .A + 1)) refl
+    acked GoBackN n = kept (leb (s .A) n) (withA s (n + 1)) refl
+    acked SelectiveRepeat n = sym (append-nil (s .sent))
+
+    by-effect : (b : Bool) (c : Call) → cond b (plainCall p w s c) s .sent ≡ s .sent ++ chunksFed (fed c b)
+    by-effect true (sendChunk c) = refl
+    by-effect true handleTimeout = sym (append-nil (s .sent))
+    by-effect true (handleData n) = data-same p w s n .same-sent ∙ sym (append-nil (s .sent))
+    by-effect true (handleAck n) = acked p n
+    by-effect false c = sym (append-nil (s .sent))
 
 pub fair-append : (p : ProtocolType) (w : ℕ) (v : World) (es fs : List Event) → Admissible p w v es → Admissible p w (run p w v es) fs → Admissible p w v (es ++ fs)
 unfolding run

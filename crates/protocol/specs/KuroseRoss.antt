@@ -1,5 +1,6 @@
--- J. Kurose, K. Ross, Computer Networking, section 3.4: events and actions of rdt3.0, Go-Back-N and Selective Repeat, in the book's names.
--- start_timer and stop_timer are left out: the host keeps the timers, and a timeout is an event like the others.
+-- J. Kurose, K. Ross, Computer Networking, section 3.4: events and actions of rdt3.0, Go-Back-N and Selective Repeat,
+-- in the book's names. start_timer and stop_timer are left out: the host keeps the timers, and a timeout is an event
+-- like the others.
 use mathlib.Core.Path.{_≡_}
 use Prim.Native.Nat.{ℕ, zero, suc, _+_, _-_, _%_, _≤_, _<_}
 use mathlib.Core.Bool.{Bool, true, false, cond, _&&_}
@@ -103,7 +104,11 @@ abbrev pub gbnSend : ℕ → GbnSender → Data → SenderDid GbnSender
 gbnSend N s d =
     cond (ltb (s .nextseqnum) (s .base + N))
     (senderDid
-    (record { base = s .base; nextseqnum = s .nextseqnum + 1; sndpkt = store (s .sndpkt) (s .nextseqnum) (makePkt (s .nextseqnum) d) })
+    (record {
+      base = s .base;
+      nextseqnum = s .nextseqnum + 1;
+      sndpkt = store (s .sndpkt) (s .nextseqnum) (makePkt (s .nextseqnum) d);
+    })
     (makePkt (s .nextseqnum) d ∷ []))
     (senderDid s [])
 
@@ -175,7 +180,8 @@ markReceived s n =
 
 -- the unacknowledged packet with the smallest number; nextseqnum if all that were sent are acknowledged
 abbrev pub smallestUnacknowledged : SrSender → ℕ
-smallestUnacknowledged s = s .sendBase + lead (map (s .markedReceived) (upFrom (s .sendBase) (s .nextseqnum - s .sendBase)))
+smallestUnacknowledged s =
+    s .sendBase + lead (map (s .markedReceived) (upFrom (s .sendBase) (s .nextseqnum - s .sendBase)))
 
 abbrev pub moveSendBase : SrSender → SrSender
 moveSendBase s =
@@ -186,7 +192,8 @@ moveSendBase s =
       markedReceived = s .markedReceived;
     }
 
--- 3. ACK received: the packet is marked as received if it is in the window; if its number is send_base, the base is moved
+-- 3. ACK received: the packet is marked as received if it is in the window; if its number is send_base, the base is
+-- moved
 abbrev pub srSenderRcv : ℕ → SrSender → Rcvpkt ℕ → SrSender
 srSenderRcv N s corrupt = s
 srSenderRcv N s (notcorrupt a) =
@@ -207,7 +214,10 @@ buffered (some c) d = some c
 buffered none d = some d
 
 abbrev pub bufferPkt : SrReceiver → Packet → SrReceiver
-bufferPkt r p = record { rcvBase = r .rcvBase; buffer = store (r .buffer) (p .seqnum) (buffered (r .buffer (p .seqnum)) (p .payload)) }
+bufferPkt r p = record {
+  rcvBase = r .rcvBase;
+  buffer = store (r .buffer) (p .seqnum) (buffered (r .buffer (p .seqnum)) (p .payload));
+}
 
 abbrev pub thenNext : Option Data → List Data → List Data
 thenNext none ds = []
@@ -239,7 +249,8 @@ srReceiverRcv N r corrupt = receiverDid r [] []
 srReceiverRcv N r (notcorrupt p) =
     cond (within (r .rcvBase) N (p .seqnum))
     (srInWindow N r p)
-    (cond (leb (r .rcvBase - N) (p .seqnum) && ltb (p .seqnum) (r .rcvBase)) (receiverDid r [] (p .seqnum ∷ [])) (receiverDid r [] []))
+    (cond (leb (r .rcvBase - N) (p .seqnum) && ltb (p .seqnum) (r .rcvBase)) (receiverDid r [] (p .seqnum ∷ []))
+    (receiverDid r [] []))
 
 -- ---- what of the ends stands for what of the book
 

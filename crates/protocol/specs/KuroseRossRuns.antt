@@ -80,10 +80,22 @@ pub record BookWorld (B : Book) : Type 0 where
   pub acks : List ℕ
 
 abbrev pub newBookWorld : (B : Book) → (ℕ → Packet) → BookWorld B
-newBookWorld B f = record { sender = B .newSender f; receiver = B .newReceiver; delivered = []; packets = []; acks = [] }
+newBookWorld B f = record {
+  sender = B .newSender f;
+  receiver = B .newReceiver;
+  delivered = [];
+  packets = [];
+  acks = [];
+}
 
 abbrev pub atSender : (B : Book) → BookWorld B → B .Sender → List Packet → BookWorld B
-atSender B v s ps = record { sender = s; receiver = v .receiver; delivered = v .delivered; packets = v .packets ++ ps; acks = v .acks }
+atSender B v s ps = record {
+  sender = s;
+  receiver = v .receiver;
+  delivered = v .delivered;
+  packets = v .packets ++ ps;
+  acks = v .acks;
+}
 
 abbrev pub atReceiver : (B : Book) → BookWorld B → ReceiverDid (B .Receiver) → BookWorld B
 atReceiver B v a =
@@ -134,13 +146,15 @@ InOrderOnly StopAndWait X = X
 InOrderOnly GoBackN X = X
 InOrderOnly SelectiveRepeat X = Unit {0}
 
--- the number of a packet. Stop-and-Wait: no other of the same parity as the one expected; Go-Back-N: no other before the first
+-- the number of a packet. Stop-and-Wait: no other of the same parity as the one expected; Go-Back-N: no other before
+-- the first
 abbrev pub NumberLikeBook : ProtocolType → ℕ → ℕ → Type 0
 NumberLikeBook StopAndWait expected n = n % 2 ≡ expected % 2 → n ≡ expected
 NumberLikeBook GoBackN expected n = expected ≡ 0 → n ≡ 0
 NumberLikeBook SelectiveRepeat expected n = Unit {0}
 
--- the number of an ACK. Stop-and-Wait: while a chunk is outstanding, no other of the same parity as base; Go-Back-N: none older than the last
+-- the number of an ACK. Stop-and-Wait: while a chunk is outstanding, no other of the same parity as base; Go-Back-N:
+-- none older than the last
 abbrev pub AckLikeBook : ProtocolType → SenderState → ℕ → Type 0
 AckLikeBook StopAndWait s n = s .chunks ≢ [] → n % 2 ≡ s .base % 2 → n ≡ s .base
 AckLikeBook GoBackN s n = s .base ≤ suc n

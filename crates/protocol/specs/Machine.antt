@@ -1,4 +1,5 @@
--- The ends of the three protocols over numbers, marks and chunks: what arq/sw.rs, gbn.rs and sr.rs do on a call that isn't refused.
+-- The ends of the three protocols over numbers, marks and chunks: what arq/sw.rs, gbn.rs and sr.rs do on a call that
+-- isn't refused.
 use Prim.Native.Nat.{ℕ, suc, _+_, _-_}
 use mathlib.Core.List.{List, [], _∷_, _++_, map}
 use mathlib.Core.Bool.{Bool, true, false, cond, _&&_}
@@ -23,7 +24,8 @@ pub record SenderState : Type 0 where
   pub chunks : List Chunk
   pub acknowledged : List Bool
 
--- a receiver: the number expected next, and the chunks held from it on, one place for each number of the window (none but in Selective Repeat)
+-- a receiver: the number expected next, and the chunks held from it on, one place for each number of the window (none
+-- but in Selective Repeat)
 pub record ReceiverState : Type 0 where
   pub base : ℕ
   pub held : List (Option Chunk)
@@ -66,7 +68,11 @@ moveBase s k = record { base = s .base + k; chunks = drop k (s .chunks); acknowl
 
 -- number n marked as acknowledged
 abbrev pub markAcknowledged : SenderState → ℕ → SenderState
-markAcknowledged s n = record { base = s .base; chunks = s .chunks; acknowledged = set (s .acknowledged) (n - s .base) true }
+markAcknowledged s n = record {
+  base = s .base;
+  chunks = s .chunks;
+  acknowledged = set (s .acknowledged) (n - s .base) true;
+}
 
 -- the base moved past all that are acknowledged without a gap
 abbrev pub slide : SenderState → SenderState
@@ -117,12 +123,18 @@ hold none d = some d
 abbrev pub deliverRun : ReceiverState → ℕ → Received
 deliverRun r n =
     received
-    (record { base = r .base + length (heldRun (r .held)); held = drop (length (heldRun (r .held))) (r .held) ++ replicate (length (heldRun (r .held))) none })
+    (record {
+      base = r .base + length (heldRun (r .held));
+      held = drop (length (heldRun (r .held))) (r .held) ++ replicate (length (heldRun (r .held))) none;
+    })
     (heldRun (r .held))
     (n ∷ [])
 
 abbrev pub holdAt : ReceiverState → Segment → ReceiverState
-holdAt r q = record { base = r .base; held = set (r .held) (q .number - r .base) (hold (getD (r .held) (q .number - r .base) none) (q .payload)) }
+holdAt r q = record {
+  base = r .base;
+  held = set (r .held) (q .number - r .base) (hold (getD (r .held) (q .number - r .base) none) (q .payload));
+}
 
 -- from base to base + w - 1 held, and delivered in order; from base - w to base - 1 acknowledged again; else unanswered
 abbrev pub receiveSelective : ℕ → ReceiverState → Segment → Received

@@ -1,5 +1,6 @@
 -- Document 01, "A plain machine keeps a list S of chunks and two numbers, D and A": it knows nothing of the ends.
 use Prim.Native.Nat.{ℕ, zero, suc, _+_, _-_}
+use mathlib.Core.Path.{_≡_}
 use mathlib.Core.Bool.{Bool, true, false, cond}
 use mathlib.Core.List.{List, [], _∷_, _++_}
 use lib.ListN.{length, getD}
@@ -8,7 +9,8 @@ use Rattle.protocol.specs.Runs.{lead, upFrom}
 use Rattle.protocol.specs.declared.ProtocolType.{ProtocolType}
 use Rattle.protocol.specs.declared.ProtocolType.the-variants.{StopAndWait, GoBackN, SelectiveRepeat}
 
--- the calls: a chunk to send, a timeout, Data of a number handed to the receiver, an ACK of a number handed to the sender
+-- the calls: a chunk to send, a timeout, Data of a number handed to the receiver, an ACK of a number handed to the
+-- sender
 pub data Call : Type 0 where
   sendChunk : List ℕ → Call
   handleTimeout : Call
@@ -47,7 +49,13 @@ abbrev pub withSender : PlainState → List Bool → PlainState
 withSender s marks = record { sent = s .sent; D = s .D; A = lead marks; atReceiver = s .atReceiver; atSender = marks }
 
 unfoldable pub plainSend : PlainState → List ℕ → PlainState
-plainSend s c = record { sent = s .sent ++ (c ∷ []); D = s .D; A = s .A; atReceiver = s .atReceiver; atSender = s .atSender }
+plainSend s c = record {
+  sent = s .sent ++ (c ∷ []);
+  D = s .D;
+  A = s .A;
+  atReceiver = s .atReceiver;
+  atSender = s .atSender;
+}
 
 unfoldable pub plainData : ProtocolType → ℕ → PlainState → ℕ → PlainState
 plainData StopAndWait w s n = cond (eqb n (s .D)) (withD s (s .D + 1)) s
@@ -87,3 +95,14 @@ notNoted marks (n ∷ ns) = cond (getD marks n false) (notNoted marks ns) (n ∷
 
 unfoldable pub plainOutstanding : PlainState → List ℕ
 plainOutstanding s = notNoted (s .atSender) (upFrom (s .A) (length (s .sent) - s .A))
+
+-- Stop-and-Wait's window is 1
+abbrev pub WindowFits : ProtocolType → ℕ → Type 0
+WindowFits StopAndWait w = w ≡ 1
+WindowFits GoBackN w = Unit {0}
+WindowFits SelectiveRepeat w = Unit {0}
+
+-- x stands first in a list
+abbrev pub First : {X : Type 0} → X → List X → Type 0
+First x [] = ⊥
+First x (y ∷ ys) = x ≡ y

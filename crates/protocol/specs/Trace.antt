@@ -1,4 +1,5 @@
--- The two ends of a protocol and the line between them: what happens, one event after the other, and what each end made so far.
+-- The two ends of a protocol and the line between them: what happens, one event after the other, and what each end made
+-- so far.
 use mathlib.Core.Path.{_≡_}
 use Prim.Native.Nat.{ℕ, _+_, _-_, _≤_, _<_}
 use mathlib.Core.Bool.{Bool, true, false, cond, not, _&&_}
@@ -6,11 +7,11 @@ use mathlib.Core.List.{List, [], _∷_, _++_, map, List·Memᴰ}
 use lib.ListN.{length, take, drop}
 use Rattle.protocol.specs.Runs.{upFrom}
 use Rattle.protocol.specs.Machine.{Chunk, Segment, SenderState, ReceiverState, newSender, newReceiver, nextNumber, send, segmentsFrom, inWindow, isAcknowledged, acknowledge, receive}
-use Rattle.protocol.specs.PlainMachine.{Call, sendChunk, handleTimeout, handleData, handleAck, PlainState, plainStart, plainRun, Fed, fed, plainOutstanding}
+use Rattle.protocol.specs.PlainMachine.{Call, sendChunk, handleTimeout, handleData, handleAck, PlainState, plainStart, plainRun, Fed, fed, plainOutstanding, First}
 use Rattle.protocol.specs.declared.ProtocolType.{ProtocolType}
-use Rattle.protocol.specs.declared.ProtocolType.the-variants.{StopAndWait, GoBackN, SelectiveRepeat}
 
--- both ends, the chunks delivered, the segments that the sender made and the numbers that the receiver acknowledged, oldest first
+-- both ends, the chunks delivered, the segments that the sender made and the numbers that the receiver acknowledged,
+-- oldest first
 pub record World : Type 0 where
   pub sender : SenderState
   pub receiver : ReceiverState
@@ -21,8 +22,8 @@ pub record World : Type 0 where
 unfoldable pub newWorld : ProtocolType → ℕ → World
 newWorld p w = record { sender = newSender; receiver = newReceiver p w; delivered = []; segments = []; acks = [] }
 
--- a chunk sent; k numbers from n on sent again; a segment handed to the receiver whole; an ACK handed to the sender whole;
--- a call without effect: refused, a full window, a flipped copy, a timeout after which nothing is sent
+-- a chunk sent; k numbers from n on sent again; a segment handed to the receiver whole; an ACK handed to the sender
+-- whole; a call without effect: refused, a full window, a flipped copy, a timeout after which nothing is sent
 pub data Event : Type 0 where
   sent : Chunk → Event
   resent : ℕ → ℕ → Event
@@ -69,8 +70,8 @@ unfoldable pub run : ProtocolType → ℕ → World → List Event → World
 run p w v [] = v
 run p w v (e ∷ es) = run p w (step p w v e) es
 
--- a chunk is sent only if the window isn't full, only what the sender holds is sent again, and each end is handed only copies of
--- what the other made before
+-- a chunk is sent only if the window isn't full, only what the sender holds is sent again, and each end is handed only
+-- copies of what the other made before
 abbrev pub Allowed : ℕ → World → Event → Type 0
 Allowed w v (sent c) = length (v .sender .chunks) < w
 Allowed w v (resent n k) = (v .sender .base ≤ n) × (n + k ≤ nextNumber (v .sender))
@@ -93,12 +94,6 @@ callOf (other c) = fed c false
 -- the plain machine after a list of events
 abbrev pub plainAfter : ProtocolType → ℕ → List Event → PlainState
 plainAfter p w es = plainRun p w plainStart (map callOf es)
-
--- Stop-and-Wait's window is 1
-abbrev pub WindowFits : ProtocolType → ℕ → Type 0
-WindowFits StopAndWait w = w ≡ 1
-WindowFits GoBackN w = Unit {0}
-WindowFits SelectiveRepeat w = Unit {0}
 
 -- outstanding: sent, and not acknowledged
 abbrev pub isOutstanding : SenderState → ℕ → Bool
@@ -124,14 +119,9 @@ pub record Claim (w : ℕ) (v : World) (s : PlainState) : Type 0 where
   pub rest-held : v .sender .chunks ≡ drop (s .A) (s .sent)
   pub outstanding-is : outstanding (v .sender) ≡ plainOutstanding s
 
--- x stands first in a list
-abbrev pub First : {X : Type 0} → X → List X → Type 0
-First x [] = ⊥
-First x (y ∷ ys) = x ≡ y
-
--- One resending, however its calls, segments and ACKs interleave. Still to come are: the numbers to be sent again, as far as they are
--- outstanding; the segments made and not yet handed over; the ACKs made and not yet handed over. Each event takes what stands first; at
--- the end nothing is left.
+-- One resending, however its calls, segments and ACKs interleave. Still to come are: the numbers to be sent again, as
+-- far as they are outstanding; the segments made and not yet handed over; the ACKs made and not yet handed over. Each
+-- event takes what stands first, but a timeout after which nothing is sent; at the end nothing is left.
 abbrev pub ResendsAll : ProtocolType → ℕ → World → List ℕ → List Segment → List ℕ → List Event → Type 0
 ResendsAll p w v numbers segments acks [] = (numbers ≡ []) × (segments ≡ []) × (acks ≡ [])
 ResendsAll p w v numbers segments acks (sent c ∷ es) = ⊥
@@ -139,11 +129,16 @@ ResendsAll p w v numbers segments acks (resent n k ∷ es) =
     (0 < k) × (take k numbers ≡ upFrom n k)
     × ResendsAll p w (step p w v (resent n k)) (drop k numbers) (segments ++ segmentsFrom (v .sender) n k) acks es
 ResendsAll p w v numbers segments acks (received q ∷ es) =
-    First q segments × ResendsAll p w (step p w v (received q)) numbers (drop 1 segments) (acks ++ receive p w (v .receiver) q .acks) es
+    First q segments
+    × ResendsAll p w (step p w v (received q)) numbers (drop 1 segments) (acks ++ receive p w (v .receiver) q .acks) es
 ResendsAll p w v numbers segments acks (acknowledged n ∷ es) =
     First n acks
-    × ResendsAll p w (step p w v (acknowledged n)) (outstandingOf (acknowledge p (v .sender) n) numbers) segments (drop 1 acks) es
-ResendsAll p w v numbers segments acks (other c ∷ es) = ⊥
+    × ResendsAll p w (step p w v (acknowledged n)) (outstandingOf (acknowledge p (v .sender) n) numbers) segments
+    (drop 1 acks) es
+ResendsAll p w v numbers segments acks (other handleTimeout ∷ es) = ResendsAll p w v numbers segments acks es
+ResendsAll p w v numbers segments acks (other (sendChunk c) ∷ es) = ⊥
+ResendsAll p w v numbers segments acks (other (handleData n) ∷ es) = ⊥
+ResendsAll p w v numbers segments acks (other (handleAck n) ∷ es) = ⊥
 
 -- what one resending of all outstanding chunks leaves: S as it was, D and A at its end, and all of it delivered
 pub record AllDelivered (s : PlainState) (v : World) (t : PlainState) : Type 0 where

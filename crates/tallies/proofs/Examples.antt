@@ -1,4 +1,4 @@
--- The definitions on short histories, the latest first.
+-- The definitions on short lists of calls, and on short histories of readings, the latest first.
 use Prim.Native.Nat.{ℕ}
 use mathlib.Core.Path.{_≡_, refl}
 use mathlib.Core.List.{List, [], _∷_}
@@ -27,12 +27,17 @@ use Rattle.stop_and_wait.specs.Receiver as stopAndWait
 use Rattle.go_back_n.specs.Receiver as goBackN
 use Rattle.selective_repeat.specs.Receiver as selectiveRepeat
 use Rattle.delivery.specs.Calls.{datagrams}
-use Rattle.delivery.specs.Ends.{GoBackNTimeout, all}
+use Rattle.protocol.specs.declared.ProtocolType.the-variants.{StopAndWait, GoBackN, SelectiveRepeat}
+use Rattle.delivery.specs.Ends.{GoBackNTimeout, all, ends}
+use Rattle.delivery.specs.Room.{NoneRefused}
+use Rattle.delivery.proofs.Examples as delivery
+use Rattle.delivery.specs.AnyBytes.{SenderCall, send, timeout}
 use Rattle.tallies.specs.Readings.{count, expected, noted}
 use Rattle.tallies.specs.Receivers as receivers
 use Rattle.tallies.specs.Receivers.{readingsWith, stopAndWaitAfter, goBackNAfter, selectiveRepeatAfter}
 use Rattle.tallies.specs.Senders as senders
-use Rattle.tallies.specs.Senders.{send, timeout, Answered, sent, resent, acknowledged, sentBy, resentBy, total, retries, goBackNSender}
+use Rattle.tallies.specs.Senders.{Answered, sent, resent, acknowledged, sentBy, resentBy, total, retriesFrom, retries, goBackNSender}
+use Rattle.tallies.proofs.NoneRefused.{none-refused}
 use Rattle.tallies.proofs.Limits.{go-back-n-sender-no-8, go-back-n-receiver-no-8}
 
 -- a chunk sent; two datagrams of ten bytes sent again; an ACK accepted, one that isn't; a send refused
@@ -52,7 +57,7 @@ abbrev refusedSend : Answered
 refusedSend = sent (sendAnswer.Refused Full) (replicate 10 0)
 
 abbrev answersGiven : List Answered
-answersGiven = refusedSend ∷ notAccepted ∷ twoAgain ∷ accepted ∷ twoAgain ∷ chunk ∷ []
+answersGiven = chunk ∷ twoAgain ∷ accepted ∷ twoAgain ∷ notAccepted ∷ refusedSend ∷ []
 
 pub sent-total : total sentBy answersGiven ≡ 5
 unfolding total datagrams
@@ -63,11 +68,11 @@ unfolding total datagrams
 resent-total = refl
 
 pub since-the-ack : retries answersGiven ≡ 2
-unfolding retries datagrams
+unfolding retriesFrom datagrams
 since-the-ack = refl
 
 pub since-the-send : retries (twoAgain ∷ chunk ∷ twoAgain ∷ []) ≡ 2
-unfolding retries datagrams
+unfolding retriesFrom datagrams
 since-the-send = refl
 
 -- a refused call leaves no reading
@@ -94,8 +99,8 @@ abbrev store : List ℕ
 store = replicate 1404 7
 
 -- Go-Back-N: a chunk, and all outstanding sent again
-abbrev sendings : List (senders.Call GoBackNTimeout)
-sendings = timeout all (replicate 11 0) ∷ send (65 ∷ []) (replicate 11 0) ∷ []
+abbrev sendings : List (SenderCall GoBackNTimeout)
+sendings = send (65 ∷ []) (replicate 11 0) ∷ timeout all (replicate 11 0) ∷ []
 
 two-written : total sentBy (senders.answers goBackNSender (fresh 1 store) sendings) ≡ 2
 unfolding total senders.answers senders.afterCalls datagrams anyOf order orElse numbered firstOf verdict decide headerBytes datagram slotAt slotBytes putSlot slotPayload anyBelow senderSlotBroken senderSlotsBroken windowBroken storeShort numbersBroken stateBroken countsBroken fresh hold markRetransmitted datagramFor sendChecks sendChunk datagramsFrom markFrom resend
@@ -108,3 +113,12 @@ sendings-no-8 = go-back-n-sender-no-8 store 1 sendings (rw two-written (lit< tt)
 pub two-received-no-8 : (c d : receivers.Call) → let r = receivers.afterCalls goBackN.handlePacket goBackN.newReceiver (c ∷ d ∷ []) in
     receiver.countsBroken (r .«total_received») (r .«discarded_out_of_order») (r .«duplicate_acks_sent») ≡ false
 two-received-no-8 c d = go-back-n-receiver-no-8 (c ∷ d ∷ []) (lit< tt)
+
+-- ---- lists in which no call is refused
+pub lists-not-refused : NoneRefused (ends StopAndWait) (delivery.start StopAndWait 1 3) delivery.stopAndWait × NoneRefused (ends GoBackN) (delivery.start GoBackN 2 0) delivery.goBackN
+    × NoneRefused (ends SelectiveRepeat) (delivery.start SelectiveRepeat 2 0) delivery.selectiveRepeat
+lists-not-refused = (
+  none-refused StopAndWait 1 3 _ _ _ delivery.stop-and-wait-made delivery.stopAndWait (delivery.computed .0 .fair) delivery.stop-and-wait-suffices,
+  none-refused GoBackN 2 0 _ _ _ (delivery.two-made GoBackN tt) delivery.goBackN (delivery.computed .1 .fair) delivery.go-back-n-suffices,
+  none-refused SelectiveRepeat 2 0 _ _ _ (delivery.two-made SelectiveRepeat tt) delivery.selectiveRepeat (delivery.computed .2 .fair) delivery.selective-repeat-suffices,
+)

@@ -2,7 +2,7 @@
 use Prim.Native.Nat.{ℕ, suc, _+_}
 use mathlib.Core.Path.{_≡_, refl, ap, _∙_}
 use mathlib.Core.Bool.{Bool, true, false, cond, not, _&&_}
-use mathlib.Core.List.{List, _∷_}
+use mathlib.Core.List.{List, [], _∷_}
 use native.Mathlib.Omega.{arith}
 use borrow.Author.Tests.{eqb-true, le-ltb}
 use lib.ListN.{length}
@@ -19,7 +19,7 @@ use Rattle.go_back_n.specs.Receiver as goBackN
 use Rattle.go_back_n.specs.declared.GoBackNReceiver.{GoBackNReceiver}
 use Rattle.tallies.specs.Readings.{count, isCorrupted, expected, isOlder, isOutOfOrder, isAnsweredAgain}
 use Rattle.tallies.specs.Receivers.{Call, afterCalls, readings, stopAndWaitAfter, goBackNAfter}
-use Rattle.tallies.proofs.Receivers.{every-list, one-call}
+use Rattle.tallies.proofs.Receivers.{EachReadingCounted, every-list, one-call}
 
 pub plus-one : (n : ℕ) → n + 1 ≡ suc n
 plus-one n = omega arith
@@ -47,15 +47,21 @@ stop-and-wait-one hs filled mark handed.Ack = rw (plus-one (length hs))
 stop-and-wait-one hs filled mark handed.Corrupted = rw (plus-one (length hs), plus-one (count (λ earlier. isCorrupted) hs))
 stop-and-wait-one hs filled mark (handed.Refused x) = rw (plus-one (length hs))
 
+abbrev pub stopAndWaitCounted : List PacketReading → StopAndWaitReceiver → Type 0
+stopAndWaitCounted hs r = r ≡ stopAndWaitAfter hs (r .filled)
+
+pub stop-and-wait-each : EachReadingCounted stopAndWait.handlePacket stopAndWaitCounted
+unfolding expected count
+stop-and-wait-each =
+    λ hs r e raw output ack. one-call stopAndWaitCounted hs (marksBroken (r .«expected_seq») (r .filled) output) (countsBroken (r .«total_received») (r .«duplicates_count») (r .«corrupted_count»)) r (r .filled) (stopAndWait.decision r (readPacket raw) .decision) (payloadOf raw) (stopAndWait.withMark (stopAndWait.decision r (readPacket raw) .receiver)) raw output ack e
+    (λ sound short n. ap (λ (q : StopAndWaitReceiver). stopAndWait.withMark (stopAndWait.decision q (readPacket raw) .receiver) n) e ∙ stop-and-wait-one hs (r .filled) n (readPacket raw))
+
 pub stop-and-wait-receiver : (cs : List Call)
     → afterCalls stopAndWait.handlePacket stopAndWait.newReceiver cs
     ≡ stopAndWaitAfter (readings stopAndWait.handlePacket stopAndWait.newReceiver cs) (afterCalls stopAndWait.handlePacket stopAndWait.newReceiver cs .filled)
 unfolding expected count
 stop-and-wait-receiver cs =
-    every-list stopAndWait.handlePacket (λ hs r. r ≡ stopAndWaitAfter hs (r .filled))
-    (λ hs r e raw output ack. one-call (λ hs r. r ≡ stopAndWaitAfter hs (r .filled)) hs (marksBroken (r .«expected_seq») (r .filled) output) (countsBroken (r .«total_received») (r .«duplicates_count») (r .«corrupted_count»)) r (r .filled) (stopAndWait.decision r (readPacket raw) .decision) (payloadOf raw) (stopAndWait.withMark (stopAndWait.decision r (readPacket raw) .receiver)) raw output ack e
-    (λ sound short n. ap (λ (q : StopAndWaitReceiver). stopAndWait.withMark (stopAndWait.decision q (readPacket raw) .receiver) n) e ∙ stop-and-wait-one hs (r .filled) n (readPacket raw)))
-    stopAndWait.newReceiver refl cs
+    every-list stopAndWait.handlePacket stopAndWaitCounted stop-and-wait-each [] stopAndWait.newReceiver refl cs
 
 -- ---- Go-Back-N
 go-back-n-data : (e f l d k mark : ℕ) (x y z : Reply) (same first : Bool)
@@ -77,11 +83,17 @@ go-back-n-one hs filled mark handed.Ack = rw (plus-one (length hs))
 go-back-n-one hs filled mark handed.Corrupted = rw (plus-one (length hs))
 go-back-n-one hs filled mark (handed.Refused x) = rw (plus-one (length hs))
 
+abbrev pub goBackNCounted : List PacketReading → GoBackNReceiver → Type 0
+goBackNCounted hs r = r ≡ goBackNAfter hs (r .filled)
+
+pub go-back-n-each : EachReadingCounted goBackN.handlePacket goBackNCounted
+unfolding expected count
+go-back-n-each =
+    λ hs r e raw output ack. one-call goBackNCounted hs (marksBroken (r .«expected_seq») (r .filled) output) (countsBroken (r .«total_received») (r .«discarded_out_of_order») (r .«duplicate_acks_sent»)) r (r .filled) (goBackN.decision r (readPacket raw) .decision) (payloadOf raw) (goBackN.withMark (goBackN.decision r (readPacket raw) .receiver)) raw output ack e
+    (λ sound short n. ap (λ (q : GoBackNReceiver). goBackN.withMark (goBackN.decision q (readPacket raw) .receiver) n) e ∙ go-back-n-one hs (r .filled) n (readPacket raw))
+
 pub go-back-n-receiver : (cs : List Call)
     → afterCalls goBackN.handlePacket goBackN.newReceiver cs ≡ goBackNAfter (readings goBackN.handlePacket goBackN.newReceiver cs) (afterCalls goBackN.handlePacket goBackN.newReceiver cs .filled)
 unfolding expected count
 go-back-n-receiver cs =
-    every-list goBackN.handlePacket (λ hs r. r ≡ goBackNAfter hs (r .filled))
-    (λ hs r e raw output ack. one-call (λ hs r. r ≡ goBackNAfter hs (r .filled)) hs (marksBroken (r .«expected_seq») (r .filled) output) (countsBroken (r .«total_received») (r .«discarded_out_of_order») (r .«duplicate_acks_sent»)) r (r .filled) (goBackN.decision r (readPacket raw) .decision) (payloadOf raw) (goBackN.withMark (goBackN.decision r (readPacket raw) .receiver)) raw output ack e
-    (λ sound short n. ap (λ (q : GoBackNReceiver). goBackN.withMark (goBackN.decision q (readPacket raw) .receiver) n) e ∙ go-back-n-one hs (r .filled) n (readPacket raw)))
-    goBackN.newReceiver refl cs
+    every-list goBackN.handlePacket goBackNCounted go-back-n-each [] goBackN.newReceiver refl cs

@@ -5,5 +5,8 @@ pub mod InOrder
 pub mod Noted
 pub mod SelectiveRepeat
 pub mod Limits
+pub mod NoneRefused
+pub mod HandOvers
+pub mod SomeResending
 pub mod Examples
 pub mod Laws

@@ -22,18 +22,19 @@ use Rattle.go_back_n.specs.Receiver as goBackN
 use Rattle.go_back_n.specs.declared.GoBackNReceiver.{GoBackNReceiver}
 use Rattle.selective_repeat.specs.Receiver as selectiveRepeat
 use Rattle.selective_repeat.specs.declared.SelectiveRepeatReceiver.{SelectiveRepeatReceiver}
-use Rattle.delivery.specs.Ends.{GoBackNTimeout, isReceived}
+use Rattle.delivery.specs.Ends.{SingleTimeout, GoBackNTimeout, isReceived}
+use Rattle.delivery.specs.AnyBytes.{SenderCall}
 use Rattle.tallies.specs.Readings.{count, isCorrupted, isOlder, isOutOfOrder, isAnsweredAgain, isBuffered, isDuplicate}
 use Rattle.tallies.specs.Senders as senders
 use Rattle.tallies.specs.Senders.{Answered, sent, resent, acknowledged, sentBy, resentBy, total, SenderCounted, stopAndWaitSender, goBackNSender, selectiveRepeatSender, newStopAndWait}
-use Rattle.tallies.specs.Receivers.{Call, Handling, afterCalls, readings, newSelectiveRepeat}
+use Rattle.tallies.specs.Receivers.{Call, Handling, afterCalls, readingsWith, readingsAfter, readings, newSelectiveRepeat}
 use Rattle.tallies.proofs.Senders.{from-zero, go-back-n-counted, selective-repeat-counted}
 use Rattle.tallies.proofs.StopAndWait.{stop-and-wait-counted}
 use Rattle.tallies.proofs.InOrder.{stop-and-wait-receiver, go-back-n-receiver}
 use Rattle.tallies.proofs.SelectiveRepeat.{selective-repeat-receiver}
 
 -- ---- senders
-resent-by-sent : (a : Answered) → resentBy a ≤ sentBy a
+pub resent-by-sent : (a : Answered) → resentBy a ≤ sentBy a
 resent-by-sent (sent a out) = omega arith
 resent-by-sent (resent a out) = omega arith
 resent-by-sent (acknowledged a) = omega arith
@@ -43,7 +44,7 @@ unfolding total
 resent-within [] = omega arith
 resent-within (x ∷ xs) = let one = resent-by-sent x in let more = resent-within xs in omega arith
 
-counts-sound : (a b : ℕ) → a < countLimit → b < countLimit → anyOf (countFull a ∷ countFull b ∷ []) ≡ false
+pub counts-sound : (a b : ℕ) → a < countLimit → b < countLimit → anyOf (countFull a ∷ countFull b ∷ []) ≡ false
 unfolding anyOf
 counts-sound a b h k = rw (lt-leb countLimit a h, lt-leb countLimit b k)
 
@@ -56,7 +57,7 @@ sender-sound P xs s c h =
     counts-sound (P .totalSent s) (P .retransmissions s) (omega arith) (omega arith)
 
 module _ (store : List ℕ) where
-  pub stop-and-wait-sender-no-8 : (retries : ℕ) (cs : List (senders.Call (Unit {0})))
+  pub stop-and-wait-sender-no-8 : (retries : ℕ) (cs : List (SenderCall SingleTimeout))
       → total sentBy (senders.answers stopAndWaitSender (newStopAndWait retries store) cs) < countLimit
       → window.countsBroken (windowOf (senders.afterCalls stopAndWaitSender (newStopAndWait retries store) cs .sender)) ≡ false
   unfolding window.countsBroken
@@ -64,18 +65,18 @@ module _ (store : List ℕ) where
       let v = newStopAndWait retries store in
       sender-sound stopAndWaitSender _ _ (from-zero stopAndWaitSender stop-and-wait-counted v refl refl cs) h
 
-  pub go-back-n-sender-no-8 : (w : ℕ) (cs : List (senders.Call GoBackNTimeout)) → total sentBy (senders.answers goBackNSender (fresh w store) cs) < countLimit
+  pub go-back-n-sender-no-8 : (w : ℕ) (cs : List (SenderCall GoBackNTimeout)) → total sentBy (senders.answers goBackNSender (fresh w store) cs) < countLimit
       → window.countsBroken (senders.afterCalls goBackNSender (fresh w store) cs .window) ≡ false
   unfolding window.countsBroken fresh
   go-back-n-sender-no-8 w cs h = sender-sound goBackNSender _ _ (from-zero goBackNSender go-back-n-counted (fresh w store) refl refl cs) h
 
-  pub selective-repeat-sender-no-8 : (w : ℕ) (cs : List (senders.Call ℕ)) → total sentBy (senders.answers selectiveRepeatSender (fresh w store) cs) < countLimit
+  pub selective-repeat-sender-no-8 : (w : ℕ) (cs : List (SenderCall ℕ)) → total sentBy (senders.answers selectiveRepeatSender (fresh w store) cs) < countLimit
       → window.countsBroken (senders.afterCalls selectiveRepeatSender (fresh w store) cs .window) ≡ false
   unfolding window.countsBroken fresh
   selective-repeat-sender-no-8 w cs h = sender-sound selectiveRepeatSender _ _ (from-zero selectiveRepeatSender selective-repeat-counted (fresh w store) refl refl cs) h
 
 -- ---- receivers
-one-more : (b : Bool) (m n : ℕ) → m ≤ n → cond b (suc m) m ≤ suc n
+pub one-more : (b : Bool) (m n : ℕ) → m ≤ n → cond b (suc m) m ≤ suc n
 one-more true m n h = omega arith
 one-more false m n h = omega arith
 
@@ -84,19 +85,21 @@ unfolding count
 count-within test [] = omega arith
 count-within test (h ∷ hs) = one-more (test hs h) (count test hs) (length hs) (count-within test hs)
 
-length-cond : (b : Bool) (h : PacketReading) (hs : List PacketReading) → length (cond b (h ∷ hs) hs) ≡ cond b (suc (length hs)) (length hs)
+pub length-cond : (b : Bool) (h : PacketReading) (hs : List PacketReading) → length (cond b (h ∷ hs) hs) ≡ cond b (suc (length hs)) (length hs)
 length-cond true h hs = refl
 length-cond false h hs = refl
 
-readings-within : {R : Type 0} (handle : Handling R) (r : R) (cs : List Call) → length (readings handle r cs) ≤ length cs
-unfolding readings
-readings-within handle r [] = omega arith
-readings-within handle r (c ∷ cs) =
-    let x = handle (afterCalls handle r cs) (c .raw) (c .output) (c .ack) in
-    let hs = readings handle r cs in
-    rw (length-cond (isReceived (x .answer)) (readPacket (c .raw)) hs) (one-more (isReceived (x .answer)) (length hs) (length cs) (readings-within handle r cs))
+readings-within : {R : Type 0} (handle : Handling R) (r : R) (hs : List PacketReading) (cs : List Call) → length (readingsAfter handle r hs cs) ≤ length hs + length cs
+unfolding readingsAfter
+readings-within handle r hs [] = omega arith
+readings-within handle r hs (c ∷ cs) =
+    let x = handle r (c .raw) (c .output) (c .ack) in
+    let one = one-more (isReceived (x .answer)) (length hs) (length hs) (omega arith) in
+    let more = readings-within handle (x .receiver) (readingsWith x (c .raw) hs) cs in
+    let size = length-cond (isReceived (x .answer)) (readPacket (c .raw)) hs in
+    omega (arith, one, more, size)
 
-receiver-sound : (hs : List PacketReading) (f g : List PacketReading → PacketReading → Bool) → length hs < countLimit → receiver.countsBroken (length hs) (count f hs) (count g hs) ≡ false
+pub receiver-sound : (hs : List PacketReading) (f g : List PacketReading → PacketReading → Bool) → length hs < countLimit → receiver.countsBroken (length hs) (count f hs) (count g hs) ≡ false
 unfolding receiver.countsBroken anyOf
 receiver-sound hs f g h =
     let a = count-within f hs in
@@ -104,7 +107,7 @@ receiver-sound hs f g h =
     rw (lt-leb countLimit (length hs) h, lt-leb countLimit (count f hs) (omega arith), lt-leb countLimit (count g hs) (omega arith))
 
 abbrev few : {R : Type 0} (handle : Handling R) (r : R) (cs : List Call) → length cs < countLimit → length (readings handle r cs) < countLimit
-few handle r cs h = let within = readings-within handle r cs in omega arith
+few handle r cs h = let within = readings-within handle r [] cs in omega arith
 
 module _ (cs : List Call) (h : length cs < countLimit) where
   pub stop-and-wait-receiver-no-8 : let r = afterCalls stopAndWait.handlePacket stopAndWait.newReceiver cs in

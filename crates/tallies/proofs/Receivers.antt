@@ -17,18 +17,18 @@ use Rattle.receiver.specs.declared.Reply.{Reply}
 use Rattle.receiver.specs.declared.Reply.the-variants as reply
 use Rattle.receiver.specs.declared.Decision.{Decision}
 use Rattle.delivery.specs.Ends.{isReceived}
-use Rattle.tallies.specs.Receivers.{Call, Handling, afterCalls, readingsWith, readings}
+use Rattle.tallies.specs.Receivers.{Call, Handling, afterCalls, readingsWith, readingsAfter}
 
 -- what is counted stays right with each call
 abbrev pub EachReadingCounted : {R : Type 0} → Handling R → (List PacketReading → R → Type 0) → Type 0
 EachReadingCounted {R} handle Counted =
     (hs : List PacketReading) (r : R) → Counted hs r → (raw output ack : List ℕ) → Counted (readingsWith (handle r raw output ack) raw hs) (handle r raw output ack .receiver)
 
-pub every-list : {R : Type 0} (handle : Handling R) (Counted : List PacketReading → R → Type 0) → EachReadingCounted handle Counted → (r : R) → Counted [] r
-    → (cs : List Call) → Counted (readings handle r cs) (afterCalls handle r cs)
-unfolding afterCalls readings
-every-list handle Counted each r start [] = start
-every-list handle Counted each r start (c ∷ cs) = each (readings handle r cs) (afterCalls handle r cs) (every-list handle Counted each r start cs) (c .raw) (c .output) (c .ack)
+pub every-list : {R : Type 0} (handle : Handling R) (Counted : List PacketReading → R → Type 0) → EachReadingCounted handle Counted → (hs : List PacketReading) (r : R) → Counted hs r
+    → (cs : List Call) → Counted (readingsAfter handle r hs cs) (afterCalls handle r cs)
+unfolding afterCalls readingsAfter
+every-list handle Counted each hs r start [] = start
+every-list handle Counted each hs r start (c ∷ cs) = every-list handle Counted each _ _ (each hs r start (c .raw) (c .output) (c .ack)) cs
 
 -- a call is refused and changes nothing, or its reading is counted
 reply-received : (r : Reply) → isReceived (answerOf r) ≡ true

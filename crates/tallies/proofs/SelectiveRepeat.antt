@@ -27,7 +27,7 @@ use Rattle.refinement.proofs.Held.{slotBroken}
 use Rattle.refinement.proofs.SelectiveReceiver.{each-slot, DataCase, in-order, held-already, to-be-held, delivered-already, old, high, data-case}
 use Rattle.tallies.specs.Readings.{count, noted, isNoted, base, isBuffered, isDuplicate}
 use Rattle.tallies.specs.Receivers.{Call, afterCalls, readings, selectiveRepeatAfter, newSelectiveRepeat}
-use Rattle.tallies.proofs.Receivers.{every-list, one-call}
+use Rattle.tallies.proofs.Receivers.{EachReadingCounted, every-list, one-call}
 use Rattle.tallies.proofs.InOrder.{plus-one}
 use Rattle.tallies.proofs.Noted.{Slots, fresh-slots, base-delivered, delivered-slots, base-kept, held-slots}
 
@@ -164,24 +164,24 @@ kept-after w hs v payload mark s sound short h =
     let ok : Ready (selectiveRepeatAfter w hs (s .filled)) (s .store) = ready _ _ (rw (s .is) at sound) in
     rw (s .is) (reading-kept w hs (s .filled) (s .store) payload mark (s .slots) ok short h)
 
-fresh-kept : (w : ℕ) (store : List ℕ) → Kept w [] (newSelectiveRepeat w store)
+pub fresh-kept : (w : ℕ) (store : List ℕ) → Kept w [] (newSelectiveRepeat w store)
 unfolding noted count
 fresh-kept w store = record { filled = 0; store = newSelectiveRepeat w store .store; is = refl; slots = fresh-slots w store }
 
 -- after any list, the state but for its fill mark
-kept-state : (w : ℕ) (hs : List PacketReading) (v : Receiver) → Kept w hs v → v .state ≡ selectiveRepeatAfter w hs (v .state .filled)
+pub kept-state : (w : ℕ) (hs : List PacketReading) (v : Receiver) → Kept w hs v → v .state ≡ selectiveRepeatAfter w hs (v .state .filled)
 kept-state w hs v s =
     let e = ap (λ (u : Receiver). u .state) (s .is) in
     e ∙ ap (selectiveRepeatAfter w hs) (sym (ap (λ (r : SelectiveRepeatReceiver). r .filled) e))
+
+pub selective-repeat-each : (w : ℕ) → EachReadingCounted handlePacket (Kept w)
+selective-repeat-each w =
+    λ hs v s raw output ack. one-call (Kept w) hs (receivingBroken (v .state) (v .store) output) (countersBroken (v .state)) v (v .state .filled) (decision v (readPacket raw) .decision) (deliveredBytes v (payloadOf raw) (decision v (readPacket raw) .change)) (afterPacket v (payloadOf raw) (decision v (readPacket raw))) raw output ack s
+    (λ sound short n. kept-after w hs v (payloadOf raw) n s (receiving-sound (v .state) (v .store) output sound .0) short (readPacket raw))
 
 pub selective-repeat-receiver : (w : ℕ) (store : List ℕ) (cs : List Call)
     → afterCalls handlePacket (newSelectiveRepeat w store) cs .state
     ≡ selectiveRepeatAfter w (readings handlePacket (newSelectiveRepeat w store) cs) (afterCalls handlePacket (newSelectiveRepeat w store) cs .state .filled)
 selective-repeat-receiver w store cs =
     kept-state w _ _
-    (every-list handlePacket (Kept w)
-    (λ hs v s raw output ack. one-call (Kept w) hs (receivingBroken (v .state) (v .store) output) (countersBroken (v .state)) v (v .state .filled) (decision v (readPacket raw) .decision) (deliveredBytes v (payloadOf raw) (decision v (readPacket raw) .change)) (afterPacket v (payloadOf raw) (decision v (readPacket raw))) raw output ack s
-    (λ sound short n. kept-after w hs v (payloadOf raw) n s (receiving-sound (v .state) (v .store) output sound .0) short (readPacket raw)))
-    (newSelectiveRepeat w store)
-    (fresh-kept w store)
-    cs)
+    (every-list handlePacket (Kept w) (selective-repeat-each w) [] (newSelectiveRepeat w store) (fresh-kept w store) cs)

@@ -3,7 +3,6 @@ use Prim.Native.Nat.{ℕ, zero, suc, _+_, _≤_}
 use mathlib.Core.Path.{_≡_, refl, sym, ap, _∙_}
 use mathlib.Core.Bool.{Bool, true, false, cond}
 use mathlib.Core.List.{List, [], _∷_, _++_, map, append-nil, flatten}
-use native.Mathlib.Nat.{add-assoc}
 use native.Mathlib.Omega.{arith}
 use borrow.Author.Tests.{eqb-false}
 use lib.ListN.{length, take, drop}
@@ -30,8 +29,9 @@ use Rattle.selective_repeat.specs.Sender.{acknowledgeOne}
 use Rattle.refinement.proofs.Resending.{datagrams-are}
 use Rattle.delivery.specs.Calls.{datagrams}
 use Rattle.delivery.specs.Ends.{isResent, all, earliest}
+use Rattle.delivery.specs.AnyBytes.{SenderCall, send, timeout, ack}
 use Rattle.delivery.proofs.Datagrams.{AllFramed, made-framed, datagrams-flatten}
-use Rattle.tallies.specs.Senders.{Call, send, timeout, ack, Answered, sent, resent, acknowledged, SenderCalls, afterCall, answerTo, afterCalls, answers, sentBy, resentBy, total, SenderCounted, isAccepted, goBackNSender, selectiveRepeatSender}
+use Rattle.tallies.specs.Senders.{Answered, sent, resent, acknowledged, SenderCalls, afterCall, answerTo, afterCalls, answers, sentBy, resentBy, total, SenderCounted, isAccepted, goBackNSender, selectiveRepeatSender}
 
 -- a call raised the counters by the datagrams that it wrote
 pub record Counted {S : Type 0} (sentOf resentOf : S → ℕ) (before after : S) (a : Answered) : Type 0 where
@@ -39,26 +39,27 @@ pub record Counted {S : Type 0} (sentOf resentOf : S → ℕ) (before after : S)
   pub resent-count : resentOf after ≡ resentBy a + resentOf before
 
 abbrev pub EachCallCounted : SenderCalls → Type 0
-EachCallCounted P = (s : P .Sender) (c : Call (P .Timeout)) → Counted (P .totalSent) (P .retransmissions) s (afterCall P s c) (answerTo P s c)
+EachCallCounted P = (s : P .Sender) (c : SenderCall (P .Timeout)) → Counted (P .totalSent) (P .retransmissions) s (afterCall P s c) (answerTo P s c)
 
 -- any list of calls, from any state
+raised-by : (P : SenderCalls) (counter : P .Sender → ℕ) (by : Answered → ℕ) → ((r : P .Sender) (c : SenderCall (P .Timeout)) → counter (afterCall P r c) ≡ by (answerTo P r c) + counter r)
+    → (s : P .Sender) (cs : List (SenderCall (P .Timeout))) → counter (afterCalls P s cs) ≡ total by (answers P s cs) + counter s
+unfolding afterCalls answers total
+raised-by P counter by one s [] = omega arith
+raised-by P counter by one s (c ∷ cs) =
+    let x = one s c in
+    let more = raised-by P counter by one (afterCall P s c) cs in
+    omega arith
+
 module _ (P : SenderCalls) (each : EachCallCounted P) (s : P .Sender) where
-  raised-by : (counter : P .Sender → ℕ) (by : Answered → ℕ) → ((r : P .Sender) (c : Call (P .Timeout)) → counter (afterCall P r c) ≡ by (answerTo P r c) + counter r)
-      → (cs : List (Call (P .Timeout))) → counter (afterCalls P s cs) ≡ total by (answers P s cs) + counter s
-  unfolding afterCalls answers total
-  raised-by counter by one [] = omega arith
-  raised-by counter by one (c ∷ cs) =
-      let x = by (answerTo P (afterCalls P s cs) c) in
-      one (afterCalls P s cs) c ∙ ap (λ (n : ℕ). x + n) (raised-by counter by one cs) ∙ sym (add-assoc x (total by (answers P s cs)) (counter s))
+  pub total-sent : (cs : List (SenderCall (P .Timeout))) → P .totalSent (afterCalls P s cs) ≡ total sentBy (answers P s cs) + P .totalSent s
+  total-sent cs = raised-by P (P .totalSent) sentBy (λ r c. each r c .sent-count) s cs
 
-  pub total-sent : (cs : List (Call (P .Timeout))) → P .totalSent (afterCalls P s cs) ≡ total sentBy (answers P s cs) + P .totalSent s
-  total-sent cs = raised-by (P .totalSent) sentBy (λ r c. each r c .sent-count) cs
-
-  pub total-resent : (cs : List (Call (P .Timeout))) → P .retransmissions (afterCalls P s cs) ≡ total resentBy (answers P s cs) + P .retransmissions s
-  total-resent cs = raised-by (P .retransmissions) resentBy (λ r c. each r c .resent-count) cs
+  pub total-resent : (cs : List (SenderCall (P .Timeout))) → P .retransmissions (afterCalls P s cs) ≡ total resentBy (answers P s cs) + P .retransmissions s
+  total-resent cs = raised-by P (P .retransmissions) resentBy (λ r c. each r c .resent-count) s cs
 
   -- from counters that stand at 0
-  pub from-zero : P .totalSent s ≡ 0 → P .retransmissions s ≡ 0 → (cs : List (Call (P .Timeout))) → SenderCounted P (answers P s cs) (afterCalls P s cs)
+  pub from-zero : P .totalSent s ≡ 0 → P .retransmissions s ≡ 0 → (cs : List (SenderCall (P .Timeout))) → SenderCounted P (answers P s cs) (afterCalls P s cs)
   from-zero e f cs =
       let a = total-sent cs in
       let b = total-resent cs in

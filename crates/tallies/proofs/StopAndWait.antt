@@ -15,9 +15,10 @@ use Rattle.window.specs.declared.SendAnswer.the-variants as sendAnswer
 use Rattle.window.specs.declared.TimeoutAnswer.{TimeoutAnswer}
 use Rattle.window.specs.declared.TimeoutAnswer.the-variants as timeoutAnswer
 use Rattle.stop_and_wait.specs.Sender.{End, endOf, windowOf, windowEnd, bySend, acknowledged, retriesLeft, byTimeout}
-use Rattle.delivery.specs.Ends.{isResent}
+use Rattle.delivery.specs.Ends.{isResent, SingleTimeout}
+use Rattle.delivery.specs.AnyBytes.{SenderCall, send, timeout, ack}
 use Rattle.tallies.specs.Senders as senders
-use Rattle.tallies.specs.Senders.{Call, send, timeout, ack, Answered, afterCall, answerTo, afterCalls, answers, resentBy, startsAnew, retries, stopAndWaitSender}
+use Rattle.tallies.specs.Senders.{Answered, afterCall, answerTo, afterCalls, answers, resentBy, startsAnew, retriesFrom, stopAndWaitSender}
 use Rattle.tallies.proofs.Senders.{Counted, EachCallCounted, WindowCounted, none-written, send-counted, resend-counted, resend-one, by-ack}
 
 -- the counters follow those of the window where a datagram was written, and stay as they were elsewhere
@@ -68,7 +69,7 @@ one-at-most : (b : Bool) (m : ℕ) → min (cond b 1 0) m ≤ 1
 one-at-most true m = omega arith
 one-at-most false m = omega arith
 
-call-retries : (v : End) (c : Call (Unit {0})) → RetriesCounted v (afterCall stopAndWaitSender v c) (answerTo stopAndWaitSender v c)
+call-retries : (v : End) (c : SenderCall SingleTimeout) → RetriesCounted v (afterCall stopAndWaitSender v c) (answerTo stopAndWaitSender v c)
 call-retries v (send payload out) = let r = sends v payload out in send-retries v (r .after) (r .out) (r .answer)
 call-retries v (timeout u out) =
     let r = resends v out in
@@ -77,9 +78,9 @@ call-retries v (timeout u out) =
 call-retries v (ack raw) =
     by-ack (λ (r : AckExit End). RetriesCounted v (r .after) (senders.acknowledged (r .answer))) (ackDecision false (windowOf (v .sender)) (v .store) raw) v (acknowledged v) (λ a e. rw e (omega arith)) (λ n. refl)
 
-pub current-retries : (v : End) → v .sender .«current_retries» ≡ 0 → (cs : List (Call (Unit {0}))) → afterCalls stopAndWaitSender v cs .sender .«current_retries» ≡ retries (answers stopAndWaitSender v cs)
-unfolding afterCalls answers retries
-current-retries v start [] = start
-current-retries v start (c ∷ cs) =
-    let a = answerTo stopAndWaitSender (afterCalls stopAndWaitSender v cs) c in
-    call-retries (afterCalls stopAndWaitSender v cs) c ∙ ap (λ (n : ℕ). cond (startsAnew a) 0 (resentBy a + n)) (current-retries v start cs)
+pub current-retries : (v : End) (k : ℕ) → v .sender .«current_retries» ≡ k → (cs : List (SenderCall SingleTimeout)) → afterCalls stopAndWaitSender v cs .sender .«current_retries» ≡ retriesFrom k (answers stopAndWaitSender v cs)
+unfolding afterCalls answers retriesFrom
+current-retries v k start [] = start
+current-retries v k start (c ∷ cs) =
+    let a = answerTo stopAndWaitSender v c in
+    current-retries (afterCall stopAndWaitSender v c) _ (call-retries v c ∙ ap (λ (n : ℕ). cond (startsAnew a) 0 (resentBy a + n)) start) cs

@@ -1,5 +1,5 @@
--- Document 01, `arq/sw.rs`, `arq/gbn.rs`, `arq/sr.rs`: what the datagrams handed to a receiver, each as what it reads as, say of its counters.
--- The latest stands first; nothing here looks at a receiver's state.
+-- Document 01, `arq/sw.rs`, `arq/gbn.rs`, `arq/sr.rs`: what the datagrams handed to a receiver, each as what it reads
+-- as, say of its counters. The latest stands first; nothing here looks at a receiver's state.
 use Prim.Native.Nat.{ℕ, suc, _+_, _-_}
 use mathlib.Core.List.{List, [], _∷_}
 use mathlib.Core.Bool.{Bool, true, false, cond, not, _||_, _&&_}
@@ -73,4 +73,5 @@ isBuffered w hs h = dataThat (λ n. inWindow w (base w hs) n && not (eqb n (base
 
 -- noted before, or one of the w numbers below base
 abbrev pub isDuplicate : ℕ → List PacketReading → PacketReading → Bool
-isDuplicate w hs h = dataThat (λ n. (inWindow w (base w hs) n && isNoted w hs n) || (leb (base w hs - w) n && ltb n (base w hs))) h
+isDuplicate w hs h =
+    dataThat (λ n. (inWindow w (base w hs) n && isNoted w hs n) || (leb (base w hs - w) n && ltb n (base w hs))) h

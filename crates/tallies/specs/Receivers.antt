@@ -1,4 +1,4 @@
--- Document 01, "Invented tallies: .. from the history of calls": a receiver's counters after any list of datagrams, the latest first.
+-- Document 01, "Invented tallies: .. from the history of calls": a receiver's counters after any list of datagrams.
 use Prim.Native.Nat.{ℕ, _*_}
 use mathlib.Core.List.{List, [], _∷_, _++_}
 use mathlib.Core.Bool.{cond}
@@ -27,16 +27,21 @@ Handling R = R → List ℕ → List ℕ → List ℕ → ReceiveExit R
 -- the receiver after a list of calls
 unfoldable pub afterCalls : {R : Type 0} → Handling R → R → List Call → R
 afterCalls handle r [] = r
-afterCalls handle r (c ∷ cs) = handle (afterCalls handle r cs) (c .raw) (c .output) (c .ack) .receiver
+afterCalls handle r (c ∷ cs) = afterCalls handle (handle r (c .raw) (c .output) (c .ack) .receiver) cs
 
 -- with one reading more, unless the call was refused
 abbrev pub readingsWith : {R : Type 0} → ReceiveExit R → List ℕ → List PacketReading → List PacketReading
 readingsWith x raw hs = cond (isReceived (x .answer)) (readPacket raw ∷ hs) hs
 
--- what the datagrams that were not refused read as
-unfoldable pub readings : {R : Type 0} → Handling R → R → List Call → List PacketReading
-readings handle r [] = []
-readings handle r (c ∷ cs) = readingsWith (handle (afterCalls handle r cs) (c .raw) (c .output) (c .ack)) (c .raw) (readings handle r cs)
+-- what the datagrams that were not refused read as, the latest first, before those of earlier calls
+unfoldable pub readingsAfter : {R : Type 0} → Handling R → R → List PacketReading → List Call → List PacketReading
+readingsAfter handle r hs [] = hs
+readingsAfter handle r hs (c ∷ cs) =
+    let x = handle r (c .raw) (c .output) (c .ack) in
+    readingsAfter handle (x .receiver) (readingsWith x (c .raw) hs) cs
+
+abbrev pub readings : {R : Type 0} → Handling R → R → List Call → List PacketReading
+readings handle r cs = readingsAfter handle r [] cs
 
 -- the receivers that the readings tell, but for the fill mark
 abbrev pub stopAndWaitAfter : List PacketReading → ℕ → StopAndWaitReceiver

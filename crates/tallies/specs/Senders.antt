@@ -1,4 +1,5 @@
--- Document 01, "Invented tallies: .. from the history of calls": what a list of calls says of a sender's counters. The latest call stands first.
+-- Document 01, "Invented tallies: .. from the history of calls": what a list of calls with any bytes says of a sender's
+-- counters.
 use Prim.Native.Nat.{ℕ, _+_}
 use mathlib.Core.Path.{_≡_}
 use mathlib.Core.List.{List, [], _∷_}
@@ -16,13 +17,8 @@ use Rattle.stop_and_wait.specs.Sender as stopAndWait
 use Rattle.go_back_n.specs.Sender as goBackN
 use Rattle.selective_repeat.specs.Sender as selectiveRepeat
 use Rattle.delivery.specs.Calls.{datagrams}
-use Rattle.delivery.specs.Ends.{bytesSent, isSent, bytesResent, GoBackNTimeout, goBackNTimeout}
-
--- a call with any bytes: a payload and the datagram's buffer; a timeout and the datagrams' buffer; a datagram handed over as an ACK
-pub data Call (Timeout : Type 0) : Type 0 where
-  send : List ℕ → List ℕ → Call Timeout
-  timeout : Timeout → List ℕ → Call Timeout
-  ack : List ℕ → Call Timeout
+use Rattle.delivery.specs.Ends.{bytesSent, isSent, bytesResent, SingleTimeout, GoBackNTimeout, goBackNTimeout}
+use Rattle.delivery.specs.AnyBytes.{SenderCall, send, timeout, ack}
 
 -- what a call answered, and the buffer lent to it when it returned
 pub data Answered : Type 0 where
@@ -40,24 +36,24 @@ pub record SenderCalls : Type 1 where
   pub totalSent : Sender → ℕ
   pub retransmissions : Sender → ℕ
 
-abbrev pub afterCall : (P : SenderCalls) → P .Sender → Call (P .Timeout) → P .Sender
+abbrev pub afterCall : (P : SenderCalls) → P .Sender → SenderCall (P .Timeout) → P .Sender
 afterCall P s (send payload out) = P .sendChunk s payload out .after
 afterCall P s (timeout t out) = P .handleTimeout s t out .after
 afterCall P s (ack raw) = P .handleAck s raw .after
 
-abbrev pub answerTo : (P : SenderCalls) → P .Sender → Call (P .Timeout) → Answered
+abbrev pub answerTo : (P : SenderCalls) → P .Sender → SenderCall (P .Timeout) → Answered
 answerTo P s (send payload out) = sent (P .sendChunk s payload out .answer) (P .sendChunk s payload out .out)
 answerTo P s (timeout t out) = resent (P .handleTimeout s t out .answer) (P .handleTimeout s t out .out)
 answerTo P s (ack raw) = acknowledged (P .handleAck s raw .answer)
 
 -- the sender after a list of calls, and what they answered
-unfoldable pub afterCalls : (P : SenderCalls) → P .Sender → List (Call (P .Timeout)) → P .Sender
+unfoldable pub afterCalls : (P : SenderCalls) → P .Sender → List (SenderCall (P .Timeout)) → P .Sender
 afterCalls P s [] = s
-afterCalls P s (c ∷ cs) = afterCall P (afterCalls P s cs) c
+afterCalls P s (c ∷ cs) = afterCalls P (afterCall P s c) cs
 
-unfoldable pub answers : (P : SenderCalls) → P .Sender → List (Call (P .Timeout)) → List Answered
+unfoldable pub answers : (P : SenderCalls) → P .Sender → List (SenderCall (P .Timeout)) → List Answered
 answers P s [] = []
-answers P s (c ∷ cs) = answerTo P (afterCalls P s cs) c ∷ answers P s cs
+answers P s (c ∷ cs) = answerTo P s c ∷ answers P (afterCall P s c) cs
 
 -- how many datagrams a call wrote; how many of them a timeout
 abbrev pub sentBy : Answered → ℕ
@@ -79,7 +75,8 @@ pub record SenderCounted (P : SenderCalls) (xs : List Answered) (s : P .Sender) 
   pub sent-is : P .totalSent s ≡ total sentBy xs
   pub resent-is : P .retransmissions s ≡ total resentBy xs
 
--- Stop-and-Wait's retries: the datagrams sent again since the last chunk that was sent and the last ACK that was accepted
+-- Stop-and-Wait's retries: the datagrams sent again since the last chunk that was sent and the last ACK that was
+-- accepted
 abbrev pub isAccepted : AckAnswer → Bool
 isAccepted ackAnswer.Accepted = true
 isAccepted ackAnswer.NotAccepted = false
@@ -90,15 +87,19 @@ startsAnew (sent a out) = isSent a
 startsAnew (resent a out) = false
 startsAnew (acknowledged a) = isAccepted a
 
-unfoldable pub retries : List Answered → ℕ
-retries [] = 0
-retries (x ∷ xs) = cond (startsAnew x) 0 (resentBy x + retries xs)
+-- k of them before the list
+unfoldable pub retriesFrom : ℕ → List Answered → ℕ
+retriesFrom k [] = k
+retriesFrom k (x ∷ xs) = retriesFrom (cond (startsAnew x) 0 (resentBy x + k)) xs
+
+abbrev pub retries : List Answered → ℕ
+retries xs = retriesFrom 0 xs
 
 -- the senders
 abbrev pub stopAndWaitSender : SenderCalls
 stopAndWaitSender = record {
   Sender = stopAndWait.End;
-  Timeout = Unit {0};
+  Timeout = SingleTimeout;
   sendChunk = stopAndWait.sendChunk;
   handleTimeout = λ v t out. stopAndWait.handleTimeout v out;
   handleAck = stopAndWait.handleAck;

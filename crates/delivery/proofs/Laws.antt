@@ -1,0 +1,4 @@
+-- The laws of lists of calls that crates above may cite.
+pub use Rattle.delivery.proofs.Lists.{run-append, fed-append, admissible-append, admissible-first, admissible-rest, Grown, step-sent, step-replies, sent-grows, replies-grow, copy-stays, copy-bytes, grown-copy, grown-bytes, Reached, at-start, one-more, many-more}
+pub use Rattle.delivery.proofs.Datagrams.{DataBytes, AckBytes, Each, each-at, Framed, AllFramed, made-framed, datagrams-flatten, data-framed, acks-framed, data-number, ack-number}
+pub use Rattle.delivery.proofs.Demand3.{demand-3, reached-claim}
