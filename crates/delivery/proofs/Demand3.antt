@@ -21,10 +21,10 @@ use Rattle.window.specs.Slots.{release, markRetransmitted}
 use Rattle.window.specs.Sending.{sendChunk}
 use Rattle.window.specs.Resending.{TimeoutExit, markFrom, resendOutstanding}
 use Rattle.window.specs.Acknowledgement.{ackDecision}
-use Rattle.receiver.specs.State.{marksBroken}
-use Rattle.receiver.specs.Handed.{readPacket}
+use Rattle.receiver.specs.State as receiverState
+use Rattle.receiver.specs.Reading.{readPacket}
 use Rattle.receiver.specs.declared.PacketReading.{PacketReading}
-use Rattle.receiver.specs.declared.PacketReading.the-variants as handed
+use Rattle.receiver.specs.declared.PacketReading.the-variants as reading
 use Rattle.selective_repeat.specs.declared.SelectiveRepeatDecision.{SelectiveRepeatDecision}
 use Rattle.stop_and_wait.specs.Sender as stopAndWait
 use Rattle.stop_and_wait.specs.Receiver as stopAndWaitReceiver
@@ -33,7 +33,7 @@ use Rattle.go_back_n.specs.Receiver as goBackNReceiver
 use Rattle.selective_repeat.specs.Sender as selectiveRepeat
 use Rattle.selective_repeat.specs.Receiver as sr
 use Rattle.refinement.specs.Good.{GoodSelectiveReceiver}
-use Rattle.refinement.proofs.Laws.{ResendOutcome, timeout-refused, nothing-sent, sent-again, after-packet, after-ack, marks-octets, go-back-n-ack, go-back-n-ack-octets, go-back-n-timeout, lowest-sent-again, goBackNView, go-back-n-receives, go-back-n-receiver-good, stopAndWaitView, stop-and-wait-send, stop-and-wait-timeout, stop-and-wait-ack, stop-and-wait-ack-octets, stop-and-wait-made, marks-good, stop-and-wait-receives, stop-and-wait-receiver-good, selective-ack, selective-ack-octets, selective-timeout, selectiveView, selective-receives, selective-receiver-good, fresh-good, fresh-octets, fresh-follows, zeroed, fresh-receiver-follows, fresh-receiver-good}
+use Rattle.refinement.proofs.Laws.{ResendOutcome, timeout-refused, nothing-sent, sent-again, after-packet, after-ack, marks-octets, go-back-n-ack, go-back-n-ack-octets, go-back-n-timeout, lowest-sent-again, goBackNView, go-back-n-receives, go-back-n-receiver-good, stopAndWaitView, stop-and-wait-send, stop-and-wait-timeout, stop-and-wait-ack, stop-and-wait-ack-octets, stop-and-wait-made, state-good, stop-and-wait-receives, stop-and-wait-receiver-good, selective-ack, selective-ack-octets, selective-timeout, selectiveView, selective-receives, selective-receiver-good, fresh-good, fresh-octets, fresh-follows, zeroed, fresh-receiver-follows, fresh-receiver-good}
 use Rattle.delivery.specs.Calls.{Call, World, Admissible}
 use Rattle.delivery.specs.Ends.{SingleTimeout, GoBackNTimeout, all, earliest, goBackNTimeout, WithOutput, ends, freshEnds, Made}
 use Rattle.delivery.specs.Demand3.{plainAfter, Claim, Demand3}
@@ -89,7 +89,7 @@ as-window selective view v n k out r y after answer out-is o =
 -- Go-Back-N
 go-back-n-times : (v : slots.Sender) (t : GoBackNTimeout) (out : List ℕ) → TimeoutAs false (λ u. u) v out (goBackNTimeout v t out)
 go-back-n-times v all out = as-window false (λ u. u) v _ _ out _ _ refl refl refl (go-back-n-timeout v out)
-go-back-n-times v earliest out = as-window false (λ u. u) v _ _ out _ _ refl refl refl (lowest-sent-again false v 1 out)
+go-back-n-times v earliest out = as-window false (λ u. u) v _ _ out _ _ refl refl refl (lowest-sent-again v 1 out)
 
 pub go-back-n-sender : SenderCalls GoBackN false (λ u. u) (sendChunk false) goBackNTimeout goBackN.handleAck (λ v. v .window .«send_base»)
 go-back-n-sender = record {
@@ -104,12 +104,12 @@ go-back-n-sender = record {
   ack-refused = λ v raw. not-handled (ackDecision false (v .window) (v .store) raw) v (λ n. release v (n + 1));
 }
 
-pub go-back-n-receiver : (w : ℕ) → ReceiverCalls GoBackN w goBackNView (λ r. r .filled) (λ r output. marksBroken (r .«expected_seq») (r .filled) output ≡ false) goBackNReceiver.handlePacket (λ r. r .«expected_seq»)
+pub go-back-n-receiver : (w : ℕ) → ReceiverCalls GoBackN w goBackNView (λ r. r .filled) (λ r output. receiverState.stateBroken (r .«expected_seq») (r .filled) output ≡ false) goBackNReceiver.handlePacket (λ r. r .«expected_seq»)
 go-back-n-receiver w = record {
   base-is = λ r. refl;
   outcome = λ r raw output ack g. go-back-n-receives w r raw output ack;
   good = λ r raw output ack g. go-back-n-receiver-good w r raw output ack g;
-  refused = λ r raw output ack. not-received _ _ r (r .filled) _ (payloadOf raw) _ raw output ack;
+  refused = λ r raw output ack. not-received _ raw output ack;
 }
 
 -- Stop-and-Wait
@@ -120,19 +120,19 @@ stop-and-wait-sender = record {
   send-answer = λ v payload out. refl;
   send-out = λ v payload out. refl;
   timeout-as = λ v t out.
-      as-window false stopAndWait.windowEnd v _ _ out _ _ (stop-and-wait-timeout v out) refl refl (lowest-sent-again false (stopAndWait.windowEnd v) (stopAndWait.retriesLeft (v .sender)) out);
+      as-window false stopAndWait.windowEnd v _ _ out _ _ (stop-and-wait-timeout v out) refl refl (lowest-sent-again (stopAndWait.windowEnd v) (stopAndWait.retriesLeft (v .sender)) out);
   ack-outcome = stop-and-wait-ack;
   ack-octets = stop-and-wait-ack-octets;
   ack-size = λ v raw. refl;
   ack-refused = λ v raw. not-handled (ackDecision false (stopAndWait.windowOf (v .sender)) (v .store) raw) v (stopAndWait.acknowledged v);
 }
 
-pub stop-and-wait-receiver : (w : ℕ) → ReceiverCalls StopAndWait w stopAndWaitView (λ r. r .filled) (λ r output. marksBroken (r .«expected_seq») (r .filled) output ≡ false) stopAndWaitReceiver.handlePacket (λ r. r .«expected_seq»)
+pub stop-and-wait-receiver : (w : ℕ) → ReceiverCalls StopAndWait w stopAndWaitView (λ r. r .filled) (λ r output. receiverState.stateBroken (r .«expected_seq») (r .filled) output ≡ false) stopAndWaitReceiver.handlePacket (λ r. r .«expected_seq»)
 stop-and-wait-receiver w = record {
   base-is = λ r. refl;
   outcome = λ r raw output ack g. stop-and-wait-receives w r raw output ack;
   good = λ r raw output ack g. stop-and-wait-receiver-good w r raw output ack g;
-  refused = λ r raw output ack. not-received _ _ r (r .filled) _ (payloadOf raw) _ raw output ack;
+  refused = λ r raw output ack. not-received _ raw output ack;
 }
 
 -- Selective Repeat
@@ -173,22 +173,21 @@ data-size v n =
 
 decision-size : (v : sr.Receiver) (h : PacketReading) → sr.decision v h .receiver .«window_size» ≡ v .state .«window_size»
 unfolding sr.decision
-decision-size v (handed.Data n) = data-size (sr.counted v) n
-decision-size v (handed.Fin n) = refl
-decision-size v handed.Ack = refl
-decision-size v handed.Corrupted = refl
-decision-size v (handed.Refused s) = refl
+decision-size v (reading.Data n) = data-size (sr.counted v) n
+decision-size v (reading.Fin n) = refl
+decision-size v reading.Ack = refl
+decision-size v reading.Corrupted = refl
 
 packet-size : (r : sr.Receiver) (raw output ack : List ℕ) → sr.handlePacket r raw output ack .receiver .state .«window_size» ≡ r .state .«window_size»
 packet-size r raw output ack =
-    after-packet (λ (u : sr.Receiver). u .state .«window_size» ≡ r .state .«window_size») _ _ r (r .state .filled) _ _ _ raw output ack refl (λ sound ok short n. decision-size r (readPacket raw))
+    after-packet (λ (u : sr.Receiver). u .state .«window_size» ≡ r .state .«window_size») _ raw output ack refl (λ k n. decision-size r (readPacket raw))
 
 pub selective-repeat-receiver : (w : ℕ) → ReceiverCalls SelectiveRepeat w selectiveView (λ r. r .state .filled) (GoodOf w) sr.handlePacket (λ r. r .state .«recv_base»)
 selective-repeat-receiver w = record {
   base-is = λ r. refl;
   outcome = λ r raw output ack g. rw (← g .size) (selective-receives r raw output ack);
   good = λ r raw output ack g. record { good = selective-receiver-good r raw output ack (g .good); size = packet-size r raw output ack ∙ g .size };
-  refused = λ r raw output ack. not-received _ _ r (r .state .filled) _ _ _ raw output ack;
+  refused = λ r raw output ack. not-received _ raw output ack;
 }
 
 unfoldable pub follows : (p : ProtocolType) (w : ℕ) → Follow p w (ends p)
@@ -205,8 +204,8 @@ fresh-sender : (selective : Bool) (w : ℕ) (store : List ℕ) → windowBroken 
 fresh-sender selective w store bounds room octets =
     record { good = fresh-good selective w store bounds room; octets = fresh-octets w store octets; size = fresh-size w store; is = fresh-follows w store }
 
-pub fresh-mark : (output : List ℕ) → marksBroken 0 0 output ≡ false
-fresh-mark output = marks-good 0 0 output (omega arith) (omega arith)
+pub fresh-mark : (output : List ℕ) → receiverState.stateBroken 0 0 output ≡ false
+fresh-mark output = state-good 0 0 output (omega arith) (omega arith)
 
 positive : (w : ℕ) → windowBroken w ≡ false → 0 < w
 unfolding windowBroken

@@ -17,7 +17,7 @@ use Rattle.octets.specs.Flip.{flip}
 use Rattle.refusal.specs.Clauses.{anyOf}
 use Rattle.refusal.specs.Order.{order, orElse, numbered, firstOf, verdict, decide}
 use Rattle.packet.specs.Format.{headerBytes, datagram, checksumOf, matches}
-use Rattle.packet.specs.Reading.{readChecks, headerOf, payloadPart, payloadOf}
+use Rattle.packet.specs.Reading.{readChecks, headerOf, payloadPart, payloadOf, readDatagram}
 use Rattle.store.specs.Slot.{slotAt, slotBytes, putSlot}
 use Rattle.store.specs.Slot as slot
 use Rattle.store.specs.Sound.{anyBelow, senderSlotBroken, senderSlotsBroken, receiverSlotBroken, receiverSlotsBroken}
@@ -27,9 +27,9 @@ use Rattle.window.specs.State as window
 use Rattle.window.specs.Slots.{fresh, hold, markRetransmitted, datagramFor, emptyFrom, release}
 use Rattle.window.specs.Sending.{sendChecks, sendChunk}
 use Rattle.window.specs.Resending.{datagramsFrom, markFrom, resend}
-use Rattle.window.specs.Acknowledgement.{readAck, ackDecision, byDecision}
-use Rattle.receiver.specs.State.{marksBroken, countsBroken}
-use Rattle.receiver.specs.Handed.{readPacket}
+use Rattle.window.specs.Acknowledgement.{ackDecision, byDecision}
+use Rattle.receiver.specs.State as receiverState
+use Rattle.receiver.specs.State.{countsBroken}
 use Rattle.receiver.specs.Reply.{ackAfter, roomMissing, applied}
 use Rattle.receiver.specs.Receive.{receive}
 use Rattle.selective_repeat.specs.Sender.{acknowledgeOne}
@@ -88,7 +88,7 @@ selectiveRepeat =
 pub computed : Computed StopAndWait 1 3 stopAndWait (timeout one buffer ∷ toReceiver (whole 3) buffer ∷ toSender (whole 2) ∷ timeout one buffer ∷ []) (65 ∷ []) 1 1
     × Computed GoBackN 2 0 goBackN (timeout earliest buffer ∷ toReceiver (whole 4) buffer ∷ toSender (whole 2) ∷ timeout all buffer ∷ []) (65 ∷ []) 1 1
     × Computed SelectiveRepeat 2 0 selectiveRepeat (timeout 0 buffer ∷ timeout 1 buffer ∷ toReceiver (whole 3) buffer ∷ toSender (whole 3) ∷ []) (65 ∷ 66 ∷ []) 2 1
-unfolding words onesAdd onesSum checksum flip anyOf order orElse numbered firstOf verdict decide headerBytes datagram checksumOf matches readChecks headerOf payloadPart payloadOf slotAt slotBytes putSlot slot.slotPayload anyBelow senderSlotBroken senderSlotsBroken receiverSlotBroken receiverSlotsBroken markedRun payloadsFrom windowBroken storeShort window.numbersBroken window.stateBroken window.countsBroken fresh hold markRetransmitted datagramFor emptyFrom release sendChecks sendChunk datagramsFrom markFrom resend readAck ackDecision byDecision countsBroken readPacket ackAfter roomMissing applied receive acknowledgeOne sr.stateBroken sr.receivingBroken sr.dataDecision sr.decision sr.deliveredBytes datagrams step run stopAndWaitReceiver.decision stopAndWaitReceiver.dataDecision goBackNReceiver.decision goBackNReceiver.dataDecision marksBroken fedBy fedIn plainStart plainSend plainData plainAck plainCall plainStep plainRun plainOutstanding
+unfolding words onesAdd onesSum checksum flip anyOf order orElse numbered firstOf verdict decide headerBytes datagram checksumOf matches readChecks headerOf payloadPart payloadOf readDatagram slotAt slotBytes putSlot slot.slotPayload anyBelow senderSlotBroken senderSlotsBroken receiverSlotBroken receiverSlotsBroken markedRun payloadsFrom windowBroken storeShort window.numbersBroken window.stateBroken window.countsBroken fresh hold markRetransmitted datagramFor emptyFrom release sendChecks sendChunk datagramsFrom markFrom resend ackDecision byDecision countsBroken ackAfter roomMissing applied receive acknowledgeOne sr.stateBroken sr.receivingBroken sr.dataDecision sr.decision sr.deliveredBytes datagrams step run stopAndWaitReceiver.decision stopAndWaitReceiver.dataDecision goBackNReceiver.decision goBackNReceiver.dataDecision receiverState.stateBroken fedBy fedIn plainStart plainSend plainData plainAck plainCall plainStep plainRun plainOutstanding
 computed = (
   record {
     fair = (byte 65 (lit< tt), ((lit< tt, lit< tt, lit< tt, (λ e. let z : _≡_ {A = ℕ} 10 6 = e in omega arith), (λ e. let z : _≡_ {A = ℕ} 10 7 = e in omega arith)), (tt, (lit< tt, (lit< tt, (byte 66 (lit< tt), (lit< tt, (lit< tt, tt))))))));

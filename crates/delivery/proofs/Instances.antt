@@ -15,7 +15,7 @@ use Rattle.window.specs.Slots.{release}
 use Rattle.window.specs.Sending.{SendExit, sendChunk}
 use Rattle.window.specs.Resending.{TimeoutExit}
 use Rattle.window.specs.Acknowledgement.{ackDecision, AckExit, byDecision}
-use Rattle.receiver.specs.State.{marksBroken}
+use Rattle.receiver.specs.State as receiverState
 use Rattle.receiver.specs.Receive.{ReceiveExit}
 use Rattle.packet.specs.Format.{newPacket}
 use Rattle.packet.specs.declared.PacketType.the-variants.{Ack}

@@ -24,15 +24,14 @@ use Rattle.window.specs.Sending.{windowFree, sendChecks, sendChunk}
 use Rattle.window.specs.Resending.{datagramsFrom, sentAgain, resend}
 use Rattle.window.proofs.Laws.{sound}
 use Rattle.receiver.specs.State as receiverState
-use Rattle.receiver.specs.State.{marksBroken}
-use Rattle.receiver.specs.Handed.{readPacket}
+use Rattle.receiver.specs.Reading.{readPacket}
 use Rattle.receiver.specs.Reply.{ackMissing, roomMissing, ApplyExit, applied}
 use Rattle.receiver.specs.Receive as receiver
-use Rattle.receiver.specs.Receive.{ReceiveExit}
+use Rattle.receiver.specs.Receive.{ReceiveExit, Reception}
 use Rattle.receiver.specs.declared.Decision.{Decision}
 use Rattle.receiver.specs.declared.Reply.{Reply}
 use Rattle.receiver.specs.declared.Reply.the-variants as reply
-use Rattle.receiver.proofs.Laws.{marks-low}
+use Rattle.receiver.proofs.Laws.{state-low}
 use Rattle.packet.specs.Reading.{payloadOf}
 use Rattle.stop_and_wait.specs.Sender as stopAndWait
 use Rattle.stop_and_wait.specs.Receiver as stopAndWaitReceiver
@@ -42,7 +41,7 @@ use Rattle.selective_repeat.specs.Receiver as sr
 use Rattle.selective_repeat.proofs.Laws.{due-within, receiving-sound}
 use Rattle.refinement.specs.Good.{Good}
 use Rattle.refinement.specs.Copies.{DataOf, AckOf}
-use Rattle.refinement.proofs.Laws.{next-number, marks-good, flatten-append}
+use Rattle.refinement.proofs.Laws.{next-number, state-good, flatten-append}
 use Rattle.delivery.specs.Calls.{whole, flipped, Call, send, timeout, toReceiver, toSender, World, step, run, Allowed, Admissible}
 use Rattle.delivery.specs.Ends.{isSendRefused, isTimeoutRefused, isHandled, isReceived, WithOutput, withOutput, all, earliest, goBackNTimeout, ends, freshEnds, Made}
 use Rattle.delivery.specs.Room.{chunksIn, resentMost, Fits, NotRefused}
@@ -102,13 +101,24 @@ record Form {R : Type 0} (packet : R → List ℕ → List ℕ → List ℕ → 
   decision : R → List ℕ → Decision
   bytes : R → List ℕ → List ℕ
   after : R → List ℕ → ℕ → R
-  is : (r : R) (raw output ack : List ℕ) → packet r raw output ack ≡ receiver.receive (broken r output) (counts r) r (filled r) (decision r raw) (bytes r raw) (after r raw) raw output ack
+  is : (r : R) (raw output ack : List ℕ) → packet r raw output ack ≡ receiver.receive (record { state = r; stateBroken = broken r output; countsBroken = counts r; filled = filled r; decision = decision r raw; delivered = bytes r raw; after = after r raw }) raw output ack
   sound : (r : R) (output : List ℕ) → Good r output → broken r output ≡ false
   longer : (r : R) (output more : List ℕ) → Good r output → Good r (output ++ more)
   marked : (r : R) (raw : List ℕ) (n : ℕ) → filled (after r raw n) ≡ n
 
 module _ {R : Type 0} (p : ProtocolType) (w : ℕ) (view : R → ReceiverState) (filled : R → ℕ) (Good : R → List ℕ → Type 0) (packet : R → List ℕ → List ℕ → List ℕ → ReceiveExit R) (base : R → ℕ)
     (k : ReceiverCalls p w view filled Good packet base) (f : Form packet filled Good) where
+  abbrev given : R → List ℕ → List ℕ → Reception R
+  given r raw output = record {
+    state = r;
+    stateBroken = f .broken r output;
+    countsBroken = f .counts r;
+    filled = filled r;
+    decision = f .decision r raw;
+    delivered = f .bytes r raw;
+    after = f .after r raw;
+  }
+
   -- what it delivers is what the machine delivers: seen of an output that is long enough
   delivered-size : (r : R) (raw output : List ℕ) (q : Segment) → Good r output → filled r ≤ length output → DataOf q raw → f .counts r ≡ false
       → cond (f .decision r raw .deliver) (length (f .bytes r raw)) 0 ≡ length (flatten (receive p w (view r) q .delivered))
@@ -122,10 +132,10 @@ module _ {R : Type 0} (p : ProtocolType) (w : ℕ) (view : R → ReceiverState) 
       let room : roomMissing (f .decision r raw) (length (f .bytes r raw)) (filled r) out ack ≡ false = room-fits (f .decision r raw) _ (filled r) out ack (omega arith) (omega arith) in
       let x : WithOutput R = withOutput r out in
       let y : ReceiveExit R = packet r raw out ack in
-      let taken : isReceived (y .answer) ≡ true = rw (f .is r raw out ack) (data-received _ _ r (filled r) (f .decision r raw) (f .bytes r raw) (f .after r raw) raw out ack q (f .sound r out good) c room d) in
+      let taken : isReceived (y .answer) ≡ true = rw (f .is r raw out ack) (data-received (given r raw out) raw out ack (f .sound r out good) c room q d) in
       let t = packet-follows p w R view filled Good x (view r) (record { good = good; mark = omega arith; is = refl }) raw ack y (k .outcome r raw out ack good) (k .good r raw out ack good) q d taken in
       let size : filled (y .receiver) ≡ filled r + cond (f .decision r raw .deliver) (length (f .bytes r raw)) 0 =
-      ap (λ (z : ReceiveExit R). filled (z .receiver)) (f .is r raw out ack ∙ data-applied _ _ r (filled r) (f .decision r raw) (f .bytes r raw) (f .after r raw) raw out ack q (f .sound r out good) c room d)
+      ap (λ (z : ReceiveExit R). filled (z .receiver)) (f .is r raw out ack ∙ data-applied (given r raw out) raw out ack (f .sound r out good) c room q d)
       ∙ f .marked r raw _ ∙ applied-filled (f .decision r raw) (f .bytes r raw) (filled r) out ack in
       let a : length (take (filled (y .receiver)) (y .output)) ≡ filled (y .receiver) = length-take-le (filled (y .receiver)) (y .output) (t .after .mark) in
       let b : length (take (filled r) out) ≡ filled r = length-take-le (filled r) out (omega arith) in
@@ -143,8 +153,8 @@ module _ {R : Type 0} (p : ProtocolType) (w : ℕ) (view : R → ReceiverState) 
       let size = delivered-size (x .receiver) raw (x .output) q (h .good) (h .mark) d c in
       let same : length (flatten (receive p w (view (x .receiver)) q .delivered)) ≡ length (flatten (receive p w m q .delivered)) = ap (λ (r : ReceiverState). length (flatten (receive p w r q .delivered))) (h .is) in
       rw (f .is (x .receiver) raw (x .output) ack)
-      (data-received _ _ (x .receiver) (filled (x .receiver)) (f .decision (x .receiver) raw) (f .bytes (x .receiver) raw) (f .after (x .receiver) raw) raw (x .output) ack q
-      (f .sound (x .receiver) (x .output) (h .good)) c (room-fits (f .decision (x .receiver) raw) _ (filled (x .receiver)) (x .output) ack (omega (arith, size, same, room, h .mark)) l) d)
+      (data-received (given (x .receiver) raw (x .output)) raw (x .output) ack (f .sound (x .receiver) (x .output) (h .good)) c
+      (room-fits (f .decision (x .receiver) raw) _ (filled (x .receiver)) (x .output) ack (omega (arith, size, same, room, h .mark)) l) q d)
 
   -- by what stands in the output and behind it
   data-room : (x : WithOutput R) (m : ReceiverState) → ReceiverIs p w R view filled Good x m → (delivered more : List (List ℕ)) (rest : List ℕ)
@@ -157,12 +167,12 @@ module _ {R : Type 0} (p : ProtocolType) (w : ℕ) (view : R → ReceiverState) 
       let d = ap length g ∙ length-drop (length (flatten delivered)) rest in
       omega (arith, a, b, c, d, h .mark)
 
-in-order-longer : (base filled : ℕ) (output more : List ℕ) → marksBroken base filled output ≡ false → marksBroken base filled (output ++ more) ≡ false
-in-order-longer base filled output more e = let low = marks-low base filled output e in marks-good base filled (output ++ more) (low .0) (omega (arith, low .1, length-append output more))
+in-order-longer : (base filled : ℕ) (output more : List ℕ) → receiverState.stateBroken base filled output ≡ false → receiverState.stateBroken base filled (output ++ more) ≡ false
+in-order-longer base filled output more e = let low = state-low base filled output e in state-good base filled (output ++ more) (low .0) (omega (arith, low .1, length-append output more))
 
-stop-and-wait-form : Form stopAndWaitReceiver.handlePacket (λ r. r .filled) (λ r output. marksBroken (r .«expected_seq») (r .filled) output ≡ false)
+stop-and-wait-form : Form stopAndWaitReceiver.handlePacket (λ r. r .filled) (λ r output. receiverState.stateBroken (r .«expected_seq») (r .filled) output ≡ false)
 stop-and-wait-form = record {
-  broken = λ r output. marksBroken (r .«expected_seq») (r .filled) output;
+  broken = λ r output. receiverState.stateBroken (r .«expected_seq») (r .filled) output;
   counts = λ r. receiverState.countsBroken (r .«total_received») (r .«duplicates_count») (r .«corrupted_count»);
   decision = λ r raw. stopAndWaitReceiver.decision r (readPacket raw) .decision;
   bytes = λ r raw. payloadOf raw;
@@ -173,9 +183,9 @@ stop-and-wait-form = record {
   marked = λ r raw n. refl;
 }
 
-go-back-n-form : Form goBackNReceiver.handlePacket (λ r. r .filled) (λ r output. marksBroken (r .«expected_seq») (r .filled) output ≡ false)
+go-back-n-form : Form goBackNReceiver.handlePacket (λ r. r .filled) (λ r output. receiverState.stateBroken (r .«expected_seq») (r .filled) output ≡ false)
 go-back-n-form = record {
-  broken = λ r output. marksBroken (r .«expected_seq») (r .filled) output;
+  broken = λ r output. receiverState.stateBroken (r .«expected_seq») (r .filled) output;
   counts = λ r. receiverState.countsBroken (r .«total_received») (r .«discarded_out_of_order») (r .«duplicate_acks_sent»);
   decision = λ r raw. goBackNReceiver.decision r (readPacket raw) .decision;
   bytes = λ r raw. payloadOf raw;

@@ -1,36 +1,38 @@
 -- A call whose checks are all false is done, or at least not refused: what the theorem over lists doesn't say.
 use Prim.Native.Nat.{ℕ, zero, suc, _+_, _*_, _≤_}
-use mathlib.Core.Path.{_≡_, refl, ap, _∙_}
+use mathlib.Core.Path.{_≡_, refl, sym, ap, _∙_}
 use mathlib.Core.List.{List, [], _∷_}
 use mathlib.Core.Bool.{Bool, true, false, cond}
 use native.Mathlib.Omega.{arith}
 use borrow.Author.Tests.{le-ltb}
 use lib.ListN.{length, length-append}
 use lib.Dec.{ltb, eqb}
-use Rattle.refusal.specs.Order.{Check, check, verdict, decide}
-use Rattle.refusal.specs.declared.Refusal.the-variants.{State, Counts, Full}
-use Rattle.refusal.proofs.Laws.{NoneTrue, accepted-none-true, none-true-accepted, on-accepted}
+use Rattle.refusal.specs.Order.{decide}
+use Rattle.refusal.specs.declared.Refusal.{Refusal}
+use Rattle.refusal.proofs.Laws.{NoneTrue, none-true-accepted, on-accepted}
 use Rattle.bounds.specs.Bounds.{maxDatagram}
 use Rattle.window.specs.State.{stateBroken, countsBroken}
 use Rattle.window.specs.Slots as slots
 use Rattle.window.specs.Sending.{SendExit, windowFree, sendChecks, sendChunk}
 use Rattle.window.specs.Resending.{TimeoutExit, datagramsFrom, markFrom, sentAgain, resend, Resendable}
-use Rattle.window.proofs.Laws.{sound, resendable, ack-verdict-accepted}
+use Rattle.window.proofs.Laws.{sound, resendable, ack-read}
 use Rattle.window.proofs.Resending.{mark-from, length-low, datagram-length, same-lengths}
-use Rattle.window.specs.Acknowledgement.{handedChecks, readAck, inWindow, byAck, ackDecision, byDecision, AckExit}
+use Rattle.window.specs.Acknowledgement.{inWindow, byType, byReading, ackDecision, byDecision}
 use Rattle.window.specs.declared.SendWindow.{SendWindow}
-use Rattle.window.specs.declared.AckReading.{AckReading}
-use Rattle.window.specs.declared.AckReading.the-variants as ackRead
 use Rattle.window.specs.declared.AckDecision.{AckDecision}
 use Rattle.window.specs.declared.AckDecision.the-variants as decision
-use Rattle.receiver.specs.Handed.{packetChecks}
-use Rattle.receiver.specs.Reply.{roomMissing, applied}
-use Rattle.receiver.specs.Receive.{ReceiveExit, applyResult, receive}
-use Rattle.receiver.proofs.Laws.{read-accepted}
+use Rattle.packet.specs.Reading.{readDatagram}
+use Rattle.packet.specs.declared.PacketType.{PacketType}
+use Rattle.packet.specs.declared.PacketType.the-variants as packetType
+use Rattle.packet.specs.declared.DatagramReading.{DatagramReading}
+use Rattle.packet.specs.declared.DatagramReading.the-variants as reading
+use Rattle.packet.proofs.Laws.{Taken, valid-taken}
+use Rattle.receiver.specs.Reading.{numberHigh}
+use Rattle.receiver.specs.Receive.{ReceiveExit, Reception, noRoom, receivedExit, receive, receiveUnchecked}
+use Rattle.receiver.proofs.Laws.{receive-unchecked}
 use Rattle.protocol.specs.Machine.{Segment}
 use Rattle.refinement.specs.Copies.{DataOf, AckOf}
-use Rattle.refinement.proofs.Laws.{data-number, ack-number}
-use Rattle.receiver.specs.declared.Decision.{Decision}
+use Rattle.refinement.proofs.Laws.{data-accepted, ack-number}
 use Rattle.delivery.proofs.ReceiverFollows.{answered}
 use Rattle.delivery.specs.Ends.{isSent, isSendRefused, isResent, isTimeoutRefused, isHandled, isReceived}
 
@@ -80,43 +82,44 @@ unfolding resend
 timeout-done broken counts v n k out b c room some =
     ap (λ (x : TimeoutExit slots.Sender). isResent (x .answer)) (on-accepted _ _ (none-true-accepted _ (b, (c, (room, tt))))) ∙ rw some refl
 
-handled : {S : Type 0} (s : SendWindow) (a : AckReading) (v : S) (accept : ℕ → S) → isHandled (byDecision (byAck s a) v accept .answer) ≡ true
+handled : {S : Type 0} (s : SendWindow) (x : DatagramReading) (v : S) (accept : ℕ → S) → ((r : Refusal) → x ≡ reading.Refused r → ⊥)
+    → isHandled (byDecision (byReading s x) v accept .answer) ≡ true
 unfolding byDecision
-handled s (ackRead.Ack n) v accept = by-test (inWindow s n)
+handled s (reading.Valid p) v accept t = by-type (p .«pkt_type») (inWindow s (p .«seq_num»))
   where
-    by-test : (b : Bool) → isHandled (byDecision (cond b (decision.Accept n) decision.NotAccepted) v accept .answer) ≡ true
+    by-test : (b : Bool) → isHandled (byDecision (cond b (decision.Accept (p .«seq_num») (p .«seq_num» + 1)) decision.NotAccepted) v accept .answer) ≡ true
     by-test true = refl
     by-test false = refl
-handled s ackRead.Other v accept = refl
-handled s (ackRead.Refused r) v accept = refl
 
-pub ack-done : {S : Type 0} (selective : Bool) (s : SendWindow) (store raw : List ℕ) (v : S) (accept : ℕ → S)
-    → NoneTrue (check (stateBroken selective s store) State ∷ check (countsBroken s) Counts ∷ handedChecks raw) → isHandled (byDecision (ackDecision selective s store raw) v accept .answer) ≡ true
-unfolding ackDecision
-ack-done {S} selective s store raw v accept h =
-    ap (λ (d : AckDecision). isHandled (byDecision d v accept .answer)) (on-accepted decision.Refused _ (none-true-accepted _ h)) ∙ handled s (readAck raw) v accept
+    by-type : (k : PacketType) (b : Bool) → isHandled (byDecision (byType s k (p .«seq_num»)) v accept .answer) ≡ true
+    by-type packetType.Data b = refl
+    by-type packetType.Ack b = by-test (inWindow s (p .«seq_num»))
+    by-type packetType.Fin b = refl
+handled s (reading.Corrupted p) v accept t = refl
+handled s (reading.Refused r) v accept t = absurd (t r refl)
 
-pub packet-done : {R : Type 0} (broken counts : Bool) (r : R) (filled : ℕ) (d : Decision) (bytes : List ℕ) (after : ℕ → R) (raw output ack : List ℕ)
-    → NoneTrue (check broken State ∷ check counts Counts ∷ check (roomMissing d (length bytes) filled output ack) Full ∷ packetChecks raw)
-    → isReceived (receive broken counts r filled d bytes after raw output ack .answer) ≡ true
-unfolding receive
-packet-done {R} broken counts r filled d bytes after raw output ack h = ap (λ (x : ReceiveExit R). isReceived (x .answer)) (on-accepted _ _ (none-true-accepted _ h)) ∙ answered (d .reply)
+pub ack-done : {S : Type 0} (selective : Bool) (s : SendWindow) (store raw : List ℕ) (v : S) (accept : ℕ → S) → stateBroken selective s store ≡ false → countsBroken s ≡ false → Taken raw
+    → isHandled (byDecision (ackDecision selective s store raw) v accept .answer) ≡ true
+ack-done selective s store raw v accept b c t =
+    ap (λ (d : AckDecision). isHandled (byDecision d v accept .answer)) (ack-read selective s store raw b c) ∙ handled s (readDatagram raw) v accept t
 
--- an ACK that was made is handled; Data that was made is taken, where there is room
+module _ {R : Type 0} (x : Reception R) (raw output ack : List ℕ) (b : x .stateBroken ≡ false) (c : x .countsBroken ≡ false) (room : noRoom x output ack ≡ false) where
+  applied : Taken raw → numberHigh (readDatagram raw) ≡ false → receive x raw output ack ≡ receivedExit x output ack
+  unfolding receiveUnchecked
+  applied t low = sym (receive-unchecked x raw output ack b c t low) ∙ rw room
+
+  pub packet-done : Taken raw → numberHigh (readDatagram raw) ≡ false → isReceived (receive x raw output ack .answer) ≡ true
+  packet-done t low = ap (λ (y : ReceiveExit R). isReceived (y .answer)) (applied t low) ∙ answered (x .decision .reply)
+
+  -- Data that was made is taken, where there is room
+  module _ (q : Segment) (made : DataOf q raw) where
+    pub data-received : isReceived (receive x raw output ack .answer) ≡ true
+    data-received = let a = data-accepted q raw made in packet-done (a .0) (a .1)
+
+    pub data-applied : receive x raw output ack ≡ receivedExit x output ack
+    data-applied = let a = data-accepted q raw made in applied (a .0) (a .1)
+
+-- an ACK that was made is handled
 pub ack-handled : {S : Type 0} (selective : Bool) (s : SendWindow) (store raw : List ℕ) (v : S) (accept : ℕ → S) (n : ℕ) → stateBroken selective s store ≡ false → countsBroken s ≡ false → AckOf n raw
     → isHandled (byDecision (ackDecision selective s store raw) v accept .answer) ≡ true
-ack-handled selective s store raw v accept n b c a =
-    let e = ack-number n raw a in
-    ack-done selective s store raw v accept (b, (c, accepted-none-true _ (ack-verdict-accepted raw (λ r f. let z : _≡_ {A = ℕ} 0 1 = cc in omega arith))))
-
-module _ {R : Type 0} (broken counts : Bool) (r : R) (filled : ℕ) (d : Decision) (bytes : List ℕ) (after : ℕ → R) (raw output ack : List ℕ) (q : Segment)
-    (b : broken ≡ false) (c : counts ≡ false) (room : roomMissing d (length bytes) filled output ack ≡ false) (made : DataOf q raw) where
-  data-checks : NoneTrue (check broken State ∷ check counts Counts ∷ check (roomMissing d (length bytes) filled output ack) Full ∷ packetChecks raw)
-  data-checks = let e = data-number q raw made in (b, (c, (room, accepted-none-true _ (read-accepted raw (λ r f. let z : _≡_ {A = ℕ} 0 1 = cc in omega arith)))))
-
-  pub data-received : isReceived (receive broken counts r filled d bytes after raw output ack .answer) ≡ true
-  data-received = packet-done broken counts r filled d bytes after raw output ack data-checks
-
-  pub data-applied : receive broken counts r filled d bytes after raw output ack ≡ applyResult after d (applied d bytes filled output ack)
-  unfolding receive
-  data-applied = on-accepted _ _ (none-true-accepted _ data-checks)
+ack-handled selective s store raw v accept n b c a = ack-done selective s store raw v accept b c (valid-taken raw (ack-number n raw a .read))

@@ -6,27 +6,21 @@ use mathlib.Core.Bool.{Bool, true, false}
 use native.Mathlib.Omega.{arith}
 use lib.ListN.{length, take, drop}
 use lib.Seq.{drop-drop}
-use Rattle.refusal.specs.Order.{check, verdict}
-use Rattle.refusal.specs.declared.Verdict.{Verdict}
-use Rattle.refusal.specs.declared.Verdict.the-variants.{Accepted, Refused}
-use Rattle.refusal.specs.declared.Refusal.the-variants.{State, Counts, Full}
-use Rattle.refusal.proofs.Laws.{on-accepted, on-refused}
 use Rattle.protocol.specs.declared.ProtocolType.{ProtocolType}
 use Rattle.protocol.specs.Machine.{Segment, ReceiverState, Received, receive}
 use Rattle.packet.specs.Reading.{payloadOf}
-use Rattle.receiver.specs.Handed.{packetChecks, readPacket}
-use Rattle.receiver.specs.Reply.{roomMissing, answerOf}
+use Rattle.receiver.specs.Reading.{readPacket}
+use Rattle.receiver.specs.Reply.{answerOf}
 use Rattle.receiver.specs.Receive as receiver
-use Rattle.receiver.specs.Receive.{ReceiveExit}
-use Rattle.receiver.specs.declared.Decision.{Decision}
-use Rattle.receiver.specs.declared.PacketReading.the-variants as handed
+use Rattle.receiver.specs.Receive.{ReceiveExit, Reception}
+use Rattle.receiver.specs.declared.PacketReading.the-variants as reading
 use Rattle.receiver.specs.declared.Reply.{Reply}
 use Rattle.receiver.specs.declared.Reply.the-variants as reply
 use Rattle.receiver.specs.declared.ReceiveAnswer.{ReceiveAnswer}
 use Rattle.receiver.specs.declared.ReceiveAnswer.the-variants as answer
+use Rattle.receiver.proofs.Laws.{receive-either, data-valid}
 use Rattle.refinement.specs.Follows.{acksOf}
-use Rattle.refinement.specs.Copies.{AckOf, NoPacket}
-use Rattle.refinement.specs.Copies as Copies
+use Rattle.refinement.specs.Copies.{AckOf, NotValid}
 use Rattle.refinement.proofs.Laws.{Took, ReceiveOutcome, packet-refused, not-data, data-taken, took-output, written-behind, outcome-mark, data-number, data-payload}
 use Rattle.delivery.specs.Calls.{Done}
 use Rattle.delivery.specs.Ends.{bytesReplied, isReceived, WithOutput, withOutput, byReceiving}
@@ -38,16 +32,12 @@ pub answered : (r : Reply) → isReceived (answerOf r) ≡ true
 answered (reply.Ack n) = refl
 answered reply.Silent = refl
 
-pub not-received : {R : Type 0} (broken counts : Bool) (r : R) (filled : ℕ) (d : Decision) (bytes : List ℕ) (after : ℕ → R) (raw output ack : List ℕ)
-    → isReceived (receiver.receive broken counts r filled d bytes after raw output ack .answer) ≡ false
-    → byReceiving (receiver.receive broken counts r filled d bytes after raw output ack) ≡ record { after = withOutput r output; written = []; isDone = false; isRefused = true }
-unfolding receiver.receive
-not-received broken counts r filled d bytes after raw output ack h = by-verdict _ refl
-  where
-    by-verdict : (v : Verdict) → verdict (check broken State ∷ check counts Counts ∷ check (roomMissing d (length bytes) filled output ack) Full ∷ packetChecks raw) ≡ v
-        → byReceiving (receiver.receive broken counts r filled d bytes after raw output ack) ≡ record { after = withOutput r output; written = []; isDone = false; isRefused = true }
-    by-verdict (Refused s) e = ap byReceiving (on-refused _ _ e)
-    by-verdict Accepted e = false-true (sym h ∙ ap (λ (x : ReceiveExit _). isReceived (x .answer)) (on-accepted _ _ e) ∙ answered (d .reply))
+pub not-received : {R : Type 0} (x : Reception R) (raw output ack : List ℕ) → isReceived (receiver.receive x raw output ack .answer) ≡ false
+    → byReceiving (receiver.receive x raw output ack) ≡ record { after = withOutput (x .state) output; written = []; isDone = false; isRefused = true }
+not-received {R} x raw output ack =
+    receive-either x raw output ack
+    (λ (y : ReceiveExit R). isReceived (y .answer) ≡ false → byReceiving y ≡ record { after = withOutput (x .state) output; written = []; isDone = false; isRefused = true })
+    (λ s h. refl) (λ k h. false-true (sym h ∙ answered (x .decision .reply)))
 
 -- the ACKs that were written
 replies-of : (a : ReceiveAnswer) (ack : List ℕ) → List (List ℕ)
@@ -67,9 +57,8 @@ each-reply (answer.Ack n) ack h = (h n refl, tt)
 each-reply answer.Silent ack h = tt
 each-reply (answer.Refused r) ack h = tt
 
-no-data : (n : ℕ) (raw : List ℕ) → NoPacket raw → readPacket raw ≡ handed.Data n → {X : Type 0} → X
-no-data n raw (Copies.NoPacket.refused r e) f = let g = sym e ∙ f in let z : _≡_ {A = ℕ} 0 1 = cc in absurd (omega arith)
-no-data n raw (Copies.NoPacket.corrupted e) f = let g = sym e ∙ f in let z : _≡_ {A = ℕ} 0 1 = cc in absurd (omega arith)
+no-data : (n : ℕ) (raw : List ℕ) → NotValid raw → readPacket raw ≡ reading.Data n → {X : Type 0} → X
+no-data n raw t e = absurd (data-valid raw n t e)
 
 segment-of : (n : ℕ) (payload : List ℕ) (q : Segment) → n ≡ q .number → payload ≡ q .payload → _≡_ {A = Segment} (record { number = n; payload = payload }) q
 segment-of n payload q e f = rw (e, f)
@@ -113,7 +102,7 @@ module _ (p : ProtocolType) (w : ℕ) (R : Type 0) (view : R → ReceiverState) 
         took-behind : {m : Received} → Took view filledOf (x .receiver) (x .output) ack m y → drop (filledOf (y .receiver)) (y .output) ≡ drop (length (flatten (m .delivered))) (behindOf x)
         took-behind {m} t = rw (t .filled, t .output-is) (written-behind (x .output) (flatten (m .delivered)) (filledOf (x .receiver)) (h .mark) ∙ sym (drop-drop (length (flatten (m .delivered))) (filledOf (x .receiver)) (x .output)))
 
-        taken : (q : Segment) (n : ℕ) → readPacket raw ≡ handed.Data n → readPacket raw ≡ handed.Data (q .number) → payloadOf raw ≡ q .payload
+        taken : (q : Segment) (n : ℕ) → readPacket raw ≡ reading.Data n → readPacket raw ≡ reading.Data (q .number) → payloadOf raw ≡ q .payload
             → Took view filledOf (x .receiver) (x .output) ack (receive p w (view (x .receiver)) (record { number = n; payload = payloadOf raw })) y → Taken x (byReceiving y) m q
         taken q n e f g t =
             let k : n ≡ q .number = let j = sym e ∙ f in cc in
@@ -133,7 +122,7 @@ module _ (p : ProtocolType) (w : ℕ) (R : Type 0) (view : R → ReceiverState) 
     mark-after : filledOf (y .receiver) ≤ length (y .output)
     mark-after = outcome-mark p w view filledOf (x .receiver) raw (x .output) ack y o (h .mark)
 
-    pub packet-ignored : NoPacket raw → Kept x (byReceiving y) m
+    pub packet-ignored : NotValid raw → Kept x (byReceiving y) m
     packet-ignored t = elim o [
       | packet-refused s f ↦ rw f (record { after = h; nothing = refl; output = refl; behind = refl })
       | not-data none i ↦ record {

@@ -14,17 +14,17 @@ use Rattle.protocol.specs.Machine.{SenderState, nextNumber, send, segmentAt, se
 use Rattle.window.specs.Slots as slots
 use Rattle.window.specs.Slots.{datagramFor}
 use Rattle.window.specs.Sending.{SendExit, sendExit, sendChunk}
-use Rattle.window.specs.Acknowledgement.{readAck, AckExit, byDecision}
+use Rattle.window.specs.Acknowledgement.{AckExit, byDecision}
 use Rattle.window.specs.Resending.{TimeoutExit, timeoutExit}
 use Rattle.window.specs.declared.AckDecision.{AckDecision}
 use Rattle.window.specs.declared.AckDecision.the-variants as decision
-use Rattle.window.specs.declared.AckReading.the-variants as ackRead
 use Rattle.window.specs.declared.SendAnswer.the-variants as sendAnswer
 use Rattle.window.specs.declared.TimeoutAnswer.the-variants as timeoutAnswer
 use Rattle.refinement.specs.Follows.{senderOf}
 use Rattle.refinement.specs.Good.{Good}
-use Rattle.refinement.specs.Copies.{DataOf, AckOf, NoAck}
-use Rattle.refinement.specs.Copies as Copies
+use Rattle.packet.specs.declared.Packet.{Packet}
+use Rattle.packet.specs.declared.DatagramReading.the-variants as reading
+use Rattle.refinement.specs.Copies.{DataOf, AckOf, NotValid, IsAck}
 use Rattle.refinement.proofs.Laws.{Sent, SendOutcome, send-refused, window-full, chunk-sent, send-outcome, send-octets, AckOutcome, ack-refused, ack-ignored, ack-taken, ResendOutcome, timeout-refused, nothing-sent, sent-again, ack-number, ack-flipped, next-number}
 use Rattle.delivery.specs.Calls.{Done, Ends}
 use Rattle.delivery.specs.Ends.{bytesSent, isSent, bySending, bytesResent, isResent, byResending, isHandled, byAcknowledging}
@@ -91,17 +91,16 @@ module _ (E : Ends) (view : E .Sender → slots.Sender) (selective : Bool) (w : 
     unchanged : r .after ≡ s → SenderKept E Is (byAcknowledging r) m
     unchanged e = record { after = rw e h; nothing = refl }
 
-    no-ack : (n : ℕ) → NoAck raw → readAck raw ≡ ackRead.Ack n → {X : Type 0} → X
-    no-ack n (Copies.NoAck.refused t e) f = let g = sym e ∙ f in let z : _≡_ {A = ℕ} 0 1 = cc in absurd (omega arith)
-    no-ack n (Copies.NoAck.other e) f = let g = sym e ∙ f in let z : _≡_ {A = ℕ} 0 1 = cc in absurd (omega arith)
-
-    same-number : (n k : ℕ) → readAck raw ≡ ackRead.Ack n → readAck raw ≡ ackRead.Ack k → n ≡ k
-    same-number n k e f = let g = sym e ∙ f in cc
+    same-number : (n k : ℕ) → IsAck raw n → IsAck raw k → n ≡ k
+    same-number n k e f =
+        let g : reading.Valid (e .packet) ≡ reading.Valid (f .packet) = sym (e .read) ∙ f .read in
+        let same : e .packet ≡ f .packet = cc in
+        sym (e .number) ∙ ap (λ (q : Packet). q .«seq_num») same ∙ f .number
 
     pub ack-follows : (n : ℕ) → AckBytes raw n → isHandled (r .answer) ≡ true → SenderKept E Is (byAcknowledging r) (acknowledge p m n)
     ack-follows n b e = elim a [
       | ack-refused t f ↦ false-true (sym (ap (λ (x : AckExit (E .Sender)). isHandled (x .answer)) f) ∙ e)
-      | ack-ignored t f ↦ no-ack n t (ack-number n raw b)
+      | ack-ignored t f ↦ absurd (t n (ack-number n raw b))
       | ack-taken k f x ↦ record {
         after = record {
           good = x .good;
@@ -116,11 +115,11 @@ module _ (E : Ends) (view : E .Sender → slots.Sender) (selective : Bool) (w : 
     pub ack-not-handled : isHandled (r .answer) ≡ false → SenderKept E Is (byAcknowledging r) m
     ack-not-handled e = unchanged (refused e)
 
-    pub ack-no-number : NoAck raw → SenderKept E Is (byAcknowledging r) m
+    pub ack-no-number : NotValid raw → SenderKept E Is (byAcknowledging r) m
     ack-no-number t = elim a [
       | ack-refused u f ↦ unchanged (ap (λ (x : AckExit (E .Sender)). x .after) f)
       | ack-ignored u f ↦ unchanged (ap (λ (x : AckExit (E .Sender)). x .after) f)
-      | ack-taken k f x ↦ no-ack k t f
+      | ack-taken k f x ↦ absurd (t (f .packet) (f .read))
     ]
 
 -- the datagrams of k numbers from n on, with their segments
@@ -171,6 +170,6 @@ module _ (E : Ends) (view : E .Sender → slots.Sender) (selective : Bool) (w : 
 -- a refused ACK changes nothing
 pub not-handled : {S : Type 0} (d : AckDecision) (v : S) (accept : ℕ → S) → isHandled (byDecision d v accept .answer) ≡ false → byDecision d v accept .after ≡ v
 unfolding byDecision
-not-handled (decision.Accept n) v accept e = false-true (sym e)
+not-handled (decision.Accept n base) v accept e = false-true (sym e)
 not-handled decision.NotAccepted v accept e = refl
 not-handled (decision.Refused r) v accept e = refl

@@ -4,7 +4,7 @@ use mathlib.Core.Path.{_≡_}
 use mathlib.Core.List.{List, [], _∷_}
 use mathlib.Core.Bool.{false, true}
 use Rattle.window.specs.State.{stateBroken}
-use Rattle.receiver.specs.State.{marksBroken}
+use Rattle.receiver.specs.State as receiverState
 use Rattle.stop_and_wait.specs.Sender as stopAndWait
 use Rattle.selective_repeat.specs.Receiver.{receivingBroken}
 use Rattle.protocol.specs.declared.ProtocolType.{ProtocolType}
@@ -43,6 +43,6 @@ SenderSound GoBackN v = stateBroken false (v .window) (v .store) ≡ false
 SenderSound SelectiveRepeat v = stateBroken true (v .window) (v .store) ≡ false
 
 abbrev pub ReceiverSound : (p : ProtocolType) → ends p .Receiver → Type 0
-ReceiverSound StopAndWait r = marksBroken (r .receiver .«expected_seq») (r .receiver .filled) (r .output) ≡ false
-ReceiverSound GoBackN r = marksBroken (r .receiver .«expected_seq») (r .receiver .filled) (r .output) ≡ false
+ReceiverSound StopAndWait r = receiverState.stateBroken (r .receiver .«expected_seq») (r .receiver .filled) (r .output) ≡ false
+ReceiverSound GoBackN r = receiverState.stateBroken (r .receiver .«expected_seq») (r .receiver .filled) (r .output) ≡ false
 ReceiverSound SelectiveRepeat r = receivingBroken (r .receiver .state) (r .receiver .store) (r .output) ≡ false

@@ -165,7 +165,7 @@ freshEnds GoBackN w limit sending receiving output =
 freshEnds SelectiveRepeat w limit sending receiving output =
     fresh selectiveRepeatEnds (slots.fresh w sending)
     (withOutput
-    (selectiveRepeatReceiver.receiver (selectiveRepeatReceiver.state w 0 0 0 0 0)
+    (selectiveRepeatReceiver.receiver (selectiveRepeatReceiver.newReceiver w)
     (replicate (w * slotSize) 0 ++ drop (w * slotSize) receiving))
     output)
 

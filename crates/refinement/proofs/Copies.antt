@@ -2,11 +2,13 @@
 use Prim.Native.Nat.{ℕ, _≤_, _<_}
 use mathlib.Core.Path.{_≡_, refl, sym, ap, _∙_}
 use mathlib.Core.List.{List, []}
+use mathlib.Core.Bool.{false}
 use mathlib.Core.Logic.{_⊎_, inl, inr, ⊎-elim}
 use native.Mathlib.Omega.{arith}
 use native.Mathlib.Decide.{ℕ-discrete}
+use borrow.Author.Tests.{lt-leb}
 use lib.ListN.{length}
-use Rattle.bounds.specs.Bounds.{headerSize, maxPayload}
+use Rattle.bounds.specs.Bounds.{headerSize, maxPayload, seqNumLimit}
 use Rattle.octets.specs.Octets.{Octets}
 use Rattle.octets.specs.Flip.{flip}
 use Rattle.octets.proofs.Laws.{below-nil}
@@ -17,8 +19,8 @@ use Rattle.packet.specs.Reading.{payloadOf, validity, readDatagram}
 use Rattle.packet.specs.declared.Packet.{Packet}
 use Rattle.packet.specs.declared.PacketType.the-variants as packetType
 use Rattle.packet.specs.declared.DatagramReading.the-variants as datagram
-use Rattle.packet.proofs.Laws.{Fits, given-refused, made-payload, made-given, valid-is-valid, made-length, made-flip-caught, made-flip-length}
-use Rattle.receiver.specs.Reading.{readPacket}
+use Rattle.packet.proofs.Laws.{Fits, given-refused, made-payload, made-given, Taken, valid-taken, valid-is-valid, made-length, made-flip-caught, made-flip-length}
+use Rattle.receiver.specs.Reading.{readPacket, numberHigh}
 use Rattle.receiver.specs.declared.PacketReading.the-variants as reading
 use Rattle.receiver.proofs.Laws.{valid-reading}
 use Rattle.refinement.specs.Copies.{DataOf, AckOf, Flipped, NotValid, IsAck}
@@ -65,6 +67,12 @@ module _ (q : Segment) (original : List ℕ) (d : DataOf q original) where
   pub data-number : readPacket original ≡ reading.Data (q .number)
   data-number =
       ap readPacket (d .is) ∙ data-read (d .packet) (q .payload) (d .kind) (d .short) ∙ ap reading.Data (d .number)
+
+  -- it isn't refused, and its number isn't too high
+  pub data-accepted : Taken original × (numberHigh (readDatagram original) ≡ false)
+  data-accepted =
+      let e : readDatagram original ≡ datagram.Valid (withChecksum (d .packet) (q .payload)) = ap readDatagram (d .is) ∙ made-given (d .packet) (q .payload) (d .short) in
+      (valid-taken original e, rw (e, d .kind, d .number) (lt-leb seqNumLimit (q .number) (d .low)))
 
   pub data-payload : payloadOf original ≡ q .payload
   data-payload = ap payloadOf (d .is) ∙ made-payload (d .packet) (q .payload)

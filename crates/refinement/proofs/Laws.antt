@@ -13,6 +13,6 @@ pub use Rattle.refinement.proofs.StopAndWait.{stop-and-wait-send, stop-
 pub use Rattle.refinement.proofs.Good.{fresh-good}
 pub use Rattle.refinement.proofs.Making.{fresh-follows, zeroed, fresh-receiver-follows, fresh-receiver-good}
 -- copies of datagrams
-pub use Rattle.refinement.proofs.Copies.{data-number, data-payload, data-flipped, ack-number, ack-flipped}
+pub use Rattle.refinement.proofs.Copies.{data-number, data-accepted, data-payload, data-flipped, ack-number, ack-flipped}
 -- stores of octets
 pub use Rattle.refinement.proofs.Octets.{fresh-octets, send-octets, after-ack, go-back-n-ack-octets, selective-ack-octets, release-octets}

@@ -8,10 +8,11 @@ use borrow.Author.Tests.{eqb-true, le-ltb}
 use lib.ListN.{length}
 use lib.Dec.{ltb, eqb}
 use Rattle.packet.specs.Reading.{payloadOf}
-use Rattle.receiver.specs.Handed.{readPacket}
-use Rattle.receiver.specs.State.{marksBroken, countsBroken}
+use Rattle.receiver.specs.Reading.{readPacket}
+use Rattle.receiver.specs.State as receiverState
+use Rattle.receiver.specs.State.{countsBroken}
 use Rattle.receiver.specs.declared.PacketReading.{PacketReading}
-use Rattle.receiver.specs.declared.PacketReading.the-variants as handed
+use Rattle.receiver.specs.declared.PacketReading.the-variants as reading
 use Rattle.receiver.specs.declared.Reply.{Reply}
 use Rattle.stop_and_wait.specs.Receiver as stopAndWait
 use Rattle.stop_and_wait.specs.declared.StopAndWaitReceiver.{StopAndWaitReceiver}
@@ -40,12 +41,11 @@ stop-and-wait-data e f l d k mark x y z false false h = rw (plus-one l)
 
 stop-and-wait-one : (hs : List PacketReading) (filled mark : ℕ) (h : PacketReading) → stopAndWait.withMark (stopAndWait.decision (stopAndWaitAfter hs filled) h .receiver) mark ≡ stopAndWaitAfter (h ∷ hs) mark
 unfolding expected count stopAndWait.decision stopAndWait.dataDecision
-stop-and-wait-one hs filled mark (handed.Data n) =
+stop-and-wait-one hs filled mark (reading.Data n) =
     stop-and-wait-data (expected hs) filled (length hs) (count isOlder hs) (count (λ earlier. isCorrupted) hs) mark _ _ _ (eqb n (expected hs)) (ltb n (expected hs)) (not-older n (expected hs))
-stop-and-wait-one hs filled mark (handed.Fin n) = rw (plus-one (length hs))
-stop-and-wait-one hs filled mark handed.Ack = rw (plus-one (length hs))
-stop-and-wait-one hs filled mark handed.Corrupted = rw (plus-one (length hs), plus-one (count (λ earlier. isCorrupted) hs))
-stop-and-wait-one hs filled mark (handed.Refused x) = rw (plus-one (length hs))
+stop-and-wait-one hs filled mark (reading.Fin n) = rw (plus-one (length hs))
+stop-and-wait-one hs filled mark reading.Ack = rw (plus-one (length hs))
+stop-and-wait-one hs filled mark reading.Corrupted = rw (plus-one (length hs), plus-one (count (λ earlier. isCorrupted) hs))
 
 abbrev pub stopAndWaitCounted : List PacketReading → StopAndWaitReceiver → Type 0
 stopAndWaitCounted hs r = r ≡ stopAndWaitAfter hs (r .filled)
@@ -53,8 +53,8 @@ stopAndWaitCounted hs r = r ≡ stopAndWaitAfter hs (r .filled)
 pub stop-and-wait-each : EachReadingCounted stopAndWait.handlePacket stopAndWaitCounted
 unfolding expected count
 stop-and-wait-each =
-    λ hs r e raw output ack. one-call stopAndWaitCounted hs (marksBroken (r .«expected_seq») (r .filled) output) (countsBroken (r .«total_received») (r .«duplicates_count») (r .«corrupted_count»)) r (r .filled) (stopAndWait.decision r (readPacket raw) .decision) (payloadOf raw) (stopAndWait.withMark (stopAndWait.decision r (readPacket raw) .receiver)) raw output ack e
-    (λ sound short n. ap (λ (q : StopAndWaitReceiver). stopAndWait.withMark (stopAndWait.decision q (readPacket raw) .receiver) n) e ∙ stop-and-wait-one hs (r .filled) n (readPacket raw))
+    λ hs r e raw output ack. one-call stopAndWaitCounted hs (stopAndWait.reception r (readPacket raw) (payloadOf raw) output) raw output ack e
+    (λ k n. ap (λ (q : StopAndWaitReceiver). stopAndWait.withMark (stopAndWait.decision q (readPacket raw) .receiver) n) e ∙ stop-and-wait-one hs (r .filled) n (readPacket raw))
 
 pub stop-and-wait-receiver : (cs : List Call)
     → afterCalls stopAndWait.handlePacket stopAndWait.newReceiver cs
@@ -76,12 +76,11 @@ go-back-n-data e f l d k mark x y z false false = rw (plus-one l, plus-one d, pl
 
 go-back-n-one : (hs : List PacketReading) (filled mark : ℕ) (h : PacketReading) → goBackN.withMark (goBackN.decision (goBackNAfter hs filled) h .receiver) mark ≡ goBackNAfter (h ∷ hs) mark
 unfolding expected count goBackN.decision goBackN.dataDecision
-go-back-n-one hs filled mark (handed.Data n) =
+go-back-n-one hs filled mark (reading.Data n) =
     go-back-n-data (expected hs) filled (length hs) (count isOutOfOrder hs) (count isAnsweredAgain hs) mark _ _ _ (eqb n (expected hs)) (eqb (expected hs) 0)
-go-back-n-one hs filled mark (handed.Fin n) = rw (plus-one (length hs))
-go-back-n-one hs filled mark handed.Ack = rw (plus-one (length hs))
-go-back-n-one hs filled mark handed.Corrupted = rw (plus-one (length hs))
-go-back-n-one hs filled mark (handed.Refused x) = rw (plus-one (length hs))
+go-back-n-one hs filled mark (reading.Fin n) = rw (plus-one (length hs))
+go-back-n-one hs filled mark reading.Ack = rw (plus-one (length hs))
+go-back-n-one hs filled mark reading.Corrupted = rw (plus-one (length hs))
 
 abbrev pub goBackNCounted : List PacketReading → GoBackNReceiver → Type 0
 goBackNCounted hs r = r ≡ goBackNAfter hs (r .filled)
@@ -89,8 +88,8 @@ goBackNCounted hs r = r ≡ goBackNAfter hs (r .filled)
 pub go-back-n-each : EachReadingCounted goBackN.handlePacket goBackNCounted
 unfolding expected count
 go-back-n-each =
-    λ hs r e raw output ack. one-call goBackNCounted hs (marksBroken (r .«expected_seq») (r .filled) output) (countsBroken (r .«total_received») (r .«discarded_out_of_order») (r .«duplicate_acks_sent»)) r (r .filled) (goBackN.decision r (readPacket raw) .decision) (payloadOf raw) (goBackN.withMark (goBackN.decision r (readPacket raw) .receiver)) raw output ack e
-    (λ sound short n. ap (λ (q : GoBackNReceiver). goBackN.withMark (goBackN.decision q (readPacket raw) .receiver) n) e ∙ go-back-n-one hs (r .filled) n (readPacket raw))
+    λ hs r e raw output ack. one-call goBackNCounted hs (goBackN.reception r (readPacket raw) (payloadOf raw) output) raw output ack e
+    (λ k n. ap (λ (q : GoBackNReceiver). goBackN.withMark (goBackN.decision q (readPacket raw) .receiver) n) e ∙ go-back-n-one hs (r .filled) n (readPacket raw))
 
 pub go-back-n-receiver : (cs : List Call)
     → afterCalls goBackN.handlePacket goBackN.newReceiver cs ≡ goBackNAfter (readings goBackN.handlePacket goBackN.newReceiver cs) (afterCalls goBackN.handlePacket goBackN.newReceiver cs .filled)

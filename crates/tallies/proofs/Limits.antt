@@ -13,7 +13,7 @@ use Rattle.refusal.specs.Counts.{countFull}
 use Rattle.window.specs.State as window
 use Rattle.window.specs.Slots.{fresh}
 use Rattle.receiver.specs.State as receiver
-use Rattle.receiver.specs.Handed.{readPacket}
+use Rattle.receiver.specs.Reading.{readPacket}
 use Rattle.receiver.specs.declared.PacketReading.{PacketReading}
 use Rattle.stop_and_wait.specs.Sender.{windowOf}
 use Rattle.stop_and_wait.specs.Receiver as stopAndWait

@@ -16,7 +16,7 @@ use Rattle.refinement.proofs.Laws.{flatten-append}
 use Rattle.window.specs.State as window
 use Rattle.window.specs.Slots.{fresh}
 use Rattle.receiver.specs.State as receiver
-use Rattle.receiver.specs.Handed.{readPacket}
+use Rattle.receiver.specs.Reading.{readPacket}
 use Rattle.receiver.specs.Receive.{ReceiveExit}
 use Rattle.receiver.specs.declared.PacketReading.{PacketReading}
 use Rattle.stop_and_wait.specs.declared.StopAndWaitReceiver.{StopAndWaitReceiver}

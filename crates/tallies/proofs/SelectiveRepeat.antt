@@ -13,12 +13,12 @@ use Rattle.protocol.specs.PlainMachine.{note}
 use Rattle.protocol.proofs.Marks.{lead-stop, note-on}
 use Rattle.store.specs.Slot.{slotAt, slotMark}
 use Rattle.store.specs.Sound.{slotOf}
-use Rattle.receiver.specs.Handed.{readPacket}
+use Rattle.receiver.specs.Reading.{readPacket}
 use Rattle.receiver.specs.declared.PacketReading.{PacketReading}
-use Rattle.receiver.specs.declared.PacketReading.the-variants as handed
+use Rattle.receiver.specs.declared.PacketReading.the-variants as reading
 use Rattle.receiver.specs.declared.Reply.{Reply}
 use Rattle.receiver.specs.declared.Reply.the-variants as reply
-use Rattle.selective_repeat.specs.Receiver.{Receiver, receiver, state, stateBroken, receivingBroken, countersBroken, heldRun, decided, decision, deliveredBytes, changedSlots, afterPacket, handlePacket, Ready}
+use Rattle.selective_repeat.specs.Receiver.{Receiver, receiver, reception, stateBroken, receivingBroken, countersBroken, heldRun, decided, decision, deliveredBytes, changedSlots, afterPacket, handlePacket, Ready}
 use Rattle.selective_repeat.specs.declared.SelectiveRepeatReceiver.{SelectiveRepeatReceiver}
 use Rattle.selective_repeat.specs.declared.SlotChange.{SlotChange}
 use Rattle.selective_repeat.specs.declared.SlotChange.the-variants as slotChange
@@ -36,6 +36,16 @@ pub record Kept (w : ℕ) (hs : List PacketReading) (v : Receiver) : Type 0 wher
   pub store : List ℕ
   pub is : v ≡ receiver (selectiveRepeatAfter w hs filled) store
   pub slots : Slots w (noted w hs) store
+
+abbrev state : ℕ → ℕ → ℕ → ℕ → ℕ → ℕ → SelectiveRepeatReceiver
+state w base filled received buffered duplicates = record {
+  «window_size» = w;
+  «recv_base» = base;
+  filled = filled;
+  «total_received» = received;
+  «buffered_out_of_order» = buffered;
+  «duplicates_count» = duplicates;
+}
 
 end-is : (w filled : ℕ) (store : List ℕ) {b b′ r r′ x x′ y y′ : ℕ} → b ≡ b′ → r ≡ r′ → x ≡ x′ → y ≡ y′ → receiver (state w b filled r x y) store ≡ receiver (state w b′ filled r′ x′ y′) store
 end-is w filled store e f g h = rw (e, f, g, h)
@@ -96,7 +106,7 @@ module _ (w : ℕ) (hs : List PacketReading) (filled : ℕ) (store payload : Lis
   duplicate-more n = ap (λ (m : ℕ). decided (state w b filled (length hs + 1) buffered m) false (reply.Ack n) slotChange.Unchanged) (plus-one duplicates)
 
   data-kept : (n : ℕ) → DataCase before n
-      → After (handed.Data n)
+      → After (reading.Data n)
   unfolding noted
   data-kept n (in-order e d) =
       let p = ok .positive in
@@ -106,19 +116,19 @@ module _ (w : ℕ) (hs : List PacketReading) (filled : ℕ) (store payload : Lis
       let not-below : ltb n b ≡ false = le-ltb n b (omega arith) in
       let older : leb (b - w) n ≡ true = le-leb (b - w) n (omega arith) in
       let new : isNoted w hs n ≡ false = ap (λ (m : ℕ). getD (noted w hs) m false) e ∙ lead-stop (noted w hs) in
-      let all : noted w (handed.Data n ∷ hs) ≡ note (noted w hs) b = rw (low, below) (ap (note (noted w hs)) e) in
-      kept-by (handed.Data n) (b + 1 + heldRun before) buffered duplicates true (reply.Ack n) (slotChange.Release (heldRun before)) d
+      let all : noted w (reading.Data n ∷ hs) ≡ note (noted w hs) b = rw (low, below) (ap (note (noted w hs)) e) in
+      kept-by (reading.Data n) (b + 1 + heldRun before) buffered duplicates true (reply.Ack n) (slotChange.Release (heldRun before)) d
       (sym (ap lead all ∙ base-delivered w (noted w hs) store p (ok .room) sound slots))
-      (counted-as (isBuffered w) hs (handed.Data n) false (rw (low, below, same)))
-      (counted-as (isDuplicate w) hs (handed.Data n) false (rw (low, below, new, older, not-below)))
+      (counted-as (isBuffered w) hs (reading.Data n) false (rw (low, below, same)))
+      (counted-as (isDuplicate w) hs (reading.Data n) false (rw (low, below, new, older, not-below)))
       (rw all (delivered-slots w (noted w hs) store p (ok .room) sound slots))
   data-kept n (held-already h k m d) =
       let noted-before : isNoted w hs n ≡ true = sym (slots .held n h k) ∙ eq-eqb (slotMark (slotAt store (n % w))) 1 m in
       let low : leb b n ≡ true = le-leb b n (omega arith) in
       let below : ltb n (b + w) ≡ true = lt-ltb n (b + w) k in
-      let all : noted w (handed.Data n ∷ hs) ≡ noted w hs = rw (low, below) (note-on (noted w hs) n noted-before) in
+      let all : noted w (reading.Data n ∷ hs) ≡ noted w hs = rw (low, below) (note-on (noted w hs) n noted-before) in
       let again = duplicate-more n in
-      unchanged (handed.Data n) true (reply.Ack n) all (d ∙ again) (rw (low, below, noted-before) (not-and (eqb n b))) (rw (low, below, noted-before))
+      unchanged (reading.Data n) true (reply.Ack n) all (d ∙ again) (rw (low, below, noted-before) (not-and (eqb n b))) (rw (low, below, noted-before))
   data-kept n (to-be-held h k m d) =
       let p = ok .positive in
       let new : isNoted w hs n ≡ false = sym (slots .held n h k) ∙ ne-eqb (slotMark (slotAt store (n % w))) 1 m in
@@ -127,35 +137,34 @@ module _ (w : ℕ) (hs : List PacketReading) (filled : ℕ) (store payload : Lis
       let other : eqb n b ≡ false = ne-eqb n b (λ e. omega arith) in
       let not-below : ltb n b ≡ false = le-ltb n b (omega arith) in
       let older : leb (b - w) n ≡ true = le-leb (b - w) n (omega arith) in
-      let all : noted w (handed.Data n ∷ hs) ≡ note (noted w hs) n = rw (low, below) refl in
-      kept-by (handed.Data n) b (buffered + 1) duplicates false (reply.Ack n) (slotChange.Hold n) d
+      let all : noted w (reading.Data n ∷ hs) ≡ note (noted w hs) n = rw (low, below) refl in
+      kept-by (reading.Data n) b (buffered + 1) duplicates false (reply.Ack n) (slotChange.Hold n) d
       (sym (ap lead all ∙ base-kept w (noted w hs) store p (ok .room) sound slots n payload h k short))
-      (plus-one buffered ∙ counted-as (isBuffered w) hs (handed.Data n) true (rw (low, below, other, new)))
-      (counted-as (isDuplicate w) hs (handed.Data n) false (rw (low, below, new, older, not-below)))
+      (plus-one buffered ∙ counted-as (isBuffered w) hs (reading.Data n) true (rw (low, below, other, new)))
+      (counted-as (isDuplicate w) hs (reading.Data n) false (rw (low, below, new, older, not-below)))
       (rw all (held-slots w (noted w hs) store p (ok .room) sound slots n payload h k short))
   data-kept n (delivered-already h k d) =
       let low : leb b n ≡ false = lt-leb b n h in
       let older : leb (b - w) n ≡ true = le-leb (b - w) n (omega arith) in
       let below : ltb n b ≡ true = lt-ltb n b h in
-      unchanged (handed.Data n) true (reply.Ack n) (rw low) (d ∙ duplicate-more n) (rw low) (rw (low, older, below))
+      unchanged (reading.Data n) true (reply.Ack n) (rw low) (d ∙ duplicate-more n) (rw low) (rw (low, older, below))
   data-kept n (old h d) =
       let low : leb b n ≡ false = lt-leb b n (omega arith) in
       let older : leb (b - w) n ≡ false = lt-leb (b - w) n (omega arith) in
-      unchanged (handed.Data n) false reply.Silent (rw low) d (rw low) (rw (low, older))
+      unchanged (reading.Data n) false reply.Silent (rw low) d (rw low) (rw (low, older))
   data-kept n (high h d) =
       let low : leb b n ≡ true = le-leb b n (omega arith) in
       let above : ltb n (b + w) ≡ false = le-ltb n (b + w) h in
       let older : leb (b - w) n ≡ true = le-leb (b - w) n (omega arith) in
       let not-below : ltb n b ≡ false = le-ltb n b (omega arith) in
-      unchanged (handed.Data n) false reply.Silent (rw (low, above)) d (rw (low, above)) (rw (low, above, older, not-below))
+      unchanged (reading.Data n) false reply.Silent (rw (low, above)) d (rw (low, above)) (rw (low, above, older, not-below))
 
   reading-kept : (h : PacketReading) → After h
   unfolding noted decision
-  reading-kept (handed.Data n) = data-kept n (data-case before n (ok .positive))
-  reading-kept (handed.Fin n) = unchanged (handed.Fin n) false (reply.Ack n) refl refl refl refl
-  reading-kept handed.Ack = unchanged handed.Ack false reply.Silent refl refl refl refl
-  reading-kept handed.Corrupted = unchanged handed.Corrupted false reply.Silent refl refl refl refl
-  reading-kept (handed.Refused r) = unchanged (handed.Refused r) false reply.Silent refl refl refl refl
+  reading-kept (reading.Data n) = data-kept n (data-case before n (ok .positive))
+  reading-kept (reading.Fin n) = unchanged (reading.Fin n) false (reply.Ack n) refl refl refl refl
+  reading-kept reading.Ack = unchanged reading.Ack false reply.Silent refl refl refl refl
+  reading-kept reading.Corrupted = unchanged reading.Corrupted false reply.Silent refl refl refl refl
 
 -- from any state that the readings say
 kept-after : (w : ℕ) (hs : List PacketReading) (v : Receiver) (payload : List ℕ) (mark : ℕ) → Kept w hs v → stateBroken (v .state) (v .store) ≡ false → length payload ≤ 1400 → (h : PacketReading)
@@ -176,8 +185,8 @@ kept-state w hs v s =
 
 pub selective-repeat-each : (w : ℕ) → EachReadingCounted handlePacket (Kept w)
 selective-repeat-each w =
-    λ hs v s raw output ack. one-call (Kept w) hs (receivingBroken (v .state) (v .store) output) (countersBroken (v .state)) v (v .state .filled) (decision v (readPacket raw) .decision) (deliveredBytes v (payloadOf raw) (decision v (readPacket raw) .change)) (afterPacket v (payloadOf raw) (decision v (readPacket raw))) raw output ack s
-    (λ sound short n. kept-after w hs v (payloadOf raw) n s (receiving-sound (v .state) (v .store) output sound .0) short (readPacket raw))
+    λ hs v s raw output ack. one-call (Kept w) hs (reception v (readPacket raw) (payloadOf raw) output) raw output ack s
+    (λ k n. kept-after w hs v (payloadOf raw) n s (receiving-sound (v .state) (v .store) output (k .state-sound) .0) (k .short) (readPacket raw))
 
 pub selective-repeat-receiver : (w : ℕ) (store : List ℕ) (cs : List Call)
     → afterCalls handlePacket (newSelectiveRepeat w store) cs .state

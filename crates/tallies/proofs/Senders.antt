@@ -155,7 +155,7 @@ module _ (broken counts : Bool) (v : Sender) (n k : ℕ) (out : List ℕ) where
 pub by-ack : {S : Type 0} (P : AckExit S → Type 0) (d : AckDecision) (v : S) (accept : ℕ → S) → ((a : AckAnswer) → isAccepted a ≡ false → P (ackExit a v)) → ((n : ℕ) → P (ackExit ackAnswer.Accepted (accept n)))
     → P (byDecision d v accept)
 unfolding byDecision
-by-ack P (decision.Accept n) v accept h k = k n
+by-ack P (decision.Accept n base) v accept h k = k n
 by-ack P decision.NotAccepted v accept h k = h ackAnswer.NotAccepted refl
 by-ack P (decision.Refused r) v accept h k = h (ackAnswer.Refused r) refl
 

@@ -40,7 +40,7 @@ abbrev sends : End → List ℕ → List ℕ → window.SendExit Sender
 sends v payload out = window.sendChunk false (windowEnd v) payload out
 
 abbrev resends : End → List ℕ → TimeoutExit Sender
-resends v out = resendOutstanding false (windowEnd v) (retriesLeft (v .sender)) out
+resends v out = resendOutstanding (windowEnd v) (retriesLeft (v .sender)) out
 
 pub stop-and-wait-counted : EachCallCounted stopAndWaitSender
 stop-and-wait-counted v (send payload out) = let r = sends v payload out in by-send v (r .after) (r .out) (r .answer) (send-counted false (windowEnd v) payload out)

@@ -8,22 +8,20 @@ use lib.Dec.{ltb, leb, eqb}
 use Rattle.protocol.specs.Runs.{lead}
 use Rattle.protocol.specs.PlainMachine.{note}
 use Rattle.receiver.specs.declared.PacketReading.{PacketReading}
-use Rattle.receiver.specs.declared.PacketReading.the-variants as handed
+use Rattle.receiver.specs.declared.PacketReading.the-variants as reading
 
 -- Data with a number that passes a test
 abbrev pub dataThat : (ℕ → Bool) → PacketReading → Bool
-dataThat test (handed.Data n) = test n
-dataThat test (handed.Fin n) = false
-dataThat test handed.Ack = false
-dataThat test handed.Corrupted = false
-dataThat test (handed.Refused r) = false
+dataThat test (reading.Data n) = test n
+dataThat test (reading.Fin n) = false
+dataThat test reading.Ack = false
+dataThat test reading.Corrupted = false
 
 abbrev pub isCorrupted : PacketReading → Bool
-isCorrupted (handed.Data n) = false
-isCorrupted (handed.Fin n) = false
-isCorrupted handed.Ack = false
-isCorrupted handed.Corrupted = true
-isCorrupted (handed.Refused r) = false
+isCorrupted (reading.Data n) = false
+isCorrupted (reading.Fin n) = false
+isCorrupted reading.Ack = false
+isCorrupted reading.Corrupted = true
 
 -- how many pass a test, which is given those before as well
 unfoldable pub count : (List PacketReading → PacketReading → Bool) → List PacketReading → ℕ
@@ -51,11 +49,10 @@ abbrev pub inWindow : ℕ → ℕ → ℕ → Bool
 inWindow w base n = leb base n && ltb n (base + w)
 
 abbrev pub noteData : ℕ → List Bool → PacketReading → List Bool
-noteData w marks (handed.Data n) = cond (inWindow w (lead marks) n) (note marks n) marks
-noteData w marks (handed.Fin n) = marks
-noteData w marks handed.Ack = marks
-noteData w marks handed.Corrupted = marks
-noteData w marks (handed.Refused r) = marks
+noteData w marks (reading.Data n) = cond (inWindow w (lead marks) n) (note marks n) marks
+noteData w marks (reading.Fin n) = marks
+noteData w marks reading.Ack = marks
+noteData w marks reading.Corrupted = marks
 
 unfoldable pub noted : ℕ → List PacketReading → List Bool
 noted w [] = []

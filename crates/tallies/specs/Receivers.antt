@@ -4,12 +4,12 @@ use mathlib.Core.List.{List, [], _∷_, _++_}
 use mathlib.Core.Bool.{cond}
 use lib.ListN.{length, drop, replicate}
 use Rattle.bounds.specs.Bounds.{slotSize}
-use Rattle.receiver.specs.Handed.{readPacket}
+use Rattle.receiver.specs.Reading.{readPacket}
 use Rattle.receiver.specs.Receive.{ReceiveExit}
 use Rattle.receiver.specs.declared.PacketReading.{PacketReading}
 use Rattle.stop_and_wait.specs.declared.StopAndWaitReceiver.{StopAndWaitReceiver}
 use Rattle.go_back_n.specs.declared.GoBackNReceiver.{GoBackNReceiver}
-use Rattle.selective_repeat.specs.Receiver.{Receiver, receiver, state}
+use Rattle.selective_repeat.specs.Receiver.{Receiver, receiver, newReceiver}
 use Rattle.selective_repeat.specs.declared.SelectiveRepeatReceiver.{SelectiveRepeatReceiver}
 use Rattle.delivery.specs.Ends.{isReceived}
 use Rattle.tallies.specs.Readings.{count, isCorrupted, expected, isOlder, isOutOfOrder, isAnsweredAgain, base, isBuffered, isDuplicate}
@@ -74,4 +74,4 @@ selectiveRepeatAfter w hs filled = record {
 
 -- a Selective Repeat receiver just made: nothing received, all slots empty
 abbrev pub newSelectiveRepeat : ℕ → List ℕ → Receiver
-newSelectiveRepeat w store = receiver (state w 0 0 0 0 0) (replicate (w * slotSize) 0 ++ drop (w * slotSize) store)
+newSelectiveRepeat w store = receiver (newReceiver w) (replicate (w * slotSize) 0 ++ drop (w * slotSize) store)
