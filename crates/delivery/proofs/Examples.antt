@@ -42,6 +42,8 @@ use Rattle.delivery.specs.Calls.{Call, whole, flipped, send, timeout, to
 use Rattle.protocol.specs.PlainMachine.{plainStart, plainSend, plainData, plainAck, plainCall, plainStep, plainRun, plainOutstanding, WindowFits}
 use Rattle.delivery.specs.Ends.{SingleTimeout, one, GoBackNTimeout, all, earliest, ends, freshEnds, ReceivingRoom, Made}
 use Rattle.delivery.specs.Demand3.{plainAfter, resendStart, ResendsAll, Demand3}
+use Rattle.refinement.specs.Follows.{slotsRead}
+use Rattle.delivery.specs.KuroseRoss.{eventBy, CallsLikeBook}
 use Rattle.delivery.specs.Room.{Suffices}
 use Rattle.delivery.proofs.Demand3.{demand-3}
 use Rattle.delivery.proofs.NotRefused.{sent-within}
@@ -180,3 +182,11 @@ selective-repeat-suffices = record {
   datagrams = lt-of-le-of-lt (sent-within SelectiveRepeat 2 0 _ _ _ (two-made SelectiveRepeat tt) selectiveRepeat (computed .2 .fair)) (lit< tt);
   calls = lit< tt;
 }
+
+-- lists that don't depart from the book
+abbrev likeBook : {T : Type 0} → T → List (Call T)
+likeBook t = send (65 ∷ []) buffer ∷ timeout t buffer ∷ toReceiver (whole 0) buffer ∷ toSender (whole 0) ∷ []
+
+lists-like-book : CallsLikeBook StopAndWait (start StopAndWait 1 3) (likeBook one) × CallsLikeBook GoBackN (start GoBackN 1 0) (likeBook all)
+unfolding words onesAdd onesSum checksum flip anyOf order orElse numbered firstOf verdict decide headerBytes datagram checksumOf matches readChecks headerOf payloadPart payloadOf slotAt slotBytes putSlot slot.slotPayload anyBelow senderSlotBroken senderSlotsBroken receiverSlotBroken receiverSlotsBroken markedRun payloadsFrom windowBroken storeShort window.numbersBroken window.stateBroken window.countsBroken fresh hold markRetransmitted datagramFor emptyFrom release sendChecks sendChunk datagramsFrom markFrom resend readAck ackDecision byDecision countsBroken readPacket ackAfter roomMissing applied receive acknowledgeOne sr.stateBroken sr.receivingBroken sr.dataDecision sr.decision sr.deliveredBytes datagrams step run stopAndWaitReceiver.decision stopAndWaitReceiver.dataDecision goBackNReceiver.decision goBackNReceiver.dataDecision marksBroken fedBy fedIn plainStart plainSend plainData plainAck plainCall plainStep plainRun plainOutstanding eventBy slotsRead
+lists-like-book = ((tt, ((refl, refl), ((λ e. refl), ((λ a b. refl), tt)))), (tt, ((refl, refl), ((λ e. refl), (lit≤ tt, tt)))))

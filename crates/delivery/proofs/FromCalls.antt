@@ -1,16 +1,16 @@
 -- Demand 3, from what has to hold of the two ends call by call.
 use Prim.Native.Nat.{ℕ, _≤_}
-use mathlib.Core.Path.{_≡_, refl, sym, ap, _∙_}
-use mathlib.Core.List.{List, [], _∷_, _++_, map, flatten}
+use mathlib.Core.Path.{ap, _∙_}
+use mathlib.Core.List.{List, map, flatten}
 use native.Mathlib.Omega.{arith}
 use lib.ListN.{length}
 use lib.Seq.{take-all}
 use Rattle.protocol.specs.declared.ProtocolType.{ProtocolType}
-use Rattle.protocol.specs.PlainMachine.{PlainState, plainStart, Fed, plainRun, plainOutstanding, WindowFits}
+use Rattle.protocol.specs.PlainMachine.{PlainState, plainStart, plainRun, WindowFits}
 use Rattle.protocol.specs.Trace as trace
 use Rattle.protocol.specs.Trace.{callOf, newWorld}
 use Rattle.protocol.proofs.Laws.{isSelective, Invariant, run-ok, from-start, claimed, resending-ok, plain-append}
-use Rattle.delivery.specs.Calls.{Call, Ends, World, step, run, Admissible, fedBy, fedIn}
+use Rattle.delivery.specs.Calls.{Call, Ends, World, run, Admissible, fedIn}
 use Rattle.delivery.specs.Demand3.{plainAfter, Claim, resendStart, ResendsAll, Resent, Demand3}
 use Rattle.delivery.proofs.Lists.{run-append, fed-append}
 use Rattle.delivery.proofs.Follow.{Follow}

@@ -1,6 +1,6 @@
 -- After any admissible list of calls over bytes that doesn't depart from Kurose and Ross, the ends hold what the book's machines hold.
 use Prim.Native.Nat.{ℕ}
-use mathlib.Core.Path.{_≡_, refl, sym, ap, ap₂, _∙_, subst}
+use mathlib.Core.Path.{_≡_, refl, sym, ap, ap₂, _∙_}
 use mathlib.Core.List.{List, [], _∷_, map, flatten}
 use Rattle.protocol.specs.declared.ProtocolType.{ProtocolType}
 use Rattle.protocol.specs.declared.ProtocolType.the-variants.{StopAndWait, GoBackN, SelectiveRepeat}
@@ -12,11 +12,10 @@ use Rattle.protocol.specs.Trace.{Event, callOf, newWorld}
 use Rattle.protocol.specs.KuroseRoss.{Packet}
 use Rattle.protocol.specs.KuroseRossRuns.{book, BookWorld, newBookWorld, bookStep, bookRun, SenderIs, ReceiverIs, WorldIs, LikeBook}
 use Rattle.protocol.proofs.Laws.{isSelective, Invariant, at-start, step-ok, step-like-book, start-like-book}
-use Rattle.refinement.proofs.Laws.{data-payload}
 use Rattle.delivery.specs.Calls.{Call, World, step, run, Admissible, numberOf}
 use Rattle.delivery.specs.Ends.{ends, freshEnds, Made}
 use Rattle.delivery.specs.KuroseRoss.{segmentIn, eventBy, eventsIn, senderIn, receiverIn, worldIn, CallsLikeBook, HoldsBook}
-use Rattle.delivery.proofs.Datagrams.{DataBytes, AckBytes, Each, data-segment, data-number, ack-number}
+use Rattle.delivery.proofs.Datagrams.{DataBytes, AckBytes, Each, data-segment, ack-number}
 use Rattle.delivery.proofs.Instances.{calls-follow}
 use Rattle.delivery.proofs.Simulation.{Follows, one-step}
 use Rattle.delivery.proofs.Demand3.{follows, fresh-start}

@@ -1,12 +1,12 @@
 -- Lists of calls, one after the other: what the worlds of a longer list keep of those of a shorter.
-use Prim.Native.Nat.{ℕ, _+_, _<_, _≤_}
-use mathlib.Core.Path.{_≡_, refl, sym, ap, _∙_, subst}
+use Prim.Native.Nat.{ℕ, _+_}
+use mathlib.Core.Path.{_≡_, refl, sym, ap, _∙_}
 use mathlib.Core.List.{List, [], _∷_, _++_, append-nil, append-assoc}
 use native.Mathlib.Omega.{arith}
-use lib.ListN.{length, getD, length-append, List·getD-append}
+use lib.ListN.{length-append, List·getD-append}
 use Rattle.protocol.specs.PlainMachine.{Fed}
 use Rattle.octets.specs.Flip.{flip}
-use Rattle.delivery.specs.Calls.{Copy, whole, flipped, copyBytes, IsCopy, Call, send, timeout, toReceiver, toSender, Ends, World, datagrams, step, run, Allowed, Admissible, fedBy, fedIn}
+use Rattle.delivery.specs.Calls.{Copy, whole, flipped, copyBytes, IsCopy, Call, send, timeout, toReceiver, toSender, Ends, World, step, run, Allowed, Admissible, fedBy, fedIn}
 
 pub run-append : (E : Ends) (v : World E) (cs ds : List (Call (E .Timeout))) → run E v (cs ++ ds) ≡ run E (run E v cs) ds
 unfolding run

@@ -1,14 +1,14 @@
 -- In a world that an admissible list leads to, a call with room enough is not refused, as long as no counter is full.
-use Prim.Native.Nat.{ℕ, zero, suc, _+_, _-_, _*_, _≤_, _<_, min}
-use mathlib.Core.Path.{_≡_, refl, sym, ap, _∙_, subst}
+use Prim.Native.Nat.{ℕ, zero, suc, _+_, _-_, _*_, _≤_, _<_}
+use mathlib.Core.Path.{_≡_, refl, ap, _∙_}
 use mathlib.Core.List.{List, [], _∷_, _++_, flatten, append-nil}
-use mathlib.Core.Bool.{Bool, true, false, cond, _&&_, _||_}
+use mathlib.Core.Bool.{Bool, true, false, cond, _&&_}
 use native.Mathlib.Omega.{arith}
 use native.Mathlib.Nat.{mul-suc}
 use borrow.Author.Tests.{le-ltb, ne-eqb}
-use lib.ListN.{length, take, drop, replicate, length-append, length-drop, length-replicate, take-append-drop}
+use lib.ListN.{length, take, drop, replicate, length-append, length-drop, length-replicate}
 use lib.Seq.{length-take-le}
-use lib.Dec.{ltb, eqb}
+use lib.Dec.{ltb}
 use Rattle.refusal.proofs.Laws.{any-of-none}
 use Rattle.bounds.specs.Bounds.{headerSize, maxPayload, maxDatagram, seqNumLimit}
 use Rattle.protocol.specs.declared.ProtocolType.{ProtocolType}
@@ -19,7 +19,7 @@ use Rattle.protocol.specs.Trace as trace
 use Rattle.protocol.specs.Trace.{callOf, newWorld}
 use Rattle.protocol.proofs.Laws.{isSelective, Invariant, at-start, chunks-length, step-ok, claimed, plain-sent}
 use Rattle.window.specs.Slots as slots
-use Rattle.window.specs.State.{outstanding, stateBroken, countsBroken}
+use Rattle.window.specs.State.{stateBroken, countsBroken}
 use Rattle.window.specs.Sending.{windowFree, sendChecks, sendChunk}
 use Rattle.window.specs.Resending.{datagramsFrom, sentAgain, resend}
 use Rattle.window.proofs.Laws.{sound}
@@ -40,11 +40,11 @@ use Rattle.selective_repeat.specs.Sender as selectiveRepeat
 use Rattle.selective_repeat.specs.Receiver as sr
 use Rattle.selective_repeat.proofs.Laws.{due-within, receiving-sound}
 use Rattle.refinement.specs.Good.{Good}
-use Rattle.refinement.specs.Copies.{DataOf, AckOf}
+use Rattle.refinement.specs.Copies.{DataOf}
 use Rattle.refinement.proofs.Laws.{next-number, state-good, flatten-append}
 use Rattle.delivery.specs.Calls.{whole, flipped, Call, send, timeout, toReceiver, toSender, World, step, run, Allowed, Admissible}
-use Rattle.delivery.specs.Ends.{isSendRefused, isTimeoutRefused, isHandled, isReceived, WithOutput, withOutput, all, earliest, goBackNTimeout, ends, freshEnds, Made}
-use Rattle.delivery.specs.Room.{chunksIn, resentMost, Fits, NotRefused}
+use Rattle.delivery.specs.Ends.{isSendRefused, isTimeoutRefused, isReceived, WithOutput, withOutput, all, earliest, ends, freshEnds, Made}
+use Rattle.delivery.specs.Room.{chunksIn, Fits, NotRefused}
 use Rattle.delivery.proofs.Datagrams.{DataBytes, AckBytes, each-at, each-length, count-from}
 use Rattle.delivery.proofs.SenderFollows.{SenderIs}
 use Rattle.delivery.proofs.ReceiverFollows.{ReceiverIs, packet-follows}

@@ -1,5 +1,5 @@
 -- A resending of the ends is a resending of the machine.
-use Prim.Native.Nat.{ℕ, zero, suc, _+_, _-_, _≤_, _<_}
+use Prim.Native.Nat.{ℕ, suc, _+_, _-_, _≤_}
 use mathlib.Core.Path.{_≡_, refl, sym, ap, _∙_, subst}
 use mathlib.Core.List.{List, [], _∷_, _++_, map, List·Memᴰ, Memᴰ·append-left, Memᴰ·append-right}
 use mathlib.Core.Bool.{Bool, true, false, cond, not, _&&_}
@@ -15,7 +15,7 @@ use Rattle.protocol.specs.Trace as trace
 use Rattle.protocol.specs.Trace.{Event, callOf}
 use Rattle.protocol.proofs.Laws.{isSelective, Invariant, Own, Every, every-nil, every-append, every-mono, every-head, every-tail, step-ok, claimed}
 use Rattle.delivery.specs.Calls.{whole, flipped, Call, send, timeout, toReceiver, toSender, Ends, World, datagrams, step, run, numberOf, fedBy, fedIn}
-use Rattle.delivery.specs.Demand3.{isOutstanding, outstandingOf, madeBy, ResendState, resendStart, ResendsAll}
+use Rattle.delivery.specs.Demand3.{isOutstanding, outstandingOf, madeBy, resendStart, ResendsAll}
 use Rattle.delivery.proofs.Datagrams.{DataBytes, AckBytes, Each, each-length, datagrams-flatten, data-framed, data-number, data-numbers, numbers-from, count-from, ack-number}
 use Rattle.delivery.proofs.Follow.{SentAgain, Follow}
 use Rattle.delivery.proofs.Simulation.{data-added, acks-added, none-added, Follows, sender-kept, sent-again, packet-taken, ack-taken}

@@ -1,24 +1,23 @@
 -- Ends that follow the machine, call by call, follow it over every list of calls.
-use Prim.Native.Nat.{ℕ, zero, suc, _+_, _-_, _≤_, _<_}
+use Prim.Native.Nat.{ℕ, zero, suc, _+_, _-_, _<_}
 use mathlib.Core.Path.{_≡_, refl, sym, ap, ap₂, _∙_}
-use mathlib.Core.List.{List, [], _∷_, _++_, map, List·Memᴰ, append-nil, flatten}
-use mathlib.Core.Bool.{Bool, true, false, cond, _&&_}
-use lib.ListN.{length, getD, take, drop, length-append}
+use mathlib.Core.List.{List, [], _∷_, _++_, map, append-nil, flatten}
+use mathlib.Core.Bool.{Bool, true, false}
+use lib.ListN.{length, getD, drop, length-append}
 use lib.Seq.{drop-drop}
 use native.Mathlib.Omega.{arith}
 use Rattle.octets.specs.Octets.{Octets}
 use Rattle.octets.specs.Flip.{flip}
 use Rattle.protocol.specs.declared.ProtocolType.{ProtocolType}
 use Rattle.protocol.specs.PlainMachine as plain
-use Rattle.protocol.specs.PlainMachine.{Fed, fed, plainStart, plainRun}
-use Rattle.protocol.specs.Machine.{Segment, SenderState, ReceiverState, nextNumber, segmentAt, segmentsFrom, acknowledge, receive}
+use Rattle.protocol.specs.Machine.{Segment, SenderState, segmentAt, segmentsFrom}
 use Rattle.protocol.specs.Trace as trace
-use Rattle.protocol.specs.Trace.{Event, callOf, newWorld}
-use Rattle.delivery.specs.Calls.{Copy, whole, flipped, copyBytes, IsCopy, isWhole, Call, send, timeout, toReceiver, toSender, Done, Ends, World, fresh, datagrams, bySender, byReceiver, step, run, Allowed, Admissible, numberOf, fedBy, fedIn}
+use Rattle.protocol.specs.Trace.{Event, callOf}
+use Rattle.delivery.specs.Calls.{whole, flipped, IsCopy, Call, send, timeout, toReceiver, toSender, Done, Ends, World, datagrams, bySender, byReceiver, step, run, Allowed, Admissible, numberOf, fedBy, fedIn}
 use Rattle.delivery.specs.KuroseRoss.{eventBy}
-use Rattle.delivery.proofs.Datagrams.{DataBytes, AckBytes, Each, Paired, each-append, each-at, each-length, datagrams-flatten, data-framed, acks-framed, data-number, data-segment, ack-number, count-from}
+use Rattle.delivery.proofs.Datagrams.{DataBytes, AckBytes, Each, each-append, each-at, each-length, datagrams-flatten, data-framed, acks-framed, data-number, data-segment, ack-number, count-from}
 use Rattle.refinement.proofs.Laws.{flatten-append}
-use Rattle.delivery.proofs.Follow.{SenderKept, ReceiverKept, ChunkSent, SentAgain, PacketTaken, Flips, Follow}
+use Rattle.delivery.proofs.Follow.{SenderKept, ReceiverKept, SentAgain, Follow}
 
 -- datagrams written end to end, added to those made before
 pub data-added : (sent : List (List ℕ)) (qs : List Segment) (written : List ℕ) (packets : List (List ℕ)) (more : List Segment)

@@ -90,7 +90,7 @@ unfolding expected count
 go-back-n-readings = refl
 
 -- Selective Repeat, window 2: 1 held, 1 again, 3 outside the window, 0 delivered with 1, 0 again; then 2 delivered, and 0 too old
-pub selective-repeat-readings : selectiveRepeatAfter 2 (Data 0 ∷ Data 2 ∷ Data 0 ∷ Data 0 ∷ Data 3 ∷ Data 1 ∷ Data 1 ∷ []) 0 ≡ selectiveRepeat.state 2 3 0 7 1 2
+pub selective-repeat-readings : selectiveRepeatAfter 2 (Data 0 ∷ Data 2 ∷ Data 0 ∷ Data 0 ∷ Data 3 ∷ Data 1 ∷ Data 1 ∷ []) 0 ≡ record { «window_size» = 2; «recv_base» = 3; filled = 0; «total_received» = 7; «buffered_out_of_order» = 1; «duplicates_count» = 2 }
 unfolding noted count
 selective-repeat-readings = refl
 

@@ -11,12 +11,10 @@ use Rattle.protocol.specs.declared.ProtocolType.{ProtocolType}
 use Rattle.protocol.specs.declared.ProtocolType.the-variants.{StopAndWait, GoBackN, SelectiveRepeat}
 use Rattle.protocol.specs.PlainMachine.{PlainState, plainStep, plainRun, WindowFits, First}
 use Rattle.protocol.specs.Trace as trace
-use Rattle.protocol.specs.Trace.{callOf}
-use Rattle.protocol.proofs.Laws.{isSelective, Invariant, step-ok, chunksFed, plain-sent}
+use Rattle.protocol.proofs.Laws.{isSelective, Invariant, step-ok, plain-sent}
 use Rattle.delivery.specs.Calls.{Copy, whole, Call, send, timeout, toReceiver, toSender, Ends, World, datagrams, step, run, Allowed, Admissible, fedBy, fedIn}
 use Rattle.delivery.specs.Ends.{ends}
-use Rattle.delivery.specs.Demand3.{madeBy, ResendState, Resends, resendStep, ResendsAll}
-use Rattle.delivery.specs.Room.{NotRefused}
+use Rattle.delivery.specs.Demand3.{madeBy, ResendState, ResendsAll}
 use Rattle.delivery.proofs.Simulation.{one-step}
 use Rattle.delivery.proofs.Demand3.{follows}
 use Rattle.delivery.proofs.NotRefused.{not-refused}

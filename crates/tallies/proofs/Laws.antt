@@ -13,6 +13,9 @@ pub use Rattle.tallies.proofs.StopAndWait.{stop-and-wait-counted, curre
 pub use Rattle.tallies.proofs.Receivers.{EachReadingCounted, every-list}
 pub use Rattle.tallies.proofs.InOrder.{stop-and-wait-receiver, go-back-n-receiver}
 pub use Rattle.tallies.proofs.SelectiveRepeat.{selective-repeat-receiver}
+pub use Rattle.tallies.proofs.NoneRefused.{none-refused}
+pub use Rattle.tallies.proofs.HandOvers.{Completed, hand-overs}
+pub use Rattle.tallies.proofs.SomeResending.{some-resending}
 pub use Rattle.tallies.proofs.Limits.{stop-and-wait-sender-no-8, go-back-n-sender-no-8, selective-repeat-sender-no-8, stop-and-wait-receiver-no-8, go-back-n-receiver-no-8, selective-repeat-receiver-no-8}
 
 -- the senders, with any window or retry limit, over any store

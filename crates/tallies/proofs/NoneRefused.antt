@@ -2,7 +2,7 @@
 use Prim.Native.Nat.{ℕ, suc, _+_, _≤_, _<_}
 use mathlib.Core.Path.{_≡_, refl, sym, ap, _∙_, subst}
 use mathlib.Core.Bool.{Bool, true, false, cond}
-use mathlib.Core.List.{List, [], _∷_, _++_, append-nil, append-assoc, flatten}
+use mathlib.Core.List.{List, [], _∷_, _++_, flatten}
 use native.Mathlib.Omega.{arith}
 use lib.ListN.{length, length-append}
 use Rattle.bounds.specs.Bounds.{seqNumLimit, countLimit}
@@ -25,20 +25,19 @@ use Rattle.go_back_n.specs.declared.GoBackNReceiver.{GoBackNReceiver}
 use Rattle.go_back_n.specs.Receiver as goBackN
 use Rattle.selective_repeat.specs.declared.SelectiveRepeatReceiver.{SelectiveRepeatReceiver}
 use Rattle.selective_repeat.specs.Receiver as selectiveRepeat
-use Rattle.delivery.specs.Calls.{Call, send, timeout, toReceiver, toSender, copyBytes, Ends, World, datagrams, step, run, Allowed, Admissible, fedBy}
+use Rattle.delivery.specs.Calls.{Call, send, timeout, toReceiver, toSender, copyBytes, Ends, World, datagrams, step, run, Admissible, fedBy}
 use Rattle.delivery.specs.Ends.{isReceived, ends, freshEnds, Made}
 use Rattle.delivery.specs.AnyBytes as any
-use Rattle.delivery.specs.Room.{chunksIn, Fits, AllFit, Suffices, NotRefused, NoneRefused}
-use Rattle.delivery.proofs.Laws.{Grown, sent-grows}
+use Rattle.delivery.specs.Room.{chunksIn, AllFit, Suffices, NoneRefused}
+use Rattle.delivery.proofs.Laws.{sent-grows}
 use Rattle.delivery.proofs.Simulation.{Follows, one-step}
 use Rattle.delivery.proofs.Demand3.{follows, fresh-start}
 use Rattle.delivery.proofs.NotRefused.{senderCounts, receiverCounts, not-refused, fresh-none}
 use Rattle.tallies.specs.Readings.{isOlder, isCorrupted, isOutOfOrder, isAnsweredAgain, isBuffered, isDuplicate, count, expected}
-use Rattle.tallies.specs.Receivers.{Handling, readingsWith, stopAndWaitAfter, goBackNAfter, selectiveRepeatAfter}
-use Rattle.tallies.specs.Senders.{Answered, sentBy, resentBy, SenderCalls, afterCall, answerTo, stopAndWaitSender, goBackNSender, selectiveRepeatSender}
-use Rattle.tallies.proofs.Senders.{Counted, EachCallCounted, none-written, go-back-n-counted, selective-repeat-counted}
+use Rattle.tallies.specs.Receivers.{readingsWith}
+use Rattle.tallies.specs.Senders.{Answered, sentBy}
+use Rattle.tallies.proofs.Senders.{Counted, none-written, go-back-n-counted, selective-repeat-counted}
 use Rattle.tallies.proofs.StopAndWait.{stop-and-wait-counted}
-use Rattle.tallies.proofs.Receivers.{EachReadingCounted}
 use Rattle.tallies.proofs.InOrder.{stopAndWaitCounted, stop-and-wait-each, goBackNCounted, go-back-n-each}
 use Rattle.tallies.proofs.SelectiveRepeat.{Kept, selective-repeat-each, fresh-kept, kept-state}
 use Rattle.tallies.proofs.Limits.{resent-by-sent, counts-sound, one-more, length-cond, receiver-sound}

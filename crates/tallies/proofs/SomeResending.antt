@@ -1,7 +1,7 @@
 -- After any admissible list a resending exists: timeouts that send all outstanding numbers again, then what was made handed over in order.
 use Prim.Native.Nat.{ℕ, zero, suc, _+_, _-_, _*_, _≤_, _<_, min}
 use mathlib.Core.Path.{_≡_, refl, sym, ap, ap₂, _∙_, subst}
-use mathlib.Core.Bool.{Bool, true, false, cond, not, _&&_, and-eq-true-iff}
+use mathlib.Core.Bool.{Bool, true, false, cond, and-eq-true-iff}
 use mathlib.Core.List.{List, [], _∷_, _++_, map, append-nil, flatten}
 use native.Mathlib.Omega.{arith}
 use native.Mathlib.Nat.{min-eq-right, zero-add}
@@ -18,7 +18,7 @@ use Rattle.protocol.specs.Machine.{SenderState, segmentsFrom, inWindow}
 use Rattle.protocol.specs.PlainMachine as plain
 use Rattle.protocol.specs.PlainMachine.{PlainState, plainStep, notNoted, plainOutstanding, WindowFits}
 use Rattle.protocol.specs.Trace as trace
-use Rattle.protocol.proofs.Laws.{isSelective, Invariant, chunks-length, claimed, Every, every-head, every-tail}
+use Rattle.protocol.proofs.Laws.{Invariant, chunks-length, claimed, Every, every-head, every-tail}
 use Rattle.protocol.proofs.Outstanding.{in-window, kept-are}
 use Rattle.window.specs.Slots as slots
 use Rattle.window.specs.Slots.{datagramFor}
@@ -36,18 +36,17 @@ use Rattle.refinement.proofs.Laws as refinement
 use Rattle.refinement.proofs.Laws.{ResendOutcome, timeout-refused, nothing-sent, sent-again, resend-outcome}
 use Rattle.delivery.specs.Calls.{Call, timeout, World, datagrams, step, run, Admissible, numberOf, fedBy}
 use Rattle.delivery.specs.Ends.{bytesResent, isResent, all, one, ends, freshEnds, Made}
-use Rattle.delivery.specs.Demand3.{plainAfter, madeBy, resendStart, ResendState, ResendsAll}
+use Rattle.delivery.specs.Demand3.{plainAfter, madeBy, resendStart, ResendsAll}
 use Rattle.delivery.specs.Room.{RoomToResend, RetryLeft}
 use Rattle.delivery.proofs.Datagrams.{DataBytes, Each, datagrams-flatten, data-framed, data-numbers, numbers-from}
-use Rattle.delivery.proofs.SenderFollows.{SenderIs, false-true, each-datagram}
+use Rattle.delivery.proofs.SenderFollows.{false-true, each-datagram}
 use Rattle.delivery.specs.KuroseRoss.{eventBy}
 use Rattle.delivery.proofs.Simulation.{one-step}
 use Rattle.delivery.proofs.Instances.{calls-follow}
 use Rattle.delivery.proofs.Demand3.{follows}
 use Rattle.delivery.proofs.Progress.{timeout-done, again-within}
-use Rattle.delivery.proofs.NotRefused.{senderCounts}
 use Rattle.tallies.proofs.NoneRefused.{Reached, sender-few, fresh-reached}
-use Rattle.tallies.proofs.HandOvers.{none-fed, Enough, reached-after, Completed, hand-overs, timeout-S, reached-run}
+use Rattle.tallies.proofs.HandOvers.{reached-after, Completed, hand-overs, timeout-S, reached-run}
 
 -- ---- the numbers of the datagrams that a timeout writes
 again : (selective : Bool) (v : slots.Sender) (n k : ℕ) (out : List ℕ) (y : TimeoutExit slots.Sender) → ResendOutcome selective v n k out y → Octets (v .store) → isResent (y .answer) ≡ true
