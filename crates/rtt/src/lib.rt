@@ -54,8 +54,9 @@ pub fn next_estimate_unchecked(
     rttvar: u64,
     sample: u64,
 ) -> Estimate
-    requires { ⌜ T (chanceInBounds alpha) × T (chanceInBounds beta) × T (factorInBounds k) × T (factorInBounds multiplier)
-        × (granularity ≤ maxGranularity) × (srtt ≤ maxEstimate) × (rttvar ≤ maxEstimate) × (sample ≤ maxDuration) ⌝ }
+    requires { ⌜ T (chanceInBounds alpha) × T (chanceInBounds beta) × T (factorInBounds k)
+        × T (factorInBounds multiplier) × (granularity ≤ maxGranularity) × (srtt ≤ maxEstimate)
+        × (rttvar ≤ maxEstimate) × (sample ≤ maxDuration) ⌝ }
     ensures { λ r. ⌜ r ≡ nextEstimate alpha beta k multiplier granularity srtt rttvar sample ⌝ }
 {
     let sample_ms = to_ms(sample);
@@ -72,7 +73,8 @@ fn estimate_from(
     srtt_ms: f64,
     rttvar_ms: f64,
 ) -> Estimate
-    requires { ⌜ T (secsInBounds (div binary64 «srtt_ms» thousand64)) × T (secsInBounds (div binary64 «rttvar_ms» thousand64))
+    requires { ⌜ T (secsInBounds (div binary64 «srtt_ms» thousand64))
+        × T (secsInBounds (div binary64 «rttvar_ms» thousand64))
         × T (secsInBounds (div binary64 (unlimitedMs k multiplier granularity «srtt_ms» «rttvar_ms») thousand64)) ⌝ }
     ensures { λ r. ⌜ r ≡ estimateOf k multiplier granularity «srtt_ms» «rttvar_ms» ⌝ }
 {
