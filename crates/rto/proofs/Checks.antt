@@ -1,5 +1,5 @@
 -- The checks of the entry points: their order, and what they let pass.
-use mathlib.Core.Path.{_≡_, refl}
+use mathlib.Core.Path.{_≡_, refl, _∙_}
 use mathlib.Core.Bool.{Bool, true, false, not, cond, _||_, _&&_, and-eq-true-iff, true≢false}
 use mathlib.Core.List.{[], _∷_}
 use Prim.Native.Nat.{ℕ, _≤_, _<_}
@@ -11,11 +11,12 @@ use Rattle.refusal.proofs.Laws.{or-false, accepted-none-true}
 use Rattle.refusal.specs.Counts.{countFull}
 use Rattle.refusal.specs.Order.{check, verdict, decide, firstOf, numbered, orElse, order}
 use Rattle.refusal.specs.declared.Refusal.{Refusal}
+use Rattle.refusal.specs.declared.Verdict.{Verdict}
 use Rattle.refusal.specs.declared.Verdict.the-variants.{Accepted, Refused}
 use Rattle.refusal.specs.declared.Refusal.the-variants.{State, Counts, Time, Setup}
 use Rattle.float.specs.Roll.{chanceInBounds}
 use Rattle.rtt.specs.Rtt.{factorInBounds}
-use Rattle.rto.specs.Rto.{durationsInBounds, factorsInBounds, configInBounds, estimateBroken, stateBroken, countsFull, rttTooLong, heldTooLong, callVerdict}
+use Rattle.rto.specs.Rto.{durationsInBounds, factorsInBounds, configInBounds, estimateBroken, stateBroken, countsFull, rttTooLong, heldTooLong, sampleTooLong, callVerdict}
 use Rattle.rto.specs.declared.RtoConfig.{RtoConfig}
 use Rattle.rto.specs.declared.RtoStats.{RtoStats}
 use Rattle.rto.specs.declared.RtoEstimator.{RtoEstimator}
@@ -33,17 +34,20 @@ call-verdict-is false false false = refl
 pub record Passes (e : RtoEstimator) (late : Bool) : Type 0 where
   pub state : stateBroken e ≡ false
   pub counts : countsFull (e .stats) ≡ false
-  pub held : heldTooLong e ≡ false
-  pub given : late ≡ false
+  pub times : late ≡ false
 
 pub accepted-passes : (e : RtoEstimator) (late : Bool) → callVerdict e late ≡ Accepted → Passes e late
-accepted-passes e late h =
-    let f = accepted-none-true (check (stateBroken e) State ∷ check (countsFull (e .stats)) Counts ∷ check (heldTooLong e || late) Time ∷ []) h in
-    let t = or-false (heldTooLong e) late (f .1 .1 .0) in
-    record { state = f .0; counts = f .1 .0; held = t .0; given = t .1 }
+accepted-passes e late h = let f = accepted-none-true (check (stateBroken e) State ∷ check (countsFull (e .stats)) Counts ∷ check late Time ∷ []) h in record { state = f .0; counts = f .1 .0; times = f .1 .1 .0 }
 
 pub passes-accepted : (e : RtoEstimator) (late : Bool) → Passes e late → callVerdict e late ≡ Accepted
-passes-accepted e late p = simp (call-verdict-is, p .state, p .counts, p .held, p .given)
+passes-accepted e late p = simp (call-verdict-is, p .state, p .counts, p .times)
+
+-- the verdict on an estimator, from its checks' results
+pub verdict-on : {v : Verdict} (e : RtoEstimator) (late : Bool) {b n t : Bool} → v ≡ verdict (check b State ∷ check n Counts ∷ check t Time ∷ []) → b ≡ stateBroken e → n ≡ countsFull (e .stats) → t ≡ late → v ≡ callVerdict e late
+verdict-on e late h p q r = h ∙ rw (p, q, r)
+
+pub sample-in-time : (e : RtoEstimator) (sample : ℕ) → sampleTooLong e sample ≡ false → sample ≤ maxDuration
+sample-in-time e sample h = ltb-false _ _ (or-false (heldTooLong e) (ltb maxDuration sample) h .1)
 
 pub setup-only : {A : Type 0} (s : Bool) (f : Refusal → A) (a : A) → decide (verdict (check s Setup ∷ [])) f a ≡ cond s (f Setup) a
 unfolding decide verdict firstOf numbered orElse order

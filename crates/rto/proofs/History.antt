@@ -11,7 +11,7 @@ use lib.Dec.{leb, ltb}
 use lib.ListN.{length, length-append}
 use lib.Pow.{pow-pos}
 use lib.Ieee.{Float}
-use borrow.Author.Tests.{le-ltb, lt-ltb, ltb-false}
+use borrow.Author.Tests.{le-ltb, lt-ltb}
 use Rattle.bounds.specs.Bounds.{maxDuration}
 use Rattle.refusal.specs.Counts.{countFull}
 use Rattle.refusal.specs.Order.{check, verdict, decide, firstOf, numbered, orElse, order}
@@ -23,7 +23,7 @@ use Rattle.refusal.specs.declared.TestAnswer.the-variants.{Is}
 use Rattle.refusal.proofs.Laws.{on-accepted}
 use Rattle.rtt.specs.Rtt.{toMs}
 use Rattle.rtt.specs.declared.Estimate.{Estimate}
-use Rattle.rto.specs.Rto.{configInBounds, stateBroken, countsFull, heldTooLong, callVerdict, noStats, fresh, limited, estimateFor, minRtt, maxRtt, maxConsecutive, sampled, acceptSample, rejectSample, updateRttUnchecked, timedOut, onTimeoutUnchecked, resetBackoffUnchecked, updateResult, timeoutResult, resetResult, updateRtt, onTimeout, resetBackoff, hasExceededRetryLimit, mean, meanRttMsUnchecked, meanRttMs}
+use Rattle.rto.specs.Rto.{configInBounds, stateBroken, countsFull, heldTooLong, sampleTooLong, callVerdict, noStats, fresh, limited, estimateFor, minRtt, maxRtt, maxConsecutive, sampled, acceptSample, rejectSample, updateRttUnchecked, timedOut, onTimeoutUnchecked, resetBackoffUnchecked, updateResult, timeoutResult, resetResult, updateRtt, onTimeout, resetBackoff, hasExceededRetryLimit, mean, meanRttMsUnchecked, meanRttMs}
 use Rattle.rto.specs.History.{Call, sample, timeout, reset, step, afterCalls, updateRefused, timeoutRefused, resetRefused, isRefused, samples, count, isRejection, isTimeout, rejections, timeouts, since, timeoutsSince, mostSince, minOf, maxOf, latest, sumMs, estimateAfter, lastEstimate, srttOf, rttvarOf, baseRto, backedOff, estimatorOf, full, tooLong, accept, accepted}
 use Rattle.rto.specs.declared.RtoConfig.{RtoConfig}
 use Rattle.rto.specs.declared.RtoEstimator.{RtoEstimator}
@@ -35,22 +35,25 @@ use Rattle.rto.specs.declared.ResetResult.{ResetResult}
 use Rattle.rto.specs.declared.UpdateAnswer.the-variants.{Accepted}
 use Rattle.rto.specs.declared.RtoAnswer.the-variants.{Rto}
 use Rattle.rto.specs.declared.MeanAnswer.the-variants.{Millis}
-use Rattle.rto.proofs.Checks.{config-of, passes-accepted}
+use Rattle.rto.proofs.Checks.{config-of, passes-accepted, sample-in-time}
 use Rattle.rto.proofs.Keeps.{Doubles, Good, fresh-good, accept-good, reject-good, backoff-good, reset-good}
 
 -- ---- an accepted call
+held-or : (a b : Bool) → a ≡ false → (a || b) ≡ b
+held-or a b p = simp p
+
 pub update-accepted : (e : RtoEstimator) (d : ℕ) (again : Bool) → Good e → countsFull (e .stats) ≡ false → d ≤ maxDuration → updateRtt e d again ≡ updateResult (updateRttUnchecked e d again) (Accepted (not again))
 unfolding updateRtt
-update-accepted e d again g n h = on-accepted _ _ (passes-accepted e (ltb maxDuration d) (record { state = g .state; counts = n; held = g .times; given = le-ltb maxDuration d h }))
+update-accepted e d again g n h = on-accepted _ _ (passes-accepted e (sampleTooLong e d) (record { state = g .state; counts = n; times = held-or (heldTooLong e) (ltb maxDuration d) (g .times) ∙ le-ltb maxDuration d h }))
 
 module _ (e : RtoEstimator) (g : Good e) (n : countsFull (e .stats) ≡ false) where
   pub timeout-accepted : onTimeout e ≡ timeoutResult (onTimeoutUnchecked e) (Rto (onTimeoutUnchecked e .«current_rto»))
   unfolding onTimeout
-  timeout-accepted = on-accepted _ _ (passes-accepted e false (record { state = g .state; counts = n; held = g .times; given = refl }))
+  timeout-accepted = on-accepted _ _ (passes-accepted e (heldTooLong e) (record { state = g .state; counts = n; times = g .times }))
 
   pub reset-accepted : resetBackoff e ≡ resetResult (resetBackoffUnchecked e) Done
   unfolding resetBackoff
-  reset-accepted = on-accepted _ _ (passes-accepted e false (record { state = g .state; counts = n; held = g .times; given = refl }))
+  reset-accepted = on-accepted _ _ (passes-accepted e (heldTooLong e) (record { state = g .state; counts = n; times = g .times }))
 
 -- ---- one sample more
 fold-last : (f : ℕ → ℕ → ℕ) → ((x y : ℕ) → f x y ≡ f y x) → ((x y z : ℕ) → f x (f y z) ≡ f (f x y) z) → (a d : ℕ) (ds : List ℕ) → foldr f a (ds ++ (d ∷ [])) ≡ f (foldr f a ds) d
@@ -215,14 +218,13 @@ module _ (c : RtoConfig) (xs : List Call) where
       twice false = refl
 
 -- ---- which calls are refused
--- the tests of a call on a state that check 9 lets pass and that holds no time above its bound: refused, or the other answer
-by-tests : {A : Type 0} (P : A → Bool → Type 0) (s n t l : Bool) (f : Refusal → A) (a : A) → s ≡ false → t ≡ false → ((r : Refusal) → P (f r) true) → (l ≡ false → P a false) → P (decide (verdict (check s State ∷ check n Counts ∷ check (t || l) Time ∷ [])) f a) (n || l)
+-- the tests of a call on a state that check 9 lets pass: refused, or the other answer
+by-tests : {A : Type 0} (P : A → Bool → Type 0) (s n t : Bool) (f : Refusal → A) (a : A) → s ≡ false → ((r : Refusal) → P (f r) true) → (t ≡ false → P a false) → P (decide (verdict (check s State ∷ check n Counts ∷ check t Time ∷ [])) f a) (n || t)
 unfolding decide verdict firstOf numbered orElse order
-by-tests P true n t l f a z y h k = absurd (true≢false z)
-by-tests P false true t l f a z y h k = h Counts
-by-tests P false false true l f a z y h k = absurd (true≢false y)
-by-tests P false false false true f a z y h k = h Time
-by-tests P false false false false f a z y h k = k refl
+by-tests P true n t f a z h k = absurd (true≢false z)
+by-tests P false true t f a z h k = h Counts
+by-tests P false false true f a z h k = h Time
+by-tests P false false false f a z h k = k refl
 
 module _ (c : RtoConfig) (h : configInBounds c ≡ true) (f : Doubles c) where
   -- a call after the accepted calls xs gives e and an answer, of which `refused` says whether it is a refusal: a refused call leaves the estimator as it was
@@ -239,24 +241,22 @@ module _ (c : RtoConfig) (h : configInBounds c ≡ true) (f : Doubles c) where
     kept : (x : Call) → After xs x (estimatorOf c xs) true true
     kept x = record { is = refl; good = g; answer = refl }
 
-    tested : {A : Type 0} (P : A → Bool → Type 0) (late : Bool) (r : Refusal → A) (a : A) → ((z : Refusal) → P (r z) true) → (late ≡ false → P a false) → P (decide (callVerdict (estimatorOf c xs) late) r a) (full xs || late)
-    tested P late r a p q =
-        subst (λ (b : Bool). P (decide (callVerdict (estimatorOf c xs) late) r a) (b || late)) (full-is c xs)
-        (by-tests P (stateBroken (estimatorOf c xs)) (countsFull (estimatorOf c xs .stats)) (heldTooLong (estimatorOf c xs)) late r a (g .state) (g .times) p q)
+    tested : {A : Type 0} (P : A → Bool → Type 0) (late b : Bool) (r : Refusal → A) (a : A) → late ≡ b → ((z : Refusal) → P (r z) true) → (late ≡ false → P a false) → P (decide (callVerdict (estimatorOf c xs) late) r a) (full xs || b)
+    tested P late b r a l p q = rw (← full-is c xs, ← l) (by-tests P (stateBroken (estimatorOf c xs)) (countsFull (estimatorOf c xs .stats)) late r a (g .state) p q)
 
     after-one : (x : Call) → After xs x (step (estimatorOf c xs) x) (isRefused (estimatorOf c xs) x) (full xs || tooLong x)
     unfolding step isRefused updateRtt onTimeout resetBackoff
     after-one (sample d true) =
-        tested (λ (z : UpdateResult) (b : Bool). After xs (sample d true) (z .estimator) (updateRefused (z .answer)) b) (ltb maxDuration d) _ _ (λ r. kept (sample d true))
+        tested (λ (z : UpdateResult) (b : Bool). After xs (sample d true) (z .estimator) (updateRefused (z .answer)) b) (sampleTooLong (estimatorOf c xs) d) (ltb maxDuration d) _ _ (held-or _ _ (g .times)) (λ r. kept (sample d true))
         (λ l. record { is = reject-more c xs d; good = reject-good (estimatorOf c xs) g; answer = refl })
     after-one (sample d false) =
-        tested (λ (z : UpdateResult) (b : Bool). After xs (sample d false) (z .estimator) (updateRefused (z .answer)) b) (ltb maxDuration d) _ _ (λ r. kept (sample d false))
-        (λ l. record { is = accept-more c xs d; good = accept-good (estimatorOf c xs) d (same-doubles xs) g (ltb-false maxDuration d l); answer = refl })
+        tested (λ (z : UpdateResult) (b : Bool). After xs (sample d false) (z .estimator) (updateRefused (z .answer)) b) (sampleTooLong (estimatorOf c xs) d) (ltb maxDuration d) _ _ (held-or _ _ (g .times)) (λ r. kept (sample d false))
+        (λ l. record { is = accept-more c xs d; good = accept-good (estimatorOf c xs) d (same-doubles xs) g (sample-in-time (estimatorOf c xs) d l); answer = refl })
     after-one timeout =
-        tested (λ (z : TimeoutResult) (b : Bool). After xs timeout (z .estimator) (timeoutRefused (z .answer)) b) false _ _ (λ r. kept timeout)
+        tested (λ (z : TimeoutResult) (b : Bool). After xs timeout (z .estimator) (timeoutRefused (z .answer)) b) (heldTooLong (estimatorOf c xs)) false _ _ (g .times) (λ r. kept timeout)
         (λ l. record { is = timeout-more c xs (config-of c h .ordered); good = backoff-good (estimatorOf c xs) g; answer = refl })
     after-one reset =
-        tested (λ (z : ResetResult) (b : Bool). After xs reset (z .estimator) (resetRefused (z .answer)) b) false _ _ (λ r. kept reset) (λ l. record { is = reset-more c xs; good = reset-good (estimatorOf c xs) g; answer = refl })
+        tested (λ (z : ResetResult) (b : Bool). After xs reset (z .estimator) (resetRefused (z .answer)) b) (heldTooLong (estimatorOf c xs)) false _ _ (g .times) (λ r. kept reset) (λ l. record { is = reset-more c xs; good = reset-good (estimatorOf c xs) g; answer = refl })
 
   -- ---- any list of calls
   record Run (xs : List Call) (e : RtoEstimator) : Type 0 where
@@ -294,8 +294,8 @@ module _ (c : RtoConfig) (h : configInBounds c ≡ true) (f : Doubles c) where
 
     -- what the calls that only read answer
     module _ (n : full (accepted xs) ≡ false) where
-      passes : callVerdict (estimatorOf c (accepted xs)) false ≡ Verdict.Accepted
-      passes = passes-accepted (estimatorOf c (accepted xs)) false (record { state = ran .good .state; counts = full-is c (accepted xs) ∙ n; held = ran .good .times; given = refl })
+      passes : callVerdict (estimatorOf c (accepted xs)) (heldTooLong (estimatorOf c (accepted xs))) ≡ Verdict.Accepted
+      passes = passes-accepted (estimatorOf c (accepted xs)) (heldTooLong (estimatorOf c (accepted xs))) (record { state = ran .good .state; counts = full-is c (accepted xs) ∙ n; times = ran .good .times })
 
       -- the limit is reached by as many timeouts since the last accepted sample or reset
       pub limit-reached : (most : ℕ) → hasExceededRetryLimit (afterCalls c xs) most ≡ Is (leb most (min (timeoutsSince (accepted xs)) maxConsecutive))

@@ -75,11 +75,13 @@ heldTooLong e =
     ltb maxDuration (e .«current_rto») || (ltb maxDuration (e .«base_rto») || (rttTooLong (e .stats .«min_rtt»)
     || (rttTooLong (e .stats .«max_rtt») || rttTooLong (e .stats .«latest_rtt»))))
 
--- ---- the checks of a call on an estimator; `late`: a time given with it is above its bound
+abbrev pub sampleTooLong : RtoEstimator → ℕ → Bool
+sampleTooLong e sample = heldTooLong e || ltb maxDuration sample
+
+-- ---- the checks of a call on an estimator; `late`: check 10
 abbrev pub callVerdict : RtoEstimator → Bool → Verdict
 callVerdict e late =
-    verdict
-    (check (stateBroken e) State ∷ check (countsFull (e .stats)) Counts ∷ check (heldTooLong e || late) Time ∷ [])
+    verdict (check (stateBroken e) State ∷ check (countsFull (e .stats)) Counts ∷ check late Time ∷ [])
 
 -- ---- making
 -- 1 s, 200 ms, 60 s, 1 ms, 1/8, 1/4, 4 and 1
@@ -279,7 +281,7 @@ updateResult e a = record { estimator = e; answer = a }
 
 unfoldable pub updateRtt : RtoEstimator → ℕ → Bool → UpdateResult
 updateRtt e sample again =
-    decide (callVerdict e (ltb maxDuration sample)) (λ r. updateResult e (Up.the-variants.Refused r))
+    decide (callVerdict e (sampleTooLong e sample)) (λ r. updateResult e (Up.the-variants.Refused r))
     (updateResult (updateRttUnchecked e sample again) (Up.the-variants.Accepted (not again)))
 
 abbrev pub timeoutResult : RtoEstimator → RtoAnswer → TimeoutResult
@@ -288,7 +290,7 @@ timeoutResult e a = record { estimator = e; answer = a }
 unfoldable pub onTimeout : RtoEstimator → TimeoutResult
 onTimeout e =
     let x = onTimeoutUnchecked e in
-    decide (callVerdict e false) (λ r. timeoutResult e (Ti.the-variants.Refused r))
+    decide (callVerdict e (heldTooLong e)) (λ r. timeoutResult e (Ti.the-variants.Refused r))
     (timeoutResult x (Ti.the-variants.Rto (x .«current_rto»)))
 
 abbrev pub resetResult : RtoEstimator → DoneAnswer → ResetResult
@@ -296,15 +298,15 @@ resetResult e a = record { estimator = e; answer = a }
 
 unfoldable pub resetBackoff : RtoEstimator → ResetResult
 resetBackoff e =
-    decide (callVerdict e false) (λ r. resetResult e (Re.the-variants.Refused r))
+    decide (callVerdict e (heldTooLong e)) (λ r. resetResult e (Re.the-variants.Refused r))
     (resetResult (resetBackoffUnchecked e) Re.the-variants.Done)
 
 unfoldable pub hasExceededRetryLimit : RtoEstimator → ℕ → TestAnswer
 hasExceededRetryLimit e n =
-    decide (callVerdict e false) (λ r. Li.the-variants.Refused r)
+    decide (callVerdict e (heldTooLong e)) (λ r. Li.the-variants.Refused r)
     (Li.the-variants.Is (leb n (e .«consecutive_timeouts»)))
 
 unfoldable pub meanRttMs : RtoEstimator → MeanAnswer
 meanRttMs e =
-    decide (callVerdict e false) (λ r. Me.the-variants.Refused r)
+    decide (callVerdict e (heldTooLong e)) (λ r. Me.the-variants.Refused r)
     (Me.the-variants.Millis (meanRttMsUnchecked (e .stats)))

@@ -11,10 +11,13 @@ use rtt::Estimate;
 ghost use mathlib.Core.Path.{_≡_};
 ghost use mathlib.Core.Bool.{true, false, _||_};
 ghost use Prim.Native.Nat.{_≤_, min, max};
+ghost use mathlib.Core.List.{[], _∷_};
 ghost use lib.Dec.{ltb};
+ghost use Rattle.refusal.specs.Order.{check, verdict};
+ghost use Rattle.refusal.specs.declared.Refusal.the-variants.{State, Counts, Time};
 ghost use Rattle.bounds.specs.Bounds.{maxDuration, maxEstimate};
 ghost use Rattle.rto.specs.Rto.{durationsInBounds, factorsInBounds, configInBounds};
-ghost use Rattle.rto.specs.Rto.{estimateBroken, stateBroken, countsFull, rttTooLong, heldTooLong, callVerdict};
+ghost use Rattle.rto.specs.Rto.{estimateBroken, stateBroken, countsFull, rttTooLong, heldTooLong, sampleTooLong};
 ghost use Rattle.rto.specs.Rto.{defaultConfig, noStats, fresh, firstOf, nextOf, estimateFor, minRtt, maxRtt};
 ghost use Rattle.rto.specs.Rto.{sampled, acceptSample, rejectSample, nextConsecutive};
 ghost use Rattle.rto.specs.Rto.{updateRttUnchecked, onTimeoutUnchecked, resetBackoffUnchecked};
@@ -137,7 +140,12 @@ impl RtoEstimator {
     pub fn update_rtt(self, sample: u64, is_retransmission: bool) -> UpdateResult
         ensures { λ r. ⌜ r ≡ updateRtt self sample «is_retransmission» ⌝ }
     {
-        match call_verdict(self, sample > MAX_DURATION) {
+        let stats = self.stats;
+        match call_verdict(
+            state_broken(self),
+            counts_full(stats),
+            sample_too_long(self, sample),
+        ) {
             Verdict::Refused(r) => UpdateResult {
                 estimator: self,
                 answer: UpdateAnswer::Refused(r),
@@ -153,7 +161,8 @@ impl RtoEstimator {
     pub fn on_timeout(self) -> TimeoutResult
         ensures { λ r. ⌜ r ≡ onTimeout self ⌝ }
     {
-        match call_verdict(self, false) {
+        let stats = self.stats;
+        match call_verdict(state_broken(self), counts_full(stats), held_too_long(self)) {
             Verdict::Refused(r) => TimeoutResult {
                 estimator: self,
                 answer: RtoAnswer::Refused(r),
@@ -171,7 +180,8 @@ impl RtoEstimator {
     pub fn reset_backoff(self) -> ResetResult
         ensures { λ r. ⌜ r ≡ resetBackoff self ⌝ }
     {
-        match call_verdict(self, false) {
+        let stats = self.stats;
+        match call_verdict(state_broken(self), counts_full(stats), held_too_long(self)) {
             Verdict::Refused(r) => ResetResult {
                 estimator: self,
                 answer: DoneAnswer::Refused(r),
@@ -186,7 +196,8 @@ impl RtoEstimator {
     pub fn has_exceeded_retry_limit(self, max_retries: u32) -> TestAnswer
         ensures { λ r. ⌜ r ≡ hasExceededRetryLimit self «max_retries» ⌝ }
     {
-        match call_verdict(self, false) {
+        let stats = self.stats;
+        match call_verdict(state_broken(self), counts_full(stats), held_too_long(self)) {
             Verdict::Refused(r) => TestAnswer::Refused(r),
             Verdict::Accepted => TestAnswer::Is(self.consecutive_timeouts >= max_retries),
         }
@@ -195,7 +206,8 @@ impl RtoEstimator {
     pub fn mean_rtt_ms(self) -> MeanAnswer
         ensures { λ r. ⌜ r ≡ meanRttMs self ⌝ }
     {
-        match call_verdict(self, false) {
+        let stats = self.stats;
+        match call_verdict(state_broken(self), counts_full(stats), held_too_long(self)) {
             Verdict::Refused(r) => MeanAnswer::Refused(r),
             Verdict::Accepted => MeanAnswer::Millis(self.mean_rtt_ms_unchecked()),
         }
@@ -279,19 +291,16 @@ pub fn config_in_bounds(c: RtoConfig) -> bool
     factors_in_bounds(c)
 }
 
-// Checks 9, 8 and 10 of a call; `late`: a time given with it is above its bound.
-fn call_verdict(e: RtoEstimator, late: bool) -> Verdict
-    ensures { λ r. ⌜ r ≡ callVerdict e late ⌝ }
+// Checks 9, 8 and 10 in their order. It takes their results: one that looked at the estimator itself was too large to
+// be inlined, and update_rtt took half as long again.
+fn call_verdict(broken: bool, full: bool, late: bool) -> Verdict
+    ensures { λ r. ⌜ r ≡ verdict (check broken State ∷ check full Counts ∷ check late Time ∷ []) ⌝ }
 {
-    let stats = e.stats;
-    if state_broken(e) {
+    if broken {
         return Verdict::Refused(Refusal::State);
     }
-    if counts_full(stats) {
+    if full {
         return Verdict::Refused(Refusal::Counts);
-    }
-    if held_too_long(e) {
-        return Verdict::Refused(Refusal::Time);
     }
     if late {
         return Verdict::Refused(Refusal::Time);
@@ -403,6 +412,15 @@ fn held_too_long(e: RtoEstimator) -> bool
         return true;
     }
     rtt_too_long(latest_rtt)
+}
+
+fn sample_too_long(e: RtoEstimator, sample: u64) -> bool
+    ensures { λ r. ⌜ r ≡ sampleTooLong e sample ⌝ }
+{
+    if held_too_long(e) {
+        return true;
+    }
+    sample > MAX_DURATION
 }
 
 fn rtt_too_long(r: MaybeDuration) -> bool

@@ -1,9 +1,19 @@
 use borrow.Author.Needs.{needs}
 use mathlib.Core.Path.{sym, _∙_}
 use Rattle.refusal.proofs.Laws.{on-accepted, on-refused}
-use Rattle.rto.specs.Rto.{hasExceededRetryLimit}
+use Rattle.rto.specs.Rto.{heldTooLong, hasExceededRetryLimit}
+use Rattle.rto.proofs.Checks.{verdict-on}
 use Rattle.rto.proofs.RtoEstimator.has_exceeded_retry_limit.Statement.{statement}
 use Rattle.rto.proofs.RtoEstimator.has_exceeded_retry_limit.Tie as tie
+
+state-broken-requires : tie.Need-state-broken-requires
+state-broken-requires c κs = search needs
+
+counts-full-requires : tie.Need-counts-full-requires
+counts-full-requires c κs = search needs
+
+held-too-long-requires : tie.Need-held-too-long-requires
+held-too-long-requires c κs = search needs
 
 call-verdict-requires : tie.Need-call-verdict-requires
 call-verdict-requires c κs = search needs
@@ -16,12 +26,21 @@ enum-told c = search needs
 
 returns : tie.Need-returns
 unfolding hasExceededRetryLimit
-returns c = sym (on-refused _ _ (sym (c .before .before .before .call-verdict .ensures) ∙ c .before .r .given .1))
+returns c = sym (on-refused _ _ (sym (verdict-on (c .before .before .before .before .before .before .before .before .args .self) (heldTooLong (c .before .before .before .before .before .before .before .before .args .self)) (c .before .before .before .call-verdict .ensures) (c .before .before .before .before .before .before .state-broken .ensures) (c .before .before .before .before .before .counts-full .ensures) (c .before .before .before .before .held-too-long .ensures)) ∙ c .before .r .given .1))
 
 returns-2 : tie.Need-returns-2
 unfolding hasExceededRetryLimit
-returns-2 c = sym (on-accepted _ _ (sym (c .before .before .before .call-verdict .ensures) ∙ c .before .enum-told .given .1))
+returns-2 c = sym (on-accepted _ _ (sym (verdict-on (c .before .before .before .before .before .before .before .before .args .self) (heldTooLong (c .before .before .before .before .before .before .before .before .args .self)) (c .before .before .before .call-verdict .ensures) (c .before .before .before .before .before .before .state-broken .ensures) (c .before .before .before .before .before .counts-full .ensures) (c .before .before .before .before .held-too-long .ensures)) ∙ c .before .enum-told .given .1))
 
 pub has-exceeded-retry-limit-spec : {M : Type 1} → statement M
 has-exceeded-retry-limit-spec =
-    tie.close (tie.spec call-verdict-requires enum-known-r enum-told returns returns-2)
+    tie.close
+    (tie.spec
+    state-broken-requires
+    counts-full-requires
+    held-too-long-requires
+    call-verdict-requires
+    enum-known-r
+    enum-told
+    returns
+    returns-2)
