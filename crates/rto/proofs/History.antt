@@ -10,7 +10,6 @@ use native.Mathlib.Omega.{arith}
 use lib.Dec.{leb, ltb}
 use lib.ListN.{length, length-append}
 use lib.Pow.{pow-pos}
-use lib.Ieee.{Float}
 use borrow.Author.Tests.{le-ltb, lt-ltb}
 use Rattle.bounds.specs.Bounds.{maxDuration}
 use Rattle.refusal.specs.Counts.{countFull}
@@ -21,14 +20,12 @@ use Rattle.refusal.specs.declared.Verdict.the-variants as Verdict
 use Rattle.refusal.specs.declared.DoneAnswer.the-variants.{Done}
 use Rattle.refusal.specs.declared.TestAnswer.the-variants.{Is}
 use Rattle.refusal.proofs.Laws.{on-accepted}
-use Rattle.rtt.specs.Rtt.{toMs}
 use Rattle.rtt.specs.declared.Estimate.{Estimate}
 use Rattle.rto.specs.Rto.{configInBounds, stateBroken, countsFull, heldTooLong, sampleTooLong, callVerdict, noStats, fresh, limited, estimateFor, minRtt, maxRtt, maxConsecutive, sampled, acceptSample, rejectSample, updateRttUnchecked, timedOut, onTimeoutUnchecked, resetBackoffUnchecked, updateResult, timeoutResult, resetResult, updateRtt, onTimeout, resetBackoff, hasExceededRetryLimit, mean, meanRttMsUnchecked, meanRttMs}
 use Rattle.rto.specs.History.{Call, sample, timeout, reset, step, afterCalls, updateRefused, timeoutRefused, resetRefused, isRefused, samples, count, isRejection, isTimeout, rejections, timeouts, since, timeoutsSince, mostSince, minOf, maxOf, latest, sumMs, estimateAfter, lastEstimate, srttOf, rttvarOf, baseRto, backedOff, estimatorOf, full, tooLong, accept, accepted}
 use Rattle.rto.specs.declared.RtoConfig.{RtoConfig}
 use Rattle.rto.specs.declared.RtoEstimator.{RtoEstimator}
-use Rattle.rto.specs.declared.MaybeDuration.{MaybeDuration}
-use Rattle.rto.specs.declared.MaybeDuration.the-variants.{Unset, Set}
+use Rattle.rto.specs.declared.MaybeDuration.the-variants.{Set}
 use Rattle.rto.specs.declared.UpdateResult.{UpdateResult}
 use Rattle.rto.specs.declared.TimeoutResult.{TimeoutResult}
 use Rattle.rto.specs.declared.ResetResult.{ResetResult}

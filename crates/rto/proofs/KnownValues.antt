@@ -1,7 +1,7 @@
 -- Document 01's proof sheet, R1 and R2, and the bounds' edges, by computation.
 use mathlib.Core.Path.{_≡_, refl}
 use mathlib.Core.Bool.{true, false}
-use mathlib.Core.List.{[], _∷_, foldl}
+use mathlib.Core.List.{[], _∷_}
 use Prim.Native.Nat.{ℕ, _+_}
 use lib.Dec.{lit≤}
 use lib.Ieee.{fits, add, sub, mul, div, ofInt, le, lt}

@@ -1,10 +1,10 @@
 -- RFC 6298, rule by rule, of the calls; where the reference departs from it is in docs/DIFFERENCES. Section 2 over exact numbers is
 -- rtt/specs/Rfc6298.antt.
-use mathlib.Core.Path.{_≡_, refl, sym, ap, ap₂, _∙_, subst}
+use mathlib.Core.Path.{_≡_, refl, sym, ap, ap₂, _∙_}
 use mathlib.Core.Bool.{true, false, _||_, true≢false}
 use mathlib.Core.List.{List, [], _∷_, foldl}
-use mathlib.Core.Option.{Option, none, some}
-use Prim.Native.Nat.{ℕ, zero, suc, _+_, _*_, _^_, _≤_, _<_, min, max}
+use mathlib.Core.Option.{Option, some}
+use Prim.Native.Nat.{ℕ, zero, suc, _+_, _*_, _^_, _≤_, min, max}
 use native.Mathlib.Nat.{le-trans, le-mul-of-pos-right, zero-lt-suc}
 use native.Mathlib.Omega.{arith}
 use lib.Dec.{ltb, lit≤}
@@ -22,9 +22,7 @@ use Rattle.rto.specs.Rto.{configInBounds, estimateBroken, countsFull, li
 use Rattle.rto.specs.History.{Call, afterCalls, samples, timeoutsSince, estimateAfter, lastEstimate, baseRto, backedOff, isLimited, estimatorOf, accepted}
 use Rattle.rto.specs.declared.RtoConfig.{RtoConfig}
 use Rattle.rto.specs.declared.RtoEstimator.{RtoEstimator}
-use Rattle.rto.specs.declared.MaybeDuration.{MaybeDuration}
 use Rattle.rto.specs.declared.MaybeDuration.the-variants.{Unset, Set}
-use Rattle.rto.specs.declared.UpdateResult.{UpdateResult}
 use Rattle.rto.specs.declared.UpdateAnswer.the-variants.{Accepted}
 use Rattle.rto.proofs.Checks.{config-of, broken-config, broken-estimate, estimates-fit}
 use Rattle.rto.proofs.Keeps.{Doubles, Good, limited-max, limited-min}

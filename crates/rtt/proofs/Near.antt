@@ -7,7 +7,7 @@ use mathlib.Core.Bool.{Bool, true, false, not, cond}
 use lib.IntN.{pos}
 use lib.Dec.{T, leb, ltb→lt, nltb→le, leb→le, nleb→lt, lit≤, lit<}
 use lib.Pow.{pow-pos}
-use lib.Ieee.{Float, nan, inf, fin, binary64, up, down, add, sub, mul, div, lt, ofInt}
+use lib.Ieee.{Float, fin, binary64, up, down, add, sub, mul, div, lt, ofInt}
 use lib.Ieee.Fits.{down-pos}
 use lib.Ieee.Nearest.{closest}
 use Rattle.bounds.specs.Bounds.{maxEstimate}

@@ -2,7 +2,7 @@
 ghost use mathlib.Core.Path.{_≡_};
 ghost use Prim.Native.Nat.{_≤_};
 ghost use lib.Dec.{T};
-ghost use lib.Ieee.{binary64, mul, div};
+ghost use lib.Ieee.{binary64, div};
 ghost use Rattle.bounds.specs.Bounds.{maxDuration, maxEstimate, maxGranularity};
 ghost use Rattle.float.specs.Sign.{unsigned};
 ghost use Rattle.float.specs.Roll.{chanceInBounds};
