@@ -24,7 +24,7 @@ ghost use Rattle.rto.specs.Rto.{updateRttUnchecked, onTimeoutUnchecked, 
 ghost use Rattle.rto.specs.Rto.{meanRttMsUnchecked, withConfig, updateRtt, onTimeout, resetBackoff};
 ghost use Rattle.rto.specs.Rto.{hasExceededRetryLimit, meanRttMs};
 
-// A u32 stops here.
+// The largest u32, where the count of consecutive timeouts stops.
 const MAX_CONSECUTIVE: u32 = 4_294_967_295;
 
 pub struct RtoConfig {
@@ -101,6 +101,15 @@ pub struct ResetResult {
 pub enum MeanAnswer {
     Millis(f64),
     Refused(Refusal),
+}
+
+pub fn config_in_bounds(c: RtoConfig) -> bool
+    ensures { λ r. ⌜ r ≡ configInBounds c ⌝ }
+{
+    if !durations_in_bounds(c) {
+        return false;
+    }
+    factors_in_bounds(c)
 }
 
 impl RtoConfig {
@@ -280,15 +289,6 @@ impl RtoEstimator {
         }
         stats.sum_rtt_millis / std::num::nearest_u64_to_f64(stats.sample_count)
     }
-}
-
-pub fn config_in_bounds(c: RtoConfig) -> bool
-    ensures { λ r. ⌜ r ≡ configInBounds c ⌝ }
-{
-    if !durations_in_bounds(c) {
-        return false;
-    }
-    factors_in_bounds(c)
 }
 
 // Checks 9, 8 and 10 in their order. It takes their results: one that looked at the estimator itself was too large to
