@@ -1,22 +1,24 @@
--- Document 01, "Invented tallies: .. from the history of calls": what any list of calls says of the estimator's tallies. The latest call stands first.
-use Prim.Native.Nat.{ℕ, suc, min, max}
+-- Document 01, "Links that would ruin a book": what any list of calls says of the estimator, each of its fields, from
+-- the accepted calls alone. The oldest call stands first.
+use Prim.Native.Nat.{ℕ, zero, suc, _*_, _^_, min, max}
 use mathlib.Core.Bool.{Bool, true, false, cond, _||_}
-use mathlib.Core.List.{List, [], _∷_, foldr}
+use mathlib.Core.List.{List, [], _∷_, _++_, foldr, foldl}
+use mathlib.Core.Option.{Option, none, some}
 use lib.Dec.{ltb}
 use lib.ListN.{length}
-use lib.IntN.{pos}
-use lib.Ieee.{Float, fin, binary64, add}
+use lib.Ieee.{Float, binary64, add}
 use Rattle.bounds.specs.Bounds.{maxDuration}
 use Rattle.refusal.specs.Counts.{countFull}
-use Rattle.rtt.specs.Rtt.{toMs}
+use Rattle.refusal.specs.declared.DoneAnswer as Re
+use Rattle.rtt.specs.Rtt.{zero64, toMs}
+use Rattle.rtt.specs.declared.Estimate.{Estimate}
 use Rattle.rto.specs.declared.RtoConfig.{RtoConfig}
 use Rattle.rto.specs.declared.RtoEstimator.{RtoEstimator}
 use Rattle.rto.specs.declared.MaybeDuration.{MaybeDuration}
 use Rattle.rto.specs.declared.MaybeDuration.the-variants.{Unset, Set}
 use Rattle.rto.specs.declared.UpdateAnswer as Up
 use Rattle.rto.specs.declared.RtoAnswer as Ti
-use Rattle.refusal.specs.declared.DoneAnswer as Re
-use Rattle.rto.specs.Rto.{fresh, updateRtt, onTimeout, resetBackoff}
+use Rattle.rto.specs.Rto.{maxConsecutive, limited, firstOf, nextOf, fresh, updateRtt, onTimeout, resetBackoff}
 
 -- `update_rtt` with the sample and whether it was retransmitted, `on_timeout`, `reset_backoff`
 pub data Call : Type 0 where
@@ -30,8 +32,7 @@ step e timeout = onTimeout e .estimator
 step e reset = resetBackoff e .estimator
 
 unfoldable pub afterCalls : RtoConfig → List Call → RtoEstimator
-afterCalls c [] = fresh c
-afterCalls c (x ∷ xs) = step (afterCalls c xs) x
+afterCalls c xs = foldl step (fresh c) xs
 
 -- whether an answer is a refusal
 abbrev pub updateRefused : Up.UpdateAnswer → Bool
@@ -51,8 +52,8 @@ isRefused e (sample d again) = updateRefused (updateRtt e d again .answer)
 isRefused e timeout = timeoutRefused (onTimeout e .answer)
 isRefused e reset = resetRefused (resetBackoff e .answer)
 
--- ---- the tallies of a list of accepted calls; nothing from here on looks at an estimator
--- the samples but the retransmitted ones, the latest first
+-- ---- what a list of accepted calls says; nothing from here on looks at an estimator
+-- the samples but the retransmitted ones
 unfoldable pub samples : List Call → List ℕ
 samples [] = []
 samples (sample d true ∷ xs) = samples xs
@@ -60,55 +61,119 @@ samples (sample d false ∷ xs) = d ∷ samples xs
 samples (timeout ∷ xs) = samples xs
 samples (reset ∷ xs) = samples xs
 
-unfoldable pub rejections : List Call → ℕ
-rejections [] = 0
-rejections (sample d true ∷ xs) = suc (rejections xs)
-rejections (sample d false ∷ xs) = rejections xs
-rejections (timeout ∷ xs) = rejections xs
-rejections (reset ∷ xs) = rejections xs
+unfoldable pub count : (Call → Bool) → List Call → ℕ
+count p [] = 0
+count p (x ∷ xs) = cond (p x) (suc (count p xs)) (count p xs)
 
-unfoldable pub timeouts : List Call → ℕ
-timeouts [] = 0
-timeouts (sample d again ∷ xs) = timeouts xs
-timeouts (timeout ∷ xs) = suc (timeouts xs)
-timeouts (reset ∷ xs) = timeouts xs
+abbrev pub isRejection : Call → Bool
+isRejection (sample d again) = again
+isRejection timeout = false
+isRejection reset = false
 
--- timeouts since the last reset or sample that was not retransmitted
+abbrev pub isTimeout : Call → Bool
+isTimeout (sample d again) = false
+isTimeout timeout = true
+isTimeout reset = false
+
+abbrev pub rejections : List Call → ℕ
+rejections xs = count isRejection xs
+
+abbrev pub timeouts : List Call → ℕ
+timeouts xs = count isTimeout xs
+
+-- timeouts since the last reset or sample that was not retransmitted: n of them before a call
+abbrev pub since : ℕ → Call → ℕ
+since n (sample d true) = n
+since n (sample d false) = 0
+since n timeout = suc n
+since n reset = 0
+
 unfoldable pub timeoutsSince : List Call → ℕ
-timeoutsSince [] = 0
-timeoutsSince (sample d true ∷ xs) = timeoutsSince xs
-timeoutsSince (sample d false ∷ xs) = 0
-timeoutsSince (timeout ∷ xs) = suc (timeoutsSince xs)
-timeoutsSince (reset ∷ xs) = 0
+timeoutsSince xs = foldl since 0 xs
 
--- and as `consecutive_timeouts`, a u32 that saturates
-abbrev pub consecutive : List Call → ℕ
-consecutive xs = min (timeoutsSince xs) 4294967295
-
--- the most that it was after any call
-unfoldable pub mostConsecutive : List Call → ℕ
-mostConsecutive [] = 0
-mostConsecutive (x ∷ xs) = max (mostConsecutive xs) (consecutive (x ∷ xs))
+-- the most that there were at any moment
+unfoldable pub mostSince : ℕ → List Call → ℕ
+mostSince n [] = n
+mostSince n (x ∷ xs) = max n (mostSince (since n x) xs)
 
 -- ---- of the samples
-unfoldable pub least : List ℕ → MaybeDuration
-least [] = Unset
-least (d ∷ ds) = Set (foldr min d ds)
+unfoldable pub minOf : List ℕ → MaybeDuration
+minOf [] = Unset
+minOf (d ∷ ds) = Set (foldr min d ds)
 
-unfoldable pub greatest : List ℕ → MaybeDuration
-greatest [] = Unset
-greatest (d ∷ ds) = Set (foldr max d ds)
+unfoldable pub maxOf : List ℕ → MaybeDuration
+maxOf [] = Unset
+maxOf (d ∷ ds) = Set (foldr max d ds)
 
 unfoldable pub latest : List ℕ → MaybeDuration
-latest [] = Unset
-latest (d ∷ ds) = Set d
+latest ds = foldl (λ (r : MaybeDuration) (d : ℕ). Set d) Unset ds
 
--- the running sum in ms, from 0.0, first sample first
+-- the running sum in ms, from 0.0
 unfoldable pub sumMs : List ℕ → Float
-sumMs [] = fin false 0 (pos 0)
-sumMs (d ∷ ds) = add binary64 (sumMs ds) (toMs d)
+sumMs ds = foldl (λ (s : Float) (d : ℕ). add binary64 s (toMs d)) zero64 ds
 
--- ---- the accepted calls of a list: not one after a counter has reached its bound (line 8), nor one with a sample above its bound (line 10)
+-- (2.2) for the first sample, (2.3) for each later one
+abbrev pub estimateAfter : RtoConfig → Option Estimate → ℕ → Estimate
+estimateAfter c none d = firstOf c d
+estimateAfter c (some x) d = nextOf c (x .srtt) (x .rttvar) d
+
+unfoldable pub lastEstimate : RtoConfig → List ℕ → Option Estimate
+lastEstimate c ds = foldl (λ (x : Option Estimate) (d : ℕ). some (estimateAfter c x d)) none ds
+
+abbrev pub srttOf : Option Estimate → MaybeDuration
+srttOf none = Unset
+srttOf (some x) = Set (x .srtt)
+
+abbrev pub rttvarOf : Option Estimate → MaybeDuration
+rttvarOf none = Unset
+rttvarOf (some x) = Set (x .rttvar)
+
+-- ---- the RTO
+-- before the first sample the initial one, which the limits don't touch; then the last sample's, within the limits
+abbrev pub baseRto : RtoConfig → Option Estimate → ℕ
+baseRto c none = c .«initial_rto»
+baseRto c (some x) = limited c (x .rto)
+
+-- (5.5): after n timeouts, doubled n times, at least the minimum from the first timeout on, at most the maximum
+abbrev pub backedOff : RtoConfig → ℕ → ℕ → ℕ
+backedOff c base zero = base
+backedOff c base (suc n) = min (max (base * 2) (c .«min_rto») * 2 ^ n) (c .«max_rto»)
+
+-- whether a sample was accepted, or a timeout since the last reset: then the RTO lies within its limits, else it is the
+-- initial one
+unfoldable pub isLimited : List Call → Bool
+isLimited xs = ltb 0 (length (samples xs)) || ltb 0 (timeoutsSince xs)
+
+-- ---- the whole estimator
+unfoldable pub estimatorOf : RtoConfig → List Call → RtoEstimator
+estimatorOf c xs =
+    let ds = samples xs in
+    let x = lastEstimate c ds in
+    let n = timeoutsSince xs in
+    record {
+      config = c;
+      srtt = srttOf x;
+      rttvar = rttvarOf x;
+      «current_rto» = backedOff c (baseRto c x) n;
+      «base_rto» = baseRto c x;
+      «in_backoff» = ltb 0 n;
+      «consecutive_timeouts» = min n maxConsecutive;
+      stats =
+          record {
+            «sample_count» = length ds;
+            «karn_rejected_count» = rejections xs;
+            «timeout_count» = timeouts xs;
+            «backoff_count» = timeouts xs;
+            «min_rtt» = minOf ds;
+            «max_rtt» = maxOf ds;
+            «sum_rtt_millis» = sumMs ds;
+            «latest_rtt» = latest ds;
+            «max_consecutive_timeouts» = min (mostSince 0 xs) maxConsecutive;
+          };
+    }
+
+-- ---- the accepted calls of a list: none after a counter has reached its bound (check 8), and none with a sample above
+-- its bound (check 10)
 unfoldable pub full : List Call → Bool
 full xs = countFull (length (samples xs)) || (countFull (rejections xs) || countFull (timeouts xs))
 
@@ -117,6 +182,9 @@ tooLong (sample d again) = ltb maxDuration d
 tooLong timeout = false
 tooLong reset = false
 
+-- xs being the accepted calls before x
+unfoldable pub accept : List Call → Call → List Call
+accept xs x = cond (full xs || tooLong x) xs (xs ++ (x ∷ []))
+
 unfoldable pub accepted : List Call → List Call
-accepted [] = []
-accepted (x ∷ xs) = cond (full (accepted xs) || tooLong x) (accepted xs) (x ∷ accepted xs)
+accepted xs = foldl accept [] xs

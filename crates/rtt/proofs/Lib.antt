@@ -1,2 +1,4 @@
-pub mod Range
+pub mod Near
 pub mod FirstSample
+pub mod Range
+pub mod Section2

@@ -1,7 +1,8 @@
--- RFC 6298, section 2, on nanoseconds, worked out in doubles of milliseconds in the order of the reference's `update_rtt`.
+-- RFC 6298, section 2, on nanoseconds, worked out in doubles of milliseconds in the order of the reference's
+-- `update_rtt`. Rfc6298.antt has the section over exact numbers.
 use Prim.Native.Nat.{ℕ}
 use mathlib.Core.Bool.{Bool, false, _&&_, cond}
-use lib.IntN.{pos}
+use lib.IntN.{pos, negsuc}
 use lib.Ieee.{Float, fin, binary64, add, sub, mul, div, le, lt}
 use Rattle.float.specs.Sign.{absolute}
 use Rattle.duration.specs.Duration.{asSecsF64, fromSecsF64}
@@ -23,7 +24,17 @@ sixteen64 = fin false 1 (pos 4)
 abbrev pub thousand64 : Float
 thousand64 = fin false 125 (pos 3)
 
--- "k and multiplier 0 to 16; negative zero is zero"
+-- RFC 6298's alpha, beta and K: 1/8, 1/4 and 4.0
+abbrev pub eighth64 : Float
+eighth64 = fin false 1 (negsuc 2)
+
+abbrev pub quarter64 : Float
+quarter64 = fin false 1 (negsuc 1)
+
+abbrev pub four64 : Float
+four64 = fin false 1 (pos 2)
+
+-- k and the multiplier lie from 0 to 16; -0.0 passes
 abbrev pub factorInBounds : Float → Bool
 factorInBounds x = le zero64 x && le x sixteen64
 
@@ -48,8 +59,11 @@ larger x y = cond (lt x y) y x
 abbrev pub rtoMs : Float → ℕ → Float → Float → Float
 rtoMs k g srtt rttvar = add binary64 srtt (larger (mul binary64 k rttvar) (toMs g))
 
+abbrev pub unlimitedMs : Float → Float → ℕ → Float → Float → Float
+unlimitedMs k multiplier g srtt rttvar = mul binary64 (rtoMs k g srtt rttvar) multiplier
+
 abbrev pub unlimitedRto : Float → Float → ℕ → Float → Float → ℕ
-unlimitedRto k multiplier g srtt rttvar = fromMs (mul binary64 (rtoMs k g srtt rttvar) multiplier)
+unlimitedRto k multiplier g srtt rttvar = fromMs (unlimitedMs k multiplier g srtt rttvar)
 
 -- (2.3): RTTVAR with the old SRTT, and SRTT
 abbrev pub nextRttvarMs : Float → ℕ → ℕ → ℕ → Float
@@ -67,10 +81,12 @@ estimate srtt rttvar rto = record { srtt = srtt; rttvar = rttvar; rto = rto }
 
 -- SRTT and RTTVAR to the nearest nanosecond, and the RTO before its limits, from milliseconds
 abbrev pub estimateOf : Float → Float → ℕ → Float → Float → Estimate
-estimateOf k multiplier g srtt rttvar = estimate (fromMs srtt) (fromMs rttvar) (unlimitedRto k multiplier g srtt rttvar)
+estimateOf k multiplier g srtt rttvar =
+    estimate (fromMs srtt) (fromMs rttvar) (unlimitedRto k multiplier g srtt rttvar)
 
 unfoldable pub firstEstimate : Float → Float → ℕ → ℕ → Estimate
 firstEstimate k multiplier g sample = estimateOf k multiplier g (toMs sample) (firstRttvarMs sample)
 
 unfoldable pub nextEstimate : Float → Float → Float → Float → ℕ → ℕ → ℕ → ℕ → Estimate
-nextEstimate alpha beta k multiplier g srtt rttvar sample = estimateOf k multiplier g (nextSrttMs alpha srtt sample) (nextRttvarMs beta rttvar srtt sample)
+nextEstimate alpha beta k multiplier g srtt rttvar sample =
+    estimateOf k multiplier g (nextSrttMs alpha srtt sample) (nextRttvarMs beta rttvar srtt sample)

@@ -2,13 +2,21 @@
 ghost use mathlib.Core.Path.{_≡_};
 ghost use Prim.Native.Nat.{_≤_};
 ghost use lib.Dec.{T};
-ghost use lib.Ieee.{binary64, mul, div};
-ghost use Rattle.bounds.specs.Bounds.{maxDuration, maxEstimate};
+ghost use lib.Ieee.{binary64, div};
+ghost use Rattle.bounds.specs.Bounds.{maxDuration, maxEstimate, maxGranularity};
 ghost use Rattle.float.specs.Sign.{unsigned};
 ghost use Rattle.float.specs.Roll.{chanceInBounds};
 ghost use Rattle.duration.specs.Duration.{secsInBounds};
 ghost use Rattle.rtt.specs.Rtt as Rtt;
-ghost use Rattle.rtt.specs.Rtt.{thousand64, factorInBounds, toMs, fromMs, rtoMs, estimateOf, firstEstimate, nextEstimate};
+ghost use Rattle.rtt.specs.Rtt.{thousand64, factorInBounds, toMs, fromMs, rtoMs};
+ghost use Rattle.rtt.specs.Rtt.{unlimitedMs, estimateOf, firstEstimate, nextEstimate};
+
+// SRTT and RTTVAR in nanoseconds, and the RTO before its limits.
+pub struct Estimate {
+    pub srtt: u64,
+    pub rttvar: u64,
+    pub rto: u64,
+}
 
 // 0 <= x <= 16; -0.0 is in bounds, a NaN is not.
 pub fn factor_in_bounds(x: f64) -> bool
@@ -26,11 +34,63 @@ pub fn to_ms(ns: u64) -> f64
     duration::as_secs_f64(ns) * 1000.0
 }
 
-fn from_ms(x: f64) -> u64
-    requires { ⌜ T (secsInBounds (div binary64 x thousand64)) ⌝ }
-    ensures { λ r. ⌜ r ≡ fromMs x ⌝ }
+pub fn first_estimate_unchecked(k: f64, multiplier: f64, granularity: u64, sample: u64) -> Estimate
+    requires { ⌜ T (factorInBounds k) × T (factorInBounds multiplier) × (granularity ≤ maxGranularity)
+        × (sample ≤ maxDuration) ⌝ }
+    ensures { λ r. ⌜ r ≡ firstEstimate k multiplier granularity sample ⌝ }
 {
-    duration::from_secs_f64_unchecked(x / 1000.0)
+    let sample_ms = to_ms(sample);
+    estimate_from(k, multiplier, granularity, sample_ms, sample_ms / 2.0)
+}
+
+// RTTVAR first, from the old SRTT.
+pub fn next_estimate_unchecked(
+    alpha: f64,
+    beta: f64,
+    k: f64,
+    multiplier: f64,
+    granularity: u64,
+    srtt: u64,
+    rttvar: u64,
+    sample: u64,
+) -> Estimate
+    requires { ⌜ T (chanceInBounds alpha) × T (chanceInBounds beta) × T (factorInBounds k)
+        × T (factorInBounds multiplier) × (granularity ≤ maxGranularity) × (srtt ≤ maxEstimate)
+        × (rttvar ≤ maxEstimate) × (sample ≤ maxDuration) ⌝ }
+    ensures { λ r. ⌜ r ≡ nextEstimate alpha beta k multiplier granularity srtt rttvar sample ⌝ }
+{
+    let sample_ms = to_ms(sample);
+    let srtt_ms = to_ms(srtt);
+    let new_rttvar_ms = weighted(beta, to_ms(rttvar), distance(srtt_ms, sample_ms));
+    let new_srtt_ms = weighted(alpha, srtt_ms, sample_ms);
+    estimate_from(k, multiplier, granularity, new_srtt_ms, new_rttvar_ms)
+}
+
+fn estimate_from(
+    k: f64,
+    multiplier: f64,
+    granularity: u64,
+    srtt_ms: f64,
+    rttvar_ms: f64,
+) -> Estimate
+    requires { ⌜ T (secsInBounds (div binary64 «srtt_ms» thousand64))
+        × T (secsInBounds (div binary64 «rttvar_ms» thousand64))
+        × T (secsInBounds (div binary64 (unlimitedMs k multiplier granularity «srtt_ms» «rttvar_ms») thousand64)) ⌝ }
+    ensures { λ r. ⌜ r ≡ estimateOf k multiplier granularity «srtt_ms» «rttvar_ms» ⌝ }
+{
+    let rto = from_ms(rto_ms(k, granularity, srtt_ms, rttvar_ms) * multiplier);
+    Estimate {
+        srtt: from_ms(srtt_ms),
+        rttvar: from_ms(rttvar_ms),
+        rto,
+    }
+}
+
+// The RTO in ms before its limits.
+fn rto_ms(k: f64, granularity: u64, srtt_ms: f64, rttvar_ms: f64) -> f64
+    ensures { λ r. ⌜ r ≡ rtoMs k granularity «srtt_ms» «rttvar_ms» ⌝ }
+{
+    srtt_ms + larger(k * rttvar_ms, to_ms(granularity))
 }
 
 fn weighted(w: f64, x: f64, y: f64) -> f64
@@ -53,63 +113,9 @@ fn larger(x: f64, y: f64) -> f64
     if x < y { y } else { x }
 }
 
-// The RTO in ms before its limits.
-fn rto_ms(k: f64, granularity: u64, srtt_ms: f64, rttvar_ms: f64) -> f64
-    ensures { λ r. ⌜ r ≡ rtoMs k granularity «srtt_ms» «rttvar_ms» ⌝ }
+fn from_ms(x: f64) -> u64
+    requires { ⌜ T (secsInBounds (div binary64 x thousand64)) ⌝ }
+    ensures { λ r. ⌜ r ≡ fromMs x ⌝ }
 {
-    srtt_ms + larger(k * rttvar_ms, to_ms(granularity))
-}
-
-// SRTT and RTTVAR in nanoseconds, and the RTO before its limits.
-pub struct Estimate {
-    pub srtt: u64,
-    pub rttvar: u64,
-    pub rto: u64,
-}
-
-fn estimate_from(
-    k: f64,
-    multiplier: f64,
-    granularity: u64,
-    srtt_ms: f64,
-    rttvar_ms: f64,
-) -> Estimate
-    requires { ⌜ T (secsInBounds (div binary64 «srtt_ms» thousand64)) × T (secsInBounds (div binary64 «rttvar_ms» thousand64)) × T (secsInBounds (div binary64 (mul binary64 (rtoMs k granularity «srtt_ms» «rttvar_ms») multiplier) thousand64)) ⌝ }
-    ensures { λ r. ⌜ r ≡ estimateOf k multiplier granularity «srtt_ms» «rttvar_ms» ⌝ }
-{
-    let rto = from_ms(rto_ms(k, granularity, srtt_ms, rttvar_ms) * multiplier);
-    Estimate {
-        srtt: from_ms(srtt_ms),
-        rttvar: from_ms(rttvar_ms),
-        rto,
-    }
-}
-
-pub fn first_estimate_unchecked(k: f64, multiplier: f64, granularity: u64, sample: u64) -> Estimate
-    requires { ⌜ T (factorInBounds k) × T (factorInBounds multiplier) × (granularity ≤ 1000000000) × (sample ≤ maxDuration) ⌝ }
-    ensures { λ r. ⌜ r ≡ firstEstimate k multiplier granularity sample ⌝ }
-{
-    let sample_ms = to_ms(sample);
-    estimate_from(k, multiplier, granularity, sample_ms, sample_ms / 2.0)
-}
-
-// RTTVAR first, from the old SRTT.
-pub fn next_estimate_unchecked(
-    alpha: f64,
-    beta: f64,
-    k: f64,
-    multiplier: f64,
-    granularity: u64,
-    srtt: u64,
-    rttvar: u64,
-    sample: u64,
-) -> Estimate
-    requires { ⌜ T (chanceInBounds alpha) × T (chanceInBounds beta) × T (factorInBounds k) × T (factorInBounds multiplier) × (granularity ≤ 1000000000) × (srtt ≤ maxEstimate) × (rttvar ≤ maxEstimate) × (sample ≤ maxDuration) ⌝ }
-    ensures { λ r. ⌜ r ≡ nextEstimate alpha beta k multiplier granularity srtt rttvar sample ⌝ }
-{
-    let sample_ms = to_ms(sample);
-    let srtt_ms = to_ms(srtt);
-    let new_rttvar_ms = weighted(beta, to_ms(rttvar), distance(srtt_ms, sample_ms));
-    let new_srtt_ms = weighted(alpha, srtt_ms, sample_ms);
-    estimate_from(k, multiplier, granularity, new_srtt_ms, new_rttvar_ms)
+    duration::from_secs_f64_unchecked(x / 1000.0)
 }

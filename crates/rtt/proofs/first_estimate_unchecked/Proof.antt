@@ -7,15 +7,14 @@ use native.Mathlib.Nat.{le-trans}
 use lib.Dec.{lit≤}
 use Rattle.duration.specs.Duration.{secsInBounds}
 use Rattle.rtt.specs.Rtt.{thousand64, two64, toMs, rtoMs, firstRttvarMs, estimateOf, firstEstimate}
-use Rattle.rtt.proofs.Range.{first-fits}
-use Rattle.rtt.proofs.Range.{Fits}
+use Rattle.rtt.proofs.Range.{Fits, first-fits}
 use Rattle.rtt.proofs.first_estimate_unchecked.Statement.{statement}
 use Rattle.rtt.proofs.first_estimate_unchecked.Tie as tie
 
 to-ms-requires : tie.Need-to-ms-requires
 to-ms-requires c κs = search needs
 
-known : (s : tie.Start) → Fits (s .args .k) (s .args .multiplier) (s .args .granularity) (passes _ (s .good .0 .1)) (passes _ (s .good .1 .0 .1)) (s .pre .0) (s .pre .1) (s .pre .2) (toMs (s .args .sample)) (firstRttvarMs (s .args .sample))
+known : (s : tie.Start) → Fits (s .args .k) (s .args .multiplier) (s .args .granularity) (toMs (s .args .sample)) (firstRttvarMs (s .args .sample))
 known s = first-fits (s .args .k) (s .args .multiplier) (s .args .granularity) (passes _ (s .good .0 .1)) (passes _ (s .good .1 .0 .1)) (s .pre .0) (s .pre .1) (s .pre .2) (s .args .sample) (le-trans (s .pre .3) (lit≤ tt))
 
 estimate-from-requires : tie.Need-estimate-from-requires

@@ -8,7 +8,8 @@ use lib.Dec.{lit≤}
 use Rattle.float.specs.Sign.{unsigned}
 use Rattle.duration.specs.Duration.{secsInBounds}
 use Rattle.rtt.specs.Rtt.{thousand64, weighted, distance, rtoMs, nextSrttMs, nextRttvarMs, estimateOf, nextEstimate}
-use Rattle.rtt.proofs.Range.{next-fits, ms-unsigned}
+use Rattle.rtt.proofs.Near.{ms-unsigned}
+use Rattle.rtt.proofs.Range.{next-fits}
 use Rattle.rtt.proofs.next_estimate_unchecked.Statement.{statement}
 use Rattle.rtt.proofs.next_estimate_unchecked.Tie as tie
 

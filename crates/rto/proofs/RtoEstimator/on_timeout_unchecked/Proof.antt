@@ -1,21 +1,21 @@
 use borrow.Author.Needs.{needs}
+use native.Mathlib.Omega.{arith}
+use Rattle.rto.specs.Rto.{timedOut, onTimeoutUnchecked}
+use Rattle.rto.proofs.Checks.{count-below}
 use Rattle.rto.proofs.RtoEstimator.on_timeout_unchecked.Statement.{statement}
 use Rattle.rto.proofs.RtoEstimator.on_timeout_unchecked.Tie as tie
-use native.Mathlib.Omega.{arith}
-use Rattle.rto.specs.Rto.{onTimeoutUnchecked}
-use Rattle.rto.proofs.Checks.{count-below}
 
 next-consecutive-requires : tie.Need-next-consecutive-requires
 next-consecutive-requires c κs = search needs
 
-most-consecutive-requires : tie.Need-most-consecutive-requires
-most-consecutive-requires c κs = search needs
-
 add-stats : tie.Need-add-stats
-add-stats c = let s = c .before .before .before .before .before in omega (arith, count-below (s .args .self .stats) (s .pre .0) .timeout)
+add-stats c = omega (arith, count-below (c .before .before .before .args .self .stats) (c .before .before .before .pre .0) .timeout)
 
 add-stats-2 : tie.Need-add-stats-2
-add-stats-2 c = let s = c .before .before .before .before .before .before in omega (arith, count-below (s .args .self .stats) (s .pre .0) .backoff)
+add-stats-2 c = omega (arith, count-below (c .before .before .before .before .args .self .stats) (c .before .before .before .before .pre .0) .backoff)
+
+max-u32-requires : tie.Need-max-u32-requires
+max-u32-requires c κs = search needs
 
 mul-limit : tie.Need-mul-limit
 mul-limit c = search needs
@@ -24,17 +24,17 @@ limit-requires : tie.Need-limit-requires
 limit-requires c κs = search needs
 
 returns : tie.Need-returns
-unfolding onTimeoutUnchecked
-returns c = simp (c .limit .ensures, c .before .before .before .before .most-consecutive .ensures, c .before .before .before .before .before .next-consecutive .ensures)
+unfolding onTimeoutUnchecked timedOut
+returns c = simp (c .limit .ensures, c .before .before .max-u32 .ensures, c .before .before .before .before .before .before .next-consecutive .ensures)
 
 pub on-timeout-unchecked-spec : {M : Type 1} → statement M
 on-timeout-unchecked-spec =
     tie.close
     (tie.spec
     next-consecutive-requires
-    most-consecutive-requires
     add-stats
     add-stats-2
+    max-u32-requires
     mul-limit
     limit-requires
     returns)
