@@ -12,7 +12,7 @@ use lib.ListN.{length, getD, take, drop, set, length-append, length-drop}
 use lib.Seq.{length-take-le, take-suc, drop-cons, set-append-seam, getD-append-add, getD-drop}
 use borrow.Author.Tests.{le-leb, lt-leb, lt-ltb, le-ltb, ltb-true, ltb-false}
 use Rattle.multi_timer.specs.Map.{Entry, entry, entriesOf, keysOf, deadlinesOf, keep, due, pending}
-use Rattle.multi_timer.specs.Search.{dueIn, Partitioned}
+use Rattle.multi_timer.specs.Internal.{dueIn, Partitioned}
 use Rattle.multi_timer.proofs.Sorted.{keys-entries, length-keys, length-deadlines}
 
 -- ---- one more entry

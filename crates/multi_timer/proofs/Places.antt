@@ -11,24 +11,24 @@ use lib.Seq.{length-take-le, take-take, drop-drop, getD-take, set-append-left}
 use borrow.Rule.Slice.PartMut.{putMid, post-is}
 use Rattle.octets.proofs.Laws.{tail-is, tail-back}
 use Rattle.multi_timer.specs.Map.{Entry, entriesOf, keysOf, deadlinesOf, lookup, put, remove}
-use Rattle.multi_timer.specs.Search.{searchIn, insertedAt, removedAt, clearedIn}
-use Rattle.multi_timer.specs.MultiTimer.{laid}
+use Rattle.multi_timer.specs.Internal.{searchIn, insertedAt, removedAt, clearedIn}
+use Rattle.multi_timer.specs.MultiTimer.{replaced}
 use Rattle.multi_timer.specs.declared.KeyPosition.{KeyPosition}
 use Rattle.multi_timer.specs.declared.KeyPosition.the-variants.{At, Absent}
-use Rattle.multi_timer.proofs.Checks.{Good}
+use Rattle.multi_timer.proofs.Verdicts.{Good}
 use Rattle.multi_timer.proofs.Sorted.{PutIs, put-is, RemoveIs, remove-is, LookupIs, lookup-is, length-keys}
 
 -- ---- n entries that give way to as many, one more, one fewer, or to fewer
 module _ (new old : List ℕ) (n : ℕ) where
-  pub laid-fewer : length new ≤ n → laid new n old ≡ new ++ (replicate (n - length new) 0 ++ drop n old)
-  unfolding laid
-  laid-fewer h = ap (λ (m : ℕ). new ++ (replicate (n - length new) 0 ++ drop m old)) (largest (length new) h)
+  pub replaced-fewer : length new ≤ n → replaced new n old ≡ new ++ (replicate (n - length new) 0 ++ drop n old)
+  unfolding replaced
+  replaced-fewer h = ap (λ (m : ℕ). new ++ (replicate (n - length new) 0 ++ drop m old)) (largest (length new) h)
     where
       largest : (m : ℕ) → m ≤ n → max n m ≡ n
       largest m h = omega arith
 
-  pub laid-same : length new ≡ n → laid new n old ≡ new ++ drop n old
-  laid-same e = laid-fewer (fewer e) ∙ ap (λ (m : ℕ). new ++ (replicate m 0 ++ drop n old)) (no-more e)
+  pub replaced-same : length new ≡ n → replaced new n old ≡ new ++ drop n old
+  replaced-same e = replaced-fewer (fewer e) ∙ ap (λ (m : ℕ). new ++ (replicate m 0 ++ drop n old)) (no-more e)
     where
       fewer : length new ≡ n → length new ≤ n
       fewer e = omega arith
@@ -36,9 +36,9 @@ module _ (new old : List ℕ) (n : ℕ) where
       no-more : length new ≡ n → n - length new ≡ 0
       no-more e = omega arith
 
-  pub laid-more : length new ≡ suc n → laid new n old ≡ new ++ drop (suc n) old
-  unfolding laid
-  laid-more e = ap₂ (λ (k m : ℕ). new ++ (replicate k 0 ++ drop m old)) (no-more (length new) e) (largest (length new) e)
+  pub replaced-more : length new ≡ suc n → replaced new n old ≡ new ++ drop (suc n) old
+  unfolding replaced
+  replaced-more e = ap₂ (λ (k m : ℕ). new ++ (replicate k 0 ++ drop m old)) (no-more (length new) e) (largest (length new) e)
     where
       no-more : (m : ℕ) → m ≡ suc n → n - m ≡ 0
       no-more m e = omega arith
@@ -46,8 +46,8 @@ module _ (new old : List ℕ) (n : ℕ) where
       largest : (m : ℕ) → m ≡ suc n → max n m ≡ suc n
       largest m e = omega arith
 
-  pub laid-less : suc (length new) ≡ n → laid new n old ≡ new ++ 0 ∷ drop n old
-  laid-less e = laid-fewer (fewer e) ∙ ap (λ (m : ℕ). new ++ (replicate m 0 ++ drop n old)) (one-more e)
+  pub replaced-less : suc (length new) ≡ n → replaced new n old ≡ new ++ 0 ∷ drop n old
+  replaced-less e = replaced-fewer (fewer e) ∙ ap (λ (m : ℕ). new ++ (replicate m 0 ++ drop n old)) (one-more e)
     where
       fewer : suc (length new) ≡ n → length new ≤ n
       fewer e = omega arith
@@ -145,12 +145,12 @@ module _ (n : ℕ) (ks ds : List ℕ) (g : Good n ks ds) where
     pub absent-bound : Absent p ≡ searchIn key K → p ≤ n
     absent-bound e = subst (λ (m : ℕ). p ≤ m) nk (put-absent e .bound)
 
-    pub kept-keys : At p ≡ searchIn key K → laid (keysOf E) n ks ≡ ks
-    kept-keys e = ap (λ (t : List ℕ). laid t n ks) (put-at e .keys) ∙ laid-same K ks n nk ∙ take-append-drop n ks
+    pub kept-keys : At p ≡ searchIn key K → replaced (keysOf E) n ks ≡ ks
+    kept-keys e = ap (λ (t : List ℕ). replaced t n ks) (put-at e .keys) ∙ replaced-same K ks n nk ∙ take-append-drop n ks
 
-    pub kept-deadlines : At p ≡ searchIn key K → laid (deadlinesOf E) n ds ≡ set ds p d
+    pub kept-deadlines : At p ≡ searchIn key K → replaced (deadlinesOf E) n ds ≡ set ds p d
     kept-deadlines e =
-        ap (λ (t : List ℕ). laid t n ds) (put-at e .deadlines) ∙ laid-same (set D p d) ds n (length-set D p d ∙ nd)
+        ap (λ (t : List ℕ). replaced t n ds) (put-at e .deadlines) ∙ replaced-same (set D p d) ds n (length-set D p d ∙ nd)
         ∙ sym (set-append-left D (drop n ds) p d (subst (λ (m : ℕ). p < m) (sym nd) (at-bound key p e))) ∙ ap (λ (t : List ℕ). set t p d) (take-append-drop n ds)
 
     pub kept-count : At p ≡ searchIn key K → length E ≡ n
@@ -159,15 +159,15 @@ module _ (n : ℕ) (ks ds : List ℕ) (g : Good n ks ds) where
     more : (xs : List ℕ) (v : ℕ) → length xs ≡ n → p ≤ n → length (take p xs ++ v ∷ drop p xs) ≡ suc n
     more xs v e h = let q : length (take p xs ++ v ∷ drop p xs) ≡ length (take p xs) + suc (length (drop p xs)) = length-append (take p xs) (v ∷ drop p xs) in let a : length (take p xs) ≡ p = length-take-le p xs (subst (λ (m : ℕ). p ≤ m) (sym e) h) in let b = length-drop p xs in omega arith
 
-    pub inserted-keys : Absent p ≡ searchIn key K → laid (keysOf E) n ks ≡ insertedAt p n key ks
+    pub inserted-keys : Absent p ≡ searchIn key K → replaced (keysOf E) n ks ≡ insertedAt p n key ks
     inserted-keys e =
         let h = absent-bound e in
-        ap (λ (t : List ℕ). laid t n ks) (put-absent e .keys) ∙ laid-more (take p K ++ key ∷ drop p K) ks n (more K key nk h) ∙ inserted-list key p n ks h
+        ap (λ (t : List ℕ). replaced t n ks) (put-absent e .keys) ∙ replaced-more (take p K ++ key ∷ drop p K) ks n (more K key nk h) ∙ inserted-list key p n ks h
 
-    pub inserted-deadlines : Absent p ≡ searchIn key K → laid (deadlinesOf E) n ds ≡ insertedAt p n d ds
+    pub inserted-deadlines : Absent p ≡ searchIn key K → replaced (deadlinesOf E) n ds ≡ insertedAt p n d ds
     inserted-deadlines e =
         let h = absent-bound e in
-        ap (λ (t : List ℕ). laid t n ds) (put-absent e .deadlines) ∙ laid-more (take p D ++ d ∷ drop p D) ds n (more D d nd h) ∙ inserted-list d p n ds h
+        ap (λ (t : List ℕ). replaced t n ds) (put-absent e .deadlines) ∙ replaced-more (take p D ++ d ∷ drop p D) ds n (more D d nd h) ∙ inserted-list d p n ds h
 
     pub inserted-count : Absent p ≡ searchIn key K → length E ≡ n + 1
     inserted-count e = sym (length-keys E) ∙ ap length (put-absent e .keys) ∙ more K key nk (absent-bound e) ∙ sym (add-one n)
@@ -185,11 +185,11 @@ module _ (n : ℕ) (ks ds : List ℕ) (g : Good n ks ds) where
     less : (xs : List ℕ) → length xs ≡ n → p < n → suc (length (take p xs ++ drop (suc p) xs)) ≡ n
     less xs e h = let q : length (take p xs ++ drop (suc p) xs) ≡ length (take p xs) + length (drop (suc p) xs) = length-append (take p xs) (drop (suc p) xs) in let a : length (take p xs) ≡ p = length-take-le p xs (subst (λ (m : ℕ). p ≤ m) (sym e) (le-of-lt h)) in let b = length-drop (suc p) xs in omega arith
 
-    pub removed-keys : At p ≡ searchIn key K → laid (keysOf R) n ks ≡ removedAt p n ks
-    removed-keys e = let h = at-bound key p e in ap (λ (t : List ℕ). laid t n ks) (remove-at e .keys) ∙ laid-less (take p K ++ drop (suc p) K) ks n (less K nk h) ∙ removed-list p n ks h
+    pub removed-keys : At p ≡ searchIn key K → replaced (keysOf R) n ks ≡ removedAt p n ks
+    removed-keys e = let h = at-bound key p e in ap (λ (t : List ℕ). replaced t n ks) (remove-at e .keys) ∙ replaced-less (take p K ++ drop (suc p) K) ks n (less K nk h) ∙ removed-list p n ks h
 
-    pub removed-deadlines : At p ≡ searchIn key K → laid (deadlinesOf R) n ds ≡ removedAt p n ds
-    removed-deadlines e = let h = at-bound key p e in ap (λ (t : List ℕ). laid t n ds) (remove-at e .deadlines) ∙ laid-less (take p D ++ drop (suc p) D) ds n (less D nd h) ∙ removed-list p n ds h
+    pub removed-deadlines : At p ≡ searchIn key K → replaced (deadlinesOf R) n ds ≡ removedAt p n ds
+    removed-deadlines e = let h = at-bound key p e in ap (λ (t : List ℕ). replaced t n ds) (remove-at e .deadlines) ∙ replaced-less (take p D ++ drop (suc p) D) ds n (less D nd h) ∙ removed-list p n ds h
 
     pub removed-count : At p ≡ searchIn key K → length R ≡ n - 1
     removed-count e =
@@ -198,11 +198,11 @@ module _ (n : ℕ) (ks ds : List ℕ) (g : Good n ks ds) where
         let q : length R ≡ length (take p K ++ drop (suc p) K) = sym (length-keys R) ∙ ap length (remove-at e .keys) in
         omega arith
 
-    pub same-keys : Absent p ≡ searchIn key K → laid (keysOf R) n ks ≡ ks
-    same-keys e = ap (λ (t : List ℕ). laid t n ks) (remove-absent e .keys) ∙ laid-same K ks n nk ∙ take-append-drop n ks
+    pub same-keys : Absent p ≡ searchIn key K → replaced (keysOf R) n ks ≡ ks
+    same-keys e = ap (λ (t : List ℕ). replaced t n ks) (remove-absent e .keys) ∙ replaced-same K ks n nk ∙ take-append-drop n ks
 
-    pub same-deadlines : Absent p ≡ searchIn key K → laid (deadlinesOf R) n ds ≡ ds
-    same-deadlines e = ap (λ (t : List ℕ). laid t n ds) (remove-absent e .deadlines) ∙ laid-same D ds n nd ∙ take-append-drop n ds
+    pub same-deadlines : Absent p ≡ searchIn key K → replaced (deadlinesOf R) n ds ≡ ds
+    same-deadlines e = ap (λ (t : List ℕ). replaced t n ds) (remove-absent e .deadlines) ∙ replaced-same D ds n nd ∙ take-append-drop n ds
 
     pub same-count : Absent p ≡ searchIn key K → length R ≡ n
     same-count e = sym (length-keys R) ∙ ap length (remove-absent e .keys) ∙ nk

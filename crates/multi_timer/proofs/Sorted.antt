@@ -11,7 +11,7 @@ use lib.Dec.{leb, ltb, eqb}
 use lib.ListN.{length, getD, take, drop, set}
 use borrow.Author.Tests.{lt-ltb, ltb-true, ltb-false, eqb-true, eqb-false, leb-true, ne-eqb}
 use Rattle.multi_timer.specs.Map.{Entry, entry, entriesOf, keysOf, deadlinesOf, ascendingFrom, lookup, keep, put, other}
-use Rattle.multi_timer.specs.Search.{searchIn, later}
+use Rattle.multi_timer.specs.Internal.{searchIn, later}
 use Rattle.multi_timer.specs.declared.KeyPosition.{KeyPosition}
 use Rattle.multi_timer.specs.declared.KeyPosition.the-variants.{At, Absent}
 
@@ -25,10 +25,10 @@ unfolding ascendingFrom
 other-keys low k ks e = and-eq-true-iff (leb low k) (ascendingFrom (suc k) ks) .0 e .1
 
 -- no key is below the first
-pub at-least : (low p : ℕ) (ks : List ℕ) → ascendingFrom low ks ≡ true → p < length ks → low ≤ getD ks p 0
-at-least low p [] a h = absurd (not-suc-le-zero h)
-at-least low zero (k ∷ ks) a h = first-key low k ks a
-at-least low (suc p) (k ∷ ks) a h = more (first-key low k ks a) (at-least (suc k) p ks (other-keys low k ks a) (le-of-suc-le-suc h))
+pub at-minOf : (low p : ℕ) (ks : List ℕ) → ascendingFrom low ks ≡ true → p < length ks → low ≤ getD ks p 0
+at-minOf low p [] a h = absurd (not-suc-le-zero h)
+at-minOf low zero (k ∷ ks) a h = first-key low k ks a
+at-minOf low (suc p) (k ∷ ks) a h = more (first-key low k ks a) (at-minOf (suc k) p ks (other-keys low k ks a) (le-of-suc-le-suc h))
   where
     more : {k m : ℕ} → low ≤ k → suc k ≤ m → low ≤ m
     more f g = omega arith
@@ -41,7 +41,7 @@ search-behind key low zero (k ∷ ks) a h l = simp (lt-ltb k key l)
 search-behind key low (suc p) (k ∷ ks) a h l =
     let b = other-keys low k ks a in
     let i = le-of-suc-le-suc h in
-    simp (lt-ltb k key (below (at-least (suc k) p ks b i) l)) (later-suc (suc p) (searchIn key (drop (suc p) ks)) ∙ ap (later 1) (search-behind key (suc k) p ks b i l))
+    simp (lt-ltb k key (below (at-minOf (suc k) p ks b i) l)) (later-suc (suc p) (searchIn key (drop (suc p) ks)) ∙ ap (later 1) (search-behind key (suc k) p ks b i l))
   where
     below : {m : ℕ} → suc k ≤ m → m < key → k < key
     below f g = omega arith

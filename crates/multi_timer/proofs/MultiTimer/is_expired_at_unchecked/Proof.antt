@@ -5,7 +5,7 @@ use borrow.Author.Needs.{needs}
 use lib.ListN.{length}
 use native.Mathlib.Nat.{lt-of-lt-of-le}
 use Rattle.multi_timer.specs.Map.{dueAt}
-use Rattle.multi_timer.proofs.Checks.{good-of, in-order}
+use Rattle.multi_timer.proofs.Verdicts.{good-of, in-order}
 use Rattle.multi_timer.proofs.Places.{at-bound, at-lookup, absent-lookup}
 use Rattle.multi_timer.proofs.MultiTimer.is_expired_at_unchecked.Statement.{statement}
 use Rattle.multi_timer.proofs.MultiTimer.is_expired_at_unchecked.Tie as tie
