@@ -11,7 +11,7 @@ use Rattle.bounds.specs.Bounds.{maxDuration, maxTime}
 use Rattle.duration.proofs.Laws.{start-late-within}
 use Rattle.multi_timer.specs.Map.{Entry, entriesOf, keysOf, deadlinesOf, ascending, ascendingFrom, keep, put, other, remove, pending}
 use Rattle.multi_timer.specs.Internal.{searchIn}
-use Rattle.multi_timer.specs.MultiTimer.{used, TimersExit, timersExit, timers, nextGeneration, holding, broken, anyLate, heldTooLate, startTooLate, startFull, newUnchecked, startTimerAtUnchecked, cancelTimerUnchecked, popExpiredAtUnchecked, clearUnchecked}
+use Rattle.multi_timer.specs.MultiTimer.{used, TimersExit, timersExit, timers, nextGeneration, holding, broken, anyLate, heldTooLate, readTooLate, startTooLate, startFull, newUnchecked, startTimerAtUnchecked, cancelTimerUnchecked, popExpiredAtUnchecked, clearUnchecked}
 use Rattle.multi_timer.specs.declared.MultiTimer.{MultiTimer}
 use Rattle.multi_timer.specs.declared.KeyPosition.{KeyPosition}
 use Rattle.multi_timer.specs.declared.KeyPosition.the-variants.{At, Absent}
@@ -39,9 +39,12 @@ keep-most p (e ∷ es) = go (p e) (keep-most p es)
     go true h = omega arith
     go false h = omega arith
 
--- check 10 of a start: a time and a duration within 86,400 s are never late
+-- check 10: a time and a duration within 86,400 s are never late, nor is a time within 172,800 s
 pub start-too-late-within : (n : ℕ) (ds : List ℕ) (now duration : ℕ) → heldTooLate n ds ≡ false → now ≤ maxDuration → duration ≤ maxDuration → startTooLate n ds now duration ≡ false
 start-too-late-within n ds now duration h p q = rw h (start-late-within now duration p q)
+
+pub read-too-late-within : (n : ℕ) (ds : List ℕ) (now : ℕ) → heldTooLate n ds ≡ false → now ≤ maxTime → readTooLate n ds now ≡ false
+read-too-late-within n ds now h p = rw h (le-ltb _ _ p)
 
 module _ (t : MultiTimer) (ks ds : List ℕ) (b : broken (t .count) ks ds ≡ false) where
   g : Good (t .count) ks ds

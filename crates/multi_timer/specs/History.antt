@@ -1,5 +1,5 @@
--- What the accepted calls of any list say of the timer set. The latest call stands first; calls that only read change nothing and
--- are left out.
+-- What the accepted calls of any list say of the timer set. The latest call stands first; calls that only read change
+-- nothing and are left out.
 use Prim.Native.Nat.{ℕ, suc, _+_}
 use mathlib.Core.Bool.{Bool, true, false, not, cond, _||_, _&&_}
 use mathlib.Core.List.{List, [], _∷_}
@@ -13,11 +13,13 @@ use Rattle.multi_timer.specs.declared.StartAnswer as St
 use Rattle.multi_timer.specs.declared.CancelAnswer as Ca
 use Rattle.multi_timer.specs.declared.PopAnswer as Po
 use Rattle.refusal.specs.declared.DoneAnswer as Cl
-use Rattle.multi_timer.specs.Map.{Entry, deadlinesOf, isSome, keep, put, remove, dueKeys, pending, stillSet, earliest}
-use Rattle.multi_timer.specs.MultiTimer.{TimersExit, timersExit, timers, answering, startTimerAt, cancelTimer, popExpiredAt, clearTimers}
+use Rattle.multi_timer.specs.Map.{Entry, deadlinesOf, isSome, keep, put, remove}
+use Rattle.multi_timer.specs.Map.{dueKeys, pending, stillSet, earliest}
+use Rattle.multi_timer.specs.MultiTimer.{TimersExit, timersExit, timers, answering}
+use Rattle.multi_timer.specs.MultiTimer.{startTimerAt, cancelTimer, popExpiredAt, clearTimers}
 
--- `start_timer_at` with key, time and duration, `cancel_timer` with the key, `pop_expired_at` with the time and the lent slice,
--- `clear`
+-- `start_timer_at` with key, time and duration, `cancel_timer` with the key, `pop_expired_at` with the time and the
+-- lent slice, `clear`
 pub data Call : Type 0 where
   start : ℕ → ℕ → ℕ → Call
   cancel : ℕ → Call

@@ -45,13 +45,19 @@ pub record Partitioned (n now : ℕ) (ks ds out : List ℕ) (left : ℕ) (ks' ds
   pub deadlines : ds' ≡ deadlinesOf (pendingOf n now ks ds) ++ drop left ds
   pub taken : out' ≡ keysOf (dueOf n now ks ds) ++ drop (length (dueOf n now ks ds)) out
 
--- of the first n, those from i on move up by one, and v stands at i
-abbrev pub insertedAt : ℕ → ℕ → ℕ → List ℕ → List ℕ
-insertedAt i n v xs = take i xs ++ (v ∷ (take (n - i) (drop i xs) ++ drop (suc (n - i)) (drop i xs)))
+-- the first n move up by one, and v comes first; those from i on do
+abbrev pub insertedFirst : ℕ → ℕ → List ℕ → List ℕ
+insertedFirst n v xs = v ∷ (take n xs ++ drop (suc n) xs)
 
--- of the first n, the one at i gives way to those after it, and a 0 comes last
+abbrev pub insertedAt : ℕ → ℕ → ℕ → List ℕ → List ℕ
+insertedAt i n v xs = take i xs ++ insertedFirst (n - i) v (drop i xs)
+
+-- of the first n, the first gives way to those after it, and a 0 comes last; the one at i does
+abbrev pub removedFirst : ℕ → List ℕ → List ℕ
+removedFirst n xs = drop 1 (take n xs) ++ (0 ∷ drop n xs)
+
 abbrev pub removedAt : ℕ → ℕ → List ℕ → List ℕ
-removedAt i n xs = take i xs ++ (drop 1 (take (n - i) (drop i xs)) ++ (0 ∷ drop (n - i) (drop i xs)))
+removedAt i n xs = take i xs ++ removedFirst (n - i) (drop i xs)
 
 abbrev pub clearedIn : ℕ → ℕ → List ℕ → List ℕ
 clearedIn i n xs = take i xs ++ (replicate (n - i) 0 ++ drop n xs)

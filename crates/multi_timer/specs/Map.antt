@@ -1,5 +1,5 @@
--- Document 01, "What the Rust forms turn into", of `MultiTimer`: the reference's `HashMap` of keys and deadlines, as the list of
--- its entries by ascending key.
+-- Document 01, "What the Rust forms turn into", of `MultiTimer`: the reference's `HashMap` of keys and deadlines, as
+-- the list of its entries by ascending key.
 use Prim.Native.Nat.{ℕ, suc, _≤_, min}
 use mathlib.Core.Path.{_≡_}
 use mathlib.Core.Bool.{Bool, true, false, not, cond, _&&_, _||_}

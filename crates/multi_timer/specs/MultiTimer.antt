@@ -1,4 +1,5 @@
--- Document 01, "What the Rust forms turn into", `timing/timer.rs` and "Turned away", checks 9, 10 and 5; the reference's MultiTimer.
+-- Document 01, "What the Rust forms turn into", `timing/timer.rs` and "Turned away", checks 9, 10 and 5; the
+-- reference's MultiTimer.
 use Prim.Native.Nat.{ℕ, _+_, _-_, _%_, _^_, max}
 use mathlib.Core.Bool.{Bool, false, not, _||_, _&&_}
 use mathlib.Core.List.{List, [], _∷_, _++_}

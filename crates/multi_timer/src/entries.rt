@@ -3,13 +3,12 @@ use super::KeyPosition;
 use super::NextKey;
 ghost use mathlib.Core.Path.{_≡_};
 ghost use mathlib.Core.Bool.{true};
-ghost use mathlib.Core.List.{_∷_, _++_};
 ghost use mathlib.Core.Option.{some};
-ghost use Prim.Native.Nat.{suc, min, _≤_, _<_};
+ghost use Prim.Native.Nat.{min, _≤_, _<_};
 ghost use lib.ListN.{length, take, drop, set, replicate};
 ghost use Rattle.multi_timer.specs.Map.{ascending, earliest};
-ghost use Rattle.multi_timer.specs.Internal.{searchIn, later, indexOf, nextDue, dueIn, Partitioned, insertedAt};
-ghost use Rattle.multi_timer.specs.Internal.{removedAt, clearedIn};
+ghost use Rattle.multi_timer.specs.Internal.{searchIn, later, indexOf, nextDue, dueIn, Partitioned};
+ghost use Rattle.multi_timer.specs.Internal.{insertedAt, insertedFirst, removedAt, removedFirst, clearedIn};
 
 pub(crate) fn search(count: usize, keys: &[u32], key: u32) -> KeyPosition
     requires { ⌜ (count ≤ length (now keys)) × (ascending (take count (now keys)) ≡ true) ⌝ }
@@ -100,8 +99,8 @@ pub(crate) fn insert_at(
 // The first n entries move up by one, and a new one comes first. One loop for both slices is faster than one for each.
 fn insert_first(keys: &mut [u32], deadlines: &mut [u64], n: usize, key: u32, deadline: u64)
     requires { ⌜ (n < length (now keys)) × (n < length (now deadlines)) ⌝ }
-    ensures { λ _. ⌜ (now (keys .exit) ≡ key ∷ (take n (now (keys .entry)) ++ drop (suc n) (now (keys .entry))))
-        × (now (deadlines .exit) ≡ deadline ∷ (take n (now (deadlines .entry)) ++ drop (suc n) (now (deadlines .entry)))) ⌝ }
+    ensures { λ _. ⌜ (now (keys .exit) ≡ insertedFirst n key (now (keys .entry)))
+        × (now (deadlines .exit) ≡ insertedFirst n deadline (now (deadlines .entry))) ⌝ }
 {
     let mut i = n;
     while 0 < i {
@@ -124,8 +123,8 @@ pub(crate) fn remove_at(keys: &mut [u32], deadlines: &mut [u64], i: usize, count
 // Of the first n entries, all but the first move down by one, and a 0 comes last.
 fn remove_first(keys: &mut [u32], deadlines: &mut [u64], n: usize)
     requires { ⌜ (0 < n) × (n ≤ length (now keys)) × (n ≤ length (now deadlines)) ⌝ }
-    ensures { λ _. ⌜ (now (keys .exit) ≡ drop 1 (take n (now (keys .entry))) ++ (0 ∷ drop n (now (keys .entry))))
-        × (now (deadlines .exit) ≡ drop 1 (take n (now (deadlines .entry))) ++ (0 ∷ drop n (now (deadlines .entry)))) ⌝ }
+    ensures { λ _. ⌜ (now (keys .exit) ≡ removedFirst n (now (keys .entry)))
+        × (now (deadlines .exit) ≡ removedFirst n (now (deadlines .entry))) ⌝ }
 {
     let mut i = 1;
     while i < n {
