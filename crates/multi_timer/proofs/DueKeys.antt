@@ -1,20 +1,20 @@
 -- The due keys from a key on. A walk by a cursor over the expired keys meets those that were due when it began: a start or a cancel of
 -- a key below the cursor changes nothing from the cursor on.
-use mathlib.Core.Path.{_≡_, refl, sym, ap, ap₂, _∙_}
+use mathlib.Core.Path.{_≡_, refl, sym, ap, _∙_}
 use mathlib.Core.Bool.{Bool, true, false, not, cond, _&&_}
 use mathlib.Core.List.{List, [], _∷_}
+use mathlib.Core.Option.{some}
 use Prim.Native.Nat.{ℕ, suc, _+_, _≤_, _<_}
-use native.Mathlib.Nat.{le-refl, le-trans, suc-inj}
+use native.Mathlib.Nat.{le-refl, le-trans, le-of-eq, suc-inj}
 use native.Mathlib.Numerals.{one-add}
 use native.Mathlib.Omega.{arith}
 use lib.Dec.{leb, ltb, eqb}
 use lib.ListN.{length, getD, take, drop}
-use borrow.Author.Tests.{ltb-true, ltb-false, eqb-true, leb-true, leb-false, le-leb, lt-leb}
-use Rattle.multi_timer.specs.Map.{Entry, entry, entriesOf, keysOf, ascendingFrom, keep, put, other, remove, due, dueKeys, dueNotBelow, dueKeysFrom}
+use borrow.Author.Tests.{ltb-true, ltb-false, eqb-true, leb-true, le-leb, lt-leb, eq-eqb, ne-eqb}
+use Rattle.multi_timer.specs.Map.{Entry, entry, entriesOf, keysOf, ascendingFrom, lookup, keep, put, remove, due, dueKeys, dueNotBelow, dueKeysFrom, dueAt}
 use Rattle.multi_timer.specs.Internal.{searchIn, later, indexOf, nextDue}
-use Rattle.multi_timer.specs.MultiTimer.{used, broken, nextKey, nextExpiredUnchecked}
+use Rattle.multi_timer.specs.MultiTimer.{broken, nextKey, nextExpiredUnchecked}
 use Rattle.multi_timer.specs.declared.MultiTimer.{MultiTimer}
-use Rattle.multi_timer.specs.declared.NextKey.{NextKey}
 use Rattle.multi_timer.specs.declared.NextKey.the-variants.{Key, Nothing}
 use Rattle.multi_timer.specs.declared.KeyPosition.{KeyPosition}
 use Rattle.multi_timer.specs.declared.KeyPosition.the-variants.{At, Absent}
@@ -80,6 +80,9 @@ due-from-all from now low (e ∷ es) a h =
     go false i = i
 
 -- ---- behind the first of them stand the others
+behind : (x : Entry) (es : List Entry) (from now low k : ℕ) (ks : List ℕ) → ascendingFrom low (x .key ∷ keysOf es) ≡ true → dueKeysFrom from now es ≡ k ∷ ks → suc (x .key) ≤ k
+behind x es from now low k ks a h = first-key (suc (x .key)) k ks (ap (ascendingFrom (suc (x .key))) (sym h) ∙ keep-ascending (dueNotBelow from now) (suc (x .key)) es (other-keys low (x .key) (keysOf es) a))
+
 pub due-from-next : (from now low k : ℕ) (ks : List ℕ) (es : List Entry) → ascendingFrom low (keysOf es) ≡ true → dueKeysFrom from now es ≡ k ∷ ks → dueKeysFrom (suc k) now es ≡ ks
 unfolding keysOf keep
 due-from-next from now low k ks [] a e = let z : _≡_ {A = ℕ} 0 1 = cc in absurd (omega arith)
@@ -107,9 +110,7 @@ due-from-next from now low k ks (x ∷ es) a e = go (leb from (x .key)) (leb (x 
     near h = omega arith
 
     later-on : dueKeysFrom from now es ≡ k ∷ ks → dueKeysFrom (suc k) now es ≡ ks → dueKeysFrom (suc k) now (x ∷ es) ≡ ks
-    later-on h i =
-        below-head (suc k) now x es (above (first-key (suc (x .key)) k ks (ap (ascendingFrom (suc (x .key))) (sym h) ∙ keep-ascending (dueNotBelow from now) (suc (x .key)) es r)))
-        ∙ i
+    later-on h i = below-head (suc k) now x es (above (behind x es from now low k ks a h)) ∙ i
 
     go : (b d : Bool) → (b ≡ true → from ≤ x .key) → keysOf (cond (b && d) (x ∷ keep (dueNotBelow from now) es) (keep (dueNotBelow from now) es)) ≡ k ∷ ks
         → (dueKeysFrom from now es ≡ k ∷ ks → dueKeysFrom (suc k) now es ≡ ks) → dueKeysFrom (suc k) now (x ∷ es) ≡ ks
@@ -121,6 +122,49 @@ due-from-next from now low k ks (x ∷ es) a e = go (leb from (x .key)) (leb (x 
         ∙ same-keys (x .key) (dueKeysFrom from now es) h
     go true false f h i = later-on h (i h)
     go false d f h i = later-on h (i h)
+
+-- the same behind the key that was met, after it is started again or cancelled
+module _ (from now low k : ℕ) (ks : List ℕ) (es : List Entry) (a : ascendingFrom low (keysOf es) ≡ true) (e : dueKeysFrom from now es ≡ k ∷ ks) where
+  pub due-after-put : (d : ℕ) → dueKeysFrom (suc k) now (put k d es) ≡ ks
+  due-after-put d = due-from-put k d (suc k) now es (le-refl (suc k)) ∙ due-from-next from now low k ks es a e
+
+  pub due-after-remove : dueKeysFrom (suc k) now (remove k es) ≡ ks
+  due-after-remove = due-from-remove k (suc k) now es (le-refl (suc k)) ∙ due-from-next from now low k ks es a e
+
+-- the first of them is not below the cursor, and its timer has expired
+pub due-from-first : (from now low k : ℕ) (ks : List ℕ) (es : List Entry) → ascendingFrom low (keysOf es) ≡ true → dueKeysFrom from now es ≡ k ∷ ks → (from ≤ k) × (dueAt now (lookup k es) ≡ true)
+unfolding keysOf keep lookup
+due-from-first from now low k ks [] a e = let z : _≡_ {A = ℕ} 0 1 = cc in absurd (omega arith)
+due-from-first from now low k ks (x ∷ es) a e = go (leb from (x .key)) (leb (x .deadline) now) refl refl e (due-from-first from now (suc (x .key)) k ks es (other-keys low (x .key) (keysOf es) a))
+  where
+    same-key : (m : ℕ) (ms : List ℕ) → m ∷ ms ≡ k ∷ ks → m ≡ k
+    same-key m ms h = cc
+
+    apart : suc (x .key) ≤ k → x .key ≡ k → ⊥
+    apart h g = omega arith
+
+    later-on : dueKeysFrom from now es ≡ k ∷ ks → (from ≤ k) × (dueAt now (lookup k es) ≡ true) → (from ≤ k) × (dueAt now (cond (eqb (x .key) k) (some (x .deadline)) (lookup k es)) ≡ true)
+    later-on h i = (i .0, rw (ne-eqb (x .key) k (apart (behind x es from now low k ks a h))) (i .1))
+
+    go : (b d : Bool) → leb from (x .key) ≡ b → leb (x .deadline) now ≡ d → keysOf (cond (b && d) (x ∷ keep (dueNotBelow from now) es) (keep (dueNotBelow from now) es)) ≡ k ∷ ks
+        → (dueKeysFrom from now es ≡ k ∷ ks → (from ≤ k) × (dueAt now (lookup k es) ≡ true)) → (from ≤ k) × (dueAt now (cond (eqb (x .key) k) (some (x .deadline)) (lookup k es)) ≡ true)
+    go true true f g h i =
+        let s = same-key (x .key) (dueKeysFrom from now es) h in
+        (le-trans (leb-true from (x .key) f) (le-of-eq s), rw (eq-eqb (x .key) k s) g)
+    go true false f g h i = later-on h (i h)
+    go false d f g h i = later-on h (i h)
+
+-- what an answer says of the due keys
+pub next-key : (ks : List ℕ) (k : ℕ) → nextKey ks ≡ Key k → (rest : List ℕ) × (ks ≡ k ∷ rest)
+next-key [] k e = let z : _≡_ {A = ℕ} 0 1 = cc in absurd (omega arith)
+next-key (x ∷ ks) k e = (ks, ap (λ (y : ℕ). y ∷ ks) (same e))
+  where
+    same : Key x ≡ Key k → x ≡ k
+    same e = cc
+
+pub next-nothing : (ks : List ℕ) → nextKey ks ≡ Nothing → ks ≡ []
+next-nothing [] e = refl
+next-nothing (x ∷ ks) e = let z : _≡_ {A = ℕ} 0 1 = cc in absurd (omega arith)
 
 -- ---- where a search for the cursor stops, the due keys begin
 index-later : (p : KeyPosition) → indexOf (later 1 p) ≡ suc (indexOf p)

@@ -11,7 +11,7 @@ use Rattle.bounds.specs.Bounds.{maxDuration, maxTime}
 use Rattle.duration.proofs.Laws.{start-late-within}
 use Rattle.multi_timer.specs.Map.{Entry, entriesOf, keysOf, deadlinesOf, ascending, ascendingFrom, keep, put, other, remove, pending}
 use Rattle.multi_timer.specs.Internal.{searchIn}
-use Rattle.multi_timer.specs.MultiTimer.{used, TimersExit, timersExit, timers, nextGeneration, holding, broken, anyLate, heldTooLate, readTooLate, startTooLate, startFull, newUnchecked, startTimerAtUnchecked, cancelTimerUnchecked, popExpiredAtUnchecked, clearUnchecked}
+use Rattle.multi_timer.specs.MultiTimer.{used, TimersExit, nextGeneration, holding, broken, anyLate, heldTooLate, readTooLate, startTooLate, startFull, newUnchecked, startTimerAtUnchecked, cancelTimerUnchecked, popExpiredAtUnchecked, clearUnchecked}
 use Rattle.multi_timer.specs.declared.MultiTimer.{MultiTimer}
 use Rattle.multi_timer.specs.declared.KeyPosition.{KeyPosition}
 use Rattle.multi_timer.specs.declared.KeyPosition.the-variants.{At, Absent}

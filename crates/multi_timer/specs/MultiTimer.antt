@@ -28,7 +28,7 @@ use Rattle.multi_timer.specs.declared.NextKey.the-variants.{Key, Nothing
 use Rattle.refusal.specs.declared.DoneAnswer as Cl
 use Rattle.multi_timer.specs.declared.ClearResult.{ClearResult}
 use Rattle.multi_timer.specs.Map.{Entry, entriesOf, keysOf, deadlinesOf, ascending, lookup, isSome}
-use Rattle.multi_timer.specs.Map.{keep, put, remove, due, dueKeys, dueKeysFrom, pending, dueAt, earliest}
+use Rattle.multi_timer.specs.Map.{keep, put, remove, dueKeys, dueKeysFrom, pending, dueAt, earliest}
 
 -- ---- the lent slices
 abbrev pub used : MultiTimer → List ℕ → List ℕ → List Entry

@@ -3,9 +3,6 @@ use borrow.Author.Needs.{needs}
 use Rattle.refusal.proofs.Laws.{accepted-none-true}
 use Rattle.multi_timer.specs.MultiTimer.{heldChecks}
 use Rattle.multi_timer.proofs.Calls.{cancel-refused, cancel-done}
-use mathlib.Core.Bool.{Bool}
-use Rattle.multi_timer.specs.Map.{lookup, isSome}
-use Rattle.multi_timer.specs.declared.MultiTimer.{MultiTimer}
 use Rattle.multi_timer.proofs.MultiTimer.cancel_timer.Statement.{statement}
 use Rattle.multi_timer.proofs.MultiTimer.cancel_timer.Tie as tie
 
@@ -40,16 +37,4 @@ returns-2 : tie.Need-returns-2
 returns-2 c = let s = c .before .before .before .before .before .before .before .before .args in sym (cancel-refused (s .self) (s .keys .now) (s .deadlines .now) (s .key) (sym (c .before .before .before .check-held .ensures) ∙ c .before .verdict .given .1))
 
 pub cancel-timer-spec : {M : Type 1} → statement M
-cancel-timer-spec =
-    tie.close
-    (tie.spec
-    check-held-requires
-    enum-told
-    cancel-timer-unchecked-requires
-    enum-known-verdict
-    same-length
-    same-length-2
-    returns
-    same-length-3
-    same-length-4
-    returns-2)
+cancel-timer-spec = tie.close (tie.spec check-held-requires enum-told cancel-timer-unchecked-requires enum-known-verdict same-length same-length-2 returns same-length-3 same-length-4 returns-2)

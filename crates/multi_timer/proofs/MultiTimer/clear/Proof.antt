@@ -38,16 +38,4 @@ returns-2 : tie.Need-returns-2
 returns-2 c = let s = c .before .before .before .before .before .before .before .before .args in sym (clear-refused (s .self) (s .keys .now) (s .deadlines .now) (sym (c .before .before .before .check-held .ensures) ∙ c .before .verdict .given .1))
 
 pub clear-spec : {M : Type 1} → statement M
-clear-spec =
-    tie.close
-    (tie.spec
-    check-held-requires
-    enum-told
-    clear-unchecked-requires
-    enum-known-verdict
-    same-length
-    same-length-2
-    returns
-    same-length-3
-    same-length-4
-    returns-2)
+clear-spec = tie.close (tie.spec check-held-requires enum-told clear-unchecked-requires enum-known-verdict same-length same-length-2 returns same-length-3 same-length-4 returns-2)

@@ -3,7 +3,6 @@ use borrow.Author.Needs.{needs}
 use Rattle.refusal.proofs.Laws.{accepted-none-true}
 use Rattle.multi_timer.specs.MultiTimer.{heldChecks}
 use Rattle.multi_timer.proofs.Calls.{earliest-accepted, earliest-refused}
-use Rattle.multi_timer.specs.declared.MultiTimer.{MultiTimer}
 use Rattle.multi_timer.proofs.MultiTimer.earliest_deadline.Statement.{statement}
 use Rattle.multi_timer.proofs.MultiTimer.earliest_deadline.Tie as tie
 
@@ -26,12 +25,4 @@ returns-2 : tie.Need-returns-2
 returns-2 c = let s = c .before .before .before .before .before .before .args in sym (earliest-refused (s .self) (s .keys .now) (s .deadlines .now) (sym (c .before .before .before .check-held .ensures) ∙ c .before .verdict .given .1))
 
 pub earliest-deadline-spec : {M : Type 1} → statement M
-earliest-deadline-spec =
-    tie.close
-    (tie.spec
-    check-held-requires
-    enum-told
-    earliest-deadline-unchecked-requires
-    enum-known-verdict
-    returns
-    returns-2)
+earliest-deadline-spec = tie.close (tie.spec check-held-requires enum-told earliest-deadline-unchecked-requires enum-known-verdict returns returns-2)

@@ -3,7 +3,6 @@ use borrow.Author.Needs.{needs}
 use Rattle.refusal.specs.declared.TestAnswer.the-variants.{Is}
 use Rattle.refusal.proofs.Laws.{accepted-none-true}
 use Rattle.multi_timer.specs.MultiTimer.{readChecks}
-use Rattle.multi_timer.specs.declared.MultiTimer.{MultiTimer}
 use Rattle.multi_timer.proofs.Calls.{expired-accepted, expired-refused}
 use Rattle.multi_timer.proofs.MultiTimer.is_expired_at.Statement.{statement}
 use Rattle.multi_timer.proofs.MultiTimer.is_expired_at.Tie as tie
@@ -27,12 +26,4 @@ returns-2 : tie.Need-returns-2
 returns-2 c = let s = c .before .before .before .before .before .before .args in sym (expired-refused (s .self) (s .keys .now) (s .deadlines .now) (s .key) (s .now) (sym (c .before .before .before .check-read .ensures) ∙ c .before .verdict .given .1))
 
 pub is-expired-at-spec : {M : Type 1} → statement M
-is-expired-at-spec =
-    tie.close
-    (tie.spec
-    check-read-requires
-    enum-told
-    is-expired-at-unchecked-requires
-    enum-known-verdict
-    returns
-    returns-2)
+is-expired-at-spec = tie.close (tie.spec check-read-requires enum-told is-expired-at-unchecked-requires enum-known-verdict returns returns-2)

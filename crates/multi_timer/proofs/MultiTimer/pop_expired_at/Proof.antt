@@ -47,18 +47,4 @@ returns-2 : tie.Need-returns-2
 returns-2 c = let s = c .before .before .before .before .before .before .before .before .before .args in sym (pop-refused (s .self) (s .keys .now) (s .deadlines .now) (s .now) (s .out .now) (sym (c .before .before .before .check-pop .ensures) ∙ c .before .verdict .given .1))
 
 pub pop-expired-at-spec : {M : Type 1} → statement M
-pop-expired-at-spec =
-    tie.close
-    (tie.spec
-    check-pop-requires
-    enum-told
-    pop-expired-at-unchecked-requires
-    sub-t21
-    enum-known-verdict
-    same-length
-    same-length-2
-    same-length-3
-    returns
-    same-length-4
-    same-length-5
-    returns-2)
+pop-expired-at-spec = tie.close (tie.spec check-pop-requires enum-told pop-expired-at-unchecked-requires sub-t21 enum-known-verdict same-length same-length-2 same-length-3 returns same-length-4 same-length-5 returns-2)

@@ -43,17 +43,4 @@ returns-2 : tie.Need-returns-2
 returns-2 c = let s = c .before .before .before .before .before .before .before .before .args in sym (start-refused (s .self) (s .keys .now) (s .deadlines .now) (s .key) (s .now) (s .duration) (sym (c .before .before .before .check-start .ensures) ∙ c .before .verdict .given .1))
 
 pub start-timer-at-spec : {M : Type 1} → statement M
-start-timer-at-spec =
-    tie.close
-    (tie.spec
-    check-start-requires
-    enum-told
-    add-start-timer-at-unchecked
-    start-timer-at-unchecked-requires
-    enum-known-verdict
-    same-length
-    same-length-2
-    returns
-    same-length-3
-    same-length-4
-    returns-2)
+start-timer-at-spec = tie.close (tie.spec check-start-requires enum-told add-start-timer-at-unchecked start-timer-at-unchecked-requires enum-known-verdict same-length same-length-2 returns same-length-3 same-length-4 returns-2)

@@ -1,9 +1,7 @@
-use mathlib.Core.Path.{sym, ap, _∙_}
+use mathlib.Core.Path.{sym, _∙_}
 use borrow.Author.Needs.{needs}
 use Rattle.multi_timer.proofs.Verdicts.{three-checks}
 use borrow.Author.Tests.{lt-ltb, le-ltb}
-use Prim.Native.Nat.{ℕ}
-use lib.Dec.{ltb}
 use Rattle.multi_timer.proofs.Changes.{count-fits-deadlines}
 use Rattle.multi_timer.proofs.Calls.{due-used}
 use Rattle.multi_timer.proofs.checks.check_pop.Statement.{statement}
@@ -31,13 +29,4 @@ returns-4 : tie.Need-returns-4
 returns-4 c = let s = c .before .before .before .before .before .before .before .before .args in let b = sym (c .before .before .before .before .before .is-broken .ensures) ∙ c .before .before .before .before .if1 .left in simp (three-checks, b, sym (c .before .before .before .read-too-late .ensures), c .before .before .if2 .left, due-used (s .timers) (s .keys .now) (s .deadlines .now) (s .time) b, sym (c .before .due-count .ensures), le-ltb _ _ (c .if3 .left))
 
 pub check-pop-spec : {M : Type 1} → statement M
-check-pop-spec =
-    tie.close
-    (tie.spec
-    is-broken-requires
-    returns
-    read-too-late-requires
-    returns-2
-    due-count-requires
-    returns-3
-    returns-4)
+check-pop-spec = tie.close (tie.spec is-broken-requires returns read-too-late-requires returns-2 due-count-requires returns-3 returns-4)

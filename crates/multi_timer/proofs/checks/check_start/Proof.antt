@@ -27,13 +27,4 @@ returns-4 : tie.Need-returns-4
 returns-4 c = simp (three-checks, sym (c .before .before .before .before .before .is-broken .ensures), c .before .before .before .before .if1 .left, sym (c .before .before .before .start-too-late .ensures), c .before .before .if2 .left, sym (c .before .start-full .ensures), c .if3 .left)
 
 pub check-start-spec : {M : Type 1} → statement M
-check-start-spec =
-    tie.close
-    (tie.spec
-    is-broken-requires
-    returns
-    start-too-late-requires
-    returns-2
-    start-full-requires
-    returns-3
-    returns-4)
+check-start-spec = tie.close (tie.spec is-broken-requires returns start-too-late-requires returns-2 start-full-requires returns-3 returns-4)

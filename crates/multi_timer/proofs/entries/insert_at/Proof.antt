@@ -49,19 +49,4 @@ returns c =
     )
 
 pub insert-at-spec : {M : Type 1} → statement M
-insert-at-spec =
-    tie.close
-    (tie.spec
-    mul-insert-first
-    sub-insert-first
-    part-insert-first-start
-    part-insert-first-end
-    mul-insert-first-2
-    sub-insert-first-2
-    part-insert-first-start-2
-    part-insert-first-end-2
-    sub-insert-first-3
-    insert-first-requires
-    same-length
-    same-length-2
-    returns)
+insert-at-spec = tie.close (tie.spec mul-insert-first sub-insert-first part-insert-first-start part-insert-first-end mul-insert-first-2 sub-insert-first-2 part-insert-first-start-2 part-insert-first-end-2 sub-insert-first-3 insert-first-requires same-length same-length-2 returns)

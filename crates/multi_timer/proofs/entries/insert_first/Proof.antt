@@ -87,27 +87,4 @@ returns c =
     )
 
 pub insert-first-spec : {M : Type 1} → statement M
-insert-first-spec =
-    tie.close
-    (tie.spec
-    Inv-loop
-    μ-loop
-    loop-holds
-    sub-keys
-    mul-keys
-    slice-read-keys
-    mul-keys-2
-    slice-write-keys
-    sub-deadlines
-    mul-deadlines
-    slice-read-deadlines
-    mul-deadlines-2
-    slice-write-deadlines
-    sub-i
-    loop-less
-    loop-again
-    slice-write-keys-2
-    slice-write-deadlines-2
-    same-length
-    same-length-2
-    returns)
+insert-first-spec = tie.close (tie.spec Inv-loop μ-loop loop-holds sub-keys mul-keys slice-read-keys mul-keys-2 slice-write-keys sub-deadlines mul-deadlines slice-read-deadlines mul-deadlines-2 slice-write-deadlines sub-i loop-less loop-again slice-write-keys-2 slice-write-deadlines-2 same-length same-length-2 returns)

@@ -43,18 +43,4 @@ returns-2 : tie.Need-returns-2 Inv-loop μ-loop
 returns-2 c = let s = c .before .before .args in next-end (s .count) (c .before .loop .i) (s .time) (s .keys .now) (s .deadlines .now) (c .before .before .pre .0) (c .before .before .pre .1) (c .loop-test .left) ∙ c .before .loop .inv
 
 pub next-due-spec : {M : Type 1} → statement M
-next-due-spec =
-    tie.close
-    (tie.spec
-    Inv-loop
-    μ-loop
-    loop-holds
-    mul-if1
-    shared-slice-read-if1
-    mul-t11
-    shared-slice-read-t13
-    returns
-    add-i
-    loop-less
-    loop-again
-    returns-2)
+next-due-spec = tie.close (tie.spec Inv-loop μ-loop loop-holds mul-if1 shared-slice-read-if1 mul-t11 shared-slice-read-t13 returns add-i loop-less loop-again returns-2)

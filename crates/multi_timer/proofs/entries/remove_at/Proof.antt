@@ -47,19 +47,4 @@ returns c =
     (removed-back (s .args .i) (s .args .keys .now) (s .args .count) _ (le-trans (le-of-lt (s .pre .0)) (s .pre .1)) (e .0), removed-back (s .args .i) (s .args .deadlines .now) (s .args .count) _ (le-trans (le-of-lt (s .pre .0)) (s .pre .2)) (e .1))
 
 pub remove-at-spec : {M : Type 1} → statement M
-remove-at-spec =
-    tie.close
-    (tie.spec
-    mul-remove-first
-    sub-remove-first
-    part-remove-first-start
-    part-remove-first-end
-    mul-remove-first-2
-    sub-remove-first-2
-    part-remove-first-start-2
-    part-remove-first-end-2
-    sub-remove-first-3
-    remove-first-requires
-    same-length
-    same-length-2
-    returns)
+remove-at-spec = tie.close (tie.spec mul-remove-first sub-remove-first part-remove-first-start part-remove-first-end mul-remove-first-2 sub-remove-first-2 part-remove-first-start-2 part-remove-first-end-2 sub-remove-first-3 remove-first-requires same-length same-length-2 returns)

@@ -103,31 +103,4 @@ returns c =
     )
 
 pub remove-first-spec : {M : Type 1} → statement M
-remove-first-spec =
-    tie.close
-    (tie.spec
-    Inv-loop
-    μ-loop
-    loop-holds
-    mul-keys
-    slice-read-keys
-    sub-keys
-    mul-keys-2
-    slice-write-keys
-    mul-deadlines
-    slice-read-deadlines
-    sub-deadlines
-    mul-deadlines-2
-    slice-write-deadlines
-    add-i
-    loop-less
-    loop-again
-    sub-keys-2
-    mul-keys-3
-    slice-write-keys-2
-    sub-deadlines-2
-    mul-deadlines-3
-    slice-write-deadlines-2
-    same-length
-    same-length-2
-    returns)
+remove-first-spec = tie.close (tie.spec Inv-loop μ-loop loop-holds mul-keys slice-read-keys sub-keys mul-keys-2 slice-write-keys mul-deadlines slice-read-deadlines sub-deadlines mul-deadlines-2 slice-write-deadlines add-i loop-less loop-again sub-keys-2 mul-keys-3 slice-write-keys-2 sub-deadlines-2 mul-deadlines-3 slice-write-deadlines-2 same-length same-length-2 returns)
