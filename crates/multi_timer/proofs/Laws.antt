@@ -1,5 +1,5 @@
 -- What crates above may cite of the timer set.
-pub use Rattle.multi_timer.proofs.Map.{lookup-put, lookup-remove, lookup-pop, keep-ascending, put-ascending, due-taken, earliest-min, min-unique, entries-of-both, replaced-front, replaced-used, replaced-length, holding-accepted, keep-in-time, put-in-time}
+pub use Rattle.multi_timer.proofs.Map.{lookup-put, lookup-remove, lookup-pop, keep-ascending, put-ascending, due-taken, expired-popped, earliest-min, min-unique, entries-of-both, replaced-front, replaced-used, replaced-length, holding-accepted, keep-in-time, put-in-time}
 pub use Rattle.multi_timer.proofs.Changes.{used-length, used-ascending, used-deadlines}
 pub use Rattle.multi_timer.proofs.Calls.{new-accepted, start-accepted, cancel-accepted, expired-accepted, pop-accepted, earliest-accepted, clear-accepted}
 pub use Rattle.multi_timer.proofs.Held.{Holds, start-too-late-within, read-too-late-within, start-fits, start-holds, cancel-holds, pop-holds, clear-holds, new-holds, start-times, cancel-times, pop-times}

@@ -13,7 +13,7 @@ use borrow.Author.Tests.{ltb-true, ltb-false, eqb-true, eqb-false, leb-true, leb
 use Rattle.bounds.specs.Bounds.{maxTime}
 use Rattle.multi_timer.specs.Map.{Entry, entry, entriesOf, keysOf, deadlinesOf, ascendingFrom, ascending, lookup, keep, put, other, remove, due, pending, isSome, dueAt, stillSet, minOf, earliest, contains, IsMin}
 use Rattle.multi_timer.specs.MultiTimer.{replaced, broken, anyLate}
-use Rattle.multi_timer.proofs.Sorted.{first-key, other-keys, length-keys, length-deadlines}
+use Rattle.multi_timer.proofs.Sorted.{first-key, other-keys, length-keys, length-deadlines, lookup-below}
 
 differ : (a b c : ℕ) → a ≡ b → a ≡ c → (b ≡ c → ⊥) → ⊥
 differ a b c p q n = n (cc)
@@ -105,17 +105,6 @@ put-ascending k d low (e ∷ es) h a = go (ltb (e .key) k) (eqb (e .key) k) (ltb
         near g n = omega arith
 
 -- ---- lookup after a pop: what is not due stays
-lookup-below : (q low : ℕ) (es : List Entry) → ascendingFrom low (keysOf es) ≡ true → q < low → lookup q es ≡ none
-unfolding keysOf lookup
-lookup-below q low [] a h = refl
-lookup-below q low (e ∷ es) a h = let f = first-key low (e .key) (keysOf es) a in rw (ne-eqb (e .key) q (apart f)) (lookup-below q (suc (e .key)) es (other-keys low (e .key) (keysOf es) a) (further f))
-  where
-    further : low ≤ e .key → q < suc (e .key)
-    further f = omega arith
-
-    apart : low ≤ e .key → e .key ≡ q → ⊥
-    apart f g = omega arith
-
 pub lookup-pop : (now q low : ℕ) (es : List Entry) → ascendingFrom low (keysOf es) ≡ true → lookup q (keep (pending now) es) ≡ stillSet now (lookup q es)
 unfolding keysOf keep lookup
 lookup-pop now q low [] a = refl
