@@ -20,7 +20,7 @@ use Rattle.multi_timer.proofs.Verdicts.{Good, good-of, in-order}
 use Rattle.multi_timer.proofs.Lists.{rest, rest-cons, rest-nil}
 use Rattle.multi_timer.proofs.Sorted.{length-keys, length-deadlines, keys-entries, deadlines-entries}
 use Rattle.multi_timer.proofs.Parting.{both, entries-length, next-length}
-use Rattle.multi_timer.proofs.Places.{one-length, replaced-fewer, at-bound, absent-lookup, absent-bound, kept-keys, kept-deadlines, kept-count, inserted-keys, inserted-deadlines, inserted-count, removed-keys, removed-deadlines, removed-count, same-keys, same-deadlines, same-count}
+use Rattle.multi_timer.proofs.Places.{replaced-fewer, same-is, set-is, inserted-is, removed-is, within, one-length, put-found, remove-found, at-bound, absent-lookup, absent-bound, kept-count, inserted-count, removed-count, same-count}
 
 same-after : {A : Type 0} (a b : A) (ks ls ds es : List ℕ) → a ≡ b → ks ≡ ls → ds ≡ es → timersExit a ks ds ≡ timersExit b ls es
 same-after {A = A} a b ks ls ds es p q r = ap₂ (λ (x : TimersExit A) (l : List ℕ). timersExit (x .answer) (x .keys) l) (ap₂ (λ (x : A) (l : List ℕ). timersExit x l ds) p q) r
@@ -44,7 +44,7 @@ module _ (t : MultiTimer) (ks ds : List ℕ) (b : broken (t .count) ks ds ≡ fa
   keys-in-order = in-order g
 
   pub count-fits-deadlines : t .count ≤ length ds
-  count-fits-deadlines = subst (λ (m : ℕ). t .count ≤ m) (g .same) (g .within)
+  count-fits-deadlines = within (t .count) ks ds g
 
   pub used-one-length : length (take (t .count) ks) ≡ length (take (t .count) ds)
   used-one-length = one-length (t .count) ks ds g
@@ -68,19 +68,22 @@ module _ (t : MultiTimer) (ks ds : List ℕ) (b : broken (t .count) ks ds ≡ fa
   pub started-at : (key d p next : ℕ) (ds' : List ℕ) → At p ≡ searchIn key (take (t .count) ks) → next ≡ nextGeneration (t .«global_generation») → ds' ≡ set ds p d → timersExit (timers (t .count) next) ks ds' ≡ startTimerAtUnchecked t ks ds key d
   unfolding startTimerAtUnchecked
   started-at key d p next ds' e n q =
-      same-after _ _ ks _ ds' _ (ap₂ timers (sym (kept-count (t .count) ks ds g key d p e)) n) (sym (kept-keys (t .count) ks ds g key d p e)) (q ∙ sym (kept-deadlines (t .count) ks ds g key d p e))
+      let w = put-found (t .count) ks ds g key d (At p) e in
+      same-after _ _ ks _ ds' _ (ap₂ timers (sym (kept-count (t .count) ks ds g key p d e)) n) (sym (same-is (t .count) ks _ count-fits (w .keys))) (q ∙ sym (set-is (t .count) ds _ count-fits-deadlines p d (at-bound (t .count) ks ds g key p e) (w .deadlines)))
 
   pub started-absent : (key d p next : ℕ) (ks' ds' : List ℕ) → Absent p ≡ searchIn key (take (t .count) ks) → next ≡ nextGeneration (t .«global_generation») → ks' ≡ insertedAt p (t .count) key ks → ds' ≡ insertedAt p (t .count) d ds
       → timersExit (timers (t .count + 1) next) ks' ds' ≡ startTimerAtUnchecked t ks ds key d
   unfolding startTimerAtUnchecked
   started-absent key d p next ks' ds' e n q r =
-      same-after _ _ ks' _ ds' _ (ap₂ timers (sym (inserted-count (t .count) ks ds g key d p e)) n) (q ∙ sym (inserted-keys (t .count) ks ds g key d p e)) (r ∙ sym (inserted-deadlines (t .count) ks ds g key d p e))
+      let w = put-found (t .count) ks ds g key d (Absent p) e in
+      let h = absent-bound (t .count) ks ds g key p e in
+      same-after _ _ ks' _ ds' _ (ap₂ timers (sym (inserted-count (t .count) ks ds g key p d e)) n) (q ∙ sym (inserted-is (t .count) ks _ count-fits p key h (w .keys))) (r ∙ sym (inserted-is (t .count) ds _ count-fits-deadlines p d h (w .deadlines)))
 
   pub place-at : (key p : ℕ) → At p ≡ searchIn key (take (t .count) ks) → p < t .count
   place-at key p e = at-bound (t .count) ks ds g key p e
 
   pub place-absent : (key p : ℕ) → Absent p ≡ searchIn key (take (t .count) ks) → p ≤ t .count
-  place-absent key p e = absent-bound (t .count) ks ds g key 0 p e
+  place-absent key p e = absent-bound (t .count) ks ds g key p e
 
   -- a new key has an unused entry
   pub unused : (key p : ℕ) → Absent p ≡ searchIn key (take (t .count) ks) → startFull t ks ds key ≡ false → t .count < length ks
@@ -97,12 +100,15 @@ module _ (t : MultiTimer) (ks ds : List ℕ) (b : broken (t .count) ks ds ≡ fa
   pub cancelled-at : (key p n : ℕ) (ks' ds' : List ℕ) → At p ≡ searchIn key (take (t .count) ks) → n ≡ t .count - 1 → ks' ≡ removedAt p (t .count) ks → ds' ≡ removedAt p (t .count) ds → timersExit (timers n (t .«global_generation»)) ks' ds' ≡ cancelTimerUnchecked t ks ds key
   unfolding cancelTimerUnchecked
   cancelled-at key p n ks' ds' e m q r =
-      same-after _ _ ks' _ ds' _ (ap (λ (k : ℕ). timers k (t .«global_generation»)) (m ∙ sym (removed-count (t .count) ks ds g key p e))) (q ∙ sym (removed-keys (t .count) ks ds g key p e)) (r ∙ sym (removed-deadlines (t .count) ks ds g key p e))
+      let w = remove-found (t .count) ks ds g key (At p) e in
+      let h = at-bound (t .count) ks ds g key p e in
+      same-after _ _ ks' _ ds' _ (ap (λ (k : ℕ). timers k (t .«global_generation»)) (m ∙ sym (removed-count (t .count) ks ds g key p e))) (q ∙ sym (removed-is (t .count) ks _ count-fits p h (w .keys))) (r ∙ sym (removed-is (t .count) ds _ count-fits-deadlines p h (w .deadlines)))
 
   pub cancelled-absent : (key p : ℕ) → Absent p ≡ searchIn key (take (t .count) ks) → timersExit t ks ds ≡ cancelTimerUnchecked t ks ds key
   unfolding cancelTimerUnchecked
   cancelled-absent key p e =
-      same-after _ _ ks _ ds _ (ap (λ (k : ℕ). timers k (t .«global_generation»)) (sym (same-count (t .count) ks ds g key p e))) (sym (same-keys (t .count) ks ds g key p e)) (sym (same-deadlines (t .count) ks ds g key p e))
+      let w = remove-found (t .count) ks ds g key (Absent p) e in
+      same-after _ _ ks _ ds _ (ap (λ (k : ℕ). timers k (t .«global_generation»)) (sym (same-count (t .count) ks ds g key p e))) (sym (same-is (t .count) ks _ count-fits (w .keys))) (sym (same-is (t .count) ds _ count-fits-deadlines (w .deadlines)))
 
   pub cleared-all : (ks' ds' : List ℕ) → ks' ≡ clearedIn 0 (t .count) ks → ds' ≡ clearedIn 0 (t .count) ds → timersExit (timers 0 (t .«global_generation»)) ks' ds' ≡ clearUnchecked t ks ds
   unfolding clearUnchecked keysOf deadlinesOf

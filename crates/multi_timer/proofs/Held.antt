@@ -58,8 +58,8 @@ module _ (t : MultiTimer) (ks ds : List ℕ) (b : broken (t .count) ks ds ≡ fa
       next e h = omega arith
 
       go : (p : KeyPosition) → p ≡ searchIn key (take (t .count) ks) → length (put key d (used t ks ds)) ≤ length ks
-      go (At p) e = le-trans (le-of-eq (kept-count (t .count) ks ds g key d p e)) (g .within)
-      go (Absent p) e = next (inserted-count (t .count) ks ds g key d p e) (unused t ks ds b key p e f)
+      go (At p) e = le-trans (le-of-eq (kept-count (t .count) ks ds g key p d e)) (g .within)
+      go (Absent p) e = next (inserted-count (t .count) ks ds g key p d e) (unused t ks ds b key p e f)
 
   pub used-times : anyLate (deadlinesOf (used t ks ds)) ≡ heldTooLate (t .count) ds
   used-times = ap anyLate (used-deadlines t ks ds b)

@@ -116,4 +116,4 @@ start-full-within t ks ds low high key b w l h r = go (searchIn key (take (t .co
 
     go : (p : KeyPosition) → p ≡ searchIn key (take (t .count) ks) → startFull t ks ds key ≡ false
     go (At p) e = rw (at-lookup (t .count) ks ds g key p e) (either (leb (length ks) (t .count)))
-    go (Absent p) e = rw (lt-leb (length ks) (t .count) (room (inserted-count (t .count) ks ds g key 0 p e) most))
+    go (Absent p) e = rw (lt-leb (length ks) (t .count) (room (inserted-count (t .count) ks ds g key p 0 e) most))
