@@ -14,7 +14,7 @@ use Rattle.refusal.specs.declared.Refusal.the-variants.{State}
 use Rattle.refusal.specs.declared.Verdict.the-variants.{Accepted, Refused}
 use Rattle.refusal.proofs.Laws.{accepted-none-true, on-accepted, on-refused}
 use Rattle.multi_timer.specs.Map.{lookup, isSome, keep, remove, due, dueKeys, pending}
-use Rattle.multi_timer.specs.Internal.{searchIn, dueIn}
+use Rattle.multi_timer.specs.Internal.{searchIn}
 use Rattle.multi_timer.specs.MultiTimer.{used, TimersExit, PopExit, timersExit, popExit, answering, heldChecks, readChecks, startChecks, popChecks, broken, newUnchecked, newTimers, startResult, started, startTimerAtUnchecked, startTimerAt, cancelResult, cancelled, cancelTimerUnchecked, cancelTimer, isExpiredAtUnchecked, isExpiredAt, popResult, popped, popExpiredAtUnchecked, popExpiredAt, earliestDeadlineUnchecked, earliestDeadline, clearResult, cleared, clearUnchecked, clearTimers}
 use Rattle.multi_timer.specs.declared.MultiTimer.{MultiTimer}
 use Rattle.multi_timer.specs.declared.KeyPosition.{KeyPosition}
@@ -29,8 +29,8 @@ use Rattle.refusal.specs.declared.DoneAnswer as Cl
 use Rattle.multi_timer.proofs.Verdicts.{Good, good-of}
 use Rattle.multi_timer.proofs.Sorted.{length-keys}
 use Rattle.multi_timer.proofs.Places.{at-bound, at-lookup, absent-lookup, removed-count, same-count}
-use Rattle.multi_timer.proofs.Parting.{due-length, both}
-use Rattle.multi_timer.proofs.Changes.{used-one-length, used-length}
+use Rattle.multi_timer.proofs.Parting.{both}
+use Rattle.multi_timer.proofs.Changes.{used-length}
 
 module _ (t : MultiTimer) (ks ds : List ℕ) where
   module _ (key now duration : ℕ) where
@@ -79,9 +79,6 @@ module _ (t : MultiTimer) (ks ds : List ℕ) where
       pub expired-refused : {r : Refusal} → verdict (readChecks t ks ds now) ≡ Refused r → isExpiredAt t ks ds key now ≡ Ex.the-variants.Refused r
       unfolding isExpiredAt
       expired-refused e = on-refused _ _ e
-
-  pub due-used : (now : ℕ) → broken (t .count) ks ds ≡ false → length (dueKeys now (used t ks ds)) ≡ dueIn now (take (t .count) ds)
-  due-used now b = length-keys (keep (due now) (used t ks ds)) ∙ due-length now (take (t .count) ks) (take (t .count) ds) (used-one-length t ks ds b)
 
   module _ (now : ℕ) (out : List ℕ) where
     pub pop-accepted : verdict (popChecks t ks ds now (length out)) ≡ Accepted → popExpiredAt t ks ds now out ≡ popped (length (dueKeys now (used t ks ds))) (popExpiredAtUnchecked t ks ds now out)

@@ -10,7 +10,7 @@ use lib.Dec.{leb}
 use lib.ListN.{length, getD, take, drop, set, replicate}
 use lib.Seq.{take-at, drop-at, drop-drop}
 use borrow.Author.Tests.{leb-false}
-use Rattle.multi_timer.specs.Map.{Entry, keysOf, deadlinesOf, ascending, lookup, isSome, keep, due, pending, minOf, earliest}
+use Rattle.multi_timer.specs.Map.{Entry, keysOf, deadlinesOf, ascending, lookup, isSome, keep, due, dueKeys, pending, minOf, earliest}
 use Rattle.multi_timer.specs.Internal.{searchIn, insertedAt, removedAt, clearedIn, dueIn, Partitioned}
 use Rattle.multi_timer.specs.MultiTimer.{used, replaced, timersExit, TimersExit, popExit, timers, nextGeneration, broken, startFull, startTimerAtUnchecked, cancelTimerUnchecked, popExpiredAtUnchecked, clearUnchecked, earliestAnswer, earliestDeadlineUnchecked}
 use Rattle.multi_timer.specs.declared.MultiTimer.{MultiTimer}
@@ -19,7 +19,7 @@ use Rattle.multi_timer.specs.declared.EarliestAnswer as Ea
 use Rattle.multi_timer.proofs.Verdicts.{Good, good-of, in-order}
 use Rattle.multi_timer.proofs.Lists.{rest, rest-cons, rest-nil}
 use Rattle.multi_timer.proofs.Sorted.{length-keys, length-deadlines, keys-entries, deadlines-entries}
-use Rattle.multi_timer.proofs.Parting.{both, entries-length, next-length}
+use Rattle.multi_timer.proofs.Parting.{due-length, both, entries-length, next-length}
 use Rattle.multi_timer.proofs.Places.{replaced-fewer, same-is, set-is, inserted-is, removed-is, within, one-length, put-found, remove-found, at-bound, absent-lookup, absent-bound, kept-count, inserted-count, removed-count, same-count}
 
 same-after : {A : Type 0} (a b : A) (ks ls ds es : List ℕ) → a ≡ b → ks ≡ ls → ds ≡ es → timersExit a ks ds ≡ timersExit b ls es
@@ -57,6 +57,9 @@ module _ (t : MultiTimer) (ks ds : List ℕ) (b : broken (t .count) ks ds ≡ fa
 
   pub used-deadlines : deadlinesOf (used t ks ds) ≡ take (t .count) ds
   used-deadlines = deadlines-entries (take (t .count) ks) (take (t .count) ds) used-one-length
+
+  pub due-used : (now : ℕ) → length (dueKeys now (used t ks ds)) ≡ dueIn now (take (t .count) ds)
+  due-used now = length-keys (keep (due now) (used t ks ds)) ∙ due-length now (take (t .count) ks) (take (t .count) ds) used-one-length
 
   pub earliest-none : t .count ≡ 0 → Ea.the-variants.Nothing ≡ earliestDeadlineUnchecked t ks ds
   unfolding earliest

@@ -18,9 +18,9 @@ use super::entries::set_deadline;
 ghost use mathlib.Core.Path.{_≡_};
 ghost use mathlib.Core.Bool.{false};
 ghost use Prim.Native.Nat.{_≤_};
-ghost use lib.ListN.{length, take};
-ghost use Rattle.multi_timer.specs.Internal.{dueIn};
-ghost use Rattle.multi_timer.specs.MultiTimer.{timersExit, popExit, broken, startFull, newUnchecked};
+ghost use lib.ListN.{length};
+ghost use Rattle.multi_timer.specs.Map.{dueKeys};
+ghost use Rattle.multi_timer.specs.MultiTimer.{used, timersExit, popExit, broken, startFull, newUnchecked};
 ghost use Rattle.multi_timer.specs.MultiTimer.{startTimerAtUnchecked, cancelTimerUnchecked};
 ghost use Rattle.multi_timer.specs.MultiTimer.{popExpiredAtUnchecked, clearUnchecked, isExpiredAtUnchecked};
 ghost use Rattle.multi_timer.specs.MultiTimer.{nextExpiredUnchecked, earliestDeadlineUnchecked};
@@ -139,7 +139,7 @@ impl MultiTimer {
         out: &mut [u32],
     ) -> MultiTimer
         requires { ⌜ (broken (self .count) (now keys) (now deadlines) ≡ false)
-            × (dueIn time (take (self .count) (now deadlines)) ≤ length (now out)) ⌝ }
+            × (length (dueKeys time (used self (now keys) (now deadlines))) ≤ length (now out)) ⌝ }
         ensures { λ r. ⌜ popExit (timersExit r (now (keys .exit)) (now (deadlines .exit))) (now (out .exit))
             ≡ popExpiredAtUnchecked self (now (keys .entry)) (now (deadlines .entry)) time (now (out .entry)) ⌝ }
     {

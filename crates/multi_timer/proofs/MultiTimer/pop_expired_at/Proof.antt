@@ -1,12 +1,11 @@
 use mathlib.Core.Path.{sym, _∙_}
 use borrow.Author.Needs.{needs}
 use native.Mathlib.Omega.{arith}
-use native.Mathlib.Nat.{le-trans, le-of-eq}
 use lib.ListN.{length}
 use borrow.Author.Tests.{ltb-false}
 use Rattle.refusal.proofs.Laws.{accepted-none-true}
 use Rattle.multi_timer.specs.MultiTimer.{popChecks}
-use Rattle.multi_timer.proofs.Calls.{due-used, popped-count, pop-refused, pop-done}
+use Rattle.multi_timer.proofs.Calls.{popped-count, pop-refused, pop-done}
 use Rattle.multi_timer.proofs.MultiTimer.pop_expired_at.Statement.{statement}
 use Rattle.multi_timer.proofs.MultiTimer.pop_expired_at.Tie as tie
 
@@ -17,7 +16,7 @@ enum-told : tie.Need-enum-told
 enum-told c = search needs
 
 pop-expired-at-unchecked-requires : tie.Need-pop-expired-at-unchecked-requires
-pop-expired-at-unchecked-requires c κs = let s = c .before .before .before .before .before .before .before .before .before .before .before .args in let n = accepted-none-true (popChecks (s .self) (s .keys .now) (s .deadlines .now) (s .now) (length (s .out .now))) (sym (c .before .before .before .before .before .check-pop .ensures) ∙ c .before .before .before .enum-told .given .1) in (n .0, le-trans (le-of-eq (sym (due-used (s .self) (s .keys .now) (s .deadlines .now) (s .now) (n .0)))) (ltb-false _ _ (n .1 .1 .0)))
+pop-expired-at-unchecked-requires c κs = let s = c .before .before .before .before .before .before .before .before .before .before .before .args in let n = accepted-none-true (popChecks (s .self) (s .keys .now) (s .deadlines .now) (s .now) (length (s .out .now))) (sym (c .before .before .before .before .before .check-pop .ensures) ∙ c .before .before .before .enum-told .given .1) in (n .0, ltb-false _ _ (n .1 .1 .0))
 
 sub-t21 : tie.Need-sub-t21
 sub-t21 c = let s = c .before .before .before .before .before .before .before .before .before .before .before .before .before .before .before .before .before .before .before .before .args in let n = accepted-none-true (popChecks (s .self) (s .keys .now) (s .deadlines .now) (s .now) (length (s .out .now))) (sym (c .before .before .before .before .before .before .before .before .before .before .before .before .before .before .check-pop .ensures) ∙ c .before .before .before .before .before .before .before .before .before .before .before .before .enum-told .given .1) in omega (arith, popped-count (s .self) (s .keys .now) (s .deadlines .now) (s .now) (s .out .now) _ _ _ _ (n .0) (c .before .before .before .before .before .before .before .before .pop-expired-at-unchecked .ensures))

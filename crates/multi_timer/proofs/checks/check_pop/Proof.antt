@@ -2,8 +2,7 @@ use mathlib.Core.Path.{sym, _∙_}
 use borrow.Author.Needs.{needs}
 use Rattle.multi_timer.proofs.Verdicts.{three-checks}
 use borrow.Author.Tests.{lt-ltb, le-ltb}
-use Rattle.multi_timer.proofs.Changes.{count-fits-deadlines}
-use Rattle.multi_timer.proofs.Calls.{due-used}
+use Rattle.multi_timer.proofs.Changes.{count-fits-deadlines, due-used}
 use Rattle.multi_timer.proofs.checks.check_pop.Statement.{statement}
 use Rattle.multi_timer.proofs.checks.check_pop.Tie as tie
 
@@ -23,10 +22,10 @@ due-count-requires : tie.Need-due-count-requires
 due-count-requires c κs = let s = c .before .before .before .before .before .before .args in count-fits-deadlines (s .timers) (s .keys .now) (s .deadlines .now) (sym (c .before .before .before .is-broken .ensures) ∙ c .before .before .if1 .left)
 
 returns-3 : tie.Need-returns-3
-returns-3 c = let s = c .before .before .before .before .before .before .before .before .args in let b = sym (c .before .before .before .before .before .is-broken .ensures) ∙ c .before .before .before .before .if1 .left in simp (three-checks, b, sym (c .before .before .before .read-too-late .ensures), c .before .before .if2 .left, due-used (s .timers) (s .keys .now) (s .deadlines .now) (s .time) b, sym (c .before .due-count .ensures), lt-ltb _ _ (c .if3 .taken))
+returns-3 c = let s = c .before .before .before .before .before .before .before .before .args in let b = sym (c .before .before .before .before .before .is-broken .ensures) ∙ c .before .before .before .before .if1 .left in simp (three-checks, b, sym (c .before .before .before .read-too-late .ensures), c .before .before .if2 .left, due-used (s .timers) (s .keys .now) (s .deadlines .now) b (s .time), sym (c .before .due-count .ensures), lt-ltb _ _ (c .if3 .taken))
 
 returns-4 : tie.Need-returns-4
-returns-4 c = let s = c .before .before .before .before .before .before .before .before .args in let b = sym (c .before .before .before .before .before .is-broken .ensures) ∙ c .before .before .before .before .if1 .left in simp (three-checks, b, sym (c .before .before .before .read-too-late .ensures), c .before .before .if2 .left, due-used (s .timers) (s .keys .now) (s .deadlines .now) (s .time) b, sym (c .before .due-count .ensures), le-ltb _ _ (c .if3 .left))
+returns-4 c = let s = c .before .before .before .before .before .before .before .before .args in let b = sym (c .before .before .before .before .before .is-broken .ensures) ∙ c .before .before .before .before .if1 .left in simp (three-checks, b, sym (c .before .before .before .read-too-late .ensures), c .before .before .if2 .left, due-used (s .timers) (s .keys .now) (s .deadlines .now) b (s .time), sym (c .before .due-count .ensures), le-ltb _ _ (c .if3 .left))
 
 pub check-pop-spec : {M : Type 1} → statement M
 check-pop-spec = tie.close (tie.spec is-broken-requires returns read-too-late-requires returns-2 due-count-requires returns-3 returns-4)
