@@ -30,6 +30,10 @@ pub record Holds (n : ℕ) (es : List Entry) (s : TimersExit MultiTimer) : Type 
   pub times : heldTooLate (s .answer .count) (s .deadlines) ≡ anyLate (deadlinesOf es)
   pub entries : used (s .answer) (s .keys) (s .deadlines) ≡ es
 
+-- check 10 of what is held is false
+abbrev pub InTime : TimersExit MultiTimer → Type 0
+InTime s = heldTooLate (s .answer .count) (s .deadlines) ≡ false
+
 keep-most : (p : Entry → Bool) (es : List Entry) → length (keep p es) ≤ length es
 unfolding keep
 keep-most p [] = zero-le
@@ -95,9 +99,6 @@ module _ (t : MultiTimer) (ks ds : List ℕ) (b : broken (t .count) ks ds ≡ fa
   clear-holds = holding-holds (t .«global_generation») [] zero-le refl
 
   module _ (h : heldTooLate (t .count) ds ≡ false) where
-    abbrev InTime : TimersExit MultiTimer → Type 0
-    InTime s = heldTooLate (s .answer .count) (s .deadlines) ≡ false
-
     pub start-times : (key d : ℕ) → startFull t ks ds key ≡ false → d ≤ maxTime → InTime (startTimerAtUnchecked t ks ds key d)
     start-times key d f l = start-holds key d f .times ∙ put-in-time key d (used t ks ds) l (used-times ∙ h)
 
