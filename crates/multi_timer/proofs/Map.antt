@@ -218,7 +218,7 @@ replaced-length xs n old h l =
     total : (x n m : ℕ) → n ≤ m → x ≤ m → x + ((n - x) + (m - max n x)) ≡ m
     total x n m h l = omega arith
 
--- a set that holds ascending entries, in slices long enough, passes line 9 of the next call
+-- a set that holds ascending entries, in slices long enough, passes check 9 of the next call
 pub holding-accepted : (es : List Entry) (n : ℕ) (ks ds : List ℕ) → length ks ≡ length ds → n ≤ length ks → length es ≤ length ks → ascending (keysOf es) ≡ true → broken (length es) (replaced (keysOf es) n ks) (replaced (deadlinesOf es) n ds) ≡ false
 holding-accepted es n ks ds e h l a =
     let lk : length (replaced (keysOf es) n ks) ≡ length ks = replaced-length (keysOf es) n ks h (subst (λ (m : ℕ). m ≤ length ks) (sym (length-keys es)) l) in
@@ -228,7 +228,7 @@ holding-accepted es n ks ds e h l a =
     passes-9 : (m : ℕ) (xs ys : List ℕ) → length xs ≡ length ys → m ≤ length xs → ascending (take m xs) ≡ true → broken m xs ys ≡ false
     passes-9 m xs ys p q r = simp (eq-eqb _ _ p, le-ltb _ _ q, r)
 
--- and its deadlines line 10
+-- and its deadlines check 10
 pub keep-in-time : (p : Entry → Bool) (es : List Entry) → anyLate (deadlinesOf es) ≡ false → anyLate (deadlinesOf (keep p es)) ≡ false
 unfolding deadlinesOf keep anyLate
 keep-in-time p [] a = a

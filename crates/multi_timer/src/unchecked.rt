@@ -54,8 +54,8 @@ impl MultiTimer {
     {
         let count = self.count;
         let next = std::num::wrapping_add_u64(self.global_generation, 1);
-        let place = search(count, keys, key);
-        match place {
+        let position = search(count, keys, key);
+        match position {
             KeyPosition::At(i) => {
                 set_deadline(deadlines, i, deadline);
                 MultiTimer {
@@ -84,8 +84,8 @@ impl MultiTimer {
             ≡ cancelTimerUnchecked self (now (keys .entry)) (now (deadlines .entry)) key ⌝ }
     {
         let count = self.count;
-        let place = search(count, keys, key);
-        match place {
+        let position = search(count, keys, key);
+        match position {
             KeyPosition::At(i) => {
                 remove_at(keys, deadlines, i, count);
                 MultiTimer {
@@ -107,8 +107,8 @@ impl MultiTimer {
         requires { ⌜ broken (self .count) (now keys) (now deadlines) ≡ false ⌝ }
         ensures { λ r. ⌜ r ≡ isExpiredAtUnchecked self (now (keys .entry)) (now (deadlines .entry)) key time ⌝ }
     {
-        let place = search(self.count, keys, key);
-        match place {
+        let position = search(self.count, keys, key);
+        match position {
             KeyPosition::At(i) => time >= deadlines[i],
             KeyPosition::Absent(_) => false,
         }
