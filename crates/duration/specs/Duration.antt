@@ -1,4 +1,4 @@
--- Rust's std::time::Duration, `as_secs_f64` and `from_secs_f64` ("rounds to the nearest nanosecond, ties to even", document 01, timing/rto.rs), on nanoseconds.
+-- Rust's std::time::Duration, `as_secs_f64` and `from_secs_f64`, on nanoseconds; document 01, `timing/rto.rs`.
 use Prim.Native.Nat.{ℕ, _*_, _/_, _%_}
 use mathlib.Core.Bool.{Bool, false, _&&_, cond}
 use lib.IntN.{pos, negsuc}
@@ -10,7 +10,9 @@ use Rattle.duration.specs.declared.FromSecs.the-variants.{Nanos, OutOfRa
 
 -- the whole seconds, plus the rest over 1e9
 abbrev pub asSecsF64 : ℕ → Float
-asSecsF64 ns = add binary64 (ofInt binary64 (pos (ns / 1000000000))) (div binary64 (ofInt binary64 (pos (ns % 1000000000))) (ofInt binary64 (pos 1000000000)))
+asSecsF64 ns =
+    add binary64 (ofInt binary64 (pos (ns / 1000000000)))
+    (div binary64 (ofInt binary64 (pos (ns % 1000000000))) (ofInt binary64 (pos 1000000000)))
 
 -- of a finite x that is not negative, num x / den x: the whole number nearest to x * 10 ^ 9, a tie to the even one
 abbrev pub fromSecsF64 : Float → ℕ

@@ -9,6 +9,12 @@ ghost use Rattle.duration.specs.Duration.{asSecsF64, fromSecsF64, secsIn
 use bounds::MAX_DURATION;
 use bounds::MAX_TIME;
 
+// The nanoseconds, or that x is negative, not a number, or 2^34 or more.
+pub enum FromSecs {
+    Nanos(u64),
+    OutOfRange,
+}
+
 pub fn start_late(now: u64, duration: u64) -> bool
     ensures { λ r. ⌜ r ≡ startLate now duration ⌝ }
 {
@@ -29,28 +35,29 @@ pub fn as_secs_f64(ns: u64) -> f64
     (whole as f64) + (part as f64) / 1000000000.0
 }
 
-// a / 2^k to the nearest whole number, a tie to the even one.
-fn closest_shifted(a: u64, k: u64) -> u64
-    requires { ⌜ (k ≤ 53) × (a < 9223372036854775808) ⌝ }
-    ensures { λ r. ⌜ r ≡ closest a (2 ^ k) ⌝ }
+pub fn from_secs_f64(x: f64) -> FromSecs
+    ensures { λ r. ⌜ r ≡ fromSecsChecked x ⌝ }
 {
-    let b = 1 << k;
-    let q = a / b;
-    let r = a % b * 2;
-    if r < b {
-        return q;
+    if x >= 0.0 {
+        if x < 17179869184.0 {
+            return FromSecs::Nanos(from_secs_f64_unchecked(x));
+        }
     }
-    if b < r {
-        return q + 1;
-    }
-    q + q % 2
+    FromSecs::OutOfRange
 }
 
-// 1 where any bit of b is set: the sticky bit of a rounding.
-fn sticky_u64(b: u64) -> u64
-    ensures { λ r. ⌜ r ≡ sticky b ⌝ }
+// For 0 <= x < 2^34; below 2^-31 it is 0.
+pub fn from_secs_f64_unchecked(x: f64) -> u64
+    requires { ⌜ T (secsInBounds x) ⌝ }
+    ensures { λ r. ⌜ r ≡ fromSecsF64 x ⌝ }
 {
-    if b == 0 { 0 } else { 1 }
+    if x >= 2097152.0 {
+        return nanos_from_2_pow_21(x);
+    }
+    if x >= 0.0000000004656612873077392578125 {
+        return nanos_below_2_pow_21(x);
+    }
+    0
 }
 
 // For 2^-31 <= x < 2^21. x is significand * 2^(field - 1075), and 10^9 is 1953125 * 2^9.
@@ -81,33 +88,26 @@ fn nanos_from_2_pow_21(x: f64) -> u64
     whole + closest_shifted(significand % unit * 1000000000, places)
 }
 
-// For 0 <= x < 2^34; below 2^-31 it is 0.
-pub fn from_secs_f64_unchecked(x: f64) -> u64
-    requires { ⌜ T (secsInBounds x) ⌝ }
-    ensures { λ r. ⌜ r ≡ fromSecsF64 x ⌝ }
+// a / 2^k to the nearest whole number, a tie to the even one.
+fn closest_shifted(a: u64, k: u64) -> u64
+    requires { ⌜ (k ≤ 53) × (a < 9223372036854775808) ⌝ }
+    ensures { λ r. ⌜ r ≡ closest a (2 ^ k) ⌝ }
 {
-    if x >= 2097152.0 {
-        return nanos_from_2_pow_21(x);
+    let b = 1 << k;
+    let q = a / b;
+    let r = a % b * 2;
+    if r < b {
+        return q;
     }
-    if x >= 0.0000000004656612873077392578125 {
-        return nanos_below_2_pow_21(x);
+    if b < r {
+        return q + 1;
     }
-    0
+    q + q % 2
 }
 
-// The nanoseconds, or that x is negative, not a number, or 2^34 or more.
-pub enum FromSecs {
-    Nanos(u64),
-    OutOfRange,
-}
-
-pub fn from_secs_f64(x: f64) -> FromSecs
-    ensures { λ r. ⌜ r ≡ fromSecsChecked x ⌝ }
+// 1 where any bit of b is set: the sticky bit of a rounding.
+fn sticky_u64(b: u64) -> u64
+    ensures { λ r. ⌜ r ≡ sticky b ⌝ }
 {
-    if x >= 0.0 {
-        if x < 17179869184.0 {
-            return FromSecs::Nanos(from_secs_f64_unchecked(x));
-        }
-    }
-    FromSecs::OutOfRange
+    if b == 0 { 0 } else { 1 }
 }

@@ -1,4 +1,4 @@
-pub mod Checks
+pub mod Verdicts
 pub mod Lists
 pub mod Loops
 pub mod Sorted
@@ -7,6 +7,9 @@ pub mod Places
 pub mod Changes
 pub mod Calls
 pub mod Map
+pub mod Held
+pub mod Window
+pub mod DueKeys
 pub mod History
 pub mod Examples
 pub mod Laws

@@ -11,9 +11,9 @@ use lib.ListN.{length, take, drop, replicate, length-append, length-replicate, l
 use lib.Seq.{take-append-seam}
 use borrow.Author.Tests.{ltb-true, ltb-false, eqb-true, eqb-false, leb-true, leb-false, le-ltb, le-leb, lt-leb, eq-eqb, ne-eqb}
 use Rattle.bounds.specs.Bounds.{maxTime}
-use Rattle.multi_timer.specs.Map.{Entry, entry, entriesOf, keysOf, deadlinesOf, ascendingFrom, ascending, lookup, keep, put, other, remove, due, pending, isSome, dueAt, stillSet, least, earliest, contains, LeastOf}
-use Rattle.multi_timer.specs.MultiTimer.{laid, broken, anyLate}
-use Rattle.multi_timer.proofs.Sorted.{first-key, other-keys, length-keys, length-deadlines}
+use Rattle.multi_timer.specs.Map.{Entry, entry, entriesOf, keysOf, deadlinesOf, ascendingFrom, ascending, lookup, keep, put, other, remove, due, pending, isSome, dueAt, stillSet, minOf, earliest, contains, IsMin}
+use Rattle.multi_timer.specs.MultiTimer.{replaced, broken, anyLate}
+use Rattle.multi_timer.proofs.Sorted.{first-key, other-keys, length-keys, length-deadlines, lookup-below}
 
 differ : (a b c : ℕ) → a ≡ b → a ≡ c → (b ≡ c → ⊥) → ⊥
 differ a b c p q n = n (cc)
@@ -60,7 +60,7 @@ lookup-remove k q (e ∷ es) = go (eqb (e .key) k) (eqb (e .key) q) (eqb k q) re
     go false false y r s u h = simp s h
 
 -- ---- keys ascending
-ascending-cons : (low k : ℕ) (ks : List ℕ) → low ≤ k → ascendingFrom (suc k) ks ≡ true → ascendingFrom low (k ∷ ks) ≡ true
+pub ascending-cons : (low k : ℕ) (ks : List ℕ) → low ≤ k → ascendingFrom (suc k) ks ≡ true → ascendingFrom low (k ∷ ks) ≡ true
 unfolding ascendingFrom
 ascending-cons low k ks h e = simp (le-leb _ _ h) e
 
@@ -105,17 +105,6 @@ put-ascending k d low (e ∷ es) h a = go (ltb (e .key) k) (eqb (e .key) k) (ltb
         near g n = omega arith
 
 -- ---- lookup after a pop: what is not due stays
-lookup-below : (q low : ℕ) (es : List Entry) → ascendingFrom low (keysOf es) ≡ true → q < low → lookup q es ≡ none
-unfolding keysOf lookup
-lookup-below q low [] a h = refl
-lookup-below q low (e ∷ es) a h = let f = first-key low (e .key) (keysOf es) a in rw (ne-eqb (e .key) q (apart f)) (lookup-below q (suc (e .key)) es (other-keys low (e .key) (keysOf es) a) (further f))
-  where
-    further : low ≤ e .key → q < suc (e .key)
-    further f = omega arith
-
-    apart : low ≤ e .key → e .key ≡ q → ⊥
-    apart f g = omega arith
-
 pub lookup-pop : (now q low : ℕ) (es : List Entry) → ascendingFrom low (keysOf es) ≡ true → lookup q (keep (pending now) es) ≡ stillSet now (lookup q es)
 unfolding keysOf keep lookup
 lookup-pop now q low [] a = refl
@@ -159,15 +148,15 @@ due-taken now q low (e ∷ es) a = go (leb (e .deadline) now) (eqb (e .key) q) r
     go false true d s h = simp (s, d) (h ∙ ap (dueAt now) (lookup-below q (suc (e .key)) es r (near (eqb-true _ _ s))))
     go false false d s h = simp s h
 
--- ---- the earliest is the least deadline of a key
+-- ---- the earliest is the min of the deadlines of a key
 none-some : (o : Option ℕ) (d : ℕ) → o ≡ none → o ≡ some d → ⊥
 none-some o d p q = let z : _≡_ {A = ℕ} 0 1 = cc in omega arith
 
 some-one : (d x : ℕ) → some d ≡ some x → d ≡ x
 some-one d x p = cc
 
-earliest-more : (low : ℕ) (e : Entry) (es : List Entry) → ascendingFrom low (keysOf (e ∷ es)) ≡ true → LeastOf (λ (key : ℕ). lookup key es) (earliest (deadlinesOf es)) → LeastOf (λ (key : ℕ). lookup key (e ∷ es)) (earliest (deadlinesOf (e ∷ es)))
-unfolding keysOf deadlinesOf lookup earliest least
+earliest-more : (low : ℕ) (e : Entry) (es : List Entry) → ascendingFrom low (keysOf (e ∷ es)) ≡ true → IsMin (λ (key : ℕ). lookup key es) (earliest (deadlinesOf es)) → IsMin (λ (key : ℕ). lookup key (e ∷ es)) (earliest (deadlinesOf (e ∷ es)))
+unfolding keysOf deadlinesOf lookup earliest minOf
 earliest-more low e [] a h = ((e .key, rw (eq-eqb (e .key) (e .key) refl)), λ key x. each (eqb (e .key) key) x)
   where
     each : (b : Bool) (x : ℕ) → cond b (some (e .deadline)) none ≡ some x → e .deadline ≤ x
@@ -176,7 +165,7 @@ earliest-more low e [] a h = ((e .key, rw (eq-eqb (e .key) (e .key) refl)), λ k
 earliest-more low e (f ∷ es) a h = (found (leb (e .deadline) m) (leb-true _ _) (leb-false _ _), λ key x. each (eqb (e .key) key) key x)
   where
     m : ℕ
-    m = least (f .deadline) (deadlinesOf es)
+    m = minOf (f .deadline) (deadlinesOf es)
 
     left : (a b : ℕ) → a ≤ b → a ≡ min a b
     left a b h = omega arith
@@ -195,17 +184,17 @@ earliest-more low e (f ∷ es) a h = (found (leb (e .deadline) m) (leb-true _ _)
     each true key x p = let q = some-one (e .deadline) x p in omega arith
     each false key x p = let q = h .1 key x p in omega arith
 
-pub earliest-least : (low : ℕ) (es : List Entry) → ascendingFrom low (keysOf es) ≡ true → LeastOf (λ (key : ℕ). lookup key es) (earliest (deadlinesOf es))
+pub earliest-min : (low : ℕ) (es : List Entry) → ascendingFrom low (keysOf es) ≡ true → IsMin (λ (key : ℕ). lookup key es) (earliest (deadlinesOf es))
 unfolding keysOf deadlinesOf lookup earliest
-earliest-least low [] a = λ key. refl
-earliest-least low (e ∷ es) a = earliest-more low e es a (earliest-least (suc (e .key)) es (other-keys low (e .key) (keysOf es) a))
+earliest-min low [] a = λ key. refl
+earliest-min low (e ∷ es) a = earliest-more low e es a (earliest-min (suc (e .key)) es (other-keys low (e .key) (keysOf es) a))
 
--- a map has one least deadline at most: so the earliest is none exactly when no key is set
-pub least-one : (map : ℕ → Option ℕ) (o q : Option ℕ) → LeastOf map o → LeastOf map q → o ≡ q
-least-one map none none h k = refl
-least-one map none (some e) h k = absurd (none-some (map (k .0 .0)) e (h (k .0 .0)) (k .0 .1))
-least-one map (some d) none h k = absurd (none-some (map (h .0 .0)) d (k (h .0 .0)) (h .0 .1))
-least-one map (some d) (some e) h k = ap some (le-antisymm (h .1 (k .0 .0) e (k .0 .1)) (k .1 (h .0 .0) d (h .0 .1)))
+-- a map has one min at most: so the earliest is none exactly when no key is set
+pub min-unique : (map : ℕ → Option ℕ) (o q : Option ℕ) → IsMin map o → IsMin map q → o ≡ q
+min-unique map none none h k = refl
+min-unique map none (some e) h k = absurd (none-some (map (k .0 .0)) e (h (k .0 .0)) (k .0 .1))
+min-unique map (some d) none h k = absurd (none-some (map (h .0 .0)) d (k (h .0 .0)) (h .0 .1))
+min-unique map (some d) (some e) h k = ap some (le-antisymm (h .1 (k .0 .0) e (k .0 .1)) (k .1 (h .0 .0) d (h .0 .1)))
 
 -- ---- what the slices hold after a change are the entries of the definition
 pub entries-of-both : (es : List Entry) → entriesOf (keysOf es) (deadlinesOf es) ≡ es
@@ -213,33 +202,33 @@ unfolding entriesOf keysOf deadlinesOf
 entries-of-both [] = refl
 entries-of-both (e ∷ es) = ap (λ (t : List Entry). e ∷ t) (entries-of-both es)
 
-pub laid-front : (new : List ℕ) (m n : ℕ) (old : List ℕ) → length new ≡ m → take m (laid new n old) ≡ new
-unfolding laid
-laid-front new m n old e = ap (λ (k : ℕ). take k (laid new n old)) (sym e) ∙ take-append-seam new _
+pub replaced-front : (new : List ℕ) (m n : ℕ) (old : List ℕ) → length new ≡ m → take m (replaced new n old) ≡ new
+unfolding replaced
+replaced-front new m n old e = ap (λ (k : ℕ). take k (replaced new n old)) (sym e) ∙ take-append-seam new _
 
-pub laid-used : (es : List Entry) (n : ℕ) (ks ds : List ℕ) → entriesOf (take (length es) (laid (keysOf es) n ks)) (take (length es) (laid (deadlinesOf es) n ds)) ≡ es
-laid-used es n ks ds = ap₂ entriesOf (laid-front (keysOf es) (length es) n ks (length-keys es)) (laid-front (deadlinesOf es) (length es) n ds (length-deadlines es)) ∙ entries-of-both es
+pub replaced-used : (es : List Entry) (n : ℕ) (ks ds : List ℕ) → entriesOf (take (length es) (replaced (keysOf es) n ks)) (take (length es) (replaced (deadlinesOf es) n ds)) ≡ es
+replaced-used es n ks ds = ap₂ entriesOf (replaced-front (keysOf es) (length es) n ks (length-keys es)) (replaced-front (deadlinesOf es) (length es) n ds (length-deadlines es)) ∙ entries-of-both es
 
-pub laid-length : (xs : List ℕ) (n : ℕ) (old : List ℕ) → n ≤ length old → length xs ≤ length old → length (laid xs n old) ≡ length old
-unfolding laid
-laid-length xs n old h l =
+pub replaced-length : (xs : List ℕ) (n : ℕ) (old : List ℕ) → n ≤ length old → length xs ≤ length old → length (replaced xs n old) ≡ length old
+unfolding replaced
+replaced-length xs n old h l =
     let p : length (xs ++ (replicate (n - length xs) 0 ++ drop (max n (length xs)) old)) ≡ length xs + ((n - length xs) + (length old - max n (length xs))) = simp (length-append, length-replicate, length-drop) in
     p ∙ total (length xs) n (length old) h l
   where
     total : (x n m : ℕ) → n ≤ m → x ≤ m → x + ((n - x) + (m - max n x)) ≡ m
     total x n m h l = omega arith
 
--- a set that holds ascending entries, in slices long enough, passes line 9 of the next call
-pub holding-accepted : (es : List Entry) (n : ℕ) (ks ds : List ℕ) → length ks ≡ length ds → n ≤ length ks → length es ≤ length ks → ascending (keysOf es) ≡ true → broken (length es) (laid (keysOf es) n ks) (laid (deadlinesOf es) n ds) ≡ false
+-- a set that holds ascending entries, in slices long enough, passes check 9 of the next call
+pub holding-accepted : (es : List Entry) (n : ℕ) (ks ds : List ℕ) → length ks ≡ length ds → n ≤ length ks → length es ≤ length ks → ascending (keysOf es) ≡ true → broken (length es) (replaced (keysOf es) n ks) (replaced (deadlinesOf es) n ds) ≡ false
 holding-accepted es n ks ds e h l a =
-    let lk : length (laid (keysOf es) n ks) ≡ length ks = laid-length (keysOf es) n ks h (subst (λ (m : ℕ). m ≤ length ks) (sym (length-keys es)) l) in
-    let ld : length (laid (deadlinesOf es) n ds) ≡ length ds = laid-length (deadlinesOf es) n ds (subst (λ (m : ℕ). n ≤ m) e h) (subst (λ (m : ℕ). m ≤ length ds) (sym (length-deadlines es)) (subst (λ (m : ℕ). length es ≤ m) e l)) in
-    passes-9 (length es) (laid (keysOf es) n ks) (laid (deadlinesOf es) n ds) (lk ∙ e ∙ sym ld) (subst (λ (m : ℕ). length es ≤ m) (sym lk) l) (ap ascending (laid-front (keysOf es) (length es) n ks (length-keys es)) ∙ a)
+    let lk : length (replaced (keysOf es) n ks) ≡ length ks = replaced-length (keysOf es) n ks h (subst (λ (m : ℕ). m ≤ length ks) (sym (length-keys es)) l) in
+    let ld : length (replaced (deadlinesOf es) n ds) ≡ length ds = replaced-length (deadlinesOf es) n ds (subst (λ (m : ℕ). n ≤ m) e h) (subst (λ (m : ℕ). m ≤ length ds) (sym (length-deadlines es)) (subst (λ (m : ℕ). length es ≤ m) e l)) in
+    passes-9 (length es) (replaced (keysOf es) n ks) (replaced (deadlinesOf es) n ds) (lk ∙ e ∙ sym ld) (subst (λ (m : ℕ). length es ≤ m) (sym lk) l) (ap ascending (replaced-front (keysOf es) (length es) n ks (length-keys es)) ∙ a)
   where
     passes-9 : (m : ℕ) (xs ys : List ℕ) → length xs ≡ length ys → m ≤ length xs → ascending (take m xs) ≡ true → broken m xs ys ≡ false
     passes-9 m xs ys p q r = simp (eq-eqb _ _ p, le-ltb _ _ q, r)
 
--- and its deadlines line 10
+-- and its deadlines check 10
 pub keep-in-time : (p : Entry → Bool) (es : List Entry) → anyLate (deadlinesOf es) ≡ false → anyLate (deadlinesOf (keep p es)) ≡ false
 unfolding deadlinesOf keep anyLate
 keep-in-time p [] a = a

@@ -12,7 +12,7 @@ use lib.ListN.{length, getD, take, drop, set, length-append, length-drop}
 use lib.Seq.{length-take-le, take-suc, drop-cons, set-append-seam, getD-append-add, getD-drop}
 use borrow.Author.Tests.{le-leb, lt-leb, lt-ltb, le-ltb, ltb-true, ltb-false}
 use Rattle.multi_timer.specs.Map.{Entry, entry, entriesOf, keysOf, deadlinesOf, keep, due, pending}
-use Rattle.multi_timer.specs.Search.{dueIn, Partitioned}
+use Rattle.multi_timer.specs.Internal.{dueIn, Partitioned}
 use Rattle.multi_timer.proofs.Sorted.{keys-entries, length-keys, length-deadlines}
 
 -- ---- one more entry
@@ -250,15 +250,6 @@ module _ (n i now : ℕ) (ks₀ ds₀ out₀ : List ℕ) (left : ℕ) (ks ds out
               ∙ ap (λ (t : List ℕ). t ++ drop (left + 1) ds₀) (sym (ap deadlinesOf more ∙ deadlines-more P e));
           taken = p .taken ∙ ap (λ (es : List Entry). keysOf es ++ drop (length es) out₀) (sym same);
         }
-
-pub due-most : (now : ℕ) (ds : List ℕ) → dueIn now ds ≤ length ds
-unfolding dueIn
-due-most now [] = zero-le
-due-most now (y ∷ ds) = go (leb y now) (due-most now ds)
-  where
-    go : (b : Bool) → dueIn now ds ≤ length ds → cond b (suc (dueIn now ds)) (dueIn now ds) ≤ suc (length ds)
-    go true h = suc-le-suc h
-    go false h = omega arith
 
 pub parted-as : (n now : ℕ) (ks ds out : List ℕ) (l l' : ℕ) (a a' b b' c c' : List ℕ) → a ≡ a' → b ≡ b' → c ≡ c' → l ≡ l' → Partitioned n now ks ds out l' a' b' c' → Partitioned n now ks ds out l a b c
 parted-as n now ks ds out l l' a a' b b' c c' p q r s x =

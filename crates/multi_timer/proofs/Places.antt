@@ -10,25 +10,25 @@ use lib.ListN.{length, getD, take, drop, set, replicate, length-append, length-s
 use lib.Seq.{length-take-le, take-take, drop-drop, getD-take, set-append-left}
 use borrow.Rule.Slice.PartMut.{putMid, post-is}
 use Rattle.octets.proofs.Laws.{tail-is, tail-back}
-use Rattle.multi_timer.specs.Map.{Entry, entriesOf, keysOf, deadlinesOf, lookup, put, remove}
-use Rattle.multi_timer.specs.Search.{searchIn, insertedAt, removedAt, clearedIn}
-use Rattle.multi_timer.specs.MultiTimer.{laid}
+use Rattle.multi_timer.specs.Map.{entriesOf, lookup, put, remove}
+use Rattle.multi_timer.specs.Internal.{searchIn, insertedAt, removedAt, clearedIn}
+use Rattle.multi_timer.specs.MultiTimer.{replaced}
 use Rattle.multi_timer.specs.declared.KeyPosition.{KeyPosition}
 use Rattle.multi_timer.specs.declared.KeyPosition.the-variants.{At, Absent}
-use Rattle.multi_timer.proofs.Checks.{Good}
+use Rattle.multi_timer.proofs.Verdicts.{Good}
 use Rattle.multi_timer.proofs.Sorted.{PutIs, put-is, RemoveIs, remove-is, LookupIs, lookup-is, length-keys}
 
 -- ---- n entries that give way to as many, one more, one fewer, or to fewer
 module _ (new old : List ℕ) (n : ℕ) where
-  pub laid-fewer : length new ≤ n → laid new n old ≡ new ++ (replicate (n - length new) 0 ++ drop n old)
-  unfolding laid
-  laid-fewer h = ap (λ (m : ℕ). new ++ (replicate (n - length new) 0 ++ drop m old)) (largest (length new) h)
+  pub replaced-fewer : length new ≤ n → replaced new n old ≡ new ++ (replicate (n - length new) 0 ++ drop n old)
+  unfolding replaced
+  replaced-fewer h = ap (λ (m : ℕ). new ++ (replicate (n - length new) 0 ++ drop m old)) (largest (length new) h)
     where
       largest : (m : ℕ) → m ≤ n → max n m ≡ n
       largest m h = omega arith
 
-  pub laid-same : length new ≡ n → laid new n old ≡ new ++ drop n old
-  laid-same e = laid-fewer (fewer e) ∙ ap (λ (m : ℕ). new ++ (replicate m 0 ++ drop n old)) (no-more e)
+  pub replaced-same : length new ≡ n → replaced new n old ≡ new ++ drop n old
+  replaced-same e = replaced-fewer (fewer e) ∙ ap (λ (m : ℕ). new ++ (replicate m 0 ++ drop n old)) (no-more e)
     where
       fewer : length new ≡ n → length new ≤ n
       fewer e = omega arith
@@ -36,9 +36,9 @@ module _ (new old : List ℕ) (n : ℕ) where
       no-more : length new ≡ n → n - length new ≡ 0
       no-more e = omega arith
 
-  pub laid-more : length new ≡ suc n → laid new n old ≡ new ++ drop (suc n) old
-  unfolding laid
-  laid-more e = ap₂ (λ (k m : ℕ). new ++ (replicate k 0 ++ drop m old)) (no-more (length new) e) (largest (length new) e)
+  pub replaced-more : length new ≡ suc n → replaced new n old ≡ new ++ drop (suc n) old
+  unfolding replaced
+  replaced-more e = ap₂ (λ (k m : ℕ). new ++ (replicate k 0 ++ drop m old)) (no-more (length new) e) (largest (length new) e)
     where
       no-more : (m : ℕ) → m ≡ suc n → n - m ≡ 0
       no-more m e = omega arith
@@ -46,8 +46,8 @@ module _ (new old : List ℕ) (n : ℕ) where
       largest : (m : ℕ) → m ≡ suc n → max n m ≡ suc n
       largest m e = omega arith
 
-  pub laid-less : suc (length new) ≡ n → laid new n old ≡ new ++ 0 ∷ drop n old
-  laid-less e = laid-fewer (fewer e) ∙ ap (λ (m : ℕ). new ++ (replicate m 0 ++ drop n old)) (one-more e)
+  pub replaced-less : suc (length new) ≡ n → replaced new n old ≡ new ++ 0 ∷ drop n old
+  replaced-less e = replaced-fewer (fewer e) ∙ ap (λ (m : ℕ). new ++ (replicate m 0 ++ drop n old)) (one-more e)
     where
       fewer : suc (length new) ≡ n → length new ≤ n
       fewer e = omega arith
@@ -99,7 +99,34 @@ module _ (i : ℕ) (xs : List ℕ) where
       fits : (m : ℕ) → n ≤ m → n - i ≤ m - i
       fits m l = omega arith
 
--- ---- the set's entries
+-- ---- the first n give way to themselves, to themselves with one set, to one more, to one fewer
+module _ (n : ℕ) (xs new : List ℕ) (l : n ≤ length xs) where
+  size : length (take n xs) ≡ n
+  size = length-take-le n xs l
+
+  pub same-is : new ≡ take n xs → replaced new n xs ≡ xs
+  same-is e = ap (λ (t : List ℕ). replaced t n xs) e ∙ replaced-same (take n xs) xs n size ∙ take-append-drop n xs
+
+  module _ (p v : ℕ) where
+    pub set-is : p < n → new ≡ set (take n xs) p v → replaced new n xs ≡ set xs p v
+    set-is h e =
+        ap (λ (t : List ℕ). replaced t n xs) e ∙ replaced-same (set (take n xs) p v) xs n (length-set (take n xs) p v ∙ size)
+        ∙ sym (set-append-left (take n xs) (drop n xs) p v (subst (λ (m : ℕ). p < m) (sym size) h)) ∙ ap (λ (t : List ℕ). set t p v) (take-append-drop n xs)
+
+    pub inserted-length : p ≤ n → new ≡ take p (take n xs) ++ v ∷ drop p (take n xs) → length new ≡ n + 1
+    inserted-length h e = let q : length new ≡ length (take p (take n xs)) + suc (length (drop p (take n xs))) = ap length e ∙ length-append (take p (take n xs)) (v ∷ drop p (take n xs)) in let a : length (take p (take n xs)) ≡ p = length-take-le p (take n xs) (subst (λ (m : ℕ). p ≤ m) (sym size) h) in let b = length-drop p (take n xs) in let s = size in omega arith
+
+    pub inserted-is : p ≤ n → new ≡ take p (take n xs) ++ v ∷ drop p (take n xs) → replaced new n xs ≡ insertedAt p n v xs
+    inserted-is h e = replaced-more new xs n (inserted-length h e ∙ add-one n) ∙ ap (λ (t : List ℕ). t ++ drop (suc n) xs) e ∙ inserted-list v p n xs h
+
+  module _ (p : ℕ) (h : p < n) (e : new ≡ take p (take n xs) ++ drop (suc p) (take n xs)) where
+    pub removed-length : suc (length new) ≡ n
+    removed-length = let q : length new ≡ length (take p (take n xs)) + length (drop (suc p) (take n xs)) = ap length e ∙ length-append (take p (take n xs)) (drop (suc p) (take n xs)) in let a : length (take p (take n xs)) ≡ p = length-take-le p (take n xs) (subst (λ (m : ℕ). p ≤ m) (sym size) (le-of-lt h)) in let b = length-drop (suc p) (take n xs) in let s = size in omega arith
+
+    pub removed-is : replaced new n xs ≡ removedAt p n xs
+    removed-is = replaced-less new xs n removed-length ∙ ap (λ (t : List ℕ). t ++ 0 ∷ drop n xs) e ∙ removed-list p n xs h
+
+-- ---- the set's entries, by what a search found
 module _ (n : ℕ) (ks ds : List ℕ) (g : Good n ks ds) where
   abbrev K : List ℕ
   K = take n ks
@@ -107,102 +134,46 @@ module _ (n : ℕ) (ks ds : List ℕ) (g : Good n ks ds) where
   abbrev D : List ℕ
   D = take n ds
 
-  within : n ≤ length ds
+  pub within : n ≤ length ds
   within = subst (λ (m : ℕ). n ≤ m) (g .same) (g .within)
 
-  nk : length K ≡ n
-  nk = length-take-le n ks (g .within)
-
-  nd : length D ≡ n
-  nd = length-take-le n ds within
-
   pub one-length : length K ≡ length D
-  one-length = nk ∙ sym nd
+  one-length = length-take-le n ks (g .within) ∙ sym (length-take-le n ds within)
 
-  module _ (key p : ℕ) where
-    at-is : At p ≡ searchIn key K → LookupIs (At p) D (lookup key (entriesOf K D))
-    at-is e = subst (λ (q : KeyPosition). LookupIs q D (lookup key (entriesOf K D))) (sym e) (lookup-is key 0 K D one-length (g .sorted))
+  module _ (key : ℕ) where
+    pub put-found : (d : ℕ) (q : KeyPosition) → q ≡ searchIn key K → PutIs q K D key d (put key d (entriesOf K D))
+    put-found d q e = subst (λ (z : KeyPosition). PutIs z K D key d (put key d (entriesOf K D))) (sym e) (put-is key d K D one-length)
 
-    pub at-bound : At p ≡ searchIn key K → p < n
-    at-bound e = subst (λ (m : ℕ). p < m) nd (at-is e .0)
+    pub remove-found : (q : KeyPosition) → q ≡ searchIn key K → RemoveIs q K D (remove key (entriesOf K D))
+    remove-found q e = subst (λ (z : KeyPosition). RemoveIs z K D (remove key (entriesOf K D))) (sym e) (remove-is key 0 K D one-length (g .sorted))
 
-    pub at-lookup : At p ≡ searchIn key K → lookup key (entriesOf K D) ≡ some (getD ds p 0)
-    at-lookup e = at-is e .1 ∙ ap some (getD-take n ds p 0 (at-bound e))
+    pub lookup-found : (q : KeyPosition) → q ≡ searchIn key K → LookupIs q D (lookup key (entriesOf K D))
+    lookup-found q e = subst (λ (z : KeyPosition). LookupIs z D (lookup key (entriesOf K D))) (sym e) (lookup-is key 0 K D one-length (g .sorted))
 
-    pub absent-lookup : Absent p ≡ searchIn key K → lookup key (entriesOf K D) ≡ none
-    absent-lookup e = subst (λ (q : KeyPosition). LookupIs q D (lookup key (entriesOf K D))) (sym e) (lookup-is key 0 K D one-length (g .sorted))
+    module _ (p : ℕ) where
+      pub at-bound : At p ≡ searchIn key K → p < n
+      at-bound e = subst (λ (m : ℕ). p < m) (length-take-le n ds within) (lookup-found (At p) e .0)
 
-  module _ (key d p : ℕ) where
-    abbrev E : List Entry
-    E = put key d (entriesOf K D)
+      pub at-lookup : At p ≡ searchIn key K → lookup key (entriesOf K D) ≡ some (getD ds p 0)
+      at-lookup e = lookup-found (At p) e .1 ∙ ap some (getD-take n ds p 0 (at-bound e))
 
-    put-at : At p ≡ searchIn key K → PutIs (At p) K D key d E
-    put-at e = subst (λ (q : KeyPosition). PutIs q K D key d E) (sym e) (put-is key d K D one-length)
+      pub absent-lookup : Absent p ≡ searchIn key K → lookup key (entriesOf K D) ≡ none
+      absent-lookup e = lookup-found (Absent p) e
 
-    put-absent : Absent p ≡ searchIn key K → PutIs (Absent p) K D key d E
-    put-absent e = subst (λ (q : KeyPosition). PutIs q K D key d E) (sym e) (put-is key d K D one-length)
+      pub absent-bound : Absent p ≡ searchIn key K → p ≤ n
+      absent-bound e = subst (λ (m : ℕ). p ≤ m) (length-take-le n ks (g .within)) (put-found 0 (Absent p) e .bound)
 
-    pub absent-bound : Absent p ≡ searchIn key K → p ≤ n
-    absent-bound e = subst (λ (m : ℕ). p ≤ m) nk (put-absent e .bound)
+      pub kept-count : (d : ℕ) → At p ≡ searchIn key K → length (put key d (entriesOf K D)) ≡ n
+      kept-count d e = sym (length-keys _) ∙ ap length (put-found d (At p) e .keys) ∙ length-take-le n ks (g .within)
 
-    pub kept-keys : At p ≡ searchIn key K → laid (keysOf E) n ks ≡ ks
-    kept-keys e = ap (λ (t : List ℕ). laid t n ks) (put-at e .keys) ∙ laid-same K ks n nk ∙ take-append-drop n ks
+      pub inserted-count : (d : ℕ) → Absent p ≡ searchIn key K → length (put key d (entriesOf K D)) ≡ n + 1
+      inserted-count d e = sym (length-keys _) ∙ inserted-length n ks _ (g .within) p key (absent-bound e) (put-found d (Absent p) e .keys)
 
-    pub kept-deadlines : At p ≡ searchIn key K → laid (deadlinesOf E) n ds ≡ set ds p d
-    kept-deadlines e =
-        ap (λ (t : List ℕ). laid t n ds) (put-at e .deadlines) ∙ laid-same (set D p d) ds n (length-set D p d ∙ nd)
-        ∙ sym (set-append-left D (drop n ds) p d (subst (λ (m : ℕ). p < m) (sym nd) (at-bound key p e))) ∙ ap (λ (t : List ℕ). set t p d) (take-append-drop n ds)
+      pub removed-count : At p ≡ searchIn key K → length (remove key (entriesOf K D)) ≡ n - 1
+      removed-count e = sym (length-keys _) ∙ fewer (removed-length n ks _ (g .within) p (at-bound e) (remove-found (At p) e .keys))
+        where
+          fewer : {m : ℕ} → suc m ≡ n → m ≡ n - 1
+          fewer e = omega arith
 
-    pub kept-count : At p ≡ searchIn key K → length E ≡ n
-    kept-count e = sym (length-keys E) ∙ ap length (put-at e .keys) ∙ nk
-
-    more : (xs : List ℕ) (v : ℕ) → length xs ≡ n → p ≤ n → length (take p xs ++ v ∷ drop p xs) ≡ suc n
-    more xs v e h = let q : length (take p xs ++ v ∷ drop p xs) ≡ length (take p xs) + suc (length (drop p xs)) = length-append (take p xs) (v ∷ drop p xs) in let a : length (take p xs) ≡ p = length-take-le p xs (subst (λ (m : ℕ). p ≤ m) (sym e) h) in let b = length-drop p xs in omega arith
-
-    pub inserted-keys : Absent p ≡ searchIn key K → laid (keysOf E) n ks ≡ insertedAt p n key ks
-    inserted-keys e =
-        let h = absent-bound e in
-        ap (λ (t : List ℕ). laid t n ks) (put-absent e .keys) ∙ laid-more (take p K ++ key ∷ drop p K) ks n (more K key nk h) ∙ inserted-list key p n ks h
-
-    pub inserted-deadlines : Absent p ≡ searchIn key K → laid (deadlinesOf E) n ds ≡ insertedAt p n d ds
-    inserted-deadlines e =
-        let h = absent-bound e in
-        ap (λ (t : List ℕ). laid t n ds) (put-absent e .deadlines) ∙ laid-more (take p D ++ d ∷ drop p D) ds n (more D d nd h) ∙ inserted-list d p n ds h
-
-    pub inserted-count : Absent p ≡ searchIn key K → length E ≡ n + 1
-    inserted-count e = sym (length-keys E) ∙ ap length (put-absent e .keys) ∙ more K key nk (absent-bound e) ∙ sym (add-one n)
-
-  module _ (key p : ℕ) where
-    abbrev R : List Entry
-    R = remove key (entriesOf K D)
-
-    remove-at : At p ≡ searchIn key K → RemoveIs (At p) K D R
-    remove-at e = subst (λ (q : KeyPosition). RemoveIs q K D R) (sym e) (remove-is key 0 K D one-length (g .sorted))
-
-    remove-absent : Absent p ≡ searchIn key K → RemoveIs (Absent p) K D R
-    remove-absent e = subst (λ (q : KeyPosition). RemoveIs q K D R) (sym e) (remove-is key 0 K D one-length (g .sorted))
-
-    less : (xs : List ℕ) → length xs ≡ n → p < n → suc (length (take p xs ++ drop (suc p) xs)) ≡ n
-    less xs e h = let q : length (take p xs ++ drop (suc p) xs) ≡ length (take p xs) + length (drop (suc p) xs) = length-append (take p xs) (drop (suc p) xs) in let a : length (take p xs) ≡ p = length-take-le p xs (subst (λ (m : ℕ). p ≤ m) (sym e) (le-of-lt h)) in let b = length-drop (suc p) xs in omega arith
-
-    pub removed-keys : At p ≡ searchIn key K → laid (keysOf R) n ks ≡ removedAt p n ks
-    removed-keys e = let h = at-bound key p e in ap (λ (t : List ℕ). laid t n ks) (remove-at e .keys) ∙ laid-less (take p K ++ drop (suc p) K) ks n (less K nk h) ∙ removed-list p n ks h
-
-    pub removed-deadlines : At p ≡ searchIn key K → laid (deadlinesOf R) n ds ≡ removedAt p n ds
-    removed-deadlines e = let h = at-bound key p e in ap (λ (t : List ℕ). laid t n ds) (remove-at e .deadlines) ∙ laid-less (take p D ++ drop (suc p) D) ds n (less D nd h) ∙ removed-list p n ds h
-
-    pub removed-count : At p ≡ searchIn key K → length R ≡ n - 1
-    removed-count e =
-        let h = at-bound key p e in
-        let s : suc (length (take p K ++ drop (suc p) K)) ≡ n = less K nk h in
-        let q : length R ≡ length (take p K ++ drop (suc p) K) = sym (length-keys R) ∙ ap length (remove-at e .keys) in
-        omega arith
-
-    pub same-keys : Absent p ≡ searchIn key K → laid (keysOf R) n ks ≡ ks
-    same-keys e = ap (λ (t : List ℕ). laid t n ks) (remove-absent e .keys) ∙ laid-same K ks n nk ∙ take-append-drop n ks
-
-    pub same-deadlines : Absent p ≡ searchIn key K → laid (deadlinesOf R) n ds ≡ ds
-    same-deadlines e = ap (λ (t : List ℕ). laid t n ds) (remove-absent e .deadlines) ∙ laid-same D ds n nd ∙ take-append-drop n ds
-
-    pub same-count : Absent p ≡ searchIn key K → length R ≡ n
-    same-count e = sym (length-keys R) ∙ ap length (remove-absent e .keys) ∙ nk
+      pub same-count : Absent p ≡ searchIn key K → length (remove key (entriesOf K D)) ≡ n
+      same-count e = sym (length-keys _) ∙ ap length (remove-found (Absent p) e .keys) ∙ length-take-le n ks (g .within)

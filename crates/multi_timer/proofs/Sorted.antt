@@ -11,7 +11,7 @@ use lib.Dec.{leb, ltb, eqb}
 use lib.ListN.{length, getD, take, drop, set}
 use borrow.Author.Tests.{lt-ltb, ltb-true, ltb-false, eqb-true, eqb-false, leb-true, ne-eqb}
 use Rattle.multi_timer.specs.Map.{Entry, entry, entriesOf, keysOf, deadlinesOf, ascendingFrom, lookup, keep, put, other}
-use Rattle.multi_timer.specs.Search.{searchIn, later}
+use Rattle.multi_timer.specs.Internal.{searchIn, later}
 use Rattle.multi_timer.specs.declared.KeyPosition.{KeyPosition}
 use Rattle.multi_timer.specs.declared.KeyPosition.the-variants.{At, Absent}
 
@@ -57,6 +57,9 @@ keys-entries [] ds e = refl
 keys-entries (k ∷ ks) [] e = absurd (omega arith)
 keys-entries (k ∷ ks) (d ∷ ds) e = ap (λ (t : List ℕ). k ∷ t) (keys-entries ks ds (suc-inj e))
 
+entries-ascending : (low : ℕ) (ks ds : List ℕ) → length ks ≡ length ds → ascendingFrom low ks ≡ true → ascendingFrom low (keysOf (entriesOf ks ds)) ≡ true
+entries-ascending low ks ds e a = ap (ascendingFrom low) (keys-entries ks ds e) ∙ a
+
 pub deadlines-entries : (ks ds : List ℕ) → length ks ≡ length ds → deadlinesOf (entriesOf ks ds) ≡ ds
 unfolding entriesOf deadlinesOf
 deadlines-entries [] [] e = refl
@@ -75,33 +78,26 @@ length-deadlines [] = refl
 length-deadlines (e ∷ es) = ap suc (length-deadlines es)
 
 -- ---- a key below all others
-pub lookup-above : (key low : ℕ) (ks ds : List ℕ) → ascendingFrom low ks ≡ true → key < low → lookup key (entriesOf ks ds) ≡ none
-unfolding entriesOf lookup
-lookup-above key low [] ds a h = refl
-lookup-above key low (k ∷ ks) [] a h = refl
-lookup-above key low (k ∷ ks) (d ∷ ds) a h =
-    let f : low ≤ k = first-key low k ks a in
-    rw (ne-eqb k key (λ (e : k ≡ key). apart key low k h f e)) (lookup-above key (suc k) ks ds (other-keys low k ks a) (more key low k h f))
+below-others : (q low k : ℕ) → q < low → low ≤ k → (k ≡ q → ⊥) × (q < suc k)
+below-others q low k h f = (λ e. apart e, omega arith)
   where
-    apart : (key low k : ℕ) → key < low → low ≤ k → k ≡ key → ⊥
-    apart key low k h f e = omega arith
+    apart : k ≡ q → ⊥
+    apart e = omega arith
 
-    more : (key low k : ℕ) → key < low → low ≤ k → key < suc k
-    more key low k h f = omega arith
+module _ (q : ℕ) where
+  pub lookup-below : (low : ℕ) (es : List Entry) → ascendingFrom low (keysOf es) ≡ true → q < low → lookup q es ≡ none
+  unfolding keysOf lookup
+  lookup-below low [] a h = refl
+  lookup-below low (e ∷ es) a h =
+      let b = below-others q low (e .key) h (first-key low (e .key) (keysOf es) a) in
+      rw (ne-eqb (e .key) q (b .0)) (lookup-below (suc (e .key)) es (other-keys low (e .key) (keysOf es) a) (b .1))
 
-pub remove-above : (key low : ℕ) (ks ds : List ℕ) → ascendingFrom low ks ≡ true → key < low → keep (other key) (entriesOf ks ds) ≡ entriesOf ks ds
-unfolding entriesOf keep
-remove-above key low [] ds a h = refl
-remove-above key low (k ∷ ks) [] a h = refl
-remove-above key low (k ∷ ks) (d ∷ ds) a h =
-    let f : low ≤ k = first-key low k ks a in
-    rw (ne-eqb k key (λ (e : k ≡ key). apart key low k h f e)) (ap (λ (t : List Entry). entry k d ∷ t) (remove-above key (suc k) ks ds (other-keys low k ks a) (more key low k h f)))
-  where
-    apart : (key low k : ℕ) → key < low → low ≤ k → k ≡ key → ⊥
-    apart key low k h f e = omega arith
-
-    more : (key low k : ℕ) → key < low → low ≤ k → key < suc k
-    more key low k h f = omega arith
+  remove-below : (low : ℕ) (es : List Entry) → ascendingFrom low (keysOf es) ≡ true → q < low → keep (other q) es ≡ es
+  unfolding keysOf keep
+  remove-below low [] a h = refl
+  remove-below low (e ∷ es) a h =
+      let b = below-others q low (e .key) h (first-key low (e .key) (keysOf es) a) in
+      rw (ne-eqb (e .key) q (b .0)) (ap (λ (t : List Entry). e ∷ t) (remove-below (suc (e .key)) es (other-keys low (e .key) (keysOf es) a) (b .1)))
 
 -- ---- what a place says of the three operations
 pub record Kept (p : ℕ) (ks ds : List ℕ) (d : ℕ) (es : List Entry) : Type 0 where
@@ -177,6 +173,9 @@ remove-is key low [] (y ∷ ds) e a = absurd (omega arith)
 remove-is key low (k ∷ ks) [] e a = absurd (omega arith)
 remove-is key low (k ∷ ks) (y ∷ ds) e a = go (ltb k key) (eqb k key) (ltb-true k key) (ltb-false k key) (eqb-true k key) (eqb-false k key) (remove-is key (suc k) ks ds (suc-inj e) (other-keys low k ks a))
   where
+    behind : ascendingFrom (suc k) (keysOf (entriesOf ks ds)) ≡ true
+    behind = entries-ascending (suc k) ks ds (suc-inj e) (other-keys low k ks a)
+
     go : (a b : Bool) → (a ≡ true → k < key) → (a ≡ false → key ≤ k) → (b ≡ true → k ≡ key) → (b ≡ false → k ≡ key → ⊥) → RemoveIs (searchIn key ks) ks ds (keep (other key) (entriesOf ks ds))
         → RemoveIs (cond a (later 1 (searchIn key ks)) (cond b (At 0) (Absent 0))) (k ∷ ks) (y ∷ ds) (cond (not b) (entry k y ∷ keep (other key) (entriesOf ks ds)) (keep (other key) (entriesOf ks ds)))
     go true true p q r s ih = absurd (apart (p refl) (r refl))
@@ -185,7 +184,7 @@ remove-is key low (k ∷ ks) (y ∷ ds) e a = go (ltb k key) (eqb k key) (ltb-tr
         apart h e = omega arith
     go true false p q r s ih = remove-later (searchIn key ks) k y ks ds (keep (other key) (entriesOf ks ds)) ih
     go false true p q r s ih =
-        let f = remove-above key (suc k) ks ds (other-keys low k ks a) (near (r refl)) in
+        let f = remove-below key (suc k) (entriesOf ks ds) behind (near (r refl)) in
         record {
           bound = zero-lt-suc (length ks);
           keys = ap keysOf f ∙ keys-entries ks ds (suc-inj e);
@@ -195,7 +194,7 @@ remove-is key low (k ∷ ks) (y ∷ ds) e a = go (ltb k key) (eqb k key) (ltb-tr
         near : k ≡ key → key < suc k
         near e = omega arith
     go false false p q r s ih =
-        let f = remove-above key (suc k) ks ds (other-keys low k ks a) (near (q refl)) in
+        let f = remove-below key (suc k) (entriesOf ks ds) behind (near (q refl)) in
         record {
           keys = ap (λ (t : List ℕ). k ∷ t) (ap keysOf f ∙ keys-entries ks ds (suc-inj e));
           deadlines = ap (λ (t : List ℕ). y ∷ t) (ap deadlinesOf f ∙ deadlines-entries ks ds (suc-inj e));
@@ -226,7 +225,7 @@ lookup-is key low (k ∷ ks) (y ∷ ds) e a = go (ltb k key) (eqb k key) (ltb-tr
         apart h e = omega arith
     go true false p q r ih = lookup-later (searchIn key ks) y ds (lookup key (entriesOf ks ds)) ih
     go false true p q r ih = (zero-lt-suc (length ds), refl)
-    go false false p q r ih = lookup-above key (suc k) ks ds (other-keys low k ks a) (near (q refl))
+    go false false p q r ih = lookup-below key (suc k) (entriesOf ks ds) (entries-ascending (suc k) ks ds (suc-inj e) (other-keys low k ks a)) (near (q refl))
       where
         near : key ≤ k → key < suc k
         near h = omega arith

@@ -1,4 +1,4 @@
 pub mod Map
-pub mod Search
+pub mod Internal
 pub mod MultiTimer
 pub mod History

@@ -1,5 +1,5 @@
--- Document 01: "`MultiTimer` becomes two lent slices of one length, keys ascending and their deadlines, and a count of the used entries";
--- the reference's `HashMap` of keys and deadlines, as the list of its entries by ascending key.
+-- Document 01, "What the Rust forms turn into", of `MultiTimer`: the reference's `HashMap` of keys and deadlines, as
+-- the list of its entries by ascending key.
 use Prim.Native.Nat.{ℕ, suc, _≤_, min}
 use mathlib.Core.Path.{_≡_}
 use mathlib.Core.Bool.{Bool, true, false, not, cond, _&&_, _||_}
@@ -52,7 +52,8 @@ keep p (e ∷ es) = cond (p e) (e ∷ keep p es) (keep p es)
 -- a key's deadline set or replaced
 unfoldable pub put : ℕ → ℕ → List Entry → List Entry
 put k d [] = entry k d ∷ []
-put k d (e ∷ es) = cond (ltb (e .key) k) (e ∷ put k d es) (cond (eqb (e .key) k) (entry k d ∷ es) (entry k d ∷ e ∷ es))
+put k d (e ∷ es) =
+    cond (ltb (e .key) k) (e ∷ put k d es) (cond (eqb (e .key) k) (entry k d ∷ es) (entry k d ∷ e ∷ es))
 
 abbrev pub other : ℕ → Entry → Bool
 other k e = not (eqb (e .key) k)
@@ -60,9 +61,19 @@ other k e = not (eqb (e .key) k)
 abbrev pub remove : ℕ → List Entry → List Entry
 remove k es = keep (other k) es
 
--- "Expired when now is at or past the deadline."
+-- document 01, `timing/timer.rs`: at the deadline it is expired
 abbrev pub due : ℕ → Entry → Bool
 due now e = leb (e .deadline) now
+
+-- the keys of the due entries, and of those whose key is not below `from`
+abbrev pub dueKeys : ℕ → List Entry → List ℕ
+dueKeys now es = keysOf (keep (due now) es)
+
+abbrev pub dueNotBelow : ℕ → ℕ → Entry → Bool
+dueNotBelow from now e = leb from (e .key) && due now e
+
+abbrev pub dueKeysFrom : ℕ → ℕ → List Entry → List ℕ
+dueKeysFrom from now es = keysOf (keep (dueNotBelow from now) es)
 
 abbrev pub pending : ℕ → Entry → Bool
 pending now e = ltb now (e .deadline)
@@ -76,21 +87,21 @@ abbrev pub stillSet : ℕ → Option ℕ → Option ℕ
 stillSet now none = none
 stillSet now (some d) = cond (ltb now d) (some d) none
 
--- the least of d and ds
-unfoldable pub least : ℕ → List ℕ → ℕ
-least d [] = d
-least d (x ∷ xs) = min d (least x xs)
+-- the min of d and ds
+unfoldable pub minOf : ℕ → List ℕ → ℕ
+minOf d [] = d
+minOf d (x ∷ xs) = min d (minOf x xs)
 
 unfoldable pub earliest : List ℕ → Option ℕ
 earliest [] = none
-earliest (d ∷ ds) = some (least d ds)
+earliest (d ∷ ds) = some (minOf d ds)
 
 -- ---- for the laws
 unfoldable pub contains : ℕ → List ℕ → Bool
 contains k [] = false
 contains k (x ∷ xs) = eqb x k || contains k xs
 
--- the least deadline that a map gives to a key, or none if it gives none
-abbrev pub LeastOf : (ℕ → Option ℕ) → Option ℕ → Type 0
-LeastOf map none = (key : ℕ) → map key ≡ none
-LeastOf map (some d) = ((key : ℕ) × (map key ≡ some d)) × ((key x : ℕ) → map key ≡ some x → d ≤ x)
+-- the min of the deadlines that a map gives to keys, or none if it gives none
+abbrev pub IsMin : (ℕ → Option ℕ) → Option ℕ → Type 0
+IsMin map none = (key : ℕ) → map key ≡ none
+IsMin map (some d) = ((key : ℕ) × (map key ≡ some d)) × ((key x : ℕ) → map key ≡ some x → d ≤ x)

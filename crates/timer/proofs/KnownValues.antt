@@ -18,7 +18,7 @@ pub deadline-edges : (isExpiredAt (timer (At 5) 1) 4 ≡ Is false) × (isExpired
 unfolding isExpiredAt remainingAt decide verdict firstOf numbered orElse order
 deadline-edges = (refl, refl, refl)
 
--- line 10: 86,400 s from 86,400 s on, and a nanosecond more of the time, or of the duration
+-- check 10: 86,400 s from 86,400 s on, and a nanosecond more of the time, or of the duration
 pub start-edges : (startedAt newTimer 86400000000000 86400000000000 .answer ≡ Id 1)
     × (startedAt newTimer 86400000000001 86400000000000 ≡ timerResult newTimer (Refused Time))
     × (startedAt newTimer 0 86400000000001 ≡ timerResult newTimer (Refused Time))

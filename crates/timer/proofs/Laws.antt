@@ -1,12 +1,13 @@
 -- What crates above may cite of the retransmission timer.
 use mathlib.Core.Path.{_≡_, refl}
 use mathlib.Core.Bool.{true, false}
-use Prim.Native.Nat.{ℕ, _-_, _^_, _<_}
+use Prim.Native.Nat.{ℕ, _-_, _^_, _≤_, _<_}
 use native.Mathlib.Omega.{arith}
 use borrow.Author.Tests.{le-ltb, ne-eqb}
-use Rattle.duration.proofs.Laws.{start-in-time}
+use Rattle.bounds.specs.Bounds.{maxDuration, maxTime}
+use Rattle.duration.proofs.Laws.{start-in-time, start-late-within}
 use Rattle.refusal.specs.declared.Refusal.the-variants.{Time}
-use Rattle.timer.specs.Timer.{deadlineTooLate, startTooLate, readTooLate, nextGeneration, startedAtUnchecked, cancelledUnchecked, timerResult, startedAt, isExpiredForAt}
+use Rattle.timer.specs.Timer.{deadlineTooLate, startTooLate, readTooLate, expiredAt, nextGeneration, newTimer, startedAtUnchecked, cancelledUnchecked, timerResult, startedAt, cancelled, isExpiredAt, isExpiredForAt}
 use Rattle.timer.specs.declared.RetransmissionTimer.{RetransmissionTimer}
 use Rattle.timer.specs.declared.TimerAnswer.the-variants.{Id, Refused}
 use Rattle.refusal.specs.declared.TestAnswer as Test
@@ -21,7 +22,26 @@ pub start-accepted : (t : RetransmissionTimer) (now duration : ℕ) → startToo
 unfolding startedAt
 start-accepted t now duration e = simp (time-check, e)
 
--- what an accepted call leaves is held within its bound
+pub cancel-accepted : (t : RetransmissionTimer) → deadlineTooLate (t .deadline) ≡ false → cancelled t ≡ timerResult (cancelledUnchecked t) (Id (nextGeneration (t .generation)))
+unfolding cancelled
+cancel-accepted t e = simp (time-check, e)
+
+pub expired-accepted : (t : RetransmissionTimer) (now : ℕ) → readTooLate t now ≡ false → isExpiredAt t now ≡ Test.the-variants.Is (expiredAt (t .deadline) now)
+unfolding isExpiredAt
+expired-accepted t now e = simp (time-check, e)
+
+-- a time and a duration within 86,400 s are never late, nor is a time within 172,800 s
+pub start-too-late-within : (t : RetransmissionTimer) (now duration : ℕ) → deadlineTooLate (t .deadline) ≡ false → now ≤ maxDuration → duration ≤ maxDuration → startTooLate t now duration ≡ false
+start-too-late-within t now duration h p q = rw h (start-late-within now duration p q)
+
+pub read-too-late-within : (t : RetransmissionTimer) (now : ℕ) → deadlineTooLate (t .deadline) ≡ false → now ≤ maxTime → readTooLate t now ≡ false
+read-too-late-within t now h p = rw h (le-ltb _ _ p)
+
+-- what a call below the entry points leaves is held within its bound: so is a new timer
+pub new-held : deadlineTooLate (newTimer .deadline) ≡ false
+unfolding newTimer
+new-held = refl
+
 pub start-held : (t : RetransmissionTimer) (now duration : ℕ) → startTooLate t now duration ≡ false → deadlineTooLate (startedAtUnchecked t now duration .deadline) ≡ false
 unfolding startedAtUnchecked
 start-held t now duration e = le-ltb _ _ (start-in-time (deadlineTooLate (t .deadline)) now duration e)
@@ -42,6 +62,6 @@ pub stale-after-cancel : (t : RetransmissionTimer) (later : ℕ) → t .generati
 unfolding isExpiredForAt cancelledUnchecked
 stale-after-cancel t later h e = simp (time-check, e, ne-eqb _ _ (other (t .generation) h))
 
--- "passes from 2^64 - 1 to 0"
+-- the generation after the last one is 0
 pub generation-wraps : nextGeneration (2 ^ 64 - 1) ≡ 0
 generation-wraps = refl

@@ -1,4 +1,4 @@
--- Document 01, `timing/timer.rs` and "Turned away", line 10; the reference's RetransmissionTimer.
+-- Document 01, `timing/timer.rs` and "Turned away", check 10; the reference's RetransmissionTimer.
 use Prim.Native.Nat.{ℕ, _+_, _-_, _%_, _^_}
 use mathlib.Core.Bool.{Bool, true, false, _||_, _&&_}
 use mathlib.Core.List.{[], _∷_}
@@ -18,7 +18,7 @@ use Rattle.refusal.specs.declared.TestAnswer.{TestAnswer}
 use Rattle.timer.specs.declared.Remaining as Rem
 use Rattle.timer.specs.declared.Remaining.{Remaining}
 
--- ---- line 10
+-- ---- check 10
 abbrev pub deadlineTooLate : Deadline → Bool
 deadlineTooLate Unset = false
 deadlineTooLate (At d) = ltb maxTime d
@@ -31,7 +31,7 @@ abbrev pub readTooLate : RetransmissionTimer → ℕ → Bool
 readTooLate t now = deadlineTooLate (t .deadline) || ltb maxTime now
 
 -- ---- what the calls do
--- "goes up by one at start and cancel .., and passes from 2^64 - 1 to 0"
+-- one more at start and cancel; after 2 ^ 64 - 1 comes 0
 abbrev pub nextGeneration : ℕ → ℕ
 nextGeneration g = (g + 1) % 2 ^ 64
 
@@ -51,7 +51,7 @@ abbrev pub active : Deadline → Bool
 active Unset = false
 active (At d) = true
 
--- "Expired when now is at or past the deadline."
+-- at the deadline it is expired
 abbrev pub expiredAt : Deadline → ℕ → Bool
 expiredAt Unset now = false
 expiredAt (At d) now = leb d now
@@ -66,21 +66,33 @@ newTimer = timer Unset 0
 
 unfoldable pub startedAt : RetransmissionTimer → ℕ → ℕ → TimerResult
 startedAt t now duration =
-    decide (verdict (check (startTooLate t now duration) Time ∷ [])) (λ r. timerResult t (Refused r)) (timerResult (startedAtUnchecked t now duration) (Id (nextGeneration (t .generation))))
+    decide (verdict (check (startTooLate t now duration) Time ∷ []))
+    (λ r. timerResult t (Refused r))
+    (timerResult (startedAtUnchecked t now duration) (Id (nextGeneration (t .generation))))
 
 unfoldable pub cancelled : RetransmissionTimer → TimerResult
-cancelled t = decide (verdict (check (deadlineTooLate (t .deadline)) Time ∷ [])) (λ r. timerResult t (Refused r)) (timerResult (cancelledUnchecked t) (Id (nextGeneration (t .generation))))
+cancelled t =
+    decide (verdict (check (deadlineTooLate (t .deadline)) Time ∷ []))
+    (λ r. timerResult t (Refused r))
+    (timerResult (cancelledUnchecked t) (Id (nextGeneration (t .generation))))
 
 unfoldable pub isActive : RetransmissionTimer → TestAnswer
-isActive t = decide (verdict (check (deadlineTooLate (t .deadline)) Time ∷ [])) (λ r. Test.the-variants.Refused r) (Test.the-variants.Is (active (t .deadline)))
+isActive t =
+    decide (verdict (check (deadlineTooLate (t .deadline)) Time ∷ [])) Test.the-variants.Refused
+    (Test.the-variants.Is (active (t .deadline)))
 
 unfoldable pub remainingAt : RetransmissionTimer → ℕ → Remaining
-remainingAt t now = decide (verdict (check (readTooLate t now) Time ∷ [])) (λ r. Rem.the-variants.Refused r) (deadlineRemaining (t .deadline) now)
+remainingAt t now =
+    decide (verdict (check (readTooLate t now) Time ∷ [])) Rem.the-variants.Refused
+    (deadlineRemaining (t .deadline) now)
 
 unfoldable pub isExpiredAt : RetransmissionTimer → ℕ → TestAnswer
-isExpiredAt t now = decide (verdict (check (readTooLate t now) Time ∷ [])) (λ r. Test.the-variants.Refused r) (Test.the-variants.Is (expiredAt (t .deadline) now))
+isExpiredAt t now =
+    decide (verdict (check (readTooLate t now) Time ∷ [])) Test.the-variants.Refused
+    (Test.the-variants.Is (expiredAt (t .deadline) now))
 
 -- an event of an older generation is stale
 unfoldable pub isExpiredForAt : RetransmissionTimer → ℕ → ℕ → TestAnswer
 isExpiredForAt t expected now =
-    decide (verdict (check (readTooLate t now) Time ∷ [])) (λ r. Test.the-variants.Refused r) (Test.the-variants.Is (eqb (t .generation) expected && expiredAt (t .deadline) now))
+    decide (verdict (check (readTooLate t now) Time ∷ [])) Test.the-variants.Refused
+    (Test.the-variants.Is (eqb (t .generation) expected && expiredAt (t .deadline) now))

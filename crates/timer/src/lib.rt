@@ -5,7 +5,10 @@ use refusal::TestAnswer;
 ghost use mathlib.Core.Path.{_≡_};
 ghost use mathlib.Core.Bool.{false};
 ghost use Prim.Native.Nat.{_-_};
-ghost use Rattle.timer.specs.Timer.{deadlineTooLate, startTooLate, readTooLate, startedAtUnchecked, cancelledUnchecked, active, expiredAt, deadlineRemaining, newTimer, startedAt, cancelled, isActive, remainingAt, isExpiredAt, isExpiredForAt};
+ghost use Rattle.timer.specs.Timer.{deadlineTooLate, startTooLate, readTooLate};
+ghost use Rattle.timer.specs.Timer.{active, expiredAt, deadlineRemaining, startedAtUnchecked, cancelledUnchecked};
+ghost use Rattle.timer.specs.Timer.{newTimer, startedAt, cancelled, isActive, remainingAt};
+ghost use Rattle.timer.specs.Timer.{isExpiredAt, isExpiredForAt};
 
 pub enum Deadline {
     Unset,
@@ -34,68 +37,6 @@ pub enum Remaining {
     Refused(Refusal),
 }
 
-fn deadline_too_late(d: Deadline) -> bool
-    ensures { λ r. ⌜ r ≡ deadlineTooLate d ⌝ }
-{
-    match d {
-        Deadline::Unset => false,
-        Deadline::At(t) => t > MAX_TIME,
-    }
-}
-
-fn deadline_expired(d: Deadline, now: u64) -> bool
-    ensures { λ r. ⌜ r ≡ expiredAt d now ⌝ }
-{
-    match d {
-        Deadline::Unset => false,
-        Deadline::At(t) => now >= t,
-    }
-}
-
-fn deadline_set(d: Deadline) -> bool
-    ensures { λ r. ⌜ r ≡ active d ⌝ }
-{
-    match d {
-        Deadline::Unset => false,
-        Deadline::At(_) => true,
-    }
-}
-
-fn time_left(deadline: u64, now: u64) -> u64
-    ensures { λ r. ⌜ r ≡ deadline - now ⌝ }
-{
-    if now >= deadline { 0 } else { deadline - now }
-}
-
-fn deadline_remaining(d: Deadline, now: u64) -> Remaining
-    ensures { λ r. ⌜ r ≡ deadlineRemaining d now ⌝ }
-{
-    match d {
-        Deadline::Unset => Remaining::Inactive,
-        Deadline::At(t) => Remaining::For(time_left(t, now)),
-    }
-}
-
-fn start_too_late(t: RetransmissionTimer, now: u64, duration: u64) -> bool
-    ensures { λ r. ⌜ r ≡ startTooLate t now duration ⌝ }
-{
-    let d = t.deadline;
-    if deadline_too_late(d) {
-        return true;
-    }
-    duration::start_late(now, duration)
-}
-
-fn read_too_late(t: RetransmissionTimer, now: u64) -> bool
-    ensures { λ r. ⌜ r ≡ readTooLate t now ⌝ }
-{
-    let d = t.deadline;
-    if deadline_too_late(d) {
-        return true;
-    }
-    now > MAX_TIME
-}
-
 impl RetransmissionTimer {
     pub fn new() -> RetransmissionTimer
         ensures { λ r. ⌜ r ≡ newTimer ⌝ }
@@ -104,35 +45,6 @@ impl RetransmissionTimer {
             deadline: Deadline::Unset,
             generation: 0,
         }
-    }
-
-    pub fn started_at_unchecked(self, now: u64, duration: u64) -> RetransmissionTimer
-        requires { ⌜ startTooLate self now duration ≡ false ⌝ }
-        ensures { λ r. ⌜ r ≡ startedAtUnchecked self now duration ⌝ }
-    {
-        RetransmissionTimer {
-            deadline: Deadline::At(now + duration),
-            generation: std::num::wrapping_add_u64(self.generation, 1),
-        }
-    }
-
-    pub fn cancelled_unchecked(self) -> RetransmissionTimer
-        requires { ⌜ deadlineTooLate (self .deadline) ≡ false ⌝ }
-        ensures { λ r. ⌜ r ≡ cancelledUnchecked self ⌝ }
-    {
-        let next = std::num::wrapping_add_u64(self.generation, 1);
-        RetransmissionTimer {
-            deadline: Deadline::Unset,
-            generation: next,
-        }
-    }
-
-    pub fn is_expired_at_unchecked(self, now: u64) -> bool
-        requires { ⌜ readTooLate self now ≡ false ⌝ }
-        ensures { λ r. ⌜ r ≡ expiredAt (self .deadline) now ⌝ }
-    {
-        let d = self.deadline;
-        deadline_expired(d, now)
     }
 
     // Starts or restarts the timer.
@@ -210,4 +122,95 @@ impl RetransmissionTimer {
         }
         TestAnswer::Is(self.is_expired_at_unchecked(now))
     }
+
+    pub fn started_at_unchecked(self, now: u64, duration: u64) -> RetransmissionTimer
+        requires { ⌜ startTooLate self now duration ≡ false ⌝ }
+        ensures { λ r. ⌜ r ≡ startedAtUnchecked self now duration ⌝ }
+    {
+        RetransmissionTimer {
+            deadline: Deadline::At(now + duration),
+            generation: std::num::wrapping_add_u64(self.generation, 1),
+        }
+    }
+
+    pub fn cancelled_unchecked(self) -> RetransmissionTimer
+        requires { ⌜ deadlineTooLate (self .deadline) ≡ false ⌝ }
+        ensures { λ r. ⌜ r ≡ cancelledUnchecked self ⌝ }
+    {
+        let next = std::num::wrapping_add_u64(self.generation, 1);
+        RetransmissionTimer {
+            deadline: Deadline::Unset,
+            generation: next,
+        }
+    }
+
+    pub fn is_expired_at_unchecked(self, now: u64) -> bool
+        requires { ⌜ readTooLate self now ≡ false ⌝ }
+        ensures { λ r. ⌜ r ≡ expiredAt (self .deadline) now ⌝ }
+    {
+        let d = self.deadline;
+        deadline_expired(d, now)
+    }
+}
+
+fn start_too_late(t: RetransmissionTimer, now: u64, duration: u64) -> bool
+    ensures { λ r. ⌜ r ≡ startTooLate t now duration ⌝ }
+{
+    let d = t.deadline;
+    if deadline_too_late(d) {
+        return true;
+    }
+    duration::start_late(now, duration)
+}
+
+fn read_too_late(t: RetransmissionTimer, now: u64) -> bool
+    ensures { λ r. ⌜ r ≡ readTooLate t now ⌝ }
+{
+    let d = t.deadline;
+    if deadline_too_late(d) {
+        return true;
+    }
+    now > MAX_TIME
+}
+
+fn deadline_too_late(d: Deadline) -> bool
+    ensures { λ r. ⌜ r ≡ deadlineTooLate d ⌝ }
+{
+    match d {
+        Deadline::Unset => false,
+        Deadline::At(t) => t > MAX_TIME,
+    }
+}
+
+fn deadline_expired(d: Deadline, now: u64) -> bool
+    ensures { λ r. ⌜ r ≡ expiredAt d now ⌝ }
+{
+    match d {
+        Deadline::Unset => false,
+        Deadline::At(t) => now >= t,
+    }
+}
+
+fn deadline_set(d: Deadline) -> bool
+    ensures { λ r. ⌜ r ≡ active d ⌝ }
+{
+    match d {
+        Deadline::Unset => false,
+        Deadline::At(_) => true,
+    }
+}
+
+fn deadline_remaining(d: Deadline, now: u64) -> Remaining
+    ensures { λ r. ⌜ r ≡ deadlineRemaining d now ⌝ }
+{
+    match d {
+        Deadline::Unset => Remaining::Inactive,
+        Deadline::At(t) => Remaining::For(time_left(t, now)),
+    }
+}
+
+fn time_left(deadline: u64, now: u64) -> u64
+    ensures { λ r. ⌜ r ≡ deadline - now ⌝ }
+{
+    if now >= deadline { 0 } else { deadline - now }
 }

@@ -7,9 +7,9 @@
 ghost use mathlib.Core.Path.{_≡_};
 ghost use mathlib.Core.Bool.{false};
 ghost use Prim.Native.Nat.{_≤_};
-ghost use lib.ListN.{length, take};
-ghost use Rattle.multi_timer.specs.Search.{dueIn};
-ghost use Rattle.multi_timer.specs.MultiTimer.{timers, broken, startFull};
+ghost use lib.ListN.{length};
+ghost use Rattle.multi_timer.specs.Map.{dueKeys};
+ghost use Rattle.multi_timer.specs.MultiTimer.{timers, used, broken, startFull};
 use multi_timer::CancelAnswer;
 use multi_timer::EarliestAnswer;
 use multi_timer::MultiTimer;
@@ -655,7 +655,8 @@ pub extern "C" fn timing_multi_pop_unchecked(
     time: u64,
     out: &mut [u32],
 ) -> usize
-    requires { ⌜ (broken count (now keys) (now deadlines) ≡ false) × (dueIn time (take count (now deadlines)) ≤ length (now out)) ⌝ }
+    requires { ⌜ (broken count (now keys) (now deadlines) ≡ false)
+        × (length (dueKeys time (used (timers count generation) (now keys) (now deadlines))) ≤ length (now out)) ⌝ }
 {
     let t = MultiTimer {
         count: count,

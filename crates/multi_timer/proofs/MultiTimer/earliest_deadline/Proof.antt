@@ -1,39 +1,28 @@
-use mathlib.Core.Path.{_≡_}
-use mathlib.Core.Bool.{true, false}
+use mathlib.Core.Path.{sym, _∙_}
 use borrow.Author.Needs.{needs}
-use Rattle.multi_timer.specs.MultiTimer.{broken, heldTooLate}
-use Rattle.multi_timer.proofs.Calls.{earliest-state, earliest-time, earliest-done}
-use Rattle.multi_timer.proofs.Checks.{told-state, told-good, told-time, told-timely}
+use Rattle.refusal.proofs.Laws.{accepted-none-true}
+use Rattle.multi_timer.specs.MultiTimer.{heldChecks}
+use Rattle.multi_timer.proofs.Calls.{earliest-accepted, earliest-refused}
 use Rattle.multi_timer.proofs.MultiTimer.earliest_deadline.Statement.{statement}
 use Rattle.multi_timer.proofs.MultiTimer.earliest_deadline.Tie as tie
 
-broken-line-requires : tie.Need-broken-line-requires
-broken-line-requires c κs = search needs
+check-held-requires : tie.Need-check-held-requires
+check-held-requires c κs = search needs
 
-returns : tie.Need-returns
-returns c =
-    let s = c .before .before .before .before .args in
-    let e1 : broken (s .self .count) (s .keys .now) (s .deadlines .now) ≡ true = told-state (s .self .count) (s .keys .now) (s .deadlines .now) _ (c .before .broken-line .ensures) (c .if1 .taken) in
-    earliest-state (s .self) (s .keys .now) (s .deadlines .now) e1
-
-returns-2 : tie.Need-returns-2
-returns-2 c =
-    let s = c .before .before .before .before .before .args in
-    let e1 : broken (s .self .count) (s .keys .now) (s .deadlines .now) ≡ false = told-good (s .self .count) (s .keys .now) (s .deadlines .now) _ (c .before .before .broken-line .ensures) (c .before .if1 .left) in
-    let e2 : heldTooLate (s .self .count) (s .deadlines .now) ≡ true = told-time (s .self .count) (s .keys .now) (s .deadlines .now) _ (c .before .before .broken-line .ensures) e1 (c .if2 .taken) in
-    earliest-time (s .self) (s .keys .now) (s .deadlines .now) e1 e2
+enum-told : tie.Need-enum-told
+enum-told c = search needs
 
 earliest-deadline-unchecked-requires : tie.Need-earliest-deadline-unchecked-requires
-earliest-deadline-unchecked-requires c κs =
-    let s = c .before .before .before .before .before .args in
-    told-good (s .self .count) (s .keys .now) (s .deadlines .now) _ (c .before .before .broken-line .ensures) (c .before .if1 .left)
+earliest-deadline-unchecked-requires c κs = let s = c .before .before .before .before .before .args in let n = accepted-none-true (heldChecks (s .self) (s .keys .now) (s .deadlines .now)) (sym (c .before .before .check-held .ensures) ∙ c .enum-told .given .1) in n .0
 
-returns-3 : tie.Need-returns-3
-returns-3 c =
-    let s = c .before .before .before .before .before .before .args in
-    let e1 : broken (s .self .count) (s .keys .now) (s .deadlines .now) ≡ false = told-good (s .self .count) (s .keys .now) (s .deadlines .now) _ (c .before .before .before .broken-line .ensures) (c .before .before .if1 .left) in
-    let e2 : heldTooLate (s .self .count) (s .deadlines .now) ≡ false = told-timely (s .self .count) (s .keys .now) (s .deadlines .now) _ (c .before .before .before .broken-line .ensures) e1 (c .before .if2 .left) in
-    earliest-done (s .self) (s .keys .now) (s .deadlines .now) _ e1 e2 (c .earliest-deadline-unchecked .ensures)
+enum-known-verdict : tie.Need-enum-known-verdict
+enum-known-verdict c = search needs
+
+returns : tie.Need-returns
+returns c = let s = c .before .before .before .before .before .before .args in c .earliest-deadline-unchecked .ensures ∙ sym (earliest-accepted (s .self) (s .keys .now) (s .deadlines .now) (sym (c .before .before .before .check-held .ensures) ∙ c .before .enum-told .given .1))
+
+returns-2 : tie.Need-returns-2
+returns-2 c = let s = c .before .before .before .before .before .before .args in sym (earliest-refused (s .self) (s .keys .now) (s .deadlines .now) (sym (c .before .before .before .check-held .ensures) ∙ c .before .verdict .given .1))
 
 pub earliest-deadline-spec : {M : Type 1} → statement M
-earliest-deadline-spec = tie.close (tie.spec broken-line-requires returns returns-2 earliest-deadline-unchecked-requires returns-3)
+earliest-deadline-spec = tie.close (tie.spec check-held-requires enum-told earliest-deadline-unchecked-requires enum-known-verdict returns returns-2)

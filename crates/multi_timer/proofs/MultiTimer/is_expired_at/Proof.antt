@@ -1,41 +1,29 @@
-use mathlib.Core.Path.{_≡_}
-use mathlib.Core.Bool.{true, false}
+use mathlib.Core.Path.{sym, ap, _∙_}
 use borrow.Author.Needs.{needs}
-use Rattle.bounds.specs.Bounds.{maxTime}
-use Rattle.multi_timer.specs.MultiTimer.{broken, readTooLate}
-use Rattle.multi_timer.proofs.Calls.{expired-state, expired-time, expired-done}
-use lib.Dec.{ltb}
-use Rattle.multi_timer.proofs.Checks.{told-state, told-good, told-either}
+use Rattle.refusal.specs.declared.TestAnswer.the-variants.{Is}
+use Rattle.refusal.proofs.Laws.{accepted-none-true}
+use Rattle.multi_timer.specs.MultiTimer.{readChecks}
+use Rattle.multi_timer.proofs.Calls.{expired-accepted, expired-refused}
 use Rattle.multi_timer.proofs.MultiTimer.is_expired_at.Statement.{statement}
 use Rattle.multi_timer.proofs.MultiTimer.is_expired_at.Tie as tie
 
-broken-line-requires : tie.Need-broken-line-requires
-broken-line-requires c κs = search needs
+check-read-requires : tie.Need-check-read-requires
+check-read-requires c κs = search needs
 
-returns : tie.Need-returns
-returns c =
-    let e1 : broken (c .before .before .before .before .args .self .count) (c .before .before .before .before .args .keys .now) (c .before .before .before .before .args .deadlines .now) ≡ true = told-state (c .before .before .before .before .args .self .count) (c .before .before .before .before .args .keys .now) (c .before .before .before .before .args .deadlines .now) _ (c .before .broken-line .ensures) (c .if1 .taken) in
-    expired-state (c .before .before .before .before .args .self) (c .before .before .before .before .args .keys .now) (c .before .before .before .before .args .deadlines .now) (c .before .before .before .before .args .key) (c .before .before .before .before .args .now) e1
-
-read-too-late-requires : tie.Need-read-too-late-requires
-read-too-late-requires c κs = search needs
-
-returns-2 : tie.Need-returns-2
-returns-2 c =
-    let e1 : broken (c .before .before .before .before .before .before .args .self .count) (c .before .before .before .before .before .before .args .keys .now) (c .before .before .before .before .before .before .args .deadlines .now) ≡ false = told-good (c .before .before .before .before .before .before .args .self .count) (c .before .before .before .before .before .before .args .keys .now) (c .before .before .before .before .before .before .args .deadlines .now) _ (c .before .before .before .broken-line .ensures) (c .before .before .if1 .left) in
-    let e2 : readTooLate (c .before .before .before .before .before .before .args .self .count) (c .before .before .before .before .before .before .args .deadlines .now) (c .before .before .before .before .before .before .args .now) ≡ true = told-either (c .before .before .before .before .before .before .args .self .count) (c .before .before .before .before .before .before .args .keys .now) (c .before .before .before .before .before .before .args .deadlines .now) _ (c .before .before .before .broken-line .ensures) e1 (ltb maxTime (c .before .before .before .before .before .before .args .now)) _ _ (c .before .read-too-late .ensures) (c .if2 .taken) in
-    expired-time (c .before .before .before .before .before .before .args .self) (c .before .before .before .before .before .before .args .keys .now) (c .before .before .before .before .before .before .args .deadlines .now) (c .before .before .before .before .before .before .args .key) (c .before .before .before .before .before .before .args .now) e1 e2
+enum-told : tie.Need-enum-told
+enum-told c = search needs
 
 is-expired-at-unchecked-requires : tie.Need-is-expired-at-unchecked-requires
-is-expired-at-unchecked-requires c κs =
-    let e1 : broken (c .before .before .before .before .before .before .args .self .count) (c .before .before .before .before .before .before .args .keys .now) (c .before .before .before .before .before .before .args .deadlines .now) ≡ false = told-good (c .before .before .before .before .before .before .args .self .count) (c .before .before .before .before .before .before .args .keys .now) (c .before .before .before .before .before .before .args .deadlines .now) _ (c .before .before .before .broken-line .ensures) (c .before .before .if1 .left) in
-    e1
+is-expired-at-unchecked-requires c κs = let s = c .before .before .before .before .before .args in let n = accepted-none-true (readChecks (s .self) (s .keys .now) (s .deadlines .now) (s .now)) (sym (c .before .before .check-read .ensures) ∙ c .enum-told .given .1) in n .0
 
-returns-3 : tie.Need-returns-3
-returns-3 c =
-    let e1 : broken (c .before .before .before .before .before .before .before .args .self .count) (c .before .before .before .before .before .before .before .args .keys .now) (c .before .before .before .before .before .before .before .args .deadlines .now) ≡ false = told-good (c .before .before .before .before .before .before .before .args .self .count) (c .before .before .before .before .before .before .before .args .keys .now) (c .before .before .before .before .before .before .before .args .deadlines .now) _ (c .before .before .before .before .broken-line .ensures) (c .before .before .before .if1 .left) in
-    let e2 : readTooLate (c .before .before .before .before .before .before .before .args .self .count) (c .before .before .before .before .before .before .before .args .deadlines .now) (c .before .before .before .before .before .before .before .args .now) ≡ false = told-either (c .before .before .before .before .before .before .before .args .self .count) (c .before .before .before .before .before .before .before .args .keys .now) (c .before .before .before .before .before .before .before .args .deadlines .now) _ (c .before .before .before .before .broken-line .ensures) e1 (ltb maxTime (c .before .before .before .before .before .before .before .args .now)) _ _ (c .before .before .read-too-late .ensures) (c .before .if2 .left) in
-    expired-done (c .before .before .before .before .before .before .before .args .self) (c .before .before .before .before .before .before .before .args .keys .now) (c .before .before .before .before .before .before .before .args .deadlines .now) (c .before .before .before .before .before .before .before .args .key) (c .before .before .before .before .before .before .before .args .now) _ e1 e2 (c .is-expired-at-unchecked .ensures)
+enum-known-verdict : tie.Need-enum-known-verdict
+enum-known-verdict c = search needs
+
+returns : tie.Need-returns
+returns c = let s = c .before .before .before .before .before .before .args in ap Is (c .is-expired-at-unchecked .ensures) ∙ sym (expired-accepted (s .self) (s .keys .now) (s .deadlines .now) (s .key) (s .now) (sym (c .before .before .before .check-read .ensures) ∙ c .before .enum-told .given .1))
+
+returns-2 : tie.Need-returns-2
+returns-2 c = let s = c .before .before .before .before .before .before .args in sym (expired-refused (s .self) (s .keys .now) (s .deadlines .now) (s .key) (s .now) (sym (c .before .before .before .check-read .ensures) ∙ c .before .verdict .given .1))
 
 pub is-expired-at-spec : {M : Type 1} → statement M
-is-expired-at-spec = tie.close (tie.spec broken-line-requires returns read-too-late-requires returns-2 is-expired-at-unchecked-requires returns-3)
+is-expired-at-spec = tie.close (tie.spec check-read-requires enum-told is-expired-at-unchecked-requires enum-known-verdict returns returns-2)

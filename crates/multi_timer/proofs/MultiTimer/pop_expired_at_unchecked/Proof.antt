@@ -1,14 +1,14 @@
 use mathlib.Core.Path.{sym, subst}
 use mathlib.Core.List.{[]}
 use Prim.Native.Nat.{ℕ, _≤_}
+use native.Mathlib.Nat.{le-trans, le-of-eq}
 use borrow.Author.Needs.{needs}
-use Rattle.multi_timer.proofs.Changes.{popped-all, count-fits, count-fits-deadlines}
-use Rattle.multi_timer.proofs.Changes.{left-fits, parted-keys, parted-deadlines}
+use Rattle.multi_timer.proofs.Changes.{popped-all, count-fits, count-fits-deadlines, due-used, left-fits, parted-keys, parted-deadlines}
 use Rattle.multi_timer.proofs.MultiTimer.pop_expired_at_unchecked.Statement.{statement}
 use Rattle.multi_timer.proofs.MultiTimer.pop_expired_at_unchecked.Tie as tie
 
 partition-requires : tie.Need-partition-requires
-partition-requires c κs = let s = c .before .before .before .before .before .before in (count-fits (s .args .self) (s .args .keys .now) (s .args .deadlines .now) (s .pre .0), count-fits-deadlines (s .args .self) (s .args .keys .now) (s .args .deadlines .now) (s .pre .0), s .pre .1)
+partition-requires c κs = let s = c .before .before .before .before .before .before in (count-fits (s .args .self) (s .args .keys .now) (s .args .deadlines .now) (s .pre .0), count-fits-deadlines (s .args .self) (s .args .keys .now) (s .args .deadlines .now) (s .pre .0), le-trans (le-of-eq (sym (due-used (s .args .self) (s .args .keys .now) (s .args .deadlines .now) (s .pre .0) (s .args .time)))) (s .pre .1))
 
 clear-keys-in-requires : tie.Need-clear-keys-in-requires
 clear-keys-in-requires c κs =
