@@ -12,17 +12,17 @@ use native.Mathlib.Nat.{add-zero, add-assoc}
 use borrow.Author.Tests.{ltb-true, ltb-false, leb-true, leb-false, le-ltb, eq-eqb}
 use Rattle.schedule.specs.Record.{record4, timeOf, orderOf, recordLength, placeOf, vacant, after, inserted, orderedFrom, placeIn, lowestFree}
 use Rattle.schedule.specs.State.{Schedule, waitingRecords, placeCount, brokenFrom, stateBroken, countsBroken, late, heldLate, delayLate, copies, leavesAt, lacksRoom, CanPut, CanSchedule}
-use Rattle.schedule.specs.Schedule.{newSchedule, placed, placeBytes, putCopy, scheduleAtUnchecked, firstRecord, bytesOf, withoutFirst, due, outShort, popUnchecked, onPop, CanPop, firstTime, nextDeadline, roomOf}
+use Rattle.schedule.specs.Schedule.{newSchedule, placed, placeBytes, putCopy, scheduleAtUnchecked, firstRecord, bytesOf, withoutFirst, due, outShort, popUnchecked, onPop, CanPop, firstTime, nextDeadline, readChecks, roomOf}
 use Rattle.schedule.specs.Waiting.{WaitingCopy, copy, copyAfter, waitingCopy, waiting, putCopies, nothing, leaves, popCopies, firstDeadline}
 use Rattle.schedule.specs.declared.Deliveries.{Deliveries}
 use Rattle.schedule.specs.declared.Deliveries.the-variants.{Lost, One, Two}
 use Rattle.schedule.specs.declared.ReadyAnswer.the-variants as ready
 use Rattle.schedule.specs.declared.DeadlineAnswer.the-variants as deadline
 use Rattle.schedule.proofs.Ordering.{up-to, Order, by-key, first-of, insert-none, insert-here, insert-later, inserted-length}
-use Rattle.refusal.proofs.Laws.{or-false}
+use Rattle.refusal.proofs.Laws.{or-false, on-accepted, none-true-accepted}
 use Rattle.schedule.proofs.Sound.{fine, none-broken, place-cons}
 use Rattle.schedule.proofs.Memory.{length-filled, within, unbroken, in-order, waiting-count, makes-sound, room-is, short, place-free, place-inside, put-records, put-places, put-length, put-sound, put-next, first-waits, first-fine, first-inside, taken-records, taken-places, taken-length, taken-next, taken-sound}
-use Rattle.schedule.proofs.Calls.{can-one, can-first, can-second, lacks-not, reading-done}
+use Rattle.schedule.proofs.Calls.{can-one, can-first, can-second, lacks-not}
 use Rattle.schedule.proofs.Bytes.{other-copies, filled-bytes, bytes-length}
 -- tests
 pub use Rattle.schedule.proofs.Sound.{or-both, told}
@@ -148,7 +148,7 @@ first-time-is m sound = go (ltb 0 (m .scheduler .count)) refl
 
 pub deadline-is : (m : Schedule) → stateBroken m ≡ false → countsBroken m ≡ false → heldLate (waitingRecords m) ≡ false → nextDeadline m ≡ firstDeadline (waiting m)
 unfolding nextDeadline
-deadline-is m sound counts times = sym (reading-done m deadline.Refused (firstTime (m .scheduler .count) (m .records)) sound counts times) ∙ first-time-is m sound
+deadline-is m sound counts times = on-accepted deadline.Refused (firstTime (m .scheduler .count) (m .records)) (none-true-accepted (readChecks m) (sound, (counts, (times, tt)))) ∙ first-time-is m sound
 
 -- what `pop_ready_at` answers and leaves, by the list of what waits
 pub record Pops (m : Schedule) (now : ℕ) (out : List ℕ) (c : WaitingCopy) (cs : List WaitingCopy) : Type 0 where

@@ -12,7 +12,7 @@ use borrow.Author.Tests.{ltb-true, ltb-false, lt-ltb, le-ltb}
 use Rattle.refusal.proofs.Laws.{or-false}
 use Rattle.schedule.specs.Record.{record4, placeOf, vacant, after, inserted, ordered, placeIn, freePlaces, lowestFree}
 use Rattle.schedule.specs.State.{Schedule, waitingRecords, placeCount, brokenFrom, stateBroken, unusedRecords, unusedPlaces, lacksRoom, CanPut}
-use Rattle.schedule.specs.Scans.{doubled, outside}
+use Rattle.schedule.specs.Internal.{doubled, outside}
 use Rattle.schedule.specs.Schedule.{placed, placeBytes, putCopy, firstRecord, withoutFirst, roomOf}
 use Rattle.schedule.proofs.Ordering.{inserted-length, least}
 use Rattle.schedule.proofs.Sound.{or-both, Fine, fine, sound-ordered, inserted-sound, rest-sound}

@@ -1,8 +1,8 @@
--- Waiting records of which line 9 is false: what that says of each, and that a record put in or taken out keeps it so.
+-- Waiting records of which check 9 is false: what that says of each, and that a record put in or taken out keeps it so.
 use mathlib.Core.Path.{_≡_, refl, sym, _∙_, ap}
 use Prim.Native.Nat.{ℕ, _<_, _≤_, _+_}
 use native.Mathlib.Omega.{arith}
-use mathlib.Core.Bool.{Bool, true, false, _||_}
+use mathlib.Core.Bool.{Bool, true, false, not, _||_}
 use mathlib.Core.List.{List, [], _∷_}
 use lib.Dec.{ltb, leb, eqb}
 use borrow.Author.Tests.{ltb-false, leb-false, le-ltb, lt-leb, eqb-false, ne-eqb}
@@ -19,7 +19,11 @@ or-both a b h k = rw (h, k)
 pub told : {a b c : Bool} → a ≡ b → a ≡ c → b ≡ c
 told p q = sym p ∙ q
 
--- ---- line 9, false of a record and those behind it
+pub negated : (b : Bool) {t : Bool} → not b ≡ t → b ≡ not t
+negated true e = ap not e
+negated false e = ap not e
+
+-- ---- check 9, false of a record and those behind it
 pub record Fine (next n : ℕ) (front r : List ℕ) (rs : List (List ℕ)) : Type 0 where
   pub behind : after front r ≡ false
   pub short : recordLength r ≤ 1410
@@ -65,6 +69,9 @@ sound-ordered next n front (r ∷ rs) h = let f = fine next n front r rs h in pu
 pub place-cons : (p : ℕ) (r : List ℕ) (rs : List (List ℕ)) → placeIn p (r ∷ rs) ≡ (eqb p (placeOf r) || placeIn p rs)
 unfolding placeIn
 place-cons p r rs = refl
+
+pub place-is : (p : ℕ) (r : List ℕ) (rs : List (List ℕ)) (t : Bool) → eqb p (placeOf r) ≡ t → placeIn p (r ∷ rs) ≡ (t || placeIn p rs)
+place-is p r rs t e = place-cons p r rs ∙ ap (λ (b : Bool). b || placeIn p rs) e
 
 -- ---- a record put in
 pub place-inserted : (p : ℕ) (r : List ℕ) (rs : List (List ℕ)) → eqb p (placeOf r) ≡ false → placeIn p rs ≡ false → placeIn p (inserted after r rs) ≡ false

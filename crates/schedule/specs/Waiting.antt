@@ -33,7 +33,9 @@ waiting m = map (waitingCopy (m .places)) (waitingRecords m)
 unfoldable pub putCopies : ℕ → ℕ → List ℕ → Deliveries → List WaitingCopy → List WaitingCopy
 putCopies next now packet Lost cs = cs
 putCopies next now packet (One d) cs = inserted copyAfter (copy (leavesAt now d) next packet) cs
-putCopies next now packet (Two d e) cs = inserted copyAfter (copy (leavesAt now e) (next + 1) packet) (inserted copyAfter (copy (leavesAt now d) next packet) cs)
+putCopies next now packet (Two d e) cs =
+    inserted copyAfter (copy (leavesAt now e) (next + 1) packet)
+    (inserted copyAfter (copy (leavesAt now d) next packet) cs)
 
 -- what leaves at `now`: the first, if it is due; and what goes on waiting
 pub data Popped : Type 0 where
