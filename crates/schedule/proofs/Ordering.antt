@@ -2,7 +2,7 @@
 use mathlib.Core.Path.{_≡_, refl, sym, _∙_, ap, subst}
 use Prim.Native.Nat.{ℕ, zero, suc, _<_, _≤_, _-_}
 use native.Mathlib.Omega.{arith}
-use mathlib.Core.Bool.{Bool, true, false, cond, not, _&&_, true≢false, false≢true}
+use mathlib.Core.Bool.{Bool, true, false, cond, not, _&&_, _||_, true≢false, false≢true}
 use mathlib.Core.Logic.{_⊎_, inl, inr}
 use mathlib.Core.List.{List, [], _∷_, _++_}
 use lib.ListN.{length, getD, take, drop}
@@ -11,6 +11,8 @@ use lib.Dec.{ltb}
 use borrow.Author.Tests.{ltb-true, ltb-false, lt-ltb, le-ltb}
 use Rattle.schedule.specs.Record.{later, after, inserted, orderedFrom, timeOf, orderOf}
 use Rattle.schedule.specs.Internal.{indexFor}
+use Rattle.schedule.specs.Waiting.{All, of-none, of-more}
+use Rattle.refusal.proofs.Laws.{or-false}
 
 -- ---- the order, as arithmetic
 abbrev pub UpTo : ℕ → ℕ → ℕ → ℕ → Type 0
@@ -107,6 +109,29 @@ module _ {A : Type 0} (aft : A → A → Bool) where
       go : length (inserted aft r xs) ≡ suc (length xs) → (t : Bool) → aft x r ≡ t → length (inserted aft r (x ∷ xs)) ≡ suc (suc (length xs))
       go ih true a = ap length (insert-here r x xs a)
       go ih false a = ap length (insert-later r x xs a) ∙ ap suc ih
+
+  -- what holds of each, and of the one put in, holds of all
+  pub inserted-all : {P : A → Type 0} (r : A) (xs : List A) → P r → All P xs → All P (inserted aft r xs)
+  unfolding inserted
+  inserted-all r [] h of-none = of-more h of-none
+  inserted-all {P} r (x ∷ xs) h (of-more k l) = go (aft x r) (inserted-all r xs h l)
+    where
+      go : (t : Bool) → All P (inserted aft r xs) → All P (cond t (r ∷ x ∷ xs) (x ∷ inserted aft r xs))
+      go true i = of-more h (of-more k l)
+      go false i = of-more k i
+
+  -- so a test that is false of each, and of the one put in, is false of all
+  module _ (f : A → Bool) (any : List A → Bool) (any-none : any [] ≡ false) (any-more : (x : A) (xs : List A) → any (x ∷ xs) ≡ (f x || any xs)) where
+    all-false : (xs : List A) → any xs ≡ false → All (λ x. f x ≡ false) xs
+    all-false [] e = of-none
+    all-false (x ∷ xs) e = let o = or-false (f x) (any xs) (sym (any-more x xs) ∙ e) in of-more (o .0) (all-false xs (o .1))
+
+    none-true : (xs : List A) → All (λ x. f x ≡ false) xs → any xs ≡ false
+    none-true [] of-none = any-none
+    none-true (x ∷ xs) (of-more h k) = any-more x xs ∙ rw (h, none-true xs k)
+
+    pub inserted-false : (r : A) (xs : List A) → f r ≡ false → any xs ≡ false → any (inserted aft r xs) ≡ false
+    inserted-false r xs h e = none-true (inserted aft r xs) (inserted-all r xs h (all-false xs e))
 
   -- ---- where it is put
   for-none : (r : A) → indexFor aft r [] ≡ 0

@@ -76,6 +76,10 @@ scheduleExit r p s = record { records = r; places = p; result = s }
 abbrev pub onSchedule : Schedule → DoneAnswer → ScheduleExit
 onSchedule m a = scheduleExit (m .records) (m .places) (record { scheduler = m .scheduler; answer = a })
 
+-- the schedule that a call leaves
+abbrev pub leftBySchedule : ScheduleExit → Schedule
+leftBySchedule x = schedule (x .records) (x .places) (x .result .scheduler)
+
 -- the checks of `schedule_at`, of a packet of n bytes
 abbrev pub scheduleChecks : Schedule → ℕ → ℕ → Deliveries → List Check
 scheduleChecks m now n ds =
@@ -122,6 +126,9 @@ popExit r p o s = record { records = r; places = p; out = o; result = s }
 
 abbrev pub onPop : Schedule → List ℕ → ReadyAnswer → PopExit
 onPop m out a = popExit (m .records) (m .places) out (record { scheduler = m .scheduler; answer = a })
+
+abbrev pub leftByPop : PopExit → Schedule
+leftByPop x = schedule (x .records) (x .places) (x .result .scheduler)
 
 -- check 5: `out` shorter than the packet that would be written to it
 abbrev pub outShort : ℕ → List (List ℕ) → ℕ → ℕ → Bool

@@ -37,6 +37,17 @@ putCopies next now packet (Two d e) cs =
     inserted copyAfter (copy (leavesAt now e) (next + 1) packet)
     (inserted copyAfter (copy (leavesAt now d) next packet) cs)
 
+-- the copies themselves
+unfoldable pub newCopies : ℕ → ℕ → List ℕ → Deliveries → List WaitingCopy
+newCopies next now packet Lost = []
+newCopies next now packet (One d) = copy (leavesAt now d) next packet ∷ []
+newCopies next now packet (Two d e) = copy (leavesAt now d) next packet ∷ copy (leavesAt now e) (next + 1) packet ∷ []
+
+-- P holds of each of a list
+pub data All {A : Type 0} (P : A → Type 0) : List A → Type 0 where
+  of-none : All P []
+  of-more : {x : A} {xs : List A} → P x → All P xs → All P (x ∷ xs)
+
 -- what leaves at `now`: the first, if it is due; and what goes on waiting
 pub data Popped : Type 0 where
   nothing : Popped
