@@ -14,16 +14,14 @@ use Rattle.schedule.specs.State.{copies}
 use Rattle.schedule.specs.declared.Deliveries.{Deliveries}
 use Rattle.schedule.specs.declared.Deliveries.the-variants.{Lost, One, Two}
 use Rattle.channel.specs.Faults.{isLost, isDuplicated, isReordered, isCorrupted, byteAt, bitAt, carriedBytes, delayOf, deliveriesOf}
-use Rattle.refusal.specs.Order.{verdict, firstOf, numbered, orElse, decide, order}
-use Rattle.refusal.specs.declared.Refusal.the-variants.{State, Counts, Roll, Long, Full}
-use Rattle.channel.specs.Bounds.{configBroken, statsFull, rollsBroken}
-use Rattle.channel.specs.Process.{one, stats6, channelOf, countedStats, transitExit, processUnchecked, processExit, refusedExit, transited, outShort, process, CanProcess}
-use Rattle.channel.specs.declared.ProcessAnswer.the-variants as outcome
+use Rattle.refusal.specs.Order.{verdict}
+use Rattle.refusal.specs.declared.Verdict.the-variants.{Accepted}
+use Rattle.refusal.proofs.Laws.{accepted-none-true}
+use Rattle.channel.specs.Process.{one, stats6, channelOf, countedStats, transitExit, processUnchecked, processChecks, CanProcess}
 use Rattle.channel.specs.declared.ChannelConfig.{ChannelConfig}
 use Rattle.channel.specs.declared.ChannelStats.{ChannelStats}
 use Rattle.channel.specs.declared.Rolls.{Rolls}
 use Rattle.channel.specs.declared.Channel.{Channel}
-use Rattle.channel.specs.declared.Transit.{Transit}
 
 -- ---- tests that are asked only of a packet that isn't lost
 pub unless : (a b : Bool) → a ≡ false → b ≡ (not a && b)
@@ -132,30 +130,8 @@ module _ (ch : Channel) (p : List ℕ) (r : Rolls) (out : List ℕ) where
       picked : (x : Bool) {u v : List ℕ} {s t : ChannelStats} {d e : Deliveries} → x ≡ false → s ≡ t → u ≡ v → d ≡ e → transitExit u (record { channel = channelOf (ch .config) s; deliveries = d }) ≡ transitExit (cond x out v) (record { channel = channelOf (ch .config) t; deliveries = e })
       picked x a b f d = rw (a, b, f, d)
 
-  -- ---- the checks of `process`
   pub fits-out : isLost (ch .config) r ≡ false → CanProcess ch p r out → length p ≤ length out
   fits-out a can = ltb-false (length out) (length p) (sym (ap (λ (b : Bool). not b && ltb (length out) (length p)) a) ∙ can .room)
 
-  pub process-state : configBroken (ch .config) ≡ true → refusedExit ch out (outcome.Refused State) ≡ process ch p r out
-  unfolding process verdict firstOf numbered orElse decide order
-  process-state a = simp a
-
-  pub process-counts : configBroken (ch .config) ≡ false → statsFull (ch .stats) ≡ true → refusedExit ch out (outcome.Refused Counts) ≡ process ch p r out
-  unfolding process verdict firstOf numbered orElse decide order
-  process-counts a b = simp (a, b)
-
-  pub process-roll : configBroken (ch .config) ≡ false → statsFull (ch .stats) ≡ false → rollsBroken r ≡ true → refusedExit ch out (outcome.Refused Roll) ≡ process ch p r out
-  unfolding process verdict firstOf numbered orElse decide order
-  process-roll a b c = simp (a, b, c)
-
-  pub process-long : configBroken (ch .config) ≡ false → statsFull (ch .stats) ≡ false → rollsBroken r ≡ false → ltb 1410 (length p) ≡ true → refusedExit ch out (outcome.Refused Long) ≡ process ch p r out
-  unfolding process verdict firstOf numbered orElse decide order
-  process-long a b c d = simp (a, b, c, d)
-
-  pub process-full : configBroken (ch .config) ≡ false → statsFull (ch .stats) ≡ false → rollsBroken r ≡ false → ltb 1410 (length p) ≡ false → outShort ch r (length p) (length out) ≡ true → refusedExit ch out (outcome.Refused Full) ≡ process ch p r out
-  unfolding process verdict firstOf numbered orElse decide order
-  process-full a b c d e = simp (a, b, c, d, e)
-
-  pub process-done : {o : List ℕ} {t : Transit} → CanProcess ch p r out → transitExit o t ≡ processUnchecked ch p r out → processExit o (record { channel = t .channel; answer = outcome.Delivered (t .deliveries) }) ≡ process ch p r out
-  unfolding process verdict firstOf numbered orElse decide order
-  process-done can e = simp (can .config, can .counts, can .rolls, can .short, can .room) (ap transited e)
+  pub can-process : verdict (processChecks ch r (length p) (length out)) ≡ Accepted → CanProcess ch p r out
+  can-process e = let n = accepted-none-true (processChecks ch r (length p) (length out)) e in record { config = n .0; counts = n .1 .0; rolls = n .1 .1 .0; short = n .1 .1 .1 .0; room = n .1 .1 .1 .1 .0 }

@@ -21,21 +21,14 @@ use Rattle.float.proofs.Laws.{scaled-below, j1}
 use Rattle.schedule.specs.State.{leavesAt, delayLate, deliveriesLate}
 use Rattle.schedule.specs.declared.Deliveries.the-variants.{Lost, One, Two}
 use Rattle.schedule.proofs.Laws.{or-both}
-use Rattle.channel.specs.Bounds.{configBroken, rollsBroken}
+use Rattle.channel.specs.Bounds.{configBroken, rollsBroken, Doubles}
 use Rattle.channel.specs.Faults.{isLost, isDuplicated, isReordered, isCorrupted, byteAt, bitAt, carriedBytes, holdOf, delayOf, deliveriesOf}
 use Rattle.channel.specs.declared.ChannelConfig.{ChannelConfig}
 use Rattle.channel.specs.declared.Rolls.{Rolls}
 use Rattle.channel.proofs.Limits.{delays-within, rolls-within}
-use Rattle.channel.proofs.Carrying.{unless-lost, deliveries-lost, corrupt-law, uncorrupted-law, corrupted-some}
-pub use Rattle.channel.proofs.Carrying.{granted-lost, granted-one, granted-two, granted-le}
+use Rattle.channel.proofs.Carrying.{unless-lost, deliveries-lost, corrupt-law, uncorrupted-law}
+pub use Rattle.channel.proofs.Carrying.{granted-lost, granted-one, granted-two, granted-le, corrupted-some}
 pub use Rattle.channel.proofs.Tallies.{processed, history, refused-are}
-
--- the rolls of a packet are doubles
-pub record Doubles (r : Rolls) : Type 0 where
-  pub byte : T (fits binary64 (r .«byte_roll»))
-  pub bit : T (fits binary64 (r .«bit_roll»))
-  pub jitter : T (fits binary64 (r .«jitter_roll»))
-  pub dup-jitter : T (fits binary64 (r .«dup_jitter_roll»))
 
 -- ---- where the rolls point: no clamp is needed
 module _ (r : Rolls) (d : Doubles r) (good : rollsBroken r ≡ false) where

@@ -1,7 +1,7 @@
 use native.Mathlib.Omega.{arith}
 use Rattle.channel.proofs.Limits.{delays-within}
-use Rattle.channel.proofs.delay_of.Statement.{statement}
-use Rattle.channel.proofs.delay_of.Tie as tie
+use Rattle.channel.proofs.faults.delay_of.Statement.{statement}
+use Rattle.channel.proofs.faults.delay_of.Tie as tie
 
 add-scaled-unchecked : tie.Need-add-scaled-unchecked
 add-scaled-unchecked c = omega (arith, delays-within (c .before .args .config) (c .before .pre .0) .jitter)

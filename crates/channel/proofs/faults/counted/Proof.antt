@@ -2,8 +2,8 @@ use native.Mathlib.Omega.{arith}
 use Rattle.channel.proofs.Limits.{counts-below, raised, raised-one}
 use Rattle.channel.proofs.Carrying.{counted-law, granted-le}
 use borrow.Author.Needs.{needs}
-use Rattle.channel.proofs.counted.Statement.{statement}
-use Rattle.channel.proofs.counted.Tie as tie
+use Rattle.channel.proofs.faults.counted.Statement.{statement}
+use Rattle.channel.proofs.faults.counted.Tie as tie
 
 add-t5 : tie.Need-add-t5
 add-t5 c = omega (arith, counts-below (c .before .args .stats) (c .before .pre) .seen)

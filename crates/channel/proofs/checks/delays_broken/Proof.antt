@@ -1,6 +1,6 @@
 use borrow.Author.Tests.{lt-ltb, le-ltb}
-use Rattle.channel.proofs.delays_broken.Statement.{statement}
-use Rattle.channel.proofs.delays_broken.Tie as tie
+use Rattle.channel.proofs.checks.delays_broken.Statement.{statement}
+use Rattle.channel.proofs.checks.delays_broken.Tie as tie
 
 returns : tie.Need-returns
 returns c = simp (lt-ltb _ _ (c .if1 .taken))

@@ -1,6 +1,6 @@
 use borrow.Author.Tests.{le-leb, lt-leb}
-use Rattle.channel.proofs.any_count_full.Statement.{statement}
-use Rattle.channel.proofs.any_count_full.Tie as tie
+use Rattle.channel.proofs.checks.any_count_full.Statement.{statement}
+use Rattle.channel.proofs.checks.any_count_full.Tie as tie
 
 returns : tie.Need-returns
 returns c = simp (le-leb _ _ (c .if1 .taken))

@@ -8,8 +8,8 @@ use lib.Pow.{shl-exact}
 use lib.Dec.{lit<}
 use Rattle.octets.specs.Flip.{flip}
 use borrow.Author.Needs.{needs}
-use Rattle.channel.proofs.flip_bit.Statement.{statement}
-use Rattle.channel.proofs.flip_bit.Tie as tie
+use Rattle.channel.proofs.faults.flip_bit.Statement.{statement}
+use Rattle.channel.proofs.faults.flip_bit.Tie as tie
 
 cast-mask : tie.Need-cast-mask
 cast-mask c = search needs

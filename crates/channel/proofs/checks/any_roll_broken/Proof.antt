@@ -1,7 +1,7 @@
 use mathlib.Core.Path.{_∙_}
 use borrow.Author.Needs.{needs}
-use Rattle.channel.proofs.any_roll_broken.Statement.{statement}
-use Rattle.channel.proofs.any_roll_broken.Tie as tie
+use Rattle.channel.proofs.checks.any_roll_broken.Statement.{statement}
+use Rattle.channel.proofs.checks.any_roll_broken.Tie as tie
 
 roll-in-bounds-requires : tie.Need-roll-in-bounds-requires
 roll-in-bounds-requires c κs = search needs

@@ -2,8 +2,8 @@ use native.Mathlib.Omega.{arith}
 use Rattle.schedule.proofs.Laws.{told}
 use Rattle.channel.proofs.Limits.{delays-within}
 use borrow.Author.Needs.{needs}
-use Rattle.channel.proofs.hold_of.Statement.{statement}
-use Rattle.channel.proofs.hold_of.Tie as tie
+use Rattle.channel.proofs.faults.hold_of.Statement.{statement}
+use Rattle.channel.proofs.faults.hold_of.Tie as tie
 
 is-reordered-requires : tie.Need-is-reordered-requires
 is-reordered-requires c κs = search needs

@@ -2,8 +2,8 @@ use Rattle.schedule.proofs.Laws.{told}
 use Rattle.channel.proofs.Limits.{rolls-within}
 use Rattle.channel.proofs.Carrying.{deliveries-lost, deliveries-two, deliveries-one}
 use borrow.Author.Needs.{needs}
-use Rattle.channel.proofs.deliveries_of.Statement.{statement}
-use Rattle.channel.proofs.deliveries_of.Tie as tie
+use Rattle.channel.proofs.faults.deliveries_of.Statement.{statement}
+use Rattle.channel.proofs.faults.deliveries_of.Tie as tie
 
 is-lost-requires : tie.Need-is-lost-requires
 is-lost-requires c κs = search needs

@@ -1,7 +1,7 @@
 use mathlib.Core.Path.{_∙_}
 use borrow.Author.Needs.{needs}
-use Rattle.channel.proofs.chances_broken.Statement.{statement}
-use Rattle.channel.proofs.chances_broken.Tie as tie
+use Rattle.channel.proofs.checks.chances_broken.Statement.{statement}
+use Rattle.channel.proofs.checks.chances_broken.Tie as tie
 
 chance-in-bounds-requires : tie.Need-chance-in-bounds-requires
 chance-in-bounds-requires c κs = search needs

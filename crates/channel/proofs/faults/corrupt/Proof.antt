@@ -4,8 +4,8 @@ use Rattle.schedule.proofs.Laws.{told}
 use Rattle.channel.proofs.Limits.{rolls-within}
 use Rattle.channel.proofs.Carrying.{corrupted-some, corrupt-law, uncorrupted-law}
 use borrow.Author.Needs.{needs}
-use Rattle.channel.proofs.corrupt.Statement.{statement}
-use Rattle.channel.proofs.corrupt.Tie as tie
+use Rattle.channel.proofs.faults.corrupt.Statement.{statement}
+use Rattle.channel.proofs.faults.corrupt.Tie as tie
 
 is-corrupted-requires : tie.Need-is-corrupted-requires
 is-corrupted-requires c κs = search needs

@@ -1,8 +1,8 @@
 use Rattle.schedule.proofs.Laws.{told}
 use Rattle.channel.proofs.Carrying.{granted-lost, granted-two, granted-one}
 use borrow.Author.Needs.{needs}
-use Rattle.channel.proofs.granted.Statement.{statement}
-use Rattle.channel.proofs.granted.Tie as tie
+use Rattle.channel.proofs.faults.granted.Statement.{statement}
+use Rattle.channel.proofs.faults.granted.Tie as tie
 
 is-lost-requires : tie.Need-is-lost-requires
 is-lost-requires c κs = search needs
