@@ -48,9 +48,9 @@ lostRolls = rolls8 quarter none none none none none none none
 abbrev duplicatedRolls : Rolls
 duplicatedRolls = rolls8 half quarter quarter half none none twoThirds none
 
--- bit 4 of byte 1; jitter 1 ms
+-- bit 2 of byte 1: the picks differ, and so do those of the two rolls swapped; jitter 1 ms
 abbrev corruptedRolls : Rolls
-corruptedRolls = rolls8 half half half quarter half half half half
+corruptedRolls = rolls8 half half half quarter half quarter half half
 
 abbrev made : Channel
 made = channelOf setup (stats6 0 0 0 0 0 0)
@@ -61,7 +61,7 @@ delivers out s ds = processExit out (record { channel = channelOf setup s; answe
 pub record ChannelRows : Type 0 where
   pub lost : process made (0x41 ∷ 0x42 ∷ []) lostRolls (7 ∷ 8 ∷ 9 ∷ []) ≡ delivers (7 ∷ 8 ∷ 9 ∷ []) (stats6 1 1 0 0 0 0) Lost
   pub duplicated : process made (0x41 ∷ 0x42 ∷ []) duplicatedRolls (7 ∷ 8 ∷ 9 ∷ []) ≡ delivers (0x41 ∷ 0x42 ∷ 9 ∷ []) (stats6 1 0 0 1 1 2) (Two 37 35)
-  pub corrupted : process made (0x41 ∷ 0x42 ∷ []) corruptedRolls (7 ∷ 8 ∷ 9 ∷ []) ≡ delivers (0x41 ∷ 0x52 ∷ 9 ∷ []) (stats6 1 0 1 0 0 1) (One 6)
+  pub corrupted : process made (0x41 ∷ 0x42 ∷ []) corruptedRolls (7 ∷ 8 ∷ 9 ∷ []) ≡ delivers (0x41 ∷ 0x46 ∷ 9 ∷ []) (stats6 1 0 1 0 0 1) (One 6)
 
 pub channel-rows : ChannelRows
 unfolding le lt mul ofInt toUnsigned flip order orElse numbered firstOf verdict decide configBroken statsFull rollsBroken isLost isDuplicated isReordered isCorrupted carriedBytes deliveriesOf countedStats processUnchecked process

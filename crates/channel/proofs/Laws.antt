@@ -4,8 +4,8 @@ use mathlib.Core.Logic.{_≢_, ⊎-elim}
 use Prim.Native.Nat.{ℕ, _+_, _^_, _<_, _≤_, _*_, _/_}
 use native.Mathlib.Omega.{arith}
 use mathlib.Core.Bool.{Bool, true, false, cond}
-use mathlib.Core.List.{List}
-use lib.ListN.{length, getD, length-set}
+use mathlib.Core.List.{List, _++_}
+use lib.ListN.{length, getD, drop, length-set}
 use lib.Seq.{getD-set-same, getD-set-other}
 use lib.Dec.{T}
 use borrow.Author.Tests.{le-ltb}
@@ -19,16 +19,47 @@ use Rattle.octets.proofs.Laws.{xor-moves}
 use Rattle.float.specs.Roll.{rollInBounds, scaled}
 use Rattle.float.proofs.Laws.{scaled-below, j1}
 use Rattle.schedule.specs.State.{leavesAt, delayLate, deliveriesLate}
+use Rattle.refusal.specs.Order.{verdict}
+use Rattle.refusal.specs.declared.Verdict.the-variants.{Accepted}
+use Rattle.refusal.proofs.Laws.{on-accepted, none-true-accepted, either-answer}
+use Rattle.schedule.specs.declared.Deliveries.{Deliveries}
 use Rattle.schedule.specs.declared.Deliveries.the-variants.{Lost, One, Two}
 use Rattle.schedule.proofs.Laws.{or-both}
 use Rattle.channel.specs.Bounds.{configBroken, rollsBroken, Doubles}
 use Rattle.channel.specs.Faults.{isLost, isDuplicated, isReordered, isCorrupted, byteAt, bitAt, carriedBytes, holdOf, delayOf, deliveriesOf}
+use Rattle.channel.specs.Process.{processChecks, processUnchecked, ProcessExit, transited, process, CanProcess}
 use Rattle.channel.specs.declared.ChannelConfig.{ChannelConfig}
+use Rattle.channel.specs.declared.Channel.{Channel}
+use Rattle.channel.specs.declared.ProcessAnswer.the-variants as outcome
 use Rattle.channel.specs.declared.Rolls.{Rolls}
 use Rattle.channel.proofs.Limits.{delays-within, rolls-within}
 use Rattle.channel.proofs.Carrying.{unless-lost, deliveries-lost, corrupt-law, uncorrupted-law}
 pub use Rattle.channel.proofs.Carrying.{granted-lost, granted-one, granted-two, granted-le, corrupted-some}
+pub use Rattle.channel.proofs.Carrying.{can-process}
 pub use Rattle.channel.proofs.Tallies.{processed, history, refused-are}
+pub use Rattle.channel.proofs.Limits.{CountsBelow, counts-below, counts-not-full}
+pub use Rattle.channel.proofs.Counters.{CountsRise, counted-rises, rises-below, below-more, countedCalls, calls-below, calls-not-full, tallies-not-full}
+pub use Rattle.channel.proofs.NoFaults.{Zero, zero, roll-not-below, NoFaults, CarriedWhole, carried-whole}
+
+-- ---- an accepted call is the call below its entry point
+module _ (ch : Channel) (p : List ℕ) (r : Rolls) (out : List ℕ) where
+  pub process-accepted : verdict (processChecks ch r (length p) (length out)) ≡ Accepted → process ch p r out ≡ transited (processUnchecked ch p r out)
+  unfolding process
+  process-accepted e = on-accepted _ _ e
+
+  pub process-accepts : CanProcess ch p r out → verdict (processChecks ch r (length p) (length out)) ≡ Accepted
+  process-accepts c = none-true-accepted (processChecks ch r (length p) (length out)) (c .config, (c .counts, (c .rolls, (c .short, (c .room, tt)))))
+
+  pub process-delivered : (ds : Deliveries) → process ch p r out .result .answer ≡ outcome.Delivered ds → (verdict (processChecks ch r (length p) (length out)) ≡ Accepted) × (ds ≡ deliveriesOf (ch .config) r)
+  unfolding process processUnchecked
+  process-delivered ds =
+      either-answer (λ (x : ProcessExit). x .result .answer ≡ outcome.Delivered ds → (verdict (processChecks ch r (length p) (length out)) ≡ Accepted) × (ds ≡ deliveriesOf (ch .config) r)) (verdict (processChecks ch r (length p) (length out))) _ _
+      (λ x e. let z : _≡_ {A = ℕ} 0 1 = cc in absurd (omega arith)) (λ v e. (v, cc))
+
+  -- the bytes of the copies stand at the front of the buffer
+  pub process-writes : isLost (ch .config) r ≡ false → processUnchecked ch p r out .out ≡ carriedBytes (ch .config) r p ++ drop (length p) out
+  unfolding processUnchecked
+  process-writes e = ap (λ (b : Bool). cond b out (carriedBytes (ch .config) r p ++ drop (length p) out)) e
 
 -- ---- where the rolls point: no clamp is needed
 module _ (r : Rolls) (d : Doubles r) (good : rollsBroken r ≡ false) where

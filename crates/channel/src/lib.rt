@@ -1,7 +1,8 @@
-// The channel: loss, duplication, reordering, corruption, delay and jitter, decided by eight rolls a packet. Document 01,
-// `channel/mod.rs`.
+// The channel: loss, duplication, reordering, corruption, delay and jitter, decided by eight rolls a packet.
+// Document 01, `channel/mod.rs`.
 ghost use mathlib.Core.Path.{_≡_};
-ghost use Rattle.channel.specs.Process.{newChannel, transitExit, processUnchecked, processExit, process, CanProcess};
+ghost use Rattle.channel.specs.Process.{newChannel, transitExit, processUnchecked, CanProcess};
+ghost use Rattle.channel.specs.Process.{processExit, process};
 use faults::corrupt;
 use faults::counted;
 use faults::deliveries_of;
