@@ -284,7 +284,7 @@ DelaysInBounds Lost = Prim.Unit {0}
 DelaysInBounds (One d) = d ≤ maxDeliveryDelay
 DelaysInBounds (Two d e) = (d ≤ maxDeliveryDelay) × (e ≤ maxDeliveryDelay)
 
-pub delays-in-time : (now : ℕ) (ds : Deliveries) → now ≤ maxDuration → DelaysInBounds ds → deliveriesLate now ds ≡ false
+pub delays-in-time : (now : ℕ) (ds : Deliveries) → leavesAt now maxDeliveryDelay ≤ maxTime → DelaysInBounds ds → deliveriesLate now ds ≡ false
 delays-in-time now ds h = go ds
   where
     one : (d : ℕ) → d ≤ maxDeliveryDelay → delayLate now d ≡ false
@@ -300,7 +300,7 @@ delays-in-time now ds h = go ds
 
 pub can-schedule-at : (m : Schedule) (now : ℕ) (packet : List ℕ) (ds : Deliveries) → stateBroken m ≡ false → m .scheduler .«next_order» < countLimit → now ≤ maxDuration → DelaysInBounds ds → length packet ≤ maxDatagram → copies ds ≤ roomOf m → CanSchedule m now packet ds
 can-schedule-at m now packet ds sound n t d l r =
-    record { sound = sound; counts = lt-leb countLimit (m .scheduler .«next_order») n; times = delays-in-time now ds t d; short = le-ltb maxDatagram (length packet) l; room = room-enough m (copies ds) r }
+    record { sound = sound; counts = lt-leb countLimit (m .scheduler .«next_order») n; times = delays-in-time now ds (omega arith) d; short = le-ltb maxDatagram (length packet) l; room = room-enough m (copies ds) r }
 
 -- taking, whatever it answers
 pub pop-leaves : (m : Schedule) (now : ℕ) (out : List ℕ) → stateBroken m ≡ false → heldLate (waitingRecords m) ≡ false → Leaves m (leftByPop (popUnchecked m now out)) 0
