@@ -100,16 +100,16 @@ module _ (c : ChannelConfig) (r : Rolls) (p : List ℕ) where
       picked x q h = rw h
 
 -- ---- one packet
--- the packet laid to the front of `out`
+-- the packet copied to the front of `out`
 module _ (p out : List ℕ) {q : List ℕ} (e : q ≡ p) where
-  pub laid-fits : length p ≤ length (q ++ drop (length p) out)
-  laid-fits = rw (length-append q (drop (length p) out), e) (omega arith)
+  pub copied-fits : length p ≤ length (q ++ drop (length p) out)
+  copied-fits = rw (length-append q (drop (length p) out), e) (omega arith)
 
-  pub laid-size : length (take (length p) (q ++ drop (length p) out)) ≡ length p
-  laid-size = length-take-le (length p) (q ++ drop (length p) out) laid-fits
+  pub copied-size : length (take (length p) (q ++ drop (length p) out)) ≡ length p
+  copied-size = length-take-le (length p) (q ++ drop (length p) out) copied-fits
 
-  pub laid-short : ltb 1410 (length p) ≡ false → length (take (length p) (q ++ drop (length p) out)) ≤ 1410
-  laid-short h = rw laid-size (ltb-false 1410 (length p) h)
+  pub copied-short : ltb 1410 (length p) ≡ false → length (take (length p) (q ++ drop (length p) out)) ≤ 1410
+  copied-short h = rw copied-size (ltb-false 1410 (length p) h)
 
 module _ (ch : Channel) (p : List ℕ) (r : Rolls) (out : List ℕ) where
   pub lost-law : {s : ChannelStats} → isLost (ch .config) r ≡ true → s ≡ countedStats (ch .config) r (length p) (ch .stats) → transitExit out (record { channel = channelOf (ch .config) s; deliveries = Lost }) ≡ processUnchecked ch p r out
@@ -122,10 +122,10 @@ module _ (ch : Channel) (p : List ℕ) (r : Rolls) (out : List ℕ) where
   pub transit-law : {q d : List ℕ} {s : ChannelStats} {ds : Deliveries} → isLost (ch .config) r ≡ false → s ≡ countedStats (ch .config) r (length p) (ch .stats) → q ≡ p → d ≡ carriedBytes (ch .config) r (take (length p) (q ++ drop (length p) out)) → ds ≡ deliveriesOf (ch .config) r
       → transitExit (d ++ drop (length p) (q ++ drop (length p) out)) (record { channel = channelOf (ch .config) s; deliveries = ds }) ≡ processUnchecked ch p r out
   unfolding processUnchecked
-  transit-law {q} {d} {s} {ds} a e f g h = picked (isLost (ch .config) r) a e (laid ∙ ap (λ (xs : List ℕ). carriedBytes (ch .config) r p ++ xs) (ap (λ (xs : List ℕ). drop (length p) (xs ++ drop (length p) out)) f ∙ drop-at p (drop (length p) out) (length p) refl)) h
+  transit-law {q} {d} {s} {ds} a e f g h = picked (isLost (ch .config) r) a e (copied ∙ ap (λ (xs : List ℕ). carriedBytes (ch .config) r p ++ xs) (ap (λ (xs : List ℕ). drop (length p) (xs ++ drop (length p) out)) f ∙ drop-at p (drop (length p) out) (length p) refl)) h
     where
-      laid : d ++ drop (length p) (q ++ drop (length p) out) ≡ carriedBytes (ch .config) r p ++ drop (length p) (q ++ drop (length p) out)
-      laid = ap (λ (xs : List ℕ). xs ++ drop (length p) (q ++ drop (length p) out)) (g ∙ ap (carriedBytes (ch .config) r) (ap (λ (xs : List ℕ). take (length p) (xs ++ drop (length p) out)) f ∙ take-at p (drop (length p) out) (length p) refl))
+      copied : d ++ drop (length p) (q ++ drop (length p) out) ≡ carriedBytes (ch .config) r p ++ drop (length p) (q ++ drop (length p) out)
+      copied = ap (λ (xs : List ℕ). xs ++ drop (length p) (q ++ drop (length p) out)) (g ∙ ap (carriedBytes (ch .config) r) (ap (λ (xs : List ℕ). take (length p) (xs ++ drop (length p) out)) f ∙ take-at p (drop (length p) out) (length p) refl))
 
       picked : (x : Bool) {u v : List ℕ} {s t : ChannelStats} {d e : Deliveries} → x ≡ false → s ≡ t → u ≡ v → d ≡ e → transitExit u (record { channel = channelOf (ch .config) s; deliveries = d }) ≡ transitExit (cond x out v) (record { channel = channelOf (ch .config) t; deliveries = e })
       picked x a b f d = rw (a, b, f, d)

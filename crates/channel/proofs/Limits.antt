@@ -1,4 +1,4 @@
--- What the bounds say of each setting, counter and roll where no line is true.
+-- What the bounds say of each setting, counter and roll where no check is true.
 use mathlib.Core.Path.{_≡_}
 use Prim.Native.Nat.{ℕ, _+_, _<_, _≤_}
 use native.Mathlib.Omega.{arith}

@@ -3,21 +3,21 @@ use mathlib.Core.Path.{_≡_, refl, sym, _∙_, ap}
 use Prim.Native.Nat.{ℕ, _+_, _*_}
 use native.Mathlib.Omega.{arith}
 use native.Mathlib.Nat.{add-zero}
-use mathlib.Core.Bool.{Bool, true, false, cond, not, _&&_, _||_, and-false}
+use mathlib.Core.Bool.{Bool, true, false, cond, not, _&&_, and-false}
 use mathlib.Core.List.{List}
 use lib.ListN.{length}
 use lib.Dec.{T, eqb, eqb→eq, ltb}
-use lib.IntN.{ℤ, pos}
+use lib.IntN.{pos}
 use lib.Ieee.{Float, nan, inf, fin, up, down, below, lt, le, eq}
 use lib.Ieee.Fits.{and-l}
 use borrow.Author.Tests.{le-ltb}
 use Rattle.float.specs.Roll.{rollInBounds, scaled}
 use Rattle.schedule.specs.declared.Deliveries.the-variants.{One}
 use Rattle.channel.specs.Bounds.{rollsBroken}
-use Rattle.channel.specs.Faults.{isLost, isDuplicated, isReordered, isCorrupted, carriedBytes, delayOf, deliveriesOf}
+use Rattle.channel.specs.Faults.{isLost, isDuplicated, isReordered, isCorrupted, carriedBytes, deliveriesOf}
 use Rattle.channel.specs.declared.ChannelConfig.{ChannelConfig}
 use Rattle.channel.specs.declared.Rolls.{Rolls}
-use Rattle.channel.proofs.Limits.{RollsWithin, rolls-within}
+use Rattle.channel.proofs.Limits.{rolls-within}
 use Rattle.channel.proofs.Carrying.{deliveries-one, uncorrupted-law}
 
 -- +0.0 and -0.0

@@ -4,7 +4,7 @@ use Prim.Native.Nat.{ℕ, zero, suc, _+_, _-_, _*_, _/_, _<_, _≤_}
 use native.Mathlib.Omega.{arith}
 use native.Mathlib.Numerals.{add-one}
 use mathlib.Core.Bool.{Bool, true, false, _||_}
-use mathlib.Core.List.{List, [], _∷_, _++_}
+use mathlib.Core.List.{List, _∷_, _++_}
 use lib.ListN.{length, take, drop, replicate}
 use lib.Seq.{length-take-le}
 use lib.Dec.{ltb}
@@ -12,7 +12,7 @@ use borrow.Author.Tests.{ltb-false, leb-false, lt-ltb, le-ltb, le-leb, lt-leb, n
 use Rattle.bounds.specs.Bounds.{countLimit, maxTime}
 use Rattle.refusal.proofs.Laws.{or-false, on-accepted, on-refused, accepted-none-true}
 use Rattle.schedule.specs.Record.{record4, timeOf, recordLength, placeOf, vacant, after, inserted, lowestFree}
-use Rattle.schedule.specs.State.{Schedule, schedule, waitingRecords, brokenFrom, stateBroken, countsBroken, late, heldLate, leavesAt, delayLate, deliveriesLate, copies, delayAt, unusedPlaces, unusedRecords, lacksRoom, CanPut, CanSchedule}
+use Rattle.schedule.specs.State.{Schedule, schedule, waitingRecords, brokenFrom, stateBroken, late, heldLate, leavesAt, delayLate, deliveriesLate, copies, delayAt, unusedPlaces, unusedRecords, lacksRoom, CanPut, CanSchedule}
 use Rattle.schedule.specs.Schedule.{scheduler, newSchedule, placed, placeBytes, putCopy, scheduleAtUnchecked, scheduleChecks, roomOf, firstRecord, bytesOf, withoutFirst, popExit, onPop, popUnchecked, popChecks, CanPop, readChecks}
 use Rattle.refusal.specs.Order.{verdict, decide}
 use Rattle.refusal.specs.declared.Verdict.{Verdict}

@@ -8,7 +8,7 @@ use Rattle.refusal.specs.Counts.{countFull}
 use Rattle.schedule.specs.Record.{vacant, inserted, placeIn, freeFrom}
 use Rattle.schedule.specs.State.{Schedule, CanSchedule}
 use Rattle.schedule.specs.Schedule.{newSchedule, scheduleAtUnchecked, CanPop, nextDeadline}
-use Rattle.schedule.specs.Waiting.{copy, waiting, putCopies, firstDeadline}
+use Rattle.schedule.specs.Waiting.{copy, waiting, newCopies, insertedAll, putCopies, firstDeadline}
 use Rattle.schedule.specs.declared.Deliveries.the-variants.{One}
 use Rattle.schedule.specs.declared.DeadlineAnswer.the-variants.{At}
 use Rattle.schedule.proofs.Laws.{new-waits, new-sound, new-times, schedule-waits, can-pop, deadline-is, Leaves, schedule-leaves}
@@ -21,7 +21,7 @@ unfolding freeFrom placeIn
 can = record { sound = new-sound (vacant ∷ []) (replicate 1410 7); counts = refl; times = refl; short = refl; room = refl }
 
 pub one-waits : waiting (scheduleAtUnchecked made 0 (65 ∷ []) (One 5)) ≡ copy 5000000 0 (65 ∷ []) ∷ []
-unfolding putCopies inserted
+unfolding insertedAll newCopies inserted
 one-waits = schedule-waits made 0 (65 ∷ []) (One 5) can ∙ ap (putCopies 0 0 (65 ∷ []) (One 5)) (new-waits (vacant ∷ []) (replicate 1410 7))
 
 pub one-leaves : Leaves made (scheduleAtUnchecked made 0 (65 ∷ []) (One 5)) 1

@@ -194,9 +194,9 @@ pub sum-none : (last n : ℕ) {rs : List (List ℕ)} → rs ≡ [] → Is n ≡ 
 unfolding sumFrom outside placeSum
 sum-none last n e = sym (ap (sumFrom last n) e ∙ ap Is (add-zero n))
 
-sum-told : (last n : ℕ) (rs : List (List ℕ)) {r : PlaceSum} → r ≡ sumFrom last 0 rs → r ≡ Is n → (outside (suc last) rs ≡ false) × (n ≡ placeSum rs)
+sum-found : (last n : ℕ) (rs : List (List ℕ)) {r : PlaceSum} → r ≡ sumFrom last 0 rs → r ≡ Is n → (outside (suc last) rs ≡ false) × (n ≡ placeSum rs)
 unfolding sumFrom
-sum-told last n rs p q = go (outside (suc last) rs) refl (sym q ∙ p)
+sum-found last n rs p q = go (outside (suc last) rs) refl (sym q ∙ p)
   where
     go : (t : Bool) → outside (suc last) rs ≡ t → Is n ≡ cond (outside (suc last) rs) Past (Is (0 + placeSum rs)) → (outside (suc last) rs ≡ false) × (n ≡ placeSum rs)
     go true e h = let z : _≡_ {A = ℕ} 0 1 = cc in absurd (omega arith)
@@ -205,7 +205,7 @@ sum-told last n rs p q = go (outside (suc last) rs) refl (sym q ∙ p)
 pub sum-frees : (places count n : ℕ) (s : List (List ℕ)) {r : PlaceSum} → count ≤ length s → 0 < length (freeFrom places 0 (take count s)) → doubled (take count s) ≡ false → r ≡ sumFrom count 0 (take count s) → r ≡ Is n
     → getD (freeFrom places 0 (take count s)) 0 0 + n ≡ count * (count + 1) / 2
 sum-frees places count n s h some d p q =
-    let t = sum-told count n (take count s) p q in
+    let t = sum-found count n (take count s) p q in
     ap (λ (x : ℕ). getD (freeFrom places 0 (take count s)) 0 0 + x) (t .1) ∙ free-summed places count (take count s) (length-take-le count s h) (t .0) d some
 
 -- the first of four tests that is true, or none

@@ -7,7 +7,6 @@ use mathlib.Core.Logic.{_⊎_}
 use mathlib.Core.List.{List, [], _∷_, _++_, map}
 use lib.ListN.{length, getD, take, drop, replicate, length-replicate, length-map}
 use lib.Dec.{ltb, leb, eqb}
-use native.Mathlib.Numerals.{add-one}
 use native.Mathlib.Nat.{add-zero, add-assoc}
 use borrow.Author.Tests.{ltb-true, ltb-false, leb-true, leb-false, le-ltb, lt-leb, eq-eqb}
 use Rattle.bounds.specs.Bounds.{countLimit, maxDatagram, maxDeliveryDelay, maxDuration, maxTime}
@@ -20,9 +19,9 @@ use Rattle.refusal.specs.declared.TestAnswer.the-variants as test
 use Rattle.schedule.specs.Record.{record4, timeOf, orderOf, recordLength, placeOf, vacant, after, inserted, orderedFrom, placeIn, lowestFree}
 use Rattle.schedule.specs.State.{Schedule, waitingRecords, placeCount, brokenFrom, stateBroken, countsBroken, late, heldLate, delayLate, deliveriesLate, copies, leavesAt, unusedPlaces, unusedRecords, lacksRoom, CanPut, CanSchedule}
 use Rattle.schedule.specs.Schedule.{newSchedule, placed, placeBytes, putCopy, scheduleAtUnchecked, ScheduleExit, onSchedule, scheduleChecks, scheduleAt}
-use Rattle.schedule.specs.Schedule.{firstRecord, bytesOf, withoutFirst, due, outShort, popUnchecked, PopExit, onPop, leftByPop, popChecks, popReadyAt, CanPop}
+use Rattle.schedule.specs.Schedule.{firstRecord, bytesOf, withoutFirst, due, outShort, popFirst, popUnchecked, PopExit, onPop, leftByPop, popChecks, popReadyAt, CanPop}
 use Rattle.schedule.specs.Schedule.{firstTime, nextDeadline, readChecks, len, isEmpty, roomOf, room}
-use Rattle.schedule.specs.Waiting.{WaitingCopy, copy, copyAfter, waitingCopy, waiting, putCopies, newCopies, All, of-none, of-more, Popped, nothing, leaves, popCopies, firstDeadline}
+use Rattle.schedule.specs.Waiting.{WaitingCopy, copy, copyAfter, waitingCopy, waiting, putCopies, newCopies, insertedAll, All, of-none, of-more, Popped, nothing, leaves, popCopies, firstDeadline}
 use Rattle.schedule.specs.declared.Deliveries.{Deliveries}
 use Rattle.schedule.specs.declared.Deliveries.the-variants.{Lost, One, Two}
 use Rattle.schedule.specs.declared.ReadyAnswer.the-variants as ready
@@ -35,7 +34,7 @@ use Rattle.schedule.proofs.Calls.{can-one, can-first, can-second, lacks
 pub use Rattle.schedule.proofs.Calls.{can-schedule, can-pop-accepted, read-sound}
 use Rattle.schedule.proofs.Bytes.{other-copies, filled-bytes, bytes-length}
 -- tests
-pub use Rattle.schedule.proofs.Sound.{or-both, told}
+pub use Rattle.schedule.proofs.Sound.{or-both, test-is}
 
 -- ---- making
 pub new-waits : (rs : List (List ℕ)) (ps : List ℕ) → waiting (newSchedule rs ps) ≡ []
@@ -72,7 +71,7 @@ module _ (m : Schedule) (packet : List ℕ) (can : CanPut m packet) (time : ℕ)
       ∙ ap (λ (xs : List ℕ). inserted copyAfter (copy time (m .scheduler .«next_order») xs) (map (waitingCopy (m .places)) (waitingRecords m))) (filled-bytes (m .places) p packet (place-inside m packet can) (short m packet can))
 
 pub schedule-waits : (m : Schedule) (now : ℕ) (packet : List ℕ) (ds : Deliveries) → CanSchedule m now packet ds → waiting (scheduleAtUnchecked m now packet ds) ≡ putCopies (m .scheduler .«next_order») now packet ds (waiting m)
-unfolding scheduleAtUnchecked putCopies
+unfolding scheduleAtUnchecked insertedAll newCopies
 schedule-waits m now packet Lost can = refl
 schedule-waits m now packet (One d) can = put-waits m packet (can-one m now packet can d refl) (leavesAt now d)
 schedule-waits m now packet (Two d e) can =
@@ -307,7 +306,7 @@ pub pop-leaves : (m : Schedule) (now : ℕ) (out : List ℕ) → stateBroken m �
 unfolding popUnchecked
 pop-leaves m now out sound h = go (ltb 0 (m .scheduler .count)) refl (leb (timeOf (firstRecord (m .records))) now)
   where
-    go : (t : Bool) → ltb 0 (m .scheduler .count) ≡ t → (u : Bool) → Leaves m (leftByPop (cond (t && u) (onPop (withoutFirst m) (bytesOf (m .places) (firstRecord (m .records)) ++ drop (recordLength (firstRecord (m .records))) out) (ready.Packet (recordLength (firstRecord (m .records))))) (onPop m out ready.Nothing))) 0
+    go : (t : Bool) → ltb 0 (m .scheduler .count) ≡ t → (u : Bool) → Leaves m (leftByPop (cond (t && u) (popFirst m out) (onPop m out ready.Nothing))) 0
     go true e true = taken-leaves m sound (ltb-true 0 (m .scheduler .count) e) h
     go true e false = unchanged sound h
     go false e u = unchanged sound h
@@ -317,7 +316,7 @@ pub pop-never-refused : (m : Schedule) (now : ℕ) (out : List ℕ) (r : Refusal
 unfolding popUnchecked
 pop-never-refused m now out r = go (due (m .scheduler .count) (m .records) now)
   where
-    go : (t : Bool) → cond t (onPop (withoutFirst m) (bytesOf (m .places) (firstRecord (m .records)) ++ drop (recordLength (firstRecord (m .records))) out) (ready.Packet (recordLength (firstRecord (m .records))))) (onPop m out ready.Nothing) .result .answer ≡ ready.Refused r → ⊥
+    go : (t : Bool) → cond t (popFirst m out) (onPop m out ready.Nothing) .result .answer ≡ ready.Refused r → ⊥
     go true e = let z : _≡_ {A = ℕ} 0 1 = cc in omega arith
     go false e = let z : _≡_ {A = ℕ} 0 1 = cc in omega arith
 
@@ -325,8 +324,8 @@ pub pop-idle : (m : Schedule) (now : ℕ) (out : List ℕ) → popUnchecked m no
 unfolding popUnchecked
 pop-idle m now out = go (due (m .scheduler .count) (m .records) now)
   where
-    go : (t : Bool) → cond t (onPop (withoutFirst m) (bytesOf (m .places) (firstRecord (m .records)) ++ drop (recordLength (firstRecord (m .records))) out) (ready.Packet (recordLength (firstRecord (m .records))))) (onPop m out ready.Nothing) .result .answer ≡ ready.Nothing
-        → cond t (onPop (withoutFirst m) (bytesOf (m .places) (firstRecord (m .records)) ++ drop (recordLength (firstRecord (m .records))) out) (ready.Packet (recordLength (firstRecord (m .records))))) (onPop m out ready.Nothing) ≡ onPop m out ready.Nothing
+    go : (t : Bool) → cond t (popFirst m out) (onPop m out ready.Nothing) .result .answer ≡ ready.Nothing
+        → cond t (popFirst m out) (onPop m out ready.Nothing) ≡ onPop m out ready.Nothing
     go true e = let z : _≡_ {A = ℕ} 0 1 = cc in absurd (omega arith)
     go false e = refl
 
@@ -341,15 +340,13 @@ pub record Takes (P : WaitingCopy → Type 0) (m : Schedule) (now : ℕ) (out : 
 
 -- ---- what holds of each copy that waits is kept, where it holds of the new ones
 module _ {P : WaitingCopy → Type 0} where
-  pub put-all : (next now : ℕ) (packet : List ℕ) (ds : Deliveries) (cs : List WaitingCopy) → All P (newCopies next now packet ds) → All P cs → All P (putCopies next now packet ds cs)
-  unfolding putCopies newCopies
-  put-all next now packet Lost cs h a = a
-  put-all next now packet (One d) cs (of-more h k) a = inserted-all copyAfter (copy (leavesAt now d) next packet) cs h a
-  put-all next now packet (Two d e) cs (of-more h (of-more k l)) a =
-      inserted-all copyAfter (copy (leavesAt now e) (next + 1) packet) (inserted copyAfter (copy (leavesAt now d) next packet) cs) k (inserted-all copyAfter (copy (leavesAt now d) next packet) cs h a)
+  pub inserted-each : (xs cs : List WaitingCopy) → All P xs → All P cs → All P (insertedAll xs cs)
+  unfolding insertedAll
+  inserted-each [] cs h a = a
+  inserted-each (x ∷ xs) cs (of-more h k) a = inserted-each xs (inserted copyAfter x cs) k (inserted-all copyAfter x cs h a)
 
   pub schedule-all : (m : Schedule) (now : ℕ) (packet : List ℕ) (ds : Deliveries) → CanSchedule m now packet ds → All P (newCopies (m .scheduler .«next_order») now packet ds) → All P (waiting m) → All P (waiting (scheduleAtUnchecked m now packet ds))
-  schedule-all m now packet ds can h a = subst (All P) (sym (schedule-waits m now packet ds can)) (put-all (m .scheduler .«next_order») now packet ds (waiting m) h a)
+  schedule-all m now packet ds can h a = subst (All P) (sym (schedule-waits m now packet ds can)) (inserted-each (newCopies (m .scheduler .«next_order») now packet ds) (waiting m) h a)
 
   first-rest : {x : WaitingCopy} {xs : List WaitingCopy} → All P (x ∷ xs) → P x × All P xs
   first-rest (of-more h k) = (h, k)
@@ -474,16 +471,19 @@ pub places-apart : (m : Schedule) (i j : ℕ) → stateBroken m ≡ false → i 
 places-apart m i j sound a b e = apart-in (m .scheduler .«next_order») (placeCount m) vacant (waitingRecords m) i j (unbroken m sound) a (rw (waiting-count m sound) b) e
 
 -- ---- nothing is lost and nothing is added: as many wait as before and were granted; one that leaves was the first
+each-inserted : (xs cs : List WaitingCopy) → length (insertedAll xs cs) ≡ length cs + length xs
+unfolding insertedAll
+each-inserted [] cs = sym (add-zero (length cs))
+each-inserted (x ∷ xs) cs = let i = each-inserted xs (inserted copyAfter x cs) in let l = inserted-length copyAfter x cs in omega arith
+
 pub put-count : (next now : ℕ) (packet : List ℕ) (ds : Deliveries) (cs : List WaitingCopy) → length (putCopies next now packet ds cs) ≡ length cs + copies ds
-unfolding putCopies
-put-count next now packet Lost cs = sym (add-zero (length cs))
-put-count next now packet (One d) cs = inserted-length copyAfter (copy (leavesAt now d) next packet) cs ∙ sym (add-one (length cs))
-put-count next now packet (Two d e) cs =
-    inserted-length copyAfter (copy (leavesAt now e) (next + 1) packet) (inserted copyAfter (copy (leavesAt now d) next packet) cs)
-    ∙ ap suc (inserted-length copyAfter (copy (leavesAt now d) next packet) cs) ∙ two (length cs)
+unfolding newCopies
+put-count next now packet ds cs = each-inserted (newCopies next now packet ds) cs ∙ ap (λ (n : ℕ). length cs + n) (new-count ds)
   where
-    two : (n : ℕ) → suc (suc n) ≡ n + 2
-    two n = omega arith
+    new-count : (ds : Deliveries) → length (newCopies next now packet ds) ≡ copies ds
+    new-count Lost = refl
+    new-count (One d) = refl
+    new-count (Two d e) = refl
 
 pub none-due : (now : ℕ) (x : WaitingCopy) (xs : List WaitingCopy) → popCopies now (x ∷ xs) ≡ nothing → now < x .time
 none-due now x xs h = leb-false (x .time) now (not-first now x xs h)

@@ -12,7 +12,6 @@ use lib.Seq.{drop-nil}
 use borrow.Author.Tests.{eq-eqb, ne-eqb}
 use Rattle.schedule.specs.Record.{placeOf, placeIn, freeFrom}
 use Rattle.schedule.specs.Internal.{blockSize, placeMarks, blockAt, firstUnset, doubledIn, outside}
-use Rattle.schedule.specs.declared.Block.{Block}
 use Rattle.schedule.proofs.Lists.{rest-cons, rest-none}
 use Rattle.schedule.proofs.Sound.{place-is}
 use Rattle.schedule.proofs.FreePlaces.{free-zero, free-suc}

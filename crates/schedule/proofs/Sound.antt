@@ -15,9 +15,9 @@ use Rattle.schedule.proofs.Ordering.{records, least, none, put-first, i
 pub or-both : (a b : Bool) → a ≡ false → b ≡ false → (a || b) ≡ false
 or-both a b h k = rw (h, k)
 
--- what a function told, and what the test of it found
-pub told : {a b c : Bool} → a ≡ b → a ≡ c → b ≡ c
-told p q = sym p ∙ q
+-- what a function answers, and what the test of its answer found
+pub test-is : {a b c : Bool} → a ≡ b → a ≡ c → b ≡ c
+test-is p q = sym p ∙ q
 
 pub negated : (b : Bool) {t : Bool} → not b ≡ t → b ≡ not t
 negated true e = ap not e

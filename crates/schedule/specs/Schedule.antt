@@ -76,10 +76,6 @@ scheduleExit r p s = record { records = r; places = p; result = s }
 abbrev pub onSchedule : Schedule → DoneAnswer → ScheduleExit
 onSchedule m a = scheduleExit (m .records) (m .places) (record { scheduler = m .scheduler; answer = a })
 
--- the schedule that a call leaves
-abbrev pub leftBySchedule : ScheduleExit → Schedule
-leftBySchedule x = schedule (x .records) (x .places) (x .result .scheduler)
-
 -- the checks of `schedule_at`, of a packet of n bytes
 abbrev pub scheduleChecks : Schedule → ℕ → ℕ → Deliveries → List Check
 scheduleChecks m now n ds =
@@ -127,6 +123,7 @@ popExit r p o s = record { records = r; places = p; out = o; result = s }
 abbrev pub onPop : Schedule → List ℕ → ReadyAnswer → PopExit
 onPop m out a = popExit (m .records) (m .places) out (record { scheduler = m .scheduler; answer = a })
 
+-- the schedule that a call leaves
 abbrev pub leftByPop : PopExit → Schedule
 leftByPop x = schedule (x .records) (x .places) (x .result .scheduler)
 
@@ -134,13 +131,16 @@ leftByPop x = schedule (x .records) (x .places) (x .result .scheduler)
 abbrev pub outShort : ℕ → List (List ℕ) → ℕ → ℕ → Bool
 outShort count rs now size = due count rs now && ltb size (recordLength (firstRecord rs))
 
--- the earliest packet that is due, at the front of `out`
+-- the first packet, at the front of `out`
+abbrev pub popFirst : Schedule → List ℕ → PopExit
+popFirst m out =
+    let r = firstRecord (m .records) in
+    onPop (withoutFirst m) (bytesOf (m .places) r ++ drop (recordLength r) out) (ready.Packet (recordLength r))
+
+-- it is taken if it is due
 unfoldable pub popUnchecked : Schedule → ℕ → List ℕ → PopExit
 popUnchecked m now out =
-    let r = firstRecord (m .records) in
-    cond (due (m .scheduler .count) (m .records) now)
-    (onPop (withoutFirst m) (bytesOf (m .places) r ++ drop (recordLength r) out) (ready.Packet (recordLength r)))
-    (onPop m out ready.Nothing)
+    cond (due (m .scheduler .count) (m .records) now) (popFirst m out) (onPop m out ready.Nothing)
 
 -- the checks of `pop_ready_at`, of a buffer of n bytes
 abbrev pub popChecks : Schedule → ℕ → ℕ → List Check

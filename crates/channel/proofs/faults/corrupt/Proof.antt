@@ -1,6 +1,6 @@
 use native.Mathlib.Omega.{arith}
 use lib.ListN.{length}
-use Rattle.schedule.proofs.Laws.{told}
+use Rattle.schedule.proofs.Laws.{test-is}
 use Rattle.channel.proofs.Limits.{rolls-within}
 use Rattle.channel.proofs.Carrying.{corrupted-some, corrupt-law, uncorrupted-law}
 use borrow.Author.Needs.{needs}
@@ -13,7 +13,7 @@ is-corrupted-requires c κs = search needs
 index-unchecked-requires : tie.Need-index-unchecked-requires
 index-unchecked-requires c κs =
     let s = c .before .before .before in
-    (rolls-within (s .args .rolls) (s .pre .1) .byte, corrupted-some (s .args .config) (s .args .rolls) (length (s .args .d .now)) (told (c .before .is-corrupted .ensures) (c .if1 .taken)), omega arith)
+    (rolls-within (s .args .rolls) (s .pre .1) .byte, corrupted-some (s .args .config) (s .args .rolls) (length (s .args .d .now)) (test-is (c .before .is-corrupted .ensures) (c .if1 .taken)), omega arith)
 
 scaled-unchecked-requires : tie.Need-scaled-unchecked-requires
 scaled-unchecked-requires c κs = let s = c .before .before .before .before in (rolls-within (s .args .rolls) (s .pre .1) .bit, omega arith, omega arith)
@@ -30,10 +30,10 @@ same-length c = search needs
 returns : tie.Need-returns
 returns c =
     let a = c .before .before .before .before .before .before .before .before .before .args in
-    corrupt-law (a .config) (a .rolls) (a .d .now) (told (c .before .before .before .before .before .before .before .is-corrupted .ensures) (c .before .before .before .before .before .before .if1 .taken)) (c .before .before .before .before .before .index-unchecked .ensures .0) (c .before .before .before .before .scaled-unchecked .ensures .0) (c .before .before .flip-bit .ensures)
+    corrupt-law (a .config) (a .rolls) (a .d .now) (test-is (c .before .before .before .before .before .before .before .is-corrupted .ensures) (c .before .before .before .before .before .before .if1 .taken)) (c .before .before .before .before .before .index-unchecked .ensures .0) (c .before .before .before .before .scaled-unchecked .ensures .0) (c .before .before .flip-bit .ensures)
 
 returns-2 : tie.Need-returns-2
-returns-2 c = let a = c .before .before .before .args in uncorrupted-law (a .config) (a .rolls) (a .d .now) (told (c .before .is-corrupted .ensures) (c .if1 .left))
+returns-2 c = let a = c .before .before .before .args in uncorrupted-law (a .config) (a .rolls) (a .d .now) (test-is (c .before .is-corrupted .ensures) (c .if1 .left))
 
 pub corrupt-spec : {M : Type 1} → statement M
 corrupt-spec =

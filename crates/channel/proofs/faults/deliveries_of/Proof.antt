@@ -1,4 +1,4 @@
-use Rattle.schedule.proofs.Laws.{told}
+use Rattle.schedule.proofs.Laws.{test-is}
 use Rattle.channel.proofs.Limits.{rolls-within}
 use Rattle.channel.proofs.Carrying.{deliveries-lost, deliveries-two, deliveries-one}
 use borrow.Author.Needs.{needs}
@@ -9,7 +9,7 @@ is-lost-requires : tie.Need-is-lost-requires
 is-lost-requires c κs = search needs
 
 returns : tie.Need-returns
-returns c = deliveries-lost _ _ (told (c .before .is-lost .ensures) (c .if1 .taken))
+returns c = deliveries-lost _ _ (test-is (c .before .is-lost .ensures) (c .if1 .taken))
 
 delay-of-requires : tie.Need-delay-of-requires
 delay-of-requires c κs = let s = c .before .before in (s .pre .0, rolls-within (s .args .rolls) (s .pre .1) .jitter)
@@ -22,11 +22,11 @@ delay-of-requires-2 c κs = let s = c .before .before .before .before .before in
 
 returns-2 : tie.Need-returns-2
 returns-2 c =
-    deliveries-two _ _ (told (c .before .before .before .before .before .is-lost .ensures) (c .before .before .before .before .if1 .left)) (told (c .before .before .is-duplicated .ensures) (c .before .if2 .taken)) (c .before .before .before .delay-of .ensures .0) (c .delay-of2 .ensures .0)
+    deliveries-two _ _ (test-is (c .before .before .before .before .before .is-lost .ensures) (c .before .before .before .before .if1 .left)) (test-is (c .before .before .is-duplicated .ensures) (c .before .if2 .taken)) (c .before .before .before .delay-of .ensures .0) (c .delay-of2 .ensures .0)
 
 returns-3 : tie.Need-returns-3
 returns-3 c =
-    deliveries-one _ _ (told (c .before .before .before .before .is-lost .ensures) (c .before .before .before .if1 .left)) (told (c .before .is-duplicated .ensures) (c .if2 .left)) (c .before .before .delay-of .ensures .0)
+    deliveries-one _ _ (test-is (c .before .before .before .before .is-lost .ensures) (c .before .before .before .if1 .left)) (test-is (c .before .is-duplicated .ensures) (c .if2 .left)) (c .before .before .delay-of .ensures .0)
 
 pub deliveries-of-spec : {M : Type 1} → statement M
 deliveries-of-spec =

@@ -7,7 +7,7 @@ use lib.ListN.{drop, take}
 use Rattle.schedule.specs.Record.{vacant}
 use Rattle.schedule.specs.Internal.{anyRecordBroken}
 use Rattle.schedule.proofs.Lists.{rest-cons, rest-none}
-use Rattle.schedule.proofs.Sound.{told}
+use Rattle.schedule.proofs.Sound.{test-is}
 use Rattle.schedule.proofs.Doubled.{alone-none, alone-first}
 use Rattle.schedule.proofs.checks.any_record_broken.Statement.{statement}
 use Rattle.schedule.proofs.checks.any_record_broken.Tie as tie
@@ -33,7 +33,7 @@ record-broken-requires c κs = search needs
 returns : tie.Need-returns Inv-loop μ-loop
 returns c =
     let l = c .before .before .before .before in
-    sym (alone-first _ _ (l .loop .front) (rest-cons [] (l .before .args .count) (l .loop .i) (l .before .args .s .now) (omega arith) (omega arith)) (told (c .before .record-broken .ensures) (c .if1 .taken))) ∙ l .loop .inv .1
+    sym (alone-first _ _ (l .loop .front) (rest-cons [] (l .before .args .count) (l .loop .i) (l .before .args .s .now) (omega arith) (omega arith)) (test-is (c .before .record-broken .ensures) (c .if1 .taken))) ∙ l .loop .inv .1
 
 add-i : tie.Need-add-i Inv-loop μ-loop
 add-i c = search needs
@@ -44,7 +44,7 @@ loop-less c = search needs
 loop-again : tie.Need-loop-again Inv-loop μ-loop
 loop-again c =
     let l = c .before .before .before .before in
-    (omega arith, sym (alone-first _ _ (l .loop .front) (rest-cons [] (l .before .args .count) (l .loop .i) (l .before .args .s .now) (omega arith) (omega arith)) (told (c .before .record-broken .ensures) (c .if1 .left))) ∙ l .loop .inv .1)
+    (omega arith, sym (alone-first _ _ (l .loop .front) (rest-cons [] (l .before .args .count) (l .loop .i) (l .before .args .s .now) (omega arith) (omega arith)) (test-is (c .before .record-broken .ensures) (c .if1 .left))) ∙ l .loop .inv .1)
 
 returns-2 : tie.Need-returns-2 Inv-loop μ-loop
 returns-2 c = sym (alone-none _ _ (c .before .loop .front) (rest-none (c .before .before .args .count) (c .before .loop .i) (c .before .before .args .s .now) (omega arith) (omega arith))) ∙ c .before .loop .inv .1

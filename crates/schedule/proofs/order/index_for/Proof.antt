@@ -8,7 +8,7 @@ use lib.ListN.{length, take, getD}
 use lib.Seq.{length-take-le, getD-take}
 use Rattle.schedule.specs.Record.{vacant, after, ordered}
 use Rattle.schedule.specs.Internal.{indexFor}
-use Rattle.schedule.proofs.Sound.{told}
+use Rattle.schedule.proofs.Sound.{test-is}
 use Rattle.schedule.proofs.Ordering.{records, for-within, for-below, for-above}
 use Rattle.schedule.proofs.order.index_for.Statement.{statement}
 use Rattle.schedule.proofs.order.index_for.Tie as tie
@@ -54,7 +54,7 @@ loop-again : tie.Need-loop-again Inv-loop μ-loop
 loop-again c =
     let l = c .before .before .before .before .loop in
     let s = c .before .before .before .before .before in
-    let f = not-above (s .args .s .now) (s .args .count) (s .args .r) (s .pre .0) (l .low + l .n / 2) (omega arith) (told (c .before .leaves-after .ensures) (c .if1 .taken)) in
+    let f = not-above (s .args .s .now) (s .args .count) (s .args .r) (s .pre .0) (l .low + l .n / 2) (omega arith) (test-is (c .before .leaves-after .ensures) (c .if1 .taken)) in
     (omega arith, (omega arith, f))
 
 add-low : tie.Need-add-low Inv-loop μ-loop
@@ -73,7 +73,7 @@ loop-again-2 : tie.Need-loop-again-2 Inv-loop μ-loop
 loop-again-2 c =
     let l = c .before .before .before .before .loop in
     let s = c .before .before .before .before .before in
-    let f = not-below (s .args .s .now) (s .args .count) (s .args .r) (s .pre .0) (l .low + l .n / 2) (omega arith) (s .pre .1) (told (c .before .leaves-after .ensures) (c .if1 .left)) in
+    let f = not-below (s .args .s .now) (s .args .count) (s .args .r) (s .pre .0) (l .low + l .n / 2) (omega arith) (s .pre .1) (test-is (c .before .leaves-after .ensures) (c .if1 .left)) in
     (omega arith, (omega arith, omega arith))
 
 returns : tie.Need-returns Inv-loop μ-loop

@@ -2,12 +2,12 @@ use native.Mathlib.Omega.{arith}
 use borrow.Author.Needs.{needs}
 use mathlib.Core.Path.{_≡_, sym, ap}
 use mathlib.Core.Bool.{false}
-use Prim.Native.Nat.{_<_, _+_, _-_}
+use Prim.Native.Nat.{_+_, _-_}
 use native.Mathlib.Nat.{le-refl}
 use lib.ListN.{take}
 use Rattle.schedule.specs.Internal.{blockSize}
 use Rattle.schedule.specs.declared.Block.{Block}
-use Rattle.schedule.proofs.Sound.{told, negated}
+use Rattle.schedule.proofs.Sound.{test-is, negated}
 use Rattle.schedule.proofs.Doubled.{doubledBelow, in-doubled, below-zero, below-more, below-all, between}
 use Rattle.schedule.proofs.places.place_doubled.Statement.{statement}
 use Rattle.schedule.proofs.places.place_doubled.Tie as tie
@@ -28,21 +28,21 @@ returns : tie.Need-returns Inv-loop μ-loop
 returns c =
     let l = c .before .before .before in
     let s = l .before in
-    sym (in-doubled (l .loop .base) (take (s .args .count) (s .args .s .now)) (told (ap (λ (b : Block). b .doubled) (c .before .block-at .ensures)) (c .if1 .taken)))
+    sym (in-doubled (l .loop .base) (take (s .args .count) (s .args .s .now)) (test-is (ap (λ (b : Block). b .doubled) (c .before .block-at .ensures)) (c .if1 .taken)))
 
 returns-2 : tie.Need-returns-2 Inv-loop μ-loop
 returns-2 c =
     let l = c .before .before .before .before .before in
     let b = c .before .before .before .block-at in
     let w = take (l .before .args .count) (l .before .args .s .now) in
-    sym (below-all (l .loop .base + blockSize) (l .loop .base + blockSize) w (told (ap (λ (b : Block). b .beyond) (b .ensures)) (negated (b .result .beyond) (c .if2 .taken))) (le-refl (l .loop .base + blockSize))
-    (below-more (l .loop .base) w (l .loop .inv) (told (ap (λ (b : Block). b .doubled) (b .ensures)) (c .before .before .if1 .left))))
+    sym (below-all (l .loop .base + blockSize) (l .loop .base + blockSize) w (test-is (ap (λ (b : Block). b .beyond) (b .ensures)) (negated (b .result .beyond) (c .if2 .taken))) (le-refl (l .loop .base + blockSize))
+    (below-more (l .loop .base) w (l .loop .inv) (test-is (ap (λ (b : Block). b .doubled) (b .ensures)) (c .before .before .if1 .left))))
 
 add-base : tie.Need-add-base Inv-loop μ-loop
 add-base c =
     let l = c .before .before .before .before .before in
     let b = c .before .before .before .block-at in
-    let m = between (l .loop .base + blockSize) (l .before .args .places) (take (l .before .args .count) (l .before .args .s .now)) (told (ap (λ (b : Block). b .beyond) (b .ensures)) (negated (b .result .beyond) (c .if2 .left))) (l .before .pre .1) in
+    let m = between (l .loop .base + blockSize) (l .before .args .places) (take (l .before .args .count) (l .before .args .s .now)) (test-is (ap (λ (b : Block). b .beyond) (b .ensures)) (negated (b .result .beyond) (c .if2 .left))) (l .before .pre .1) in
     omega arith
 
 loop-less : tie.Need-loop-less Inv-loop μ-loop
@@ -52,7 +52,7 @@ loop-again : tie.Need-loop-again Inv-loop μ-loop
 loop-again c =
     let l = c .before .before .before .before .before in
     let b = c .before .before .before .block-at in
-    below-more (l .loop .base) (take (l .before .args .count) (l .before .args .s .now)) (l .loop .inv) (told (ap (λ (b : Block). b .doubled) (b .ensures)) (c .before .before .if1 .left))
+    below-more (l .loop .base) (take (l .before .args .count) (l .before .args .s .now)) (l .loop .inv) (test-is (ap (λ (b : Block). b .doubled) (b .ensures)) (c .before .before .if1 .left))
 
 returns-3 : tie.Need-returns-3 Inv-loop μ-loop
 returns-3 c =
