@@ -1,7 +1,7 @@
 -- Whole calls, by computation: a packet lost, one duplicated and held back, one corrupted; and the counters after the three.
 use mathlib.Core.Path.{_≡_, refl}
 use Prim.Native.Nat.{ℕ}
-use mathlib.Core.Bool.{false}
+use mathlib.Core.Bool.{true, false}
 use mathlib.Core.List.{List, [], _∷_}
 use lib.IntN.{pos, negsuc}
 use lib.Ieee.{Float, fin, mul, ofInt, toUnsigned, le, lt}
@@ -19,6 +19,7 @@ use Rattle.channel.specs.declared.Channel.{Channel}
 use Rattle.channel.specs.declared.Rolls.{Rolls}
 use Rattle.channel.specs.declared.ProcessAnswer.the-variants.{Delivered}
 use Rattle.channel.proofs.Tallies.{history}
+use Rattle.channel.proofs.NoFaults.{zero, CarriedWhole, carried-whole}
 
 abbrev none : Float
 none = fin false 0 (pos 0)
@@ -77,3 +78,15 @@ calls = callOf corruptedRolls ∷ callOf duplicatedRolls ∷ callOf lostRolls �
 pub three-calls : afterCalls setup calls ≡ channelOf setup (stats6 3 1 1 1 1 3)
 unfolding le lt configBroken statsFull rollsBroken filter turnedAway accepted
 three-calls = history setup calls
+
+-- all chances 0.0, one of them -0.0: the rolls that else lose the packet carry it whole, once
+abbrev quiet : ChannelConfig
+quiet = record { loss = none; duplicate = none; reorder = fin true 0 (pos 0); «reorder_extra_ms» = 30; corrupt = none; «base_delay_ms» = 5; «jitter_ms» = 2 }
+
+quiet-whole : CarriedWhole quiet lostRolls
+unfolding le lt rollsBroken
+quiet-whole = carried-whole quiet lostRolls (record { loss = zero false; duplicate = zero false; reorder = zero true; corrupt = zero false }) refl
+
+pub quiet-once : (deliveriesOf quiet lostRolls ≡ One 5) × (carriedBytes quiet lostRolls (0x41 ∷ 0x42 ∷ []) ≡ 0x41 ∷ 0x42 ∷ [])
+unfolding mul ofInt toUnsigned
+quiet-once = (quiet-whole .once, quiet-whole .bytes (0x41 ∷ 0x42 ∷ []))

@@ -69,6 +69,39 @@ pub(super) fn deliveries_of(config: ChannelConfig, rolls: Rolls) -> Deliveries
     Deliveries::One(first)
 }
 
+// The counters after a packet of `len` bytes.
+pub(super) fn counted(
+    config: ChannelConfig,
+    rolls: Rolls,
+    len: usize,
+    stats: ChannelStats,
+) -> ChannelStats
+    requires { ⌜ statsFull stats ≡ false ⌝ }
+    ensures { λ s. ⌜ s ≡ countedStats config rolls len stats ⌝ }
+{
+    ChannelStats {
+        packets_seen: stats.packets_seen + 1,
+        lost: stats.lost + one_if(config.is_lost(rolls)),
+        corrupted: stats.corrupted + one_if(config.is_corrupted(rolls, len)),
+        duplicated: stats.duplicated + one_if(config.is_duplicated(rolls)),
+        reordered: stats.reordered + one_if(config.is_reordered(rolls)),
+        copies_delivered: stats.copies_delivered + granted(config, rolls),
+    }
+}
+
+// Corrupts a packet, if the rolls say so.
+pub(super) fn corrupt(config: ChannelConfig, rolls: Rolls, d: &mut [u8])
+    requires { ⌜ (length (now d) ≤ maxDatagram) × (rollsBroken rolls ≡ false) ⌝ }
+    ensures { λ _. ⌜ now (d .exit) ≡ carriedBytes config rolls (now (d .entry)) ⌝ }
+{
+    let len = d.len();
+    if config.is_corrupted(rolls, len) {
+        let byte = float::index_unchecked(rolls.byte_roll, len);
+        let bit = float::scaled_unchecked(rolls.bit_roll, 8);
+        flip_bit(d, byte, bit as u32);
+    }
+}
+
 // Base, jitter and hold.
 fn delay_of(config: ChannelConfig, rolls: Rolls, roll: f64) -> u64
     requires { ⌜ (configBroken config ≡ false) × T (rollInBounds roll) ⌝ }
@@ -90,26 +123,6 @@ fn hold_of(config: ChannelConfig, rolls: Rolls) -> u64
     0
 }
 
-// The counters after a packet of `len` bytes.
-pub(super) fn counted(
-    config: ChannelConfig,
-    rolls: Rolls,
-    len: usize,
-    stats: ChannelStats,
-) -> ChannelStats
-    requires { ⌜ statsFull stats ≡ false ⌝ }
-    ensures { λ s. ⌜ s ≡ countedStats config rolls len stats ⌝ }
-{
-    ChannelStats {
-        packets_seen: stats.packets_seen + 1,
-        lost: stats.lost + one_if(config.is_lost(rolls)),
-        corrupted: stats.corrupted + one_if(config.is_corrupted(rolls, len)),
-        duplicated: stats.duplicated + one_if(config.is_duplicated(rolls)),
-        reordered: stats.reordered + one_if(config.is_reordered(rolls)),
-        copies_delivered: stats.copies_delivered + granted(config, rolls),
-    }
-}
-
 // How many copies the rolls grant.
 fn granted(config: ChannelConfig, rolls: Rolls) -> u64
     ensures { λ n. ⌜ n ≡ copies (deliveriesOf config rolls) ⌝ }
@@ -127,19 +140,6 @@ fn one_if(b: bool) -> u64
     ensures { λ r. ⌜ r ≡ one b ⌝ }
 {
     if b { 1 } else { 0 }
-}
-
-// Corrupts a packet, if the rolls say so.
-pub(super) fn corrupt(config: ChannelConfig, rolls: Rolls, d: &mut [u8])
-    requires { ⌜ (length (now d) ≤ maxDatagram) × (rollsBroken rolls ≡ false) ⌝ }
-    ensures { λ _. ⌜ now (d .exit) ≡ carriedBytes config rolls (now (d .entry)) ⌝ }
-{
-    let len = d.len();
-    if config.is_corrupted(rolls, len) {
-        let byte = float::index_unchecked(rolls.byte_roll, len);
-        let bit = float::scaled_unchecked(rolls.bit_roll, 8);
-        flip_bit(d, byte, bit as u32);
-    }
 }
 
 // Turns over bit `bit` of byte `byte`.

@@ -19,6 +19,31 @@ pub(super) fn clear_records(s: &mut [Scheduled])
     }
 }
 
+// Puts `r` among the first `count` records: those that leave after it move up by one.
+pub(super) fn insert(s: &mut [Scheduled], count: usize, r: Scheduled)
+    requires { ⌜ (count < length (now s)) × (ordered (take count (now s)) ≡ true) ⌝ }
+    ensures { λ _. ⌜ now (s .exit)
+        ≡ inserted after r (take count (now (s .entry))) ++ drop (count + 1) (now (s .entry)) ⌝ }
+{
+    let at = index_for(s, count, r);
+    insert_first(&mut s[at..], count - at, r);
+}
+
+// Moves all but the first of the first `count` records down by one; the record left over becomes zeros.
+pub(super) fn remove_first(s: &mut [Scheduled], count: usize)
+    requires { ⌜ (0 < count) × (count ≤ length (now s)) ⌝ }
+    ensures { λ _. ⌜ now (s .exit) ≡ drop 1 (take count (now (s .entry))) ++ vacant ∷ drop count (now (s .entry)) ⌝ }
+{
+    let last = count - 1;
+    let mut i: usize = 0;
+    while i < last {
+        let p = s[i + 1];
+        s[i] = p;
+        i += 1;
+    }
+    s[last] = [0, 0, 0, 0];
+}
+
 // How many of the first `count` records don't leave after `r`.
 fn index_for(s: &[Scheduled], count: usize, r: Scheduled) -> usize
     requires { ⌜ (count ≤ length (now s)) × (ordered (take count (now s)) ≡ true) ⌝ }
@@ -60,29 +85,4 @@ fn insert_first(s: &mut [Scheduled], n: usize, r: Scheduled)
 {
     move_up(s, n);
     s[0] = r;
-}
-
-// Puts `r` among the first `count` records: those that leave after it move up by one.
-pub(super) fn insert(s: &mut [Scheduled], count: usize, r: Scheduled)
-    requires { ⌜ (count < length (now s)) × (ordered (take count (now s)) ≡ true) ⌝ }
-    ensures { λ _. ⌜ now (s .exit)
-        ≡ inserted after r (take count (now (s .entry))) ++ drop (count + 1) (now (s .entry)) ⌝ }
-{
-    let at = index_for(s, count, r);
-    insert_first(&mut s[at..], count - at, r);
-}
-
-// Moves all but the first of the first `count` records down by one; the record left over becomes zeros.
-pub(super) fn remove_first(s: &mut [Scheduled], count: usize)
-    requires { ⌜ (0 < count) × (count ≤ length (now s)) ⌝ }
-    ensures { λ _. ⌜ now (s .exit) ≡ drop 1 (take count (now (s .entry))) ++ vacant ∷ drop count (now (s .entry)) ⌝ }
-{
-    let last = count - 1;
-    let mut i: usize = 0;
-    while i < last {
-        let p = s[i + 1];
-        s[i] = p;
-        i += 1;
-    }
-    s[last] = [0, 0, 0, 0];
 }

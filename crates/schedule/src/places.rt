@@ -13,6 +13,69 @@ use super::PlaceSum;
 use super::Scheduled;
 use bounds::PLACE_SIZE;
 
+// Whether two waiting records have the same place, where all places lie below `places`. No block behind the greatest
+// place is looked at.
+pub(super) fn place_doubled(s: &[Scheduled], count: usize, places: usize) -> bool
+    requires { ⌜ (count ≤ length (now s)) × (outside places (take count (now s)) ≡ false) ⌝ }
+    ensures { λ b. ⌜ b ≡ doubled (take count (now (s .entry))) ⌝ }
+{
+    let mut base: usize = 0;
+    while base < places {
+        let block = block_at(s, count, base as u64);
+        if block.doubled {
+            return true;
+        }
+        if !block.beyond {
+            return false;
+        }
+        base += 256;
+    }
+    false
+}
+
+// The lowest place that no waiting record has. If none lies past `count`, it is the only one up to there, and its
+// number what the sum of all these numbers has more than the sum of the places.
+pub(super) fn lowest_free(s: &[Scheduled], count: usize, places: usize) -> usize
+    requires { ⌜ (count ≤ length (now s)) × (0 < length (freePlaces places (take count (now s))))
+        × (outside places (take count (now s)) ≡ false) × (doubled (take count (now s)) ≡ false) ⌝ }
+    ensures { λ p. ⌜ p ≡ lowestFree places (take count (now (s .entry))) ⌝ }
+{
+    if count <= 65535 {
+        let sum = place_sum(s, count);
+        if let PlaceSum::Is(n) = sum {
+            return count * (count + 1) / 2 - n as usize;
+        }
+    }
+    lowest_unmarked(s, count, places)
+}
+
+// Fills a place: the packet, and zeros after it.
+pub(super) fn fill_place(places: &mut [u8], place: usize, packet: &[u8])
+    requires { ⌜ (place * placeSize + placeSize ≤ length (now places)) × (length (now packet) ≤ maxDatagram) ⌝ }
+    ensures { λ _. ⌜ now (places .exit) ≡ placed (now (places .entry)) place (placeBytes (now (packet .entry))) ⌝ }
+{
+    let from = place * PLACE_SIZE;
+    let end = from + packet.len();
+    let to = from + PLACE_SIZE;
+    octets::copy_unchecked(packet, &mut places[from..end]);
+    octets::clear(&mut places[end..to]);
+}
+
+// Writes the packet of a place to the front of `out`, and clears the place.
+pub(super) fn take_packet(places: &mut [u8], place: usize, len: usize, out: &mut [u8])
+    requires { ⌜ (place * placeSize + placeSize ≤ length (now places))
+        × (len ≤ maxDatagram) × (len ≤ length (now out)) ⌝ }
+    ensures { λ _. ⌜ (now (places .exit) ≡ placed (now (places .entry)) place (replicate placeSize 0))
+        × (now (out .exit)
+        ≡ take len (drop (place * placeSize) (now (places .entry))) ++ drop len (now (out .entry))) ⌝ }
+{
+    let from = place * PLACE_SIZE;
+    let end = from + len;
+    let to = from + PLACE_SIZE;
+    octets::copy_unchecked(&places[from..end], &mut out[..len]);
+    octets::clear(&mut places[from..to]);
+}
+
 // The block of 256 places from `base` on.
 fn block_at(s: &[Scheduled], count: usize, base: u64) -> Block
     requires { ⌜ count ≤ length (now s) ⌝ }
@@ -42,26 +105,6 @@ fn block_at(s: &[Scheduled], count: usize, base: u64) -> Block
         doubled: doubled,
         beyond: beyond,
     }
-}
-
-// Whether two waiting records have the same place, where all places lie below `places`. No block behind the greatest
-// place is looked at.
-pub(super) fn place_doubled(s: &[Scheduled], count: usize, places: usize) -> bool
-    requires { ⌜ (count ≤ length (now s)) × (outside places (take count (now s)) ≡ false) ⌝ }
-    ensures { λ b. ⌜ b ≡ doubled (take count (now (s .entry))) ⌝ }
-{
-    let mut base: usize = 0;
-    while base < places {
-        let block = block_at(s, count, base as u64);
-        if block.doubled {
-            return true;
-        }
-        if !block.beyond {
-            return false;
-        }
-        base += 256;
-    }
-    false
 }
 
 // How many marks stand before the first that isn't set.
@@ -150,47 +193,4 @@ fn place_sum(s: &[Scheduled], count: usize) -> PlaceSum
         i += 4;
     }
     sum_from(s, count, i, (a + b) + (c + d))
-}
-
-// The lowest place that no waiting record has. If none lies past `count`, it is the only one up to there, and its
-// number what the sum of all these numbers has more than the sum of the places.
-pub(super) fn lowest_free(s: &[Scheduled], count: usize, places: usize) -> usize
-    requires { ⌜ (count ≤ length (now s)) × (0 < length (freePlaces places (take count (now s))))
-        × (outside places (take count (now s)) ≡ false) × (doubled (take count (now s)) ≡ false) ⌝ }
-    ensures { λ p. ⌜ p ≡ lowestFree places (take count (now (s .entry))) ⌝ }
-{
-    if count <= 65535 {
-        let sum = place_sum(s, count);
-        if let PlaceSum::Is(n) = sum {
-            return count * (count + 1) / 2 - n as usize;
-        }
-    }
-    lowest_unmarked(s, count, places)
-}
-
-// Fills a place: the packet, and zeros after it.
-pub(super) fn fill_place(places: &mut [u8], place: usize, packet: &[u8])
-    requires { ⌜ (place * placeSize + placeSize ≤ length (now places)) × (length (now packet) ≤ maxDatagram) ⌝ }
-    ensures { λ _. ⌜ now (places .exit) ≡ placed (now (places .entry)) place (placeBytes (now (packet .entry))) ⌝ }
-{
-    let from = place * PLACE_SIZE;
-    let end = from + packet.len();
-    let to = from + PLACE_SIZE;
-    octets::copy_unchecked(packet, &mut places[from..end]);
-    octets::clear(&mut places[end..to]);
-}
-
-// Writes the packet of a place to the front of `out`, and clears the place.
-pub(super) fn take_packet(places: &mut [u8], place: usize, len: usize, out: &mut [u8])
-    requires { ⌜ (place * placeSize + placeSize ≤ length (now places))
-        × (len ≤ maxDatagram) × (len ≤ length (now out)) ⌝ }
-    ensures { λ _. ⌜ (now (places .exit) ≡ placed (now (places .entry)) place (replicate placeSize 0))
-        × (now (out .exit)
-        ≡ take len (drop (place * placeSize) (now (places .entry))) ++ drop len (now (out .entry))) ⌝ }
-{
-    let from = place * PLACE_SIZE;
-    let end = from + len;
-    let to = from + PLACE_SIZE;
-    octets::copy_unchecked(&places[from..end], &mut out[..len]);
-    octets::clear(&mut places[from..to]);
 }
