@@ -13,7 +13,7 @@ use Rattle.schedule.specs.declared.Deliveries.the-variants.{One}
 use Rattle.refusal.specs.declared.DoneAnswer.the-variants.{Done}
 use Rattle.schedule.specs.declared.DeadlineAnswer.the-variants.{At}
 use Rattle.schedule.specs.declared.ReadyAnswer.the-variants.{Packet}
-use Rattle.schedule.proofs.Laws.{new-waits, new-sound, new-times, schedule-waits, can-pop, deadline-is, Leaves, schedule-leaves, can-schedule-at, schedule-accepted, schedule-accepts, schedule-all, Takes, pop-takes}
+use Rattle.schedule.proofs.Laws.{new-waits, new-sound, new-times, schedule-waits, can-pop, deadline-is, Leaves, schedule-leaves, can-schedule-at, schedule-accepted, schedule-accepts, schedule-all, pop-takes}
 
 abbrev made : Schedule
 made = newSchedule (vacant ∷ []) (replicate 1410 7)
