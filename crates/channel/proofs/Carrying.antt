@@ -14,16 +14,14 @@ use Rattle.schedule.specs.State.{copies}
 use Rattle.schedule.specs.declared.Deliveries.{Deliveries}
 use Rattle.schedule.specs.declared.Deliveries.the-variants.{Lost, One, Two}
 use Rattle.channel.specs.Faults.{isLost, isDuplicated, isReordered, isCorrupted, byteAt, bitAt, carriedBytes, delayOf, deliveriesOf}
-use Rattle.refusal.specs.Order.{verdict, firstOf, numbered, orElse, decide, order}
-use Rattle.refusal.specs.declared.Refusal.the-variants.{State, Counts, Roll, Long, Full}
-use Rattle.channel.specs.Bounds.{configBroken, statsFull, rollsBroken}
-use Rattle.channel.specs.Process.{one, stats6, channelOf, countedStats, transitExit, processUnchecked, processExit, refusedExit, transited, outShort, process, CanProcess}
-use Rattle.channel.specs.declared.ProcessAnswer.the-variants as outcome
+use Rattle.refusal.specs.Order.{verdict}
+use Rattle.refusal.specs.declared.Verdict.the-variants.{Accepted}
+use Rattle.refusal.proofs.Laws.{accepted-none-true}
+use Rattle.channel.specs.Process.{one, stats6, channelOf, countedStats, transitExit, processUnchecked, processChecks, CanProcess}
 use Rattle.channel.specs.declared.ChannelConfig.{ChannelConfig}
 use Rattle.channel.specs.declared.ChannelStats.{ChannelStats}
 use Rattle.channel.specs.declared.Rolls.{Rolls}
 use Rattle.channel.specs.declared.Channel.{Channel}
-use Rattle.channel.specs.declared.Transit.{Transit}
 
 -- ---- tests that are asked only of a packet that isn't lost
 pub unless : (a b : Bool) → a ≡ false → b ≡ (not a && b)
@@ -102,16 +100,16 @@ module _ (c : ChannelConfig) (r : Rolls) (p : List ℕ) where
       picked x q h = rw h
 
 -- ---- one packet
--- the packet laid to the front of `out`
+-- the packet copied to the front of `out`
 module _ (p out : List ℕ) {q : List ℕ} (e : q ≡ p) where
-  pub laid-fits : length p ≤ length (q ++ drop (length p) out)
-  laid-fits = rw (length-append q (drop (length p) out), e) (omega arith)
+  pub copied-fits : length p ≤ length (q ++ drop (length p) out)
+  copied-fits = rw (length-append q (drop (length p) out), e) (omega arith)
 
-  pub laid-size : length (take (length p) (q ++ drop (length p) out)) ≡ length p
-  laid-size = length-take-le (length p) (q ++ drop (length p) out) laid-fits
+  pub copied-size : length (take (length p) (q ++ drop (length p) out)) ≡ length p
+  copied-size = length-take-le (length p) (q ++ drop (length p) out) copied-fits
 
-  pub laid-short : ltb 1410 (length p) ≡ false → length (take (length p) (q ++ drop (length p) out)) ≤ 1410
-  laid-short h = rw laid-size (ltb-false 1410 (length p) h)
+  pub copied-short : ltb 1410 (length p) ≡ false → length (take (length p) (q ++ drop (length p) out)) ≤ 1410
+  copied-short h = rw copied-size (ltb-false 1410 (length p) h)
 
 module _ (ch : Channel) (p : List ℕ) (r : Rolls) (out : List ℕ) where
   pub lost-law : {s : ChannelStats} → isLost (ch .config) r ≡ true → s ≡ countedStats (ch .config) r (length p) (ch .stats) → transitExit out (record { channel = channelOf (ch .config) s; deliveries = Lost }) ≡ processUnchecked ch p r out
@@ -124,38 +122,16 @@ module _ (ch : Channel) (p : List ℕ) (r : Rolls) (out : List ℕ) where
   pub transit-law : {q d : List ℕ} {s : ChannelStats} {ds : Deliveries} → isLost (ch .config) r ≡ false → s ≡ countedStats (ch .config) r (length p) (ch .stats) → q ≡ p → d ≡ carriedBytes (ch .config) r (take (length p) (q ++ drop (length p) out)) → ds ≡ deliveriesOf (ch .config) r
       → transitExit (d ++ drop (length p) (q ++ drop (length p) out)) (record { channel = channelOf (ch .config) s; deliveries = ds }) ≡ processUnchecked ch p r out
   unfolding processUnchecked
-  transit-law {q} {d} {s} {ds} a e f g h = picked (isLost (ch .config) r) a e (laid ∙ ap (λ (xs : List ℕ). carriedBytes (ch .config) r p ++ xs) (ap (λ (xs : List ℕ). drop (length p) (xs ++ drop (length p) out)) f ∙ drop-at p (drop (length p) out) (length p) refl)) h
+  transit-law {q} {d} {s} {ds} a e f g h = picked (isLost (ch .config) r) a e (copied ∙ ap (λ (xs : List ℕ). carriedBytes (ch .config) r p ++ xs) (ap (λ (xs : List ℕ). drop (length p) (xs ++ drop (length p) out)) f ∙ drop-at p (drop (length p) out) (length p) refl)) h
     where
-      laid : d ++ drop (length p) (q ++ drop (length p) out) ≡ carriedBytes (ch .config) r p ++ drop (length p) (q ++ drop (length p) out)
-      laid = ap (λ (xs : List ℕ). xs ++ drop (length p) (q ++ drop (length p) out)) (g ∙ ap (carriedBytes (ch .config) r) (ap (λ (xs : List ℕ). take (length p) (xs ++ drop (length p) out)) f ∙ take-at p (drop (length p) out) (length p) refl))
+      copied : d ++ drop (length p) (q ++ drop (length p) out) ≡ carriedBytes (ch .config) r p ++ drop (length p) (q ++ drop (length p) out)
+      copied = ap (λ (xs : List ℕ). xs ++ drop (length p) (q ++ drop (length p) out)) (g ∙ ap (carriedBytes (ch .config) r) (ap (λ (xs : List ℕ). take (length p) (xs ++ drop (length p) out)) f ∙ take-at p (drop (length p) out) (length p) refl))
 
       picked : (x : Bool) {u v : List ℕ} {s t : ChannelStats} {d e : Deliveries} → x ≡ false → s ≡ t → u ≡ v → d ≡ e → transitExit u (record { channel = channelOf (ch .config) s; deliveries = d }) ≡ transitExit (cond x out v) (record { channel = channelOf (ch .config) t; deliveries = e })
       picked x a b f d = rw (a, b, f, d)
 
-  -- ---- the checks of `process`
   pub fits-out : isLost (ch .config) r ≡ false → CanProcess ch p r out → length p ≤ length out
   fits-out a can = ltb-false (length out) (length p) (sym (ap (λ (b : Bool). not b && ltb (length out) (length p)) a) ∙ can .room)
 
-  pub process-state : configBroken (ch .config) ≡ true → refusedExit ch out (outcome.Refused State) ≡ process ch p r out
-  unfolding process verdict firstOf numbered orElse decide order
-  process-state a = simp a
-
-  pub process-counts : configBroken (ch .config) ≡ false → statsFull (ch .stats) ≡ true → refusedExit ch out (outcome.Refused Counts) ≡ process ch p r out
-  unfolding process verdict firstOf numbered orElse decide order
-  process-counts a b = simp (a, b)
-
-  pub process-roll : configBroken (ch .config) ≡ false → statsFull (ch .stats) ≡ false → rollsBroken r ≡ true → refusedExit ch out (outcome.Refused Roll) ≡ process ch p r out
-  unfolding process verdict firstOf numbered orElse decide order
-  process-roll a b c = simp (a, b, c)
-
-  pub process-long : configBroken (ch .config) ≡ false → statsFull (ch .stats) ≡ false → rollsBroken r ≡ false → ltb 1410 (length p) ≡ true → refusedExit ch out (outcome.Refused Long) ≡ process ch p r out
-  unfolding process verdict firstOf numbered orElse decide order
-  process-long a b c d = simp (a, b, c, d)
-
-  pub process-full : configBroken (ch .config) ≡ false → statsFull (ch .stats) ≡ false → rollsBroken r ≡ false → ltb 1410 (length p) ≡ false → outShort ch r (length p) (length out) ≡ true → refusedExit ch out (outcome.Refused Full) ≡ process ch p r out
-  unfolding process verdict firstOf numbered orElse decide order
-  process-full a b c d e = simp (a, b, c, d, e)
-
-  pub process-done : {o : List ℕ} {t : Transit} → CanProcess ch p r out → transitExit o t ≡ processUnchecked ch p r out → processExit o (record { channel = t .channel; answer = outcome.Delivered (t .deliveries) }) ≡ process ch p r out
-  unfolding process verdict firstOf numbered orElse decide order
-  process-done can e = simp (can .config, can .counts, can .rolls, can .short, can .room) (ap transited e)
+  pub can-process : verdict (processChecks ch r (length p) (length out)) ≡ Accepted → CanProcess ch p r out
+  can-process e = let n = accepted-none-true (processChecks ch r (length p) (length out)) e in record { config = n .0; counts = n .1 .0; rolls = n .1 .1 .0; short = n .1 .1 .1 .0; room = n .1 .1 .1 .1 .0 }

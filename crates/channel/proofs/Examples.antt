@@ -1,7 +1,7 @@
 -- Whole calls, by computation: a packet lost, one duplicated and held back, one corrupted; and the counters after the three.
 use mathlib.Core.Path.{_≡_, refl}
 use Prim.Native.Nat.{ℕ}
-use mathlib.Core.Bool.{false}
+use mathlib.Core.Bool.{true, false}
 use mathlib.Core.List.{List, [], _∷_}
 use lib.IntN.{pos, negsuc}
 use lib.Ieee.{Float, fin, mul, ofInt, toUnsigned, le, lt}
@@ -19,6 +19,7 @@ use Rattle.channel.specs.declared.Channel.{Channel}
 use Rattle.channel.specs.declared.Rolls.{Rolls}
 use Rattle.channel.specs.declared.ProcessAnswer.the-variants.{Delivered}
 use Rattle.channel.proofs.Tallies.{history}
+use Rattle.channel.proofs.NoFaults.{zero, CarriedWhole, carried-whole}
 
 abbrev none : Float
 none = fin false 0 (pos 0)
@@ -48,9 +49,9 @@ lostRolls = rolls8 quarter none none none none none none none
 abbrev duplicatedRolls : Rolls
 duplicatedRolls = rolls8 half quarter quarter half none none twoThirds none
 
--- bit 4 of byte 1; jitter 1 ms
+-- bit 2 of byte 1: the picks differ, and so do those of the two rolls swapped; jitter 1 ms
 abbrev corruptedRolls : Rolls
-corruptedRolls = rolls8 half half half quarter half half half half
+corruptedRolls = rolls8 half half half quarter half quarter half half
 
 abbrev made : Channel
 made = channelOf setup (stats6 0 0 0 0 0 0)
@@ -61,7 +62,7 @@ delivers out s ds = processExit out (record { channel = channelOf setup s; answe
 pub record ChannelRows : Type 0 where
   pub lost : process made (0x41 ∷ 0x42 ∷ []) lostRolls (7 ∷ 8 ∷ 9 ∷ []) ≡ delivers (7 ∷ 8 ∷ 9 ∷ []) (stats6 1 1 0 0 0 0) Lost
   pub duplicated : process made (0x41 ∷ 0x42 ∷ []) duplicatedRolls (7 ∷ 8 ∷ 9 ∷ []) ≡ delivers (0x41 ∷ 0x42 ∷ 9 ∷ []) (stats6 1 0 0 1 1 2) (Two 37 35)
-  pub corrupted : process made (0x41 ∷ 0x42 ∷ []) corruptedRolls (7 ∷ 8 ∷ 9 ∷ []) ≡ delivers (0x41 ∷ 0x52 ∷ 9 ∷ []) (stats6 1 0 1 0 0 1) (One 6)
+  pub corrupted : process made (0x41 ∷ 0x42 ∷ []) corruptedRolls (7 ∷ 8 ∷ 9 ∷ []) ≡ delivers (0x41 ∷ 0x46 ∷ 9 ∷ []) (stats6 1 0 1 0 0 1) (One 6)
 
 pub channel-rows : ChannelRows
 unfolding le lt mul ofInt toUnsigned flip order orElse numbered firstOf verdict decide configBroken statsFull rollsBroken isLost isDuplicated isReordered isCorrupted carriedBytes deliveriesOf countedStats processUnchecked process
@@ -77,3 +78,15 @@ calls = callOf corruptedRolls ∷ callOf duplicatedRolls ∷ callOf lostRolls �
 pub three-calls : afterCalls setup calls ≡ channelOf setup (stats6 3 1 1 1 1 3)
 unfolding le lt configBroken statsFull rollsBroken filter turnedAway accepted
 three-calls = history setup calls
+
+-- all chances 0.0, one of them -0.0: the rolls that else lose the packet carry it whole, once
+abbrev quiet : ChannelConfig
+quiet = record { loss = none; duplicate = none; reorder = fin true 0 (pos 0); «reorder_extra_ms» = 30; corrupt = none; «base_delay_ms» = 5; «jitter_ms» = 2 }
+
+quiet-whole : CarriedWhole quiet lostRolls
+unfolding le lt rollsBroken
+quiet-whole = carried-whole quiet lostRolls (record { loss = zero false; duplicate = zero false; reorder = zero true; corrupt = zero false }) refl
+
+pub quiet-once : (deliveriesOf quiet lostRolls ≡ One 5) × (carriedBytes quiet lostRolls (0x41 ∷ 0x42 ∷ []) ≡ 0x41 ∷ 0x42 ∷ [])
+unfolding mul ofInt toUnsigned
+quiet-once = (quiet-whole .once, quiet-whole .bytes (0x41 ∷ 0x42 ∷ []))

@@ -4,38 +4,61 @@ use mathlib.Core.Logic.{_≢_, ⊎-elim}
 use Prim.Native.Nat.{ℕ, _+_, _^_, _<_, _≤_, _*_, _/_}
 use native.Mathlib.Omega.{arith}
 use mathlib.Core.Bool.{Bool, true, false, cond}
-use mathlib.Core.List.{List}
-use lib.ListN.{length, getD, length-set}
+use mathlib.Core.List.{List, _++_}
+use lib.ListN.{length, getD, drop, length-set}
 use lib.Seq.{getD-set-same, getD-set-other}
 use lib.Dec.{T}
-use borrow.Author.Tests.{le-ltb}
 use lib.Pow.{pow-pos}
 use lib.Bits.{bitXor}
 use lib.IntN.{negsuc}
 use lib.Ieee.{Float, fin, binary64, fits}
-use Rattle.bounds.specs.Bounds.{maxTime}
+use Rattle.bounds.specs.Bounds.{maxDeliveryDelay, maxTime}
 use Rattle.octets.specs.Flip.{flip}
 use Rattle.octets.proofs.Laws.{xor-moves}
 use Rattle.float.specs.Roll.{rollInBounds, scaled}
 use Rattle.float.proofs.Laws.{scaled-below, j1}
-use Rattle.schedule.specs.State.{leavesAt, delayLate, deliveriesLate}
+use Rattle.schedule.specs.State.{leavesAt, deliveriesLate}
+use Rattle.refusal.specs.Order.{verdict}
+use Rattle.refusal.specs.declared.Verdict.the-variants.{Accepted}
+use Rattle.refusal.proofs.Laws.{on-accepted, none-true-accepted, either-answer}
+use Rattle.schedule.specs.declared.Deliveries.{Deliveries}
 use Rattle.schedule.specs.declared.Deliveries.the-variants.{Lost, One, Two}
-use Rattle.schedule.proofs.Laws.{or-both}
-use Rattle.channel.specs.Bounds.{configBroken, rollsBroken}
+use Rattle.schedule.proofs.Laws.{DelaysInBounds, delays-in-time}
+use Rattle.channel.specs.Bounds.{configBroken, rollsBroken, Doubles}
 use Rattle.channel.specs.Faults.{isLost, isDuplicated, isReordered, isCorrupted, byteAt, bitAt, carriedBytes, holdOf, delayOf, deliveriesOf}
+use Rattle.channel.specs.Process.{processChecks, processUnchecked, ProcessExit, transited, process, CanProcess}
 use Rattle.channel.specs.declared.ChannelConfig.{ChannelConfig}
+use Rattle.channel.specs.declared.Channel.{Channel}
+use Rattle.channel.specs.declared.ProcessAnswer.the-variants as outcome
 use Rattle.channel.specs.declared.Rolls.{Rolls}
 use Rattle.channel.proofs.Limits.{delays-within, rolls-within}
-use Rattle.channel.proofs.Carrying.{unless-lost, deliveries-lost, corrupt-law, uncorrupted-law, corrupted-some}
-pub use Rattle.channel.proofs.Carrying.{granted-lost, granted-one, granted-two, granted-le}
+use Rattle.channel.proofs.Carrying.{unless-lost, deliveries-lost, corrupt-law, uncorrupted-law}
+pub use Rattle.channel.proofs.Carrying.{granted-lost, granted-one, granted-two, granted-le, corrupted-some}
+pub use Rattle.channel.proofs.Carrying.{can-process}
 pub use Rattle.channel.proofs.Tallies.{processed, history, refused-are}
+pub use Rattle.channel.proofs.Limits.{CountsBelow, counts-below, counts-not-full}
+pub use Rattle.channel.proofs.Counters.{CountsRise, counted-rises, rises-below, below-more, countedCalls, calls-below, calls-not-full, tallies-not-full}
+pub use Rattle.channel.proofs.NoFaults.{Zero, zero, roll-not-below, NoFaults, CarriedWhole, carried-whole}
 
--- the rolls of a packet are doubles
-pub record Doubles (r : Rolls) : Type 0 where
-  pub byte : T (fits binary64 (r .«byte_roll»))
-  pub bit : T (fits binary64 (r .«bit_roll»))
-  pub jitter : T (fits binary64 (r .«jitter_roll»))
-  pub dup-jitter : T (fits binary64 (r .«dup_jitter_roll»))
+-- ---- an accepted call is the call below its entry point
+module _ (ch : Channel) (p : List ℕ) (r : Rolls) (out : List ℕ) where
+  pub process-accepted : verdict (processChecks ch r (length p) (length out)) ≡ Accepted → process ch p r out ≡ transited (processUnchecked ch p r out)
+  unfolding process
+  process-accepted e = on-accepted _ _ e
+
+  pub process-accepts : CanProcess ch p r out → verdict (processChecks ch r (length p) (length out)) ≡ Accepted
+  process-accepts c = none-true-accepted (processChecks ch r (length p) (length out)) (c .config, (c .counts, (c .rolls, (c .short, (c .room, tt)))))
+
+  pub process-delivered : (ds : Deliveries) → process ch p r out .result .answer ≡ outcome.Delivered ds → (verdict (processChecks ch r (length p) (length out)) ≡ Accepted) × (ds ≡ deliveriesOf (ch .config) r)
+  unfolding process processUnchecked
+  process-delivered ds =
+      either-answer (λ (x : ProcessExit). x .result .answer ≡ outcome.Delivered ds → (verdict (processChecks ch r (length p) (length out)) ≡ Accepted) × (ds ≡ deliveriesOf (ch .config) r)) (verdict (processChecks ch r (length p) (length out))) _ _
+      (λ x e. let z : _≡_ {A = ℕ} 0 1 = cc in absurd (omega arith)) (λ v e. (v, cc))
+
+  -- the bytes of the copies stand at the front of the buffer
+  pub process-writes : isLost (ch .config) r ≡ false → processUnchecked ch p r out .out ≡ carriedBytes (ch .config) r p ++ drop (length p) out
+  unfolding processUnchecked
+  process-writes e = ap (λ (b : Bool). cond b out (carriedBytes (ch .config) r p ++ drop (length p) out)) e
 
 -- ---- where the rolls point: no clamp is needed
 module _ (r : Rolls) (d : Doubles r) (good : rollsBroken r ≡ false) where
@@ -59,7 +82,7 @@ jitter-within roll j t u h = let b = scaled-below roll (j + 1) t u (omega arith)
     less x j h = omega arith
 
 -- a delay is at most 180,000 ms
-pub delay-within : (c : ChannelConfig) (r : Rolls) (roll : Float) → configBroken c ≡ false → T (fits binary64 roll) → T (rollInBounds roll) → delayOf c r roll ≤ 180000
+pub delay-within : (c : ChannelConfig) (r : Rolls) (roll : Float) → configBroken c ≡ false → T (fits binary64 roll) → T (rollInBounds roll) → delayOf c r roll ≤ maxDeliveryDelay
 delay-within c r roll good t u =
     let w = delays-within c good in
     let j = jitter-within roll (c .«jitter_ms») t u (w .jitter) in
@@ -75,27 +98,21 @@ delay-within c r roll good t u =
     three : (a b c : ℕ) → a ≤ 60000 → b ≤ 60000 → c ≤ 60000 → a + b + c ≤ 180000
     three a b c h k l = omega arith
 
--- the schedule takes each delay that the channel answers, unless the time itself is too near its bound
-pub deliveries-within : (c : ChannelConfig) (r : Rolls) (now : ℕ) → Doubles r → configBroken c ≡ false → rollsBroken r ≡ false → leavesAt now 180000 ≤ maxTime → deliveriesLate now (deliveriesOf c r) ≡ false
+-- so are those of all copies; the schedule takes them, unless the time itself is too near its bound
+pub delays-in-bounds : (c : ChannelConfig) (r : Rolls) → Doubles r → configBroken c ≡ false → rollsBroken r ≡ false → DelaysInBounds (deliveriesOf c r)
 unfolding deliveriesOf
-deliveries-within c r now d good fine h = go (isLost c r) (isDuplicated c r)
+delays-in-bounds c r d good fine = go (isLost c r) (isDuplicated c r)
   where
-    in-time : (n : ℕ) → n ≤ 180000 → delayLate now n ≡ false
-    in-time n k = simp (le-ltb 180000 n k, le-ltb maxTime (leavesAt now n) (sooner n k))
-      where
-        sooner : (n : ℕ) → n ≤ 180000 → leavesAt now n ≤ maxTime
-        sooner n k = omega arith
+    first : delayOf c r (r .«jitter_roll») ≤ maxDeliveryDelay
+    first = delay-within c r (r .«jitter_roll») good (d .jitter) (rolls-within r fine .jitter)
 
-    first : delayLate now (delayOf c r (r .«jitter_roll»)) ≡ false
-    first = in-time (delayOf c r (r .«jitter_roll»)) (delay-within c r (r .«jitter_roll») good (d .jitter) (rolls-within r fine .jitter))
-
-    second : delayLate now (delayOf c r (r .«dup_jitter_roll»)) ≡ false
-    second = in-time (delayOf c r (r .«dup_jitter_roll»)) (delay-within c r (r .«dup_jitter_roll») good (d .dup-jitter) (rolls-within r fine .dup-jitter))
-
-    go : (a b : Bool) → deliveriesLate now (cond a Lost (cond b (Two (delayOf c r (r .«jitter_roll»)) (delayOf c r (r .«dup_jitter_roll»))) (One (delayOf c r (r .«jitter_roll»))))) ≡ false
-    go true b = refl
-    go false true = or-both _ _ first second
+    go : (a b : Bool) → DelaysInBounds (cond a Lost (cond b (Two (delayOf c r (r .«jitter_roll»)) (delayOf c r (r .«dup_jitter_roll»))) (One (delayOf c r (r .«jitter_roll»)))))
+    go true b = tt
+    go false true = (first, delay-within c r (r .«dup_jitter_roll») good (d .dup-jitter) (rolls-within r fine .dup-jitter))
     go false false = first
+
+pub deliveries-within : (c : ChannelConfig) (r : Rolls) (now : ℕ) → Doubles r → configBroken c ≡ false → rollsBroken r ≡ false → leavesAt now maxDeliveryDelay ≤ maxTime → deliveriesLate now (deliveriesOf c r) ≡ false
+deliveries-within c r now d good fine h = delays-in-time now (deliveriesOf c r) h (delays-in-bounds c r d good fine)
 
 -- a lost packet is neither duplicated nor held back nor corrupted, and has no copy
 pub lost-only : (c : ChannelConfig) (r : Rolls) (n : ℕ) → isLost c r ≡ true → (isDuplicated c r ≡ false) × (isReordered c r ≡ false) × (isCorrupted c r n ≡ false) × (deliveriesOf c r ≡ Lost)

@@ -74,7 +74,7 @@ granted-is c x = go (loses c x) (duplicates c x)
     go false true = refl
     go false false = refl
 
-tallied : (c : ChannelConfig) (x : Call) (xs : List Call) → countedStats c (x .rolls) (length (x .packet)) (tallies c xs) ≡ tallies c (x ∷ xs)
+pub tallied : (c : ChannelConfig) (x : Call) (xs : List Call) → countedStats c (x .rolls) (length (x .packet)) (tallies c xs) ≡ tallies c (x ∷ xs)
 unfolding countedStats isLost isCorrupted isDuplicated isReordered
 tallied c x xs =
     let k = kept c xs in

@@ -47,4 +47,6 @@ delayOf c r roll = c .«base_delay_ms» + scaled roll (c .«jitter_ms» + 1) + h
 unfoldable pub deliveriesOf : ChannelConfig → Rolls → Deliveries
 deliveriesOf c r =
     cond (isLost c r) Lost
-    (cond (isDuplicated c r) (Two (delayOf c r (r .«jitter_roll»)) (delayOf c r (r .«dup_jitter_roll»))) (One (delayOf c r (r .«jitter_roll»))))
+    (cond (isDuplicated c r)
+    (Two (delayOf c r (r .«jitter_roll»)) (delayOf c r (r .«dup_jitter_roll»)))
+    (One (delayOf c r (r .«jitter_roll»))))

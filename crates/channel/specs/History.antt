@@ -1,4 +1,5 @@
--- Document 01, "Links that would ruin a book" (tallies from the history of calls) and `channel/mod.rs`: the counters as the calls and their rolls give them. The latest call stands first.
+-- Document 01, "Links that would ruin a book" (tallies from the history of calls) and `channel/mod.rs`: the counters as
+-- the calls and their rolls give them. The latest call stands first.
 use Prim.Native.Nat.{ℕ, _+_}
 use mathlib.Core.Bool.{Bool, true, false, cond, not, _||_, _&&_}
 use mathlib.Core.List.{List, [], _∷_}
@@ -42,7 +43,7 @@ duplicates c x = lt (x .rolls .«dup_roll») (c .duplicate)
 abbrev pub reorders : ChannelConfig → Call → Bool
 reorders c x = lt (x .rolls .«reorder_roll») (c .reorder)
 
--- "a lost packet never reaches the network"
+-- the packets that aren't lost
 abbrev pub kept : ChannelConfig → List Call → List Call
 kept c xs = filter (λ x. not (loses c x)) xs
 
@@ -58,10 +59,13 @@ tallies c xs =
       «copies_delivered» = length (kept c xs) + count (duplicates c) (kept c xs);
     }
 
--- whether a call is refused, from the calls accepted before it alone: lines 9, 8, 11, 6 and 5
+-- whether a call is refused, from the calls accepted before it alone: checks 9, 8, 11, 6 and 5
 unfoldable pub turnedAway : ChannelConfig → List Call → Call → Bool
 turnedAway c before x =
-    configBroken c || (statsFull (tallies c before) || (rollsBroken (x .rolls) || (ltb maxDatagram (length (x .packet)) || (not (loses c x) && ltb (length (x .out)) (length (x .packet))))))
+    configBroken c
+    || (statsFull (tallies c before)
+    || (rollsBroken (x .rolls)
+    || (ltb maxDatagram (length (x .packet)) || (not (loses c x) && ltb (length (x .out)) (length (x .packet))))))
 
 -- the accepted calls of a list
 unfoldable pub accepted : ChannelConfig → List Call → List Call

@@ -4,26 +4,21 @@ use Prim.Native.Nat.{ℕ, zero, suc, _+_, _-_, _*_, _/_, _<_, _≤_}
 use native.Mathlib.Omega.{arith}
 use native.Mathlib.Numerals.{add-one}
 use mathlib.Core.Bool.{Bool, true, false, _||_}
-use mathlib.Core.List.{List, [], _∷_, _++_}
+use mathlib.Core.List.{List, _∷_, _++_}
 use lib.ListN.{length, take, drop, replicate}
 use lib.Seq.{length-take-le}
 use lib.Dec.{ltb}
 use borrow.Author.Tests.{ltb-false, leb-false, lt-ltb, le-ltb, le-leb, lt-leb, ne-eqb}
 use Rattle.bounds.specs.Bounds.{countLimit, maxTime}
-use Rattle.refusal.proofs.Laws.{or-false}
+use Rattle.refusal.proofs.Laws.{or-false, on-accepted, on-refused, accepted-none-true}
 use Rattle.schedule.specs.Record.{record4, timeOf, recordLength, placeOf, vacant, after, inserted, lowestFree}
-use Rattle.schedule.specs.State.{Schedule, schedule, waitingRecords, brokenFrom, stateBroken, countsBroken, late, heldLate, leavesAt, delayLate, deliveriesLate, copies, unusedPlaces, unusedRecords, lacksRoom, CanPut, CanSchedule}
-use Rattle.schedule.specs.Scans.{delayAt}
-use Rattle.schedule.specs.Schedule.{scheduler, newSchedule, placed, placeBytes, putCopy, scheduleAtUnchecked, roomOf, onSchedule, scheduleAt, firstRecord, bytesOf, withoutFirst, PopExit, popExit, onPop, outShort, popUnchecked, popReadyAt, CanPop, reading}
-use Rattle.refusal.specs.Order.{check, verdict, firstOf, numbered, orElse, decide, order}
+use Rattle.schedule.specs.State.{Schedule, schedule, waitingRecords, brokenFrom, stateBroken, late, heldLate, leavesAt, delayLate, deliveriesLate, copies, delayAt, unusedPlaces, unusedRecords, lacksRoom, CanPut, CanSchedule}
+use Rattle.schedule.specs.Schedule.{scheduler, newSchedule, placed, placeBytes, putCopy, scheduleAtUnchecked, scheduleChecks, roomOf, firstRecord, bytesOf, withoutFirst, popExit, onPop, popUnchecked, popChecks, CanPop, readChecks}
+use Rattle.refusal.specs.Order.{verdict, decide}
 use Rattle.refusal.specs.declared.Verdict.{Verdict}
 use Rattle.refusal.specs.declared.Verdict.the-variants.{Accepted, Refused}
 use Rattle.refusal.specs.declared.Refusal.{Refusal}
-use Rattle.refusal.specs.declared.Refusal.the-variants.{State, Counts, Time, Long, Full}
-use Rattle.refusal.specs.declared.DoneAnswer.the-variants as queued
 use Rattle.schedule.specs.declared.ReadyAnswer.the-variants as ready
-use Rattle.schedule.specs.declared.Held.{Held}
-use Rattle.schedule.specs.declared.Held.the-variants as held
 use Rattle.schedule.specs.declared.ChannelScheduler.{ChannelScheduler}
 use Rattle.schedule.specs.declared.Deliveries.{Deliveries}
 use Rattle.schedule.specs.declared.Deliveries.the-variants.{Lost, One, Two}
@@ -35,7 +30,7 @@ new-law rs ps p q = rw (p, q, length-take-le (length ps / 1410 * 1410) ps (whole
     whole : (n : ℕ) → n / 1410 * 1410 ≤ n
     whole n = omega arith
 
--- ---- line 9
+-- ---- check 9
 pub broken-by-count : (m : Schedule) → length (m .records) < m .scheduler .count → true ≡ stateBroken m
 unfolding stateBroken
 broken-by-count m h = sym (ap (λ (b : Bool). b || brokenFrom (m .scheduler .«next_order») (length (m .places) / 1410) vacant (waitingRecords m)) (lt-ltb (length (m .records)) (m .scheduler .count) h))
@@ -126,88 +121,29 @@ lacks m k p q h = sym (lacks-is (unusedPlaces m) (unusedRecords m) k) ∙ lt-ltb
 pub lacks-not : (m : Schedule) (k : ℕ) {r n : ℕ} → r ≡ roomOf m → n ≡ k → n ≤ r → lacksRoom m k ≡ false
 lacks-not m k p q h = sym (lacks-is (unusedPlaces m) (unusedRecords m) k) ∙ le-ltb (roomOf m) k (rw (← p, ← q) h)
 
--- ---- the checks of `schedule_at`
-module _ (m : Schedule) (now : ℕ) (packet : List ℕ) (ds : Deliveries) where
-  abbrev pub timesLate : Bool
-  timesLate = late now || (heldLate (waitingRecords m) || deliveriesLate now ds)
+-- ---- what the verdict on a call tells
+pub answered-refused : {A : Type 0} {v w : Verdict} {r : Refusal} (f : Refusal → A) (a : A) → v ≡ w → v ≡ Refused r → f r ≡ decide w f a
+answered-refused f a p q = sym (on-refused f a (sym p ∙ q))
 
-  pub schedule-state : stateBroken m ≡ true → onSchedule m (queued.Refused State) ≡ scheduleAt m now packet ds
-  unfolding scheduleAt verdict firstOf numbered orElse decide order
-  schedule-state a = simp a
+pub answered : {A : Type 0} {v w : Verdict} {b : A} (f : Refusal → A) (a : A) → v ≡ w → v ≡ Accepted → b ≡ a → b ≡ decide w f a
+answered f a p q e = e ∙ sym (on-accepted f a (sym p ∙ q))
 
-  pub schedule-counts : stateBroken m ≡ false → countsBroken m ≡ true → onSchedule m (queued.Refused Counts) ≡ scheduleAt m now packet ds
-  unfolding scheduleAt verdict firstOf numbered orElse decide order
-  schedule-counts a b = simp (a, b)
+pub can-schedule : (m : Schedule) (now : ℕ) (packet : List ℕ) (ds : Deliveries) → verdict (scheduleChecks m now (length packet) ds) ≡ Accepted → CanSchedule m now packet ds
+can-schedule m now packet ds e =
+    let n = accepted-none-true (scheduleChecks m now (length packet) ds) e in
+    record {
+      sound = n .0;
+      counts = n .1 .0;
+      times = or-false (heldLate (waitingRecords m)) (deliveriesLate now ds) (or-false (late now) (heldLate (waitingRecords m) || deliveriesLate now ds) (n .1 .1 .0) .1) .1;
+      short = n .1 .1 .1 .0;
+      room = n .1 .1 .1 .1 .0;
+    }
 
-  pub schedule-time : stateBroken m ≡ false → countsBroken m ≡ false → timesLate ≡ true → onSchedule m (queued.Refused Time) ≡ scheduleAt m now packet ds
-  unfolding scheduleAt verdict firstOf numbered orElse decide order
-  schedule-time a b c = simp (a, b, c)
+pub can-pop-accepted : (m : Schedule) (now : ℕ) (out : List ℕ) → verdict (popChecks m now (length out)) ≡ Accepted → CanPop m now out
+can-pop-accepted m now out e = let n = accepted-none-true (popChecks m now (length out)) e in record { sound = n .0; room = n .1 .1 .1 .0 }
 
-  pub schedule-long : stateBroken m ≡ false → countsBroken m ≡ false → timesLate ≡ false → ltb 1410 (length packet) ≡ true → onSchedule m (queued.Refused Long) ≡ scheduleAt m now packet ds
-  unfolding scheduleAt verdict firstOf numbered orElse decide order
-  schedule-long a b c d = simp (a, b, c, d)
-
-  pub schedule-full : stateBroken m ≡ false → countsBroken m ≡ false → timesLate ≡ false → ltb 1410 (length packet) ≡ false → lacksRoom m (copies ds) ≡ true → onSchedule m (queued.Refused Full) ≡ scheduleAt m now packet ds
-  unfolding scheduleAt verdict firstOf numbered orElse decide order
-  schedule-full a b c d e = simp (a, b, c, d, e)
-
-  pub schedule-done : {m′ : Schedule} → stateBroken m ≡ false → countsBroken m ≡ false → timesLate ≡ false → ltb 1410 (length packet) ≡ false → lacksRoom m (copies ds) ≡ false → m′ ≡ scheduleAtUnchecked m now packet ds → onSchedule m′ queued.Done ≡ scheduleAt m now packet ds
-  unfolding scheduleAt verdict firstOf numbered orElse decide order
-  schedule-done a b c d e f = simp (a, b, c, d, e) (ap (λ (x : Schedule). onSchedule x queued.Done) f)
-
-  pub can-schedule : stateBroken m ≡ false → countsBroken m ≡ false → timesLate ≡ false → ltb 1410 (length packet) ≡ false → lacksRoom m (copies ds) ≡ false → CanSchedule m now packet ds
-  can-schedule a b c d e =
-      record {
-        sound = a;
-        counts = b;
-        times = or-false (heldLate (waitingRecords m)) (deliveriesLate now ds) (or-false (late now) (heldLate (waitingRecords m) || deliveriesLate now ds) c .1) .1;
-        short = d;
-        room = e;
-      }
-
--- ---- the checks of a call that only reads
-module _ {A : Type 0} (m : Schedule) (f : Refusal → A) (a : A) where
-  pub reading-state : stateBroken m ≡ true → f State ≡ reading m f a
-  unfolding reading verdict firstOf numbered orElse decide order
-  reading-state p = simp p
-
-  pub reading-counts : stateBroken m ≡ false → countsBroken m ≡ true → f Counts ≡ reading m f a
-  unfolding reading verdict firstOf numbered orElse decide order
-  reading-counts p q = simp (p, q)
-
-  pub reading-time : stateBroken m ≡ false → countsBroken m ≡ false → heldLate (waitingRecords m) ≡ true → f Time ≡ reading m f a
-  unfolding reading verdict firstOf numbered orElse decide order
-  reading-time p q r = simp (p, q, r)
-
-  pub reading-done : stateBroken m ≡ false → countsBroken m ≡ false → heldLate (waitingRecords m) ≡ false → a ≡ reading m f a
-  unfolding reading verdict firstOf numbered orElse decide order
-  reading-done p q r = simp (p, q, r)
-
-  decided-refused : (v : Verdict) {h : Held} {r : Refusal} → h ≡ decide v held.Refused held.Sound → h ≡ held.Refused r → f r ≡ decide v f a
-  unfolding decide
-  decided-refused Accepted p q = let z : _≡_ {A = ℕ} 0 1 = cc in absurd (omega arith)
-  decided-refused (Refused r′) p q = cc
-
-  decided-sound : (v : Verdict) {h : Held} → h ≡ decide v held.Refused held.Sound → h ≡ held.Sound → a ≡ decide v f a
-  unfolding decide
-  decided-sound Accepted p q = refl
-  decided-sound (Refused r′) p q = let z : _≡_ {A = ℕ} 0 1 = cc in absurd (omega arith)
-
-  -- what `held` found is what the call answers
-  pub reading-refused : {h : Held} {r : Refusal} → h ≡ reading m held.Refused held.Sound → h ≡ held.Refused r → f r ≡ reading m f a
-  unfolding reading
-  reading-refused p q = decided-refused (verdict (check (stateBroken m) State ∷ check (countsBroken m) Counts ∷ check (heldLate (waitingRecords m)) Time ∷ [])) p q
-
-  pub reading-sound : {h : Held} → h ≡ reading m held.Refused held.Sound → h ≡ held.Sound → a ≡ reading m f a
-  unfolding reading
-  reading-sound p q = decided-sound (verdict (check (stateBroken m) State ∷ check (countsBroken m) Counts ∷ check (heldLate (waitingRecords m)) Time ∷ [])) p q
-
-pub found-sound : (m : Schedule) {h : Held} → h ≡ reading m held.Refused held.Sound → h ≡ held.Sound → stateBroken m ≡ false
-found-sound m {h} p q = go (stateBroken m) refl
-  where
-    go : (t : Bool) → stateBroken m ≡ t → t ≡ false
-    go false e = refl
-    go true e = let r = reading-state m held.Refused held.Sound e in let z : _≡_ {A = ℕ} 0 1 = cc in absurd (omega arith)
+pub read-sound : (m : Schedule) → verdict (readChecks m) ≡ Accepted → stateBroken m ≡ false
+read-sound m e = accepted-none-true (readChecks m) e .0
 
 -- ---- taking out
 pub positive : (n : ℕ) → (n ≡ 0 → ⊥) → 0 < n
@@ -238,30 +174,6 @@ module _ (m : Schedule) (now : ℕ) (out : List ℕ) where
   can-take c h k =
       let some : 0 < m .scheduler .count = omega arith in
       (first-inside m (c .sound) some, first-fine m (c .sound) some .short, ltb-false (length out) (recordLength first) (sym (simp (lt-ltb 0 (m .scheduler .count) some, le-leb (timeOf first) now k)) ∙ c .room))
-
-  -- ---- the checks of `pop_ready_at`
-  abbrev pub popShort : Bool
-  popShort = outShort (m .scheduler .count) (m .records) now (length out)
-
-  pub pop-state : stateBroken m ≡ true → onPop m out (ready.Refused State) ≡ popReadyAt m now out
-  unfolding popReadyAt verdict firstOf numbered orElse decide order
-  pop-state a = simp a
-
-  pub pop-counts : stateBroken m ≡ false → countsBroken m ≡ true → onPop m out (ready.Refused Counts) ≡ popReadyAt m now out
-  unfolding popReadyAt verdict firstOf numbered orElse decide order
-  pop-counts a b = simp (a, b)
-
-  pub pop-time : stateBroken m ≡ false → countsBroken m ≡ false → (late now || heldLate (waitingRecords m)) ≡ true → onPop m out (ready.Refused Time) ≡ popReadyAt m now out
-  unfolding popReadyAt verdict firstOf numbered orElse decide order
-  pop-time a b c = simp (a, b, c)
-
-  pub pop-full : stateBroken m ≡ false → countsBroken m ≡ false → (late now || heldLate (waitingRecords m)) ≡ false → popShort ≡ true → onPop m out (ready.Refused Full) ≡ popReadyAt m now out
-  unfolding popReadyAt verdict firstOf numbered orElse decide order
-  pop-full a b c d = simp (a, b, c, d)
-
-  pub pop-done : {x : PopExit} → stateBroken m ≡ false → countsBroken m ≡ false → (late now || heldLate (waitingRecords m)) ≡ false → popShort ≡ false → x ≡ popUnchecked m now out → x ≡ popReadyAt m now out
-  unfolding popReadyAt verdict firstOf numbered orElse decide order
-  pop-done a b c d e = simp (a, b, c, d) e
 
 -- with no deliveries the times are these
 pub no-deliveries : (a b : Bool) {t u : Bool} → t ≡ (a || (b || false)) → t ≡ u → (a || b) ≡ u

@@ -1,15 +1,15 @@
--- Doubled places, looked for in blocks; and line 9 as that and the rest.
+-- Doubled places, looked for in blocks; and check 9 as that and the rest.
 use mathlib.Core.Path.{_≡_, refl, sym, _∙_, ap}
 use Prim.Native.Nat.{ℕ, _<_, _≤_, _+_}
 use native.Mathlib.Omega.{arith}
 use mathlib.Core.Logic.{_⊎_, inl, inr}
-use mathlib.Core.Bool.{Bool, true, false, _&&_, _||_, or-true, and-false}
-use mathlib.Core.List.{List, [], _∷_, _++_}
-use lib.Dec.{ltb, leb, eqb}
-use borrow.Author.Tests.{lt-ltb, le-ltb, le-leb, lt-leb, ltb-false, leb-false, eq-eqb, ne-eqb, eqb-true, eqb-false}
+use mathlib.Core.Bool.{Bool, true, false, _&&_, _||_, or-true, and-false, false≢true}
+use mathlib.Core.List.{List, [], _∷_}
+use lib.Dec.{ltb, leb}
+use borrow.Author.Tests.{lt-ltb, le-ltb, le-leb, lt-leb, ltb-false, leb-true, leb-false}
 use Rattle.refusal.proofs.Laws.{or-false}
 use Rattle.schedule.specs.Record.{orderOf, recordLength, placeOf, after, placeIn}
-use Rattle.schedule.specs.Scans.{blockSize, doubled, outside, doubledIn, anyRecordBroken}
+use Rattle.schedule.specs.Internal.{blockSize, doubled, outside, doubledIn, anyRecordBroken}
 use Rattle.schedule.specs.State.{recordBroken, brokenFrom}
 use Rattle.schedule.proofs.Sound.{or-both, fine}
 
@@ -77,6 +77,28 @@ below-all n m (r ∷ rs) o h k =
     (below-all n m rs (or-false (leb n (placeOf r)) (outside n rs) o .1) h (or-false (ltb (placeOf r) m && placeIn (placeOf r) rs) (doubledBelow m rs) k .1))
 
 -- ---- places below n
+pub outside-below : (n : ℕ) (r : List ℕ) (rs : List (List ℕ)) → placeOf r < n → outside n (r ∷ rs) ≡ outside n rs
+unfolding outside
+outside-below n r rs h = ap (λ (b : Bool). b || outside n rs) (lt-leb n (placeOf r) h)
+
+pub outside-past : (n : ℕ) (r : List ℕ) (rs : List (List ℕ)) → n ≤ placeOf r → outside n (r ∷ rs) ≡ true
+unfolding outside
+outside-past n r rs h = ap (λ (b : Bool). b || outside n rs) (le-leb n (placeOf r) h)
+
+pub outside-none : (n : ℕ) {rs : List (List ℕ)} → rs ≡ [] → outside n rs ≡ false
+unfolding outside
+outside-none n e = ap (outside n) e
+
+-- a place that is not below m and below n
+pub between : (m n : ℕ) (rs : List (List ℕ)) → outside m rs ≡ true → outside n rs ≡ false → m < n
+unfolding outside
+between m n [] h k = absurd (false≢true h)
+between m n (r ∷ rs) h k = go (leb m (placeOf r)) refl h (λ e. between m n rs e (or-false (leb n (placeOf r)) (outside n rs) k .1))
+  where
+    go : (t : Bool) → leb m (placeOf r) ≡ t → (t || outside m rs) ≡ true → (outside m rs ≡ true → m < n) → m < n
+    go true e h ih = let a = leb-true m (placeOf r) e in let b = leb-false n (placeOf r) (or-false (leb n (placeOf r)) (outside n rs) k .0) in omega arith
+    go false e h ih = ih h
+
 pub sound-inside : (next n : ℕ) (front : List ℕ) (rs : List (List ℕ)) → brokenFrom next n front rs ≡ false → outside n rs ≡ false
 unfolding outside
 sound-inside next n front [] h = refl
@@ -87,42 +109,8 @@ unfolding doubled
 sound-single next n front [] h = refl
 sound-single next n front (r ∷ rs) h = let f = fine next n front r rs h in or-both (placeIn (placeOf r) rs) (doubled rs) (f .single) (sound-single next n r rs (f .rest))
 
--- ---- one record more at the end
-pub place-last : (p : ℕ) (rs : List (List ℕ)) (r : List ℕ) → placeIn p (rs ++ r ∷ []) ≡ placeIn p (r ∷ rs)
-unfolding placeIn
-place-last p [] r = refl
-place-last p (x ∷ rs) r = ap (λ (b : Bool). eqb p (placeOf x) || b) (place-last p rs r) ∙ swap (eqb p (placeOf x)) (eqb p (placeOf r)) (placeIn p rs)
-  where
-    swap : (a b c : Bool) → (a || (b || c)) ≡ (b || (a || c))
-    swap true b c = sym (or-true b)
-    swap false b c = refl
-
-pub doubled-none : doubled [] ≡ false
-unfolding doubled
-doubled-none = refl
-
-pub doubled-last : (rs : List (List ℕ)) (r : List ℕ) → doubled (rs ++ r ∷ []) ≡ (placeIn (placeOf r) rs || doubled rs)
-unfolding doubled placeIn
-doubled-last [] r = refl
-doubled-last (x ∷ rs) r =
-    ap (λ (b : Bool). placeIn (placeOf x) (rs ++ r ∷ []) || b) (doubled-last rs r)
-    ∙ ap (λ (b : Bool). b || (placeIn (placeOf r) rs || doubled rs)) (place-last (placeOf x) rs r ∙ ap (λ (b : Bool). b || placeIn (placeOf x) rs) (same (placeOf x) (placeOf r)))
-    ∙ swap (eqb (placeOf r) (placeOf x)) (placeIn (placeOf x) rs) (placeIn (placeOf r) rs) (doubled rs)
-  where
-    same : (a b : ℕ) → eqb a b ≡ eqb b a
-    same a b = go (eqb b a) refl
-      where
-        go : (t : Bool) → eqb b a ≡ t → eqb a b ≡ t
-        go true e = eq-eqb a b (sym (eqb-true b a e))
-        go false e = ne-eqb a b (λ q. eqb-false b a e (sym q))
-
-    swap : (e i q d : Bool) → ((e || i) || (q || d)) ≡ ((e || q) || (i || d))
-    swap true i q d = refl
-    swap false true q d = sym (or-true q)
-    swap false false q d = refl
-
--- ---- line 9: a broken record, or else a doubled place
-pub record-inside : (next n : ℕ) (front r : List ℕ) → recordBroken next n front r ≡ false → placeOf r < n
+-- ---- check 9: a broken record, or else a doubled place
+record-inside : (next n : ℕ) (front r : List ℕ) → recordBroken next n front r ≡ false → placeOf r < n
 record-inside next n front r h =
     let a = or-false (after front r) (ltb 1410 (recordLength r) || (leb next (orderOf r) || leb n (placeOf r))) h .1 in
     let b = or-false (ltb 1410 (recordLength r)) (leb next (orderOf r) || leb n (placeOf r)) a .1 in

@@ -2,7 +2,7 @@
 use mathlib.Core.Path.{_≡_, refl, sym, _∙_, ap, subst}
 use Prim.Native.Nat.{ℕ, zero, suc, _<_, _≤_, _+_, _-_, _*_, _/_}
 use native.Mathlib.Omega.{arith}
-use native.Mathlib.Nat.{add-zero, zero-add, add-assoc, sub-zero}
+use native.Mathlib.Nat.{add-zero, zero-add, add-assoc}
 use mathlib.Core.Bool.{Bool, true, false, cond, _||_, true≢false}
 use mathlib.Core.List.{List, [], _∷_}
 use lib.ListN.{length, getD, take, drop}
@@ -11,24 +11,27 @@ use lib.Dec.{ltb, leb, eqb}
 use borrow.Author.Tests.{ltb-true, ltb-false, lt-ltb, le-ltb, leb-false, le-leb, lt-leb, eqb-true, eqb-false, ne-eqb}
 use Rattle.refusal.proofs.Laws.{or-false}
 use Rattle.schedule.specs.Record.{placeOf, placeIn, freeFrom}
-use Rattle.schedule.specs.Scans.{doubled, outside, firstFree, placeSum, sumFrom}
+use Rattle.schedule.specs.Internal.{doubled, outside, placeSum, sumFrom}
 use Rattle.schedule.specs.declared.PlaceSum.{PlaceSum}
 use Rattle.schedule.specs.declared.PlaceSum.the-variants.{Is, Past}
 use Rattle.schedule.proofs.Lists.{rest-cons}
 use Rattle.schedule.proofs.Sound.{place-cons}
-use Rattle.schedule.proofs.Checks.{first-lowest, block-last}
 
 no-place : (p : ℕ) → placeIn p [] ≡ false
 unfolding placeIn
 no-place p = refl
 
-free-zero : (p : ℕ) (rs : List (List ℕ)) → freeFrom zero p rs ≡ []
+pub free-zero : (p : ℕ) (rs : List (List ℕ)) → freeFrom zero p rs ≡ []
 unfolding freeFrom
 free-zero p rs = refl
 
-free-suc : (k p : ℕ) (rs : List (List ℕ)) (t : Bool) → placeIn p rs ≡ t → freeFrom (suc k) p rs ≡ cond t (freeFrom k (suc p) rs) (p ∷ freeFrom k (suc p) rs)
+pub free-suc : (k p : ℕ) (rs : List (List ℕ)) (t : Bool) → placeIn p rs ≡ t → freeFrom (suc k) p rs ≡ cond t (freeFrom k (suc p) rs) (p ∷ freeFrom k (suc p) rs)
 unfolding freeFrom
 free-suc k p rs t e = ap (λ (b : Bool). cond b (freeFrom k (suc p) rs) (p ∷ freeFrom k (suc p) rs)) e
+
+pub some-left : (k p : ℕ) (rs : List (List ℕ)) → 0 < length (freeFrom k p rs) → 0 < k
+some-left zero p rs h = absurd (omega (arith, ap length (free-zero p rs)))
+some-left (suc k) p rs h = omega arith
 
 -- ---- free places and those of the records are all the places, whatever each place weighs
 weight : (ℕ → ℕ) → List ℕ → ℕ
@@ -151,22 +154,26 @@ single [] e = absurd (omega arith)
 single (p ∷ []) e = add-zero p
 single (p ∷ q ∷ ps) e = absurd (omega arith)
 
-free-summed : (places n : ℕ) (rs : List (List ℕ)) → length rs ≡ n → outside places rs ≡ false → outside (suc n) rs ≡ false → doubled rs ≡ false → 0 < length (freeFrom places 0 rs) → getD (freeFrom places 0 rs) 0 0 + placeSum rs ≡ n * (n + 1) / 2
-free-summed places n rs l o w d some =
-    let all = free-count places rs o d in
+-- however many places there are, the lowest free one is the same
+lowest-same : (j k p : ℕ) (rs : List (List ℕ)) → 0 < length (freeFrom j p rs) → 0 < length (freeFrom k p rs) → getD (freeFrom j p rs) 0 0 ≡ getD (freeFrom k p rs) 0 0
+lowest-same zero k p rs h l = absurd (omega (arith, ap length (free-zero p rs)))
+lowest-same (suc j) zero p rs h l = absurd (omega (arith, ap length (free-zero p rs)))
+lowest-same (suc j) (suc k) p rs h l = go (placeIn p rs) refl (lowest-same j k (suc p) rs)
+  where
+    go : (t : Bool) → placeIn p rs ≡ t → (0 < length (freeFrom j (suc p) rs) → 0 < length (freeFrom k (suc p) rs) → getD (freeFrom j (suc p) rs) 0 0 ≡ getD (freeFrom k (suc p) rs) 0 0) → getD (freeFrom (suc j) p rs) 0 0 ≡ getD (freeFrom (suc k) p rs) 0 0
+    go true e ih = rw (free-suc j p rs true e, free-suc k p rs true e) (ih (rw (free-suc j p rs true e) at h) (rw (free-suc k p rs true e) at l))
+    go false e ih = rw (free-suc j p rs false e, free-suc k p rs false e)
+
+free-summed : (places n : ℕ) (rs : List (List ℕ)) → length rs ≡ n → outside (suc n) rs ≡ false → doubled rs ≡ false → 0 < length (freeFrom places 0 rs) → getD (freeFrom places 0 rs) 0 0 + placeSum rs ≡ n * (n + 1) / 2
+free-summed places n rs l w d some =
     let one : length (freeFrom (suc n) 0 rs) ≡ 1 = let c = free-count (suc n) rs w d in omega arith in
-    let head : firstFree (suc n) 0 rs ≡ getD (freeFrom (suc n) 0 rs) 0 0 = ap (λ (k : ℕ). firstFree k 0 rs) (sym (sub-zero (suc n))) ∙ block-last (suc n) 0 rs (omega arith) refl (rw (sub-zero (suc n)) (omega arith)) ∙ ap (λ (k : ℕ). getD (freeFrom k 0 rs) 0 0) (sub-zero (suc n)) in
-    let low = free-head (suc n) 0 rs (omega arith) .0 in
-    let same : getD (freeFrom places 0 rs) 0 0 ≡ firstFree (suc n) 0 rs = ap (λ (k : ℕ). getD (freeFrom k 0 rs) 0 0) (whole (omega arith)) ∙ first-lowest (suc n) (places - suc n) 0 rs (omega arith) in
+    let same = lowest-same places (suc n) 0 rs some (omega arith) in
     let t = free-total (λ x. x) (suc n) rs w d in
     let a = single (freeFrom (suc n) 0 rs) one in
     let b = places-summed rs in
     let c = all-summed (suc n) 0 in
     let e = doubled-sum n in
     omega arith
-  where
-    whole : suc n ≤ places → places ≡ suc n + (places - suc n)
-    whole h = omega arith
 
 -- ---- the loops that sum
 sum-cons : (last n : ℕ) (r : List ℕ) (rs : List (List ℕ)) → sumFrom last n (r ∷ rs) ≡ cond (ltb last (placeOf r)) Past (sumFrom last (n + placeOf r) rs)
@@ -187,19 +194,19 @@ pub sum-none : (last n : ℕ) {rs : List (List ℕ)} → rs ≡ [] → Is n ≡ 
 unfolding sumFrom outside placeSum
 sum-none last n e = sym (ap (sumFrom last n) e ∙ ap Is (add-zero n))
 
-sum-told : (last n : ℕ) (rs : List (List ℕ)) {r : PlaceSum} → r ≡ sumFrom last 0 rs → r ≡ Is n → (outside (suc last) rs ≡ false) × (n ≡ placeSum rs)
+sum-found : (last n : ℕ) (rs : List (List ℕ)) {r : PlaceSum} → r ≡ sumFrom last 0 rs → r ≡ Is n → (outside (suc last) rs ≡ false) × (n ≡ placeSum rs)
 unfolding sumFrom
-sum-told last n rs p q = go (outside (suc last) rs) refl (sym q ∙ p)
+sum-found last n rs p q = go (outside (suc last) rs) refl (sym q ∙ p)
   where
     go : (t : Bool) → outside (suc last) rs ≡ t → Is n ≡ cond (outside (suc last) rs) Past (Is (0 + placeSum rs)) → (outside (suc last) rs ≡ false) × (n ≡ placeSum rs)
     go true e h = let z : _≡_ {A = ℕ} 0 1 = cc in absurd (omega arith)
     go false e h = (e, cc (zero-add (placeSum rs)))
 
-pub sum-frees : (places count n : ℕ) (s : List (List ℕ)) {r : PlaceSum} → count ≤ length s → 0 < length (freeFrom places 0 (take count s)) → outside places (take count s) ≡ false → doubled (take count s) ≡ false → r ≡ sumFrom count 0 (take count s) → r ≡ Is n
+pub sum-frees : (places count n : ℕ) (s : List (List ℕ)) {r : PlaceSum} → count ≤ length s → 0 < length (freeFrom places 0 (take count s)) → doubled (take count s) ≡ false → r ≡ sumFrom count 0 (take count s) → r ≡ Is n
     → getD (freeFrom places 0 (take count s)) 0 0 + n ≡ count * (count + 1) / 2
-sum-frees places count n s h some o d p q =
-    let t = sum-told count n (take count s) p q in
-    ap (λ (x : ℕ). getD (freeFrom places 0 (take count s)) 0 0 + x) (t .1) ∙ free-summed places count (take count s) (length-take-le count s h) o (t .0) d some
+sum-frees places count n s h some d p q =
+    let t = sum-found count n (take count s) p q in
+    ap (λ (x : ℕ). getD (freeFrom places 0 (take count s)) 0 0 + x) (t .1) ∙ free-summed places count (take count s) (length-take-le count s h) (t .0) d some
 
 -- the first of four tests that is true, or none
 some-of : {A : Type 0} (x y : A) (a b c d : Bool) → ((a || b) || (c || d)) ≡ true → cond a x (cond b x (cond c x (cond d x y))) ≡ x

@@ -1,31 +1,40 @@
 -- What crates above may cite: the schedule is the list of copies that wait. Making gives none, scheduling inserts by time and order, taking removes the first alone, and the first's time is the next deadline.
-use mathlib.Core.Path.{_≡_, refl, sym, _∙_, ap}
+use mathlib.Core.Path.{_≡_, refl, sym, _∙_, ap, subst}
 use Prim.Native.Nat.{ℕ, zero, suc, _<_, _≤_, _+_, _-_, min}
 use native.Mathlib.Omega.{arith}
-use mathlib.Core.Bool.{Bool, true, false, cond, _||_, or-true, and-false, true≢false}
+use mathlib.Core.Bool.{Bool, true, false, cond, _||_, _&&_, or-true, and-false, true≢false}
 use mathlib.Core.Logic.{_⊎_}
 use mathlib.Core.List.{List, [], _∷_, _++_, map}
 use lib.ListN.{length, getD, take, drop, replicate, length-replicate, length-map}
 use lib.Dec.{ltb, leb, eqb}
-use native.Mathlib.Numerals.{add-one}
 use native.Mathlib.Nat.{add-zero, add-assoc}
-use borrow.Author.Tests.{ltb-true, ltb-false, leb-true, leb-false, le-ltb, eq-eqb}
+use borrow.Author.Tests.{ltb-true, ltb-false, leb-true, leb-false, le-ltb, lt-leb, eq-eqb}
+use Rattle.bounds.specs.Bounds.{countLimit, maxDatagram, maxDeliveryDelay, maxDuration, maxTime}
+use Rattle.refusal.specs.Order.{verdict}
+use Rattle.refusal.specs.declared.Refusal.{Refusal}
+use Rattle.refusal.specs.declared.Verdict.the-variants.{Accepted}
+use Rattle.refusal.specs.declared.DoneAnswer.the-variants as done
+use Rattle.refusal.specs.declared.CountAnswer.the-variants as counted
+use Rattle.refusal.specs.declared.TestAnswer.the-variants as test
 use Rattle.schedule.specs.Record.{record4, timeOf, orderOf, recordLength, placeOf, vacant, after, inserted, orderedFrom, placeIn, lowestFree}
-use Rattle.schedule.specs.State.{Schedule, waitingRecords, placeCount, brokenFrom, stateBroken, countsBroken, late, heldLate, delayLate, copies, leavesAt, lacksRoom, CanPut, CanSchedule}
-use Rattle.schedule.specs.Schedule.{newSchedule, placed, placeBytes, putCopy, scheduleAtUnchecked, firstRecord, bytesOf, withoutFirst, due, outShort, popUnchecked, onPop, CanPop, firstTime, nextDeadline, roomOf}
-use Rattle.schedule.specs.Waiting.{WaitingCopy, copy, copyAfter, waitingCopy, waiting, putCopies, nothing, leaves, popCopies, firstDeadline}
+use Rattle.schedule.specs.State.{Schedule, waitingRecords, placeCount, brokenFrom, stateBroken, countsBroken, late, heldLate, delayLate, deliveriesLate, copies, leavesAt, unusedPlaces, unusedRecords, lacksRoom, CanPut, CanSchedule}
+use Rattle.schedule.specs.Schedule.{newSchedule, placed, placeBytes, putCopy, scheduleAtUnchecked, ScheduleExit, onSchedule, scheduleChecks, scheduleAt}
+use Rattle.schedule.specs.Schedule.{firstRecord, bytesOf, withoutFirst, due, outShort, popFirst, popUnchecked, PopExit, onPop, leftByPop, popChecks, popReadyAt, CanPop}
+use Rattle.schedule.specs.Schedule.{firstTime, nextDeadline, readChecks, len, isEmpty, roomOf, room}
+use Rattle.schedule.specs.Waiting.{WaitingCopy, copy, copyAfter, waitingCopy, waiting, putCopies, newCopies, insertedAll, All, of-none, of-more, Popped, nothing, leaves, popCopies, firstDeadline}
 use Rattle.schedule.specs.declared.Deliveries.{Deliveries}
 use Rattle.schedule.specs.declared.Deliveries.the-variants.{Lost, One, Two}
 use Rattle.schedule.specs.declared.ReadyAnswer.the-variants as ready
 use Rattle.schedule.specs.declared.DeadlineAnswer.the-variants as deadline
-use Rattle.schedule.proofs.Ordering.{up-to, Order, by-key, first-of, insert-none, insert-here, insert-later, inserted-length}
-use Rattle.refusal.proofs.Laws.{or-false}
+use Rattle.schedule.proofs.Ordering.{up-to, Order, by-key, first-of, insert-none, insert-here, insert-later, inserted-length, inserted-all, inserted-false}
+use Rattle.refusal.proofs.Laws.{or-false, on-accepted, accepted-none-true, none-true-accepted, either-answer}
 use Rattle.schedule.proofs.Sound.{fine, none-broken, place-cons}
-use Rattle.schedule.proofs.Memory.{length-filled, within, unbroken, in-order, waiting-count, makes-sound, room-is, short, place-free, place-inside, put-records, put-places, put-length, put-sound, put-next, first-waits, first-fine, first-inside, taken-records, taken-places, taken-length, taken-next, taken-sound}
-use Rattle.schedule.proofs.Calls.{can-one, can-first, can-second, lacks-not, reading-done}
+use Rattle.schedule.proofs.Memory.{length-filled, within, unbroken, in-order, waiting-count, makes-sound, lacks-is, room-is, short, place-free, place-inside, put-records, put-places, put-length, put-sound, put-next, first-waits, first-fine, first-inside, taken-records, taken-places, taken-length, taken-next, taken-sound}
+use Rattle.schedule.proofs.Calls.{can-one, can-first, can-second, lacks, lacks-not}
+pub use Rattle.schedule.proofs.Calls.{can-schedule, can-pop-accepted, read-sound}
 use Rattle.schedule.proofs.Bytes.{other-copies, filled-bytes, bytes-length}
 -- tests
-pub use Rattle.schedule.proofs.Sound.{or-both, told}
+pub use Rattle.schedule.proofs.Sound.{or-both, test-is}
 
 -- ---- making
 pub new-waits : (rs : List (List ℕ)) (ps : List ℕ) → waiting (newSchedule rs ps) ≡ []
@@ -62,7 +71,7 @@ module _ (m : Schedule) (packet : List ℕ) (can : CanPut m packet) (time : ℕ)
       ∙ ap (λ (xs : List ℕ). inserted copyAfter (copy time (m .scheduler .«next_order») xs) (map (waitingCopy (m .places)) (waitingRecords m))) (filled-bytes (m .places) p packet (place-inside m packet can) (short m packet can))
 
 pub schedule-waits : (m : Schedule) (now : ℕ) (packet : List ℕ) (ds : Deliveries) → CanSchedule m now packet ds → waiting (scheduleAtUnchecked m now packet ds) ≡ putCopies (m .scheduler .«next_order») now packet ds (waiting m)
-unfolding scheduleAtUnchecked putCopies
+unfolding scheduleAtUnchecked insertedAll newCopies
 schedule-waits m now packet Lost can = refl
 schedule-waits m now packet (One d) can = put-waits m packet (can-one m now packet can d refl) (leavesAt now d)
 schedule-waits m now packet (Two d e) can =
@@ -103,9 +112,15 @@ module _ (m : Schedule) (sound : stateBroken m ≡ false) where
   pub room-left : roomOf m ≡ min (placeCount m - length (waiting m)) (length (m .records) - length (waiting m))
   room-left = room-is m sound ∙ ap (λ (n : ℕ). min (placeCount m - n) (length (m .records) - n)) (sym waits-count)
 
--- line 5 is false of as many copies as there is room for
+-- check 5 is false of as many copies as there is room for, and true of more
 pub room-enough : (m : Schedule) (k : ℕ) → k ≤ roomOf m → lacksRoom m k ≡ false
 room-enough m k h = lacks-not m k refl refl h
+
+pub room-lacks : (m : Schedule) (k : ℕ) → roomOf m < k → lacksRoom m k ≡ true
+room-lacks m k h = lacks m k refl refl h
+
+pub lacks-room : (m : Schedule) (k : ℕ) → lacksRoom m k ≡ true → roomOf m < k
+lacks-room m k e = ltb-true (roomOf m) k (lacks-is (unusedPlaces m) (unusedRecords m) k ∙ e)
 
 -- ---- taking out
 module _ (m : Schedule) (sound : stateBroken m ≡ false) (some : 0 < m .scheduler .count) where
@@ -148,7 +163,7 @@ first-time-is m sound = go (ltb 0 (m .scheduler .count)) refl
 
 pub deadline-is : (m : Schedule) → stateBroken m ≡ false → countsBroken m ≡ false → heldLate (waitingRecords m) ≡ false → nextDeadline m ≡ firstDeadline (waiting m)
 unfolding nextDeadline
-deadline-is m sound counts times = sym (reading-done m deadline.Refused (firstTime (m .scheduler .count) (m .records)) sound counts times) ∙ first-time-is m sound
+deadline-is m sound counts times = on-accepted deadline.Refused (firstTime (m .scheduler .count) (m .records)) (none-true-accepted (readChecks m) (sound, (counts, (times, tt)))) ∙ first-time-is m sound
 
 -- what `pop_ready_at` answers and leaves, by the list of what waits
 pub record Pops (m : Schedule) (now : ℕ) (out : List ℕ) (c : WaitingCopy) (cs : List WaitingCopy) : Type 0 where
@@ -175,6 +190,12 @@ not-first now x xs h = go (leb (x .time) now) refl h
 none-pops : (now : ℕ) (c : WaitingCopy) (cs : List WaitingCopy) → popCopies now [] ≡ leaves c cs → ⊥
 unfolding popCopies
 none-pops now c cs h = let z : _≡_ {A = ℕ} 0 1 = cc in omega arith
+
+pub pop-first : (now : ℕ) (ws : List WaitingCopy) (c : WaitingCopy) (cs : List WaitingCopy) → popCopies now ws ≡ leaves c cs → (ws ≡ c ∷ cs) × (c .time ≤ now)
+pop-first now [] c cs h = absurd (none-pops now c cs h)
+pop-first now (x ∷ xs) c cs h =
+    let f = first-is now x xs c cs h in
+    (ap (λ (y : WaitingCopy). y ∷ xs) (f .1) ∙ ap (λ (l : List WaitingCopy). c ∷ l) (f .2), rw (← f .1) (leb-true (x .time) now (f .0)))
 
 pub pop-packet : (m : Schedule) (now : ℕ) (out : List ℕ) (c : WaitingCopy) (cs : List WaitingCopy) → stateBroken m ≡ false → popCopies now (waiting m) ≡ leaves c cs → Pops m now out c cs
 unfolding popUnchecked
@@ -218,12 +239,8 @@ unfolding heldLate
 held-first r rs = refl
 
 held-inserted : (r : List ℕ) (rs : List (List ℕ)) → late (timeOf r) ≡ false → heldLate rs ≡ false → heldLate (inserted after r rs) ≡ false
-held-inserted r [] h k = ap heldLate (insert-none after r) ∙ held-first r [] ∙ or-both (late (timeOf r)) (heldLate []) h k
-held-inserted r (x ∷ xs) h k = go (after x r) refl (or-false (late (timeOf x)) (heldLate xs) (sym (held-first x xs) ∙ k)) (held-inserted r xs h)
-  where
-    go : (t : Bool) → after x r ≡ t → (late (timeOf x) ≡ false) × (heldLate xs ≡ false) → (heldLate xs ≡ false → heldLate (inserted after r xs) ≡ false) → heldLate (inserted after r (x ∷ xs)) ≡ false
-    go true e f ih = ap heldLate (insert-here after r x xs e) ∙ held-first r (x ∷ xs) ∙ or-both (late (timeOf r)) (heldLate (x ∷ xs)) h k
-    go false e f ih = ap heldLate (insert-later after r x xs e) ∙ held-first x (inserted after r xs) ∙ or-both (late (timeOf x)) (heldLate (inserted after r xs)) (f .0) (ih (f .1))
+unfolding heldLate
+held-inserted = inserted-false after (λ r. late (timeOf r)) heldLate refl held-first
 
 put-leaves : (m : Schedule) (packet : List ℕ) → CanPut m packet → (time : ℕ) → late time ≡ false → heldLate (waitingRecords m) ≡ false → Leaves m (putCopy m time packet) 1
 put-leaves m packet can time h k =
@@ -235,12 +252,15 @@ put-leaves m packet can time h k =
       times = ap heldLate (put-records m packet can time) ∙ held-inserted (record4 time (m .scheduler .«next_order») (length packet) (lowestFree (placeCount m) (waitingRecords m))) (waitingRecords m) h k;
     }
 
+unchanged : {m : Schedule} → stateBroken m ≡ false → heldLate (waitingRecords m) ≡ false → Leaves m m 0
+unchanged {m} sound h = record { records = refl; places = refl; next = sym (add-zero (m .scheduler .«next_order»)); sound = sound; times = h }
+
 then : {m m′ m″ : Schedule} {j k : ℕ} → Leaves m m′ j → Leaves m′ m″ k → Leaves m m″ (j + k)
 then {m} {j = j} {k = k} f g = record { records = g .records ∙ f .records; places = g .places ∙ f .places; next = g .next ∙ ap (λ (n : ℕ). n + k) (f .next) ∙ add-assoc (m .scheduler .«next_order») j k; sound = g .sound; times = g .times }
 
 pub schedule-leaves : (m : Schedule) (now : ℕ) (packet : List ℕ) (ds : Deliveries) → CanSchedule m now packet ds → heldLate (waitingRecords m) ≡ false → Leaves m (scheduleAtUnchecked m now packet ds) (copies ds)
 unfolding scheduleAtUnchecked
-schedule-leaves m now packet Lost can h = record { records = refl; places = refl; next = sym (add-zero (m .scheduler .«next_order»)); sound = can .sound; times = h }
+schedule-leaves m now packet Lost can h = unchanged (can .sound) h
 schedule-leaves m now packet (One d) can h = put-leaves m packet (can-one m now packet can d refl) (leavesAt now d) (or-false (ltb 180000 d) (late (leavesAt now d)) (can .times) .1) h
 schedule-leaves m now packet (Two d e) can h =
     let t = or-false (delayLate now d) (delayLate now e) (can .times) in
@@ -256,6 +276,168 @@ taken-leaves m sound some h =
       sound = taken-sound m sound some;
       times = ap heldLate (taken-records m sound some) ∙ or-false (late (timeOf (firstRecord (m .records)))) (heldLate (drop 1 (waitingRecords m))) (sym (held-first (firstRecord (m .records)) (drop 1 (waitingRecords m))) ∙ ap heldLate (sym (first-waits m sound some)) ∙ h) .1;
     }
+
+-- what waits and what was given are in bounds: scheduling may go on
+abbrev pub DelaysInBounds : Deliveries → Type 0
+DelaysInBounds Lost = Prim.Unit {0}
+DelaysInBounds (One d) = d ≤ maxDeliveryDelay
+DelaysInBounds (Two d e) = (d ≤ maxDeliveryDelay) × (e ≤ maxDeliveryDelay)
+
+pub delays-in-time : (now : ℕ) (ds : Deliveries) → leavesAt now maxDeliveryDelay ≤ maxTime → DelaysInBounds ds → deliveriesLate now ds ≡ false
+delays-in-time now ds h = go ds
+  where
+    one : (d : ℕ) → d ≤ maxDeliveryDelay → delayLate now d ≡ false
+    one d k = or-both (ltb maxDeliveryDelay d) (late (leavesAt now d)) (le-ltb maxDeliveryDelay d k) (le-ltb maxTime (leavesAt now d) (sooner d k))
+      where
+        sooner : (d : ℕ) → d ≤ maxDeliveryDelay → leavesAt now d ≤ maxTime
+        sooner d k = omega arith
+
+    go : (ds : Deliveries) → DelaysInBounds ds → deliveriesLate now ds ≡ false
+    go Lost k = refl
+    go (One d) k = one d k
+    go (Two d e) k = or-both (delayLate now d) (delayLate now e) (one d (k .0)) (one e (k .1))
+
+pub can-schedule-at : (m : Schedule) (now : ℕ) (packet : List ℕ) (ds : Deliveries) → stateBroken m ≡ false → m .scheduler .«next_order» < countLimit → now ≤ maxDuration → DelaysInBounds ds → length packet ≤ maxDatagram → copies ds ≤ roomOf m → CanSchedule m now packet ds
+can-schedule-at m now packet ds sound n t d l r =
+    record { sound = sound; counts = lt-leb countLimit (m .scheduler .«next_order») n; times = delays-in-time now ds (omega arith) d; short = le-ltb maxDatagram (length packet) l; room = room-enough m (copies ds) r }
+
+-- taking, whatever it answers
+pub pop-leaves : (m : Schedule) (now : ℕ) (out : List ℕ) → stateBroken m ≡ false → heldLate (waitingRecords m) ≡ false → Leaves m (leftByPop (popUnchecked m now out)) 0
+unfolding popUnchecked
+pop-leaves m now out sound h = go (ltb 0 (m .scheduler .count)) refl (leb (timeOf (firstRecord (m .records))) now)
+  where
+    go : (t : Bool) → ltb 0 (m .scheduler .count) ≡ t → (u : Bool) → Leaves m (leftByPop (cond (t && u) (popFirst m out) (onPop m out ready.Nothing))) 0
+    go true e true = taken-leaves m sound (ltb-true 0 (m .scheduler .count) e) h
+    go true e false = unchanged sound h
+    go false e u = unchanged sound h
+
+-- ---- the answer of a call below the entry point: never a refusal; and where there is nothing to take, all is as it was
+pub pop-never-refused : (m : Schedule) (now : ℕ) (out : List ℕ) (r : Refusal) → popUnchecked m now out .result .answer ≡ ready.Refused r → ⊥
+unfolding popUnchecked
+pop-never-refused m now out r = go (due (m .scheduler .count) (m .records) now)
+  where
+    go : (t : Bool) → cond t (popFirst m out) (onPop m out ready.Nothing) .result .answer ≡ ready.Refused r → ⊥
+    go true e = let z : _≡_ {A = ℕ} 0 1 = cc in omega arith
+    go false e = let z : _≡_ {A = ℕ} 0 1 = cc in omega arith
+
+pub pop-idle : (m : Schedule) (now : ℕ) (out : List ℕ) → popUnchecked m now out .result .answer ≡ ready.Nothing → popUnchecked m now out ≡ onPop m out ready.Nothing
+unfolding popUnchecked
+pop-idle m now out = go (due (m .scheduler .count) (m .records) now)
+  where
+    go : (t : Bool) → cond t (popFirst m out) (onPop m out ready.Nothing) .result .answer ≡ ready.Nothing
+        → cond t (popFirst m out) (onPop m out ready.Nothing) ≡ onPop m out ready.Nothing
+    go true e = let z : _≡_ {A = ℕ} 0 1 = cc in absurd (omega arith)
+    go false e = refl
+
+-- what `pop_ready_at_unchecked` takes, and what it leaves
+pub record Takes (P : WaitingCopy → Type 0) (m : Schedule) (now : ℕ) (out : List ℕ) (n : ℕ) : Type 0 where
+  pub copy : WaitingCopy
+  pub holds : P copy
+  pub due : copy .time ≤ now
+  pub size : length (copy .bytes) ≡ n
+  pub written : popUnchecked m now out .out ≡ copy .bytes ++ drop n out
+  pub first : waiting m ≡ copy ∷ waiting (leftByPop (popUnchecked m now out))
+
+-- ---- what holds of each copy that waits is kept, where it holds of the new ones
+module _ {P : WaitingCopy → Type 0} where
+  pub inserted-each : (xs cs : List WaitingCopy) → All P xs → All P cs → All P (insertedAll xs cs)
+  unfolding insertedAll
+  inserted-each [] cs h a = a
+  inserted-each (x ∷ xs) cs (of-more h k) a = inserted-each xs (inserted copyAfter x cs) k (inserted-all copyAfter x cs h a)
+
+  pub schedule-all : (m : Schedule) (now : ℕ) (packet : List ℕ) (ds : Deliveries) → CanSchedule m now packet ds → All P (newCopies (m .scheduler .«next_order») now packet ds) → All P (waiting m) → All P (waiting (scheduleAtUnchecked m now packet ds))
+  schedule-all m now packet ds can h a = subst (All P) (sym (schedule-waits m now packet ds can)) (inserted-each (newCopies (m .scheduler .«next_order») now packet ds) (waiting m) h a)
+
+  first-rest : {x : WaitingCopy} {xs : List WaitingCopy} → All P (x ∷ xs) → P x × All P xs
+  first-rest (of-more h k) = (h, k)
+
+  pub taken-all : (m : Schedule) → stateBroken m ≡ false → 0 < m .scheduler .count → All P (waiting m) → P (waitingCopy (m .places) (firstRecord (m .records))) × All P (waiting (withoutFirst m))
+  taken-all m sound some a = first-rest (subst (All P) (taken-waits m sound some) a)
+
+  module _ (m : Schedule) (now : ℕ) (out : List ℕ) (sound : stateBroken m ≡ false) (a : All P (waiting m)) where
+    pub pop-all : All P (waiting (leftByPop (popUnchecked m now out)))
+    pop-all = go (popCopies now (waiting m)) refl
+      where
+        go : (z : Popped) → popCopies now (waiting m) ≡ z → All P (waiting (leftByPop (popUnchecked m now out)))
+        go nothing e = subst (λ (x : PopExit). All P (waiting (leftByPop x))) (sym (pop-nothing m now out sound e)) a
+        go (leaves c cs) e =
+            let p = pop-packet m now out c cs sound e in
+            subst (λ (x : PopExit). All P (waiting (leftByPop x))) (sym (p .answer)) (subst (All P) (sym (p .rest)) (first-rest (subst (All P) (pop-first now (waiting m) c cs e .0) a) .1))
+
+    pub pop-takes : (n : ℕ) → popUnchecked m now out .result .answer ≡ ready.Packet n → Takes P m now out n
+    pop-takes n h = go (popCopies now (waiting m)) refl
+      where
+        go : (z : Popped) → popCopies now (waiting m) ≡ z → Takes P m now out n
+        go nothing e = let k = ap (λ (x : PopExit). x .result .answer) (sym (pop-nothing m now out sound e)) ∙ h in let z : _≡_ {A = ℕ} 0 1 = cc in absurd (omega arith)
+        go (leaves c cs) e =
+            let p = pop-packet m now out c cs sound e in
+            let f = pop-first now (waiting m) c cs e in
+            let s : length (c .bytes) ≡ n = let k = ap (λ (x : PopExit). x .result .answer) (sym (p .answer)) ∙ h in cc in
+            record {
+              copy = c;
+              holds = first-rest (subst (All P) (f .0) a) .0;
+              due = f .1;
+              size = s;
+              written = ap (λ (x : PopExit). x .out) (p .answer) ∙ ap (λ (k : ℕ). c .bytes ++ drop k out) s;
+              first = f .0 ∙ ap (λ (xs : List WaitingCopy). c ∷ xs) (sym (ap (λ (x : PopExit). waiting (leftByPop x)) (p .answer) ∙ p .rest));
+            }
+
+pub all-weaker : {A : Type 0} {P Q : A → Type 0} {xs : List A} → ((x : A) → P x → Q x) → All P xs → All Q xs
+all-weaker f of-none = of-none
+all-weaker f (of-more {x} h k) = of-more (f x h) (all-weaker f k)
+
+-- ---- an accepted call is the call below its entry point
+module _ (m : Schedule) (now : ℕ) (packet : List ℕ) (ds : Deliveries) where
+  pub schedule-accepted : verdict (scheduleChecks m now (length packet) ds) ≡ Accepted → scheduleAt m now packet ds ≡ onSchedule (scheduleAtUnchecked m now packet ds) done.Done
+  unfolding scheduleAt
+  schedule-accepted e = on-accepted _ _ e
+
+  pub schedule-accepts : CanSchedule m now packet ds → late now ≡ false → heldLate (waitingRecords m) ≡ false → verdict (scheduleChecks m now (length packet) ds) ≡ Accepted
+  schedule-accepts c t h = none-true-accepted (scheduleChecks m now (length packet) ds) (c .sound, (c .counts, (or-both _ _ t (or-both _ _ h (c .times)), (c .short, (c .room, tt)))))
+
+  pub schedule-done : scheduleAt m now packet ds .result .answer ≡ done.Done → verdict (scheduleChecks m now (length packet) ds) ≡ Accepted
+  unfolding scheduleAt
+  schedule-done =
+      either-answer (λ (x : ScheduleExit). x .result .answer ≡ done.Done → verdict (scheduleChecks m now (length packet) ds) ≡ Accepted) (verdict (scheduleChecks m now (length packet) ds)) _ _
+      (λ r e. let z : _≡_ {A = ℕ} 0 1 = cc in absurd (omega arith)) (λ v e. v)
+
+  -- what an accepted call found of the times
+  pub schedule-times : verdict (scheduleChecks m now (length packet) ds) ≡ Accepted → (late now ≡ false) × (heldLate (waitingRecords m) ≡ false)
+  schedule-times e =
+      let t = or-false (late now) (heldLate (waitingRecords m) || deliveriesLate now ds) (accepted-none-true (scheduleChecks m now (length packet) ds) e .1 .1 .0) in
+      (t .0, or-false (heldLate (waitingRecords m)) (deliveriesLate now ds) (t .1) .0)
+
+module _ (m : Schedule) (now : ℕ) (out : List ℕ) where
+  pub pop-accepted : verdict (popChecks m now (length out)) ≡ Accepted → popReadyAt m now out ≡ popUnchecked m now out
+  unfolding popReadyAt
+  pop-accepted e = on-accepted _ _ e
+
+  pub pop-accepts : CanPop m now out → countsBroken m ≡ false → late now ≡ false → heldLate (waitingRecords m) ≡ false → verdict (popChecks m now (length out)) ≡ Accepted
+  pop-accepts c n t h = none-true-accepted (popChecks m now (length out)) (c .sound, (n, (or-both _ _ t h, (c .room, tt))))
+
+  pub pop-times : verdict (popChecks m now (length out)) ≡ Accepted → (late now ≡ false) × (heldLate (waitingRecords m) ≡ false)
+  pop-times e = or-false (late now) (heldLate (waitingRecords m)) (accepted-none-true (popChecks m now (length out)) e .1 .1 .0)
+
+module _ (m : Schedule) where
+  pub read-accepts : stateBroken m ≡ false → countsBroken m ≡ false → heldLate (waitingRecords m) ≡ false → verdict (readChecks m) ≡ Accepted
+  read-accepts s n h = none-true-accepted (readChecks m) (s, (n, (h, tt)))
+
+  module _ (e : verdict (readChecks m) ≡ Accepted) where
+    pub deadline-accepted : nextDeadline m ≡ firstTime (m .scheduler .count) (m .records)
+    unfolding nextDeadline
+    deadline-accepted = on-accepted _ _ e
+
+    pub len-accepted : len m ≡ counted.Count (m .scheduler .count)
+    unfolding len
+    len-accepted = on-accepted _ _ e
+
+    pub empty-accepted : isEmpty m ≡ test.Is (eqb (m .scheduler .count) 0)
+    unfolding isEmpty
+    empty-accepted = on-accepted _ _ e
+
+    pub room-accepted : room m ≡ counted.Count (roomOf m)
+    unfolding room
+    room-accepted = on-accepted _ _ e
 
 -- ---- the order of leaving
 -- in a list in order nothing leaves before what stands in front of it
@@ -289,22 +471,19 @@ pub places-apart : (m : Schedule) (i j : ℕ) → stateBroken m ≡ false → i 
 places-apart m i j sound a b e = apart-in (m .scheduler .«next_order») (placeCount m) vacant (waitingRecords m) i j (unbroken m sound) a (rw (waiting-count m sound) b) e
 
 -- ---- nothing is lost and nothing is added: as many wait as before and were granted; one that leaves was the first
-pub put-count : (next now : ℕ) (packet : List ℕ) (ds : Deliveries) (cs : List WaitingCopy) → length (putCopies next now packet ds cs) ≡ length cs + copies ds
-unfolding putCopies
-put-count next now packet Lost cs = sym (add-zero (length cs))
-put-count next now packet (One d) cs = inserted-length copyAfter (copy (leavesAt now d) next packet) cs ∙ sym (add-one (length cs))
-put-count next now packet (Two d e) cs =
-    inserted-length copyAfter (copy (leavesAt now e) (next + 1) packet) (inserted copyAfter (copy (leavesAt now d) next packet) cs)
-    ∙ ap suc (inserted-length copyAfter (copy (leavesAt now d) next packet) cs) ∙ two (length cs)
-  where
-    two : (n : ℕ) → suc (suc n) ≡ n + 2
-    two n = omega arith
+each-inserted : (xs cs : List WaitingCopy) → length (insertedAll xs cs) ≡ length cs + length xs
+unfolding insertedAll
+each-inserted [] cs = sym (add-zero (length cs))
+each-inserted (x ∷ xs) cs = let i = each-inserted xs (inserted copyAfter x cs) in let l = inserted-length copyAfter x cs in omega arith
 
-pub pop-first : (now : ℕ) (ws : List WaitingCopy) (c : WaitingCopy) (cs : List WaitingCopy) → popCopies now ws ≡ leaves c cs → (ws ≡ c ∷ cs) × (c .time ≤ now)
-pop-first now [] c cs h = absurd (none-pops now c cs h)
-pop-first now (x ∷ xs) c cs h =
-    let f = first-is now x xs c cs h in
-    (ap (λ (y : WaitingCopy). y ∷ xs) (f .1) ∙ ap (λ (l : List WaitingCopy). c ∷ l) (f .2), rw (← f .1) (leb-true (x .time) now (f .0)))
+pub put-count : (next now : ℕ) (packet : List ℕ) (ds : Deliveries) (cs : List WaitingCopy) → length (putCopies next now packet ds cs) ≡ length cs + copies ds
+unfolding newCopies
+put-count next now packet ds cs = each-inserted (newCopies next now packet ds) cs ∙ ap (λ (n : ℕ). length cs + n) (new-count ds)
+  where
+    new-count : (ds : Deliveries) → length (newCopies next now packet ds) ≡ copies ds
+    new-count Lost = refl
+    new-count (One d) = refl
+    new-count (Two d e) = refl
 
 pub none-due : (now : ℕ) (x : WaitingCopy) (xs : List WaitingCopy) → popCopies now (x ∷ xs) ≡ nothing → now < x .time
 none-due now x xs h = leb-false (x .time) now (not-first now x xs h)

@@ -1,6 +1,6 @@
 pub mod Lists
 pub mod Ordering
-pub mod Checks
+pub mod Times
 pub mod Sound
 pub mod Doubled
 pub mod FreePlaces

@@ -8,7 +8,7 @@ use mathlib.Core.List.{List, [], _∷_, _++_, append-assoc}
 use lib.ListN.{length, set, getD, take, drop, replicate, length-replicate, length-append, length-drop, replicate-append-replicate, drop-of-length-le, take-append-drop, List·getD-append}
 use lib.Seq.{take-suc, drop-cons, set-at, length-take-le, append-snoc, getD-append-add, getD-drop, drop-length, take-at, drop-at, getD-take}
 use Rattle.octets.proofs.Laws.{tail-is, tail-back}
-use Rattle.schedule.specs.Scans.{raised}
+use Rattle.schedule.specs.Internal.{raised}
 use borrow.Rule.Slice.PartMut.{midOf, postOf, putMid, post-is, mid-len}
 
 module _ {A : Type 0} where

@@ -1,4 +1,4 @@
--- A schedule of which line 9 is false: its counts, and that it stays so where a copy is put in or taken out.
+-- A schedule of which check 9 is false: its counts, and that it stays so where a copy is put in or taken out.
 use mathlib.Core.Path.{_≡_, refl, sym, _∙_, ap}
 use Prim.Native.Nat.{ℕ, suc, _<_, _≤_, _+_, _-_, _*_, _/_, min}
 use native.Mathlib.Omega.{arith}
@@ -12,7 +12,7 @@ use borrow.Author.Tests.{ltb-true, ltb-false, lt-ltb, le-ltb}
 use Rattle.refusal.proofs.Laws.{or-false}
 use Rattle.schedule.specs.Record.{record4, placeOf, vacant, after, inserted, ordered, placeIn, freePlaces, lowestFree}
 use Rattle.schedule.specs.State.{Schedule, waitingRecords, placeCount, brokenFrom, stateBroken, unusedRecords, unusedPlaces, lacksRoom, CanPut}
-use Rattle.schedule.specs.Scans.{doubled, outside}
+use Rattle.schedule.specs.Internal.{doubled, outside}
 use Rattle.schedule.specs.Schedule.{placed, placeBytes, putCopy, firstRecord, withoutFirst, roomOf}
 use Rattle.schedule.proofs.Ordering.{inserted-length, least}
 use Rattle.schedule.proofs.Sound.{or-both, Fine, fine, sound-ordered, inserted-sound, rest-sound}
@@ -20,7 +20,7 @@ use Rattle.schedule.proofs.Doubled.{sound-inside, sound-single}
 use Rattle.schedule.proofs.FreePlaces.{free-count, free-head}
 use Rattle.schedule.proofs.Lists.{rest-cons}
 
--- ---- what line 9 says, false
+-- ---- what check 9 says, false
 module _ (m : Schedule) (sound : stateBroken m ≡ false) where
   pub within : m .scheduler .count ≤ length (m .records)
   unfolding stateBroken

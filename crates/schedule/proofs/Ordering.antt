@@ -2,7 +2,7 @@
 use mathlib.Core.Path.{_≡_, refl, sym, _∙_, ap, subst}
 use Prim.Native.Nat.{ℕ, zero, suc, _<_, _≤_, _-_}
 use native.Mathlib.Omega.{arith}
-use mathlib.Core.Bool.{Bool, true, false, cond, not, _&&_, true≢false, false≢true}
+use mathlib.Core.Bool.{Bool, true, false, cond, not, _&&_, _||_, true≢false, false≢true}
 use mathlib.Core.Logic.{_⊎_, inl, inr}
 use mathlib.Core.List.{List, [], _∷_, _++_}
 use lib.ListN.{length, getD, take, drop}
@@ -10,7 +10,9 @@ use lib.Seq.{length-take-le}
 use lib.Dec.{ltb}
 use borrow.Author.Tests.{ltb-true, ltb-false, lt-ltb, le-ltb}
 use Rattle.schedule.specs.Record.{later, after, inserted, orderedFrom, timeOf, orderOf}
-use Rattle.schedule.specs.Scans.{placeFor}
+use Rattle.schedule.specs.Internal.{indexFor}
+use Rattle.schedule.specs.Waiting.{All, of-none, of-more}
+use Rattle.refusal.proofs.Laws.{or-false}
 
 -- ---- the order, as arithmetic
 abbrev pub UpTo : ℕ → ℕ → ℕ → ℕ → Type 0
@@ -108,58 +110,81 @@ module _ {A : Type 0} (aft : A → A → Bool) where
       go ih true a = ap length (insert-here r x xs a)
       go ih false a = ap length (insert-later r x xs a) ∙ ap suc ih
 
+  -- what holds of each, and of the one put in, holds of all
+  pub inserted-all : {P : A → Type 0} (r : A) (xs : List A) → P r → All P xs → All P (inserted aft r xs)
+  unfolding inserted
+  inserted-all r [] h of-none = of-more h of-none
+  inserted-all {P} r (x ∷ xs) h (of-more k l) = go (aft x r) (inserted-all r xs h l)
+    where
+      go : (t : Bool) → All P (inserted aft r xs) → All P (cond t (r ∷ x ∷ xs) (x ∷ inserted aft r xs))
+      go true i = of-more h (of-more k l)
+      go false i = of-more k i
+
+  -- so a test that is false of each, and of the one put in, is false of all
+  module _ (f : A → Bool) (any : List A → Bool) (any-none : any [] ≡ false) (any-more : (x : A) (xs : List A) → any (x ∷ xs) ≡ (f x || any xs)) where
+    all-false : (xs : List A) → any xs ≡ false → All (λ x. f x ≡ false) xs
+    all-false [] e = of-none
+    all-false (x ∷ xs) e = let o = or-false (f x) (any xs) (sym (any-more x xs) ∙ e) in of-more (o .0) (all-false xs (o .1))
+
+    none-true : (xs : List A) → All (λ x. f x ≡ false) xs → any xs ≡ false
+    none-true [] of-none = any-none
+    none-true (x ∷ xs) (of-more h k) = any-more x xs ∙ rw (h, none-true xs k)
+
+    pub inserted-false : (r : A) (xs : List A) → f r ≡ false → any xs ≡ false → any (inserted aft r xs) ≡ false
+    inserted-false r xs h e = none-true (inserted aft r xs) (inserted-all r xs h (all-false xs e))
+
   -- ---- where it is put
-  for-none : (r : A) → placeFor aft r [] ≡ 0
-  unfolding placeFor
+  for-none : (r : A) → indexFor aft r [] ≡ 0
+  unfolding indexFor
   for-none r = refl
 
-  for-cons : (r y : A) (ys : List A) (t : Bool) → aft y r ≡ t → placeFor aft r (y ∷ ys) ≡ cond t 0 (suc (placeFor aft r ys))
-  unfolding placeFor
-  for-cons r y ys t e = ap (λ (u : Bool). cond u 0 (suc (placeFor aft r ys))) e
+  for-cons : (r y : A) (ys : List A) (t : Bool) → aft y r ≡ t → indexFor aft r (y ∷ ys) ≡ cond t 0 (suc (indexFor aft r ys))
+  unfolding indexFor
+  for-cons r y ys t e = ap (λ (u : Bool). cond u 0 (suc (indexFor aft r ys))) e
 
-  pub for-inserts : (r : A) (xs : List A) → inserted aft r xs ≡ take (placeFor aft r xs) xs ++ r ∷ drop (placeFor aft r xs) xs
+  pub for-inserts : (r : A) (xs : List A) → inserted aft r xs ≡ take (indexFor aft r xs) xs ++ r ∷ drop (indexFor aft r xs) xs
   for-inserts r [] = insert-none r ∙ ap (λ (n : ℕ). take n [] ++ r ∷ drop n []) (sym (for-none r))
   for-inserts r (x ∷ xs) = go (for-inserts r xs) (aft x r) refl
     where
       split : ℕ → List A
       split n = take n (x ∷ xs) ++ r ∷ drop n (x ∷ xs)
 
-      go : inserted aft r xs ≡ take (placeFor aft r xs) xs ++ r ∷ drop (placeFor aft r xs) xs → (t : Bool) → aft x r ≡ t → inserted aft r (x ∷ xs) ≡ split (placeFor aft r (x ∷ xs))
+      go : inserted aft r xs ≡ take (indexFor aft r xs) xs ++ r ∷ drop (indexFor aft r xs) xs → (t : Bool) → aft x r ≡ t → inserted aft r (x ∷ xs) ≡ split (indexFor aft r (x ∷ xs))
       go ih true a = insert-here r x xs a ∙ ap split (sym (for-cons r x xs true a))
       go ih false a = insert-later r x xs a ∙ ap (λ (l : List A). x ∷ l) ih ∙ ap split (sym (for-cons r x xs false a))
 
-  for-le : (r : A) (xs : List A) → placeFor aft r xs ≤ length xs
+  for-le : (r : A) (xs : List A) → indexFor aft r xs ≤ length xs
   for-le r [] = let z = for-none r in omega arith
   for-le r (x ∷ xs) = go (for-le r xs) (aft x r) refl
     where
-      go : placeFor aft r xs ≤ length xs → (t : Bool) → aft x r ≡ t → placeFor aft r (x ∷ xs) ≤ suc (length xs)
-      go ih true a = let z : placeFor aft r (x ∷ xs) ≡ 0 = for-cons r x xs true a in omega arith
-      go ih false a = let z : placeFor aft r (x ∷ xs) ≡ suc (placeFor aft r xs) = for-cons r x xs false a in omega arith
+      go : indexFor aft r xs ≤ length xs → (t : Bool) → aft x r ≡ t → indexFor aft r (x ∷ xs) ≤ suc (length xs)
+      go ih true a = let z : indexFor aft r (x ∷ xs) ≡ 0 = for-cons r x xs true a in omega arith
+      go ih false a = let z : indexFor aft r (x ∷ xs) ≡ suc (indexFor aft r xs) = for-cons r x xs false a in omega arith
 
-  pub for-within : (r : A) (n : ℕ) (xs : List A) → n ≤ length xs → placeFor aft r (take n xs) ≤ n
+  pub for-within : (r : A) (n : ℕ) (xs : List A) → n ≤ length xs → indexFor aft r (take n xs) ≤ n
   for-within r n xs h = let f = for-le r (take n xs) in let z = length-take-le n xs h in omega arith
 
   -- one that leaves after r is not before its place
-  pub for-below : (d r : A) (i : ℕ) (xs : List A) → i < length xs → aft (getD xs i d) r ≡ true → placeFor aft r xs ≤ i
+  pub for-below : (d r : A) (i : ℕ) (xs : List A) → i < length xs → aft (getD xs i d) r ≡ true → indexFor aft r xs ≤ i
   for-below d r i [] h e = absurd (omega arith)
-  for-below d r zero (x ∷ xs) h e = let z : placeFor aft r (x ∷ xs) ≡ 0 = for-cons r x xs true e in omega arith
+  for-below d r zero (x ∷ xs) h e = let z : indexFor aft r (x ∷ xs) ≡ 0 = for-cons r x xs true e in omega arith
   for-below d r (suc i) (x ∷ xs) h e = go (for-below d r i xs (omega arith) e) (aft x r) refl
     where
-      go : placeFor aft r xs ≤ i → (t : Bool) → aft x r ≡ t → placeFor aft r (x ∷ xs) ≤ suc i
-      go ih true a = let z : placeFor aft r (x ∷ xs) ≡ 0 = for-cons r x xs true a in omega arith
-      go ih false a = let z : placeFor aft r (x ∷ xs) ≡ suc (placeFor aft r xs) = for-cons r x xs false a in omega arith
+      go : indexFor aft r xs ≤ i → (t : Bool) → aft x r ≡ t → indexFor aft r (x ∷ xs) ≤ suc i
+      go ih true a = let z : indexFor aft r (x ∷ xs) ≡ 0 = for-cons r x xs true a in omega arith
+      go ih false a = let z : indexFor aft r (x ∷ xs) ≡ suc (indexFor aft r xs) = for-cons r x xs false a in omega arith
 
   module _ (o : Order aft) where
     -- among records in order one that doesn't leave after r is before its place
-    pub for-above : (d p₀ r : A) (i : ℕ) (xs : List A) → i < length xs → orderedFrom aft p₀ xs ≡ true → aft (getD xs i d) r ≡ false → (aft p₀ r ≡ false) × (i < placeFor aft r xs)
+    pub for-above : (d p₀ r : A) (i : ℕ) (xs : List A) → i < length xs → orderedFrom aft p₀ xs ≡ true → aft (getD xs i d) r ≡ false → (aft p₀ r ≡ false) × (i < indexFor aft r xs)
     for-above d p₀ r i [] l h e = absurd (omega arith)
     for-above d p₀ r zero (x ∷ xs) l h e =
-        let z : placeFor aft r (x ∷ xs) ≡ suc (placeFor aft r xs) = for-cons r x xs false e in
+        let z : indexFor aft r (x ∷ xs) ≡ suc (indexFor aft r xs) = for-cons r x xs false e in
         (o .chain p₀ x r (first-of p₀ x xs h .0) e, omega arith)
     for-above d p₀ r (suc i) (x ∷ xs) l h e =
         let f = first-of p₀ x xs h in
         let ih = for-above d x r i xs (omega arith) (f .1) e in
-        let z : placeFor aft r (x ∷ xs) ≡ suc (placeFor aft r xs) = for-cons r x xs false (ih .0) in
+        let z : indexFor aft r (x ∷ xs) ≡ suc (indexFor aft r xs) = for-cons r x xs false (ih .0) in
         (o .chain p₀ x r (f .0) (ih .0), omega arith)
 
     pub insert-ordered : (p₀ r : A) (xs : List A) → aft p₀ r ≡ false → orderedFrom aft p₀ xs ≡ true → orderedFrom aft p₀ (inserted aft r xs) ≡ true

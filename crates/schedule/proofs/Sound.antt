@@ -1,25 +1,29 @@
--- Waiting records of which line 9 is false: what that says of each, and that a record put in or taken out keeps it so.
+-- Waiting records of which check 9 is false: what that says of each, and that a record put in or taken out keeps it so.
 use mathlib.Core.Path.{_≡_, refl, sym, _∙_, ap}
 use Prim.Native.Nat.{ℕ, _<_, _≤_, _+_}
 use native.Mathlib.Omega.{arith}
-use mathlib.Core.Bool.{Bool, true, false, _||_}
+use mathlib.Core.Bool.{Bool, true, false, not, _||_}
 use mathlib.Core.List.{List, [], _∷_}
 use lib.Dec.{ltb, leb, eqb}
 use borrow.Author.Tests.{ltb-false, leb-false, le-ltb, lt-leb, eqb-false, ne-eqb}
 use Rattle.refusal.proofs.Laws.{or-false}
 use Rattle.schedule.specs.Record.{timeOf, orderOf, recordLength, placeOf, vacant, after, inserted, orderedFrom, placeIn}
 use Rattle.schedule.specs.State.{recordBroken, brokenFrom}
-use Rattle.schedule.proofs.Ordering.{records, least, none, put-first, insert-none, insert-here, insert-later}
+use Rattle.schedule.proofs.Ordering.{records, least, none, put-first, insert-none, insert-here, insert-later, inserted-false}
 
 -- ---- tests
 pub or-both : (a b : Bool) → a ≡ false → b ≡ false → (a || b) ≡ false
 or-both a b h k = rw (h, k)
 
--- what a function told, and what the test of it found
-pub told : {a b c : Bool} → a ≡ b → a ≡ c → b ≡ c
-told p q = sym p ∙ q
+-- what a function answers, and what the test of its answer found
+pub test-is : {a b c : Bool} → a ≡ b → a ≡ c → b ≡ c
+test-is p q = sym p ∙ q
 
--- ---- line 9, false of a record and those behind it
+pub negated : (b : Bool) {t : Bool} → not b ≡ t → b ≡ not t
+negated true e = ap not e
+negated false e = ap not e
+
+-- ---- check 9, false of a record and those behind it
 pub record Fine (next n : ℕ) (front r : List ℕ) (rs : List (List ℕ)) : Type 0 where
   pub behind : after front r ≡ false
   pub short : recordLength r ≤ 1410
@@ -66,16 +70,13 @@ pub place-cons : (p : ℕ) (r : List ℕ) (rs : List (List ℕ)) → placeIn p (
 unfolding placeIn
 place-cons p r rs = refl
 
+pub place-is : (p : ℕ) (r : List ℕ) (rs : List (List ℕ)) (t : Bool) → eqb p (placeOf r) ≡ t → placeIn p (r ∷ rs) ≡ (t || placeIn p rs)
+place-is p r rs t e = place-cons p r rs ∙ ap (λ (b : Bool). b || placeIn p rs) e
+
 -- ---- a record put in
 pub place-inserted : (p : ℕ) (r : List ℕ) (rs : List (List ℕ)) → eqb p (placeOf r) ≡ false → placeIn p rs ≡ false → placeIn p (inserted after r rs) ≡ false
-place-inserted p r [] e h = ap (placeIn p) (insert-none after r) ∙ place-cons p r [] ∙ or-both (eqb p (placeOf r)) (placeIn p []) e h
-place-inserted p r (x ∷ xs) e h = go (after x r) refl (place-inserted p r xs e (or-false (eqb p (placeOf x)) (placeIn p xs) (sym (place-cons p x xs) ∙ h) .1))
-  where
-    go : (t : Bool) → after x r ≡ t → placeIn p (inserted after r xs) ≡ false → placeIn p (inserted after r (x ∷ xs)) ≡ false
-    go true a ih = ap (placeIn p) (insert-here after r x xs a) ∙ place-cons p r (x ∷ xs) ∙ or-both (eqb p (placeOf r)) (placeIn p (x ∷ xs)) e h
-    go false a ih =
-        ap (placeIn p) (insert-later after r x xs a) ∙ place-cons p x (inserted after r xs)
-        ∙ or-both (eqb p (placeOf x)) (placeIn p (inserted after r xs)) (or-false (eqb p (placeOf x)) (placeIn p xs) (sym (place-cons p x xs) ∙ h) .0) ih
+unfolding placeIn
+place-inserted p = inserted-false after (λ r. eqb p (placeOf r)) (placeIn p) refl (place-cons p)
 
 eqb-flip : (a b : ℕ) → eqb a b ≡ false → eqb b a ≡ false
 eqb-flip a b h = let f : a ≡ b → ⊥ = eqb-false a b h in ne-eqb b a (λ e. f (sym e))

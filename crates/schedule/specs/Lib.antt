@@ -1,5 +1,5 @@
 pub mod Record
 pub mod State
-pub mod Scans
 pub mod Schedule
 pub mod Waiting
+pub mod Internal

@@ -1,4 +1,5 @@
--- Document 01, "What the Rust forms turn into" (BinaryHeap) and `channel/scheduler.rs`: schedule records and their leaving order.
+-- Document 01, "What the Rust forms turn into" (BinaryHeap) and `channel/scheduler.rs`: schedule records and their
+-- leaving order.
 use Prim.Native.Nat.{ℕ, zero, suc}
 use mathlib.Core.Bool.{Bool, true, false, cond, not, _&&_, _||_}
 use mathlib.Core.List.{List, [], _∷_}
@@ -58,6 +59,6 @@ freeFrom (suc k) p rs = cond (placeIn p rs) (freeFrom k (suc p) rs) (p ∷ freeF
 abbrev pub freePlaces : ℕ → List (List ℕ) → List ℕ
 freePlaces n rs = freeFrom n 0 rs
 
--- "the lowest place not in use"
+-- the lowest place that no record has
 abbrev pub lowestFree : ℕ → List (List ℕ) → ℕ
 lowestFree n rs = getD (freePlaces n rs) 0 0

@@ -1,13 +1,14 @@
--- Document 01, "Bounds of a setup" and "Turned away", lines 5, 8, 9 and 10, as they speak of a schedule.
+-- Document 01, "Bounds of a setup" and "Turned away", checks 5, 8, 9 and 10 of a schedule.
 use Prim.Native.Nat.{ℕ, _+_, _-_, _*_, _/_, _≤_}
 use mathlib.Core.Path.{_≡_}
-use mathlib.Core.Bool.{Bool, false, _||_}
+use mathlib.Core.Bool.{Bool, false, cond, _||_}
 use mathlib.Core.List.{List, [], _∷_}
 use lib.ListN.{length, take}
-use lib.Dec.{ltb, leb}
+use lib.Dec.{ltb, leb, eqb}
 use Rattle.bounds.specs.Bounds.{countLimit, maxDatagram, maxDeliveryDelay, maxTime, placeSize}
 use Rattle.refusal.specs.Counts.{countFull}
-use Rattle.schedule.specs.Record.{timeOf, orderOf, recordLength, placeOf, vacant, after, placeIn, freePlaces}
+use Rattle.schedule.specs.Record.{timeOf, orderOf, recordLength, placeOf, vacant, after}
+use Rattle.schedule.specs.Record.{placeIn, freePlaces}
 use Rattle.schedule.specs.declared.ChannelScheduler.{ChannelScheduler}
 use Rattle.schedule.specs.declared.Deliveries.{Deliveries}
 use Rattle.schedule.specs.declared.Deliveries.the-variants.{Lost, One, Two}
@@ -29,28 +30,32 @@ waitingRecords m = take (m .scheduler .count) (m .records)
 abbrev pub placeCount : Schedule → ℕ
 placeCount m = length (m .places) / placeSize
 
--- line 9 of a waiting record: it leaves before the one in front of it, is longer than 1,410, has an order not below the next one or a place outside the store
+-- check 9 of a waiting record: the one in front of it leaves after it, it is longer than a datagram, its order is
+-- not below the next one, or its place is outside the store
 abbrev pub recordBroken : ℕ → ℕ → List ℕ → List ℕ → Bool
-recordBroken next n front r = after front r || (ltb maxDatagram (recordLength r) || (leb next (orderOf r) || leb n (placeOf r)))
+recordBroken next n front r =
+    after front r || (ltb maxDatagram (recordLength r) || (leb next (orderOf r) || leb n (placeOf r)))
 
 -- one of these records is such a record, or a place is doubled; `front` stands in front of them
 unfoldable pub brokenFrom : ℕ → ℕ → List ℕ → List (List ℕ) → Bool
 brokenFrom next n front [] = false
 brokenFrom next n front (r ∷ rs) = recordBroken next n front r || (placeIn (placeOf r) rs || brokenFrom next n r rs)
 
--- line 9: a count above its slice, or such records
+-- check 9: a count above its slice, or such records
 unfoldable pub stateBroken : Schedule → Bool
-stateBroken m = ltb (length (m .records)) (m .scheduler .count) || brokenFrom (m .scheduler .«next_order») (placeCount m) vacant (waitingRecords m)
+stateBroken m =
+    ltb (length (m .records)) (m .scheduler .count)
+    || brokenFrom (m .scheduler .«next_order») (placeCount m) vacant (waitingRecords m)
 
--- line 8
+-- check 8
 abbrev pub countsBroken : Schedule → Bool
 countsBroken m = countFull (m .scheduler .«next_order»)
 
--- "other times 172,800 s", in nanoseconds
+-- a time above its bound, in nanoseconds
 abbrev pub late : ℕ → Bool
 late t = ltb maxTime t
 
--- line 10 of the times held
+-- check 10 of the times held
 unfoldable pub heldLate : List (List ℕ) → Bool
 heldLate [] = false
 heldLate (r ∷ rs) = late (timeOf r) || heldLate rs
@@ -59,7 +64,7 @@ heldLate (r ∷ rs) = late (timeOf r) || heldLate rs
 abbrev pub leavesAt : ℕ → ℕ → ℕ
 leavesAt now delay = now + delay * 1000000
 
--- line 10 of a delay, "a delivery's 180,000 ms", and of the time to be stored
+-- check 10 of a delay, and of the time to be stored
 abbrev pub delayLate : ℕ → ℕ → Bool
 delayLate now delay = ltb maxDeliveryDelay delay || late (leavesAt now delay)
 
@@ -73,6 +78,12 @@ copies Lost = 0
 copies (One d) = 1
 copies (Two d e) = 2
 
+-- the delay of the k-th copy, counted from 0
+unfoldable pub delayAt : Deliveries → ℕ → ℕ
+delayAt Lost k = 0
+delayAt (One d) k = d
+delayAt (Two d e) k = cond (eqb k 0) d e
+
 -- unused records and free places
 abbrev pub unusedRecords : Schedule → ℕ
 unusedRecords m = length (m .records) - m .scheduler .count
@@ -80,7 +91,7 @@ unusedRecords m = length (m .records) - m .scheduler .count
 abbrev pub unusedPlaces : Schedule → ℕ
 unusedPlaces m = length (freePlaces (placeCount m) (waitingRecords m))
 
--- line 5: "fewer free places or unused records than copies"
+-- check 5 of k copies: too few free places, or too few unused records
 abbrev pub lacksRoom : Schedule → ℕ → Bool
 lacksRoom m k = ltb (unusedPlaces m) k || ltb (unusedRecords m) k
 

@@ -29,11 +29,24 @@ waitingCopy ps r = copy (timeOf r) (orderOf r) (bytesOf ps r)
 unfoldable pub waiting : Schedule → List WaitingCopy
 waiting m = map (waitingCopy (m .places)) (waitingRecords m)
 
--- the copies of one answer of the channel put among those that wait, numbered from `next` on
-unfoldable pub putCopies : ℕ → ℕ → List ℕ → Deliveries → List WaitingCopy → List WaitingCopy
-putCopies next now packet Lost cs = cs
-putCopies next now packet (One d) cs = inserted copyAfter (copy (leavesAt now d) next packet) cs
-putCopies next now packet (Two d e) cs = inserted copyAfter (copy (leavesAt now e) (next + 1) packet) (inserted copyAfter (copy (leavesAt now d) next packet) cs)
+-- the copies of one answer of the channel, numbered from `next` on
+unfoldable pub newCopies : ℕ → ℕ → List ℕ → Deliveries → List WaitingCopy
+newCopies next now packet Lost = []
+newCopies next now packet (One d) = copy (leavesAt now d) next packet ∷ []
+newCopies next now packet (Two d e) = copy (leavesAt now d) next packet ∷ copy (leavesAt now e) (next + 1) packet ∷ []
+
+-- copies put, one after the other, among those that wait
+unfoldable pub insertedAll : List WaitingCopy → List WaitingCopy → List WaitingCopy
+insertedAll [] cs = cs
+insertedAll (x ∷ xs) cs = insertedAll xs (inserted copyAfter x cs)
+
+abbrev pub putCopies : ℕ → ℕ → List ℕ → Deliveries → List WaitingCopy → List WaitingCopy
+putCopies next now packet ds cs = insertedAll (newCopies next now packet ds) cs
+
+-- P holds of each of a list
+pub data All {A : Type 0} (P : A → Type 0) : List A → Type 0 where
+  of-none : All P []
+  of-more : {x : A} {xs : List A} → P x → All P xs → All P (x ∷ xs)
 
 -- what leaves at `now`: the first, if it is due; and what goes on waiting
 pub data Popped : Type 0 where

@@ -1,6 +1,6 @@
 use borrow.Author.Needs.{needs}
 use borrow.Author.Tests.{eq-eqb, ne-eqb}
-use Rattle.schedule.specs.Scans.{delayAt}
+use Rattle.schedule.specs.State.{delayAt}
 use Rattle.schedule.proofs.delay_of.Statement.{statement}
 use Rattle.schedule.proofs.delay_of.Tie as tie
 

@@ -1,4 +1,4 @@
-use Rattle.schedule.proofs.Laws.{told}
+use Rattle.schedule.proofs.Laws.{test-is}
 use Rattle.refusal.specs.Order.{verdict, firstOf, numbered, orElse, decide, order}
 use Rattle.channel.specs.Process.{newChannel}
 use borrow.Author.Needs.{needs}
@@ -10,11 +10,11 @@ config-broken-requires c κs = search needs
 
 returns : tie.Need-returns
 unfolding newChannel verdict firstOf numbered orElse decide order
-returns c = simp (told (c .before .config-broken .ensures) (c .if1 .taken))
+returns c = simp (test-is (c .before .config-broken .ensures) (c .if1 .taken))
 
 returns-2 : tie.Need-returns-2
 unfolding newChannel verdict firstOf numbered orElse decide order
-returns-2 c = simp (told (c .before .config-broken .ensures) (c .if1 .left))
+returns-2 c = simp (test-is (c .before .config-broken .ensures) (c .if1 .left))
 
 pub new-spec : {M : Type 1} → statement M
 new-spec = tie.close (tie.spec config-broken-requires returns returns-2)

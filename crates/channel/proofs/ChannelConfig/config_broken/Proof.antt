@@ -1,4 +1,4 @@
-use Rattle.schedule.proofs.Laws.{told}
+use Rattle.schedule.proofs.Laws.{test-is}
 use Rattle.channel.specs.Bounds.{configBroken}
 use borrow.Author.Needs.{needs}
 use Rattle.channel.proofs.ChannelConfig.config_broken.Statement.{statement}
@@ -9,14 +9,14 @@ chances-broken-requires c κs = search needs
 
 returns : tie.Need-returns
 unfolding configBroken
-returns c = simp (told (c .before .chances-broken .ensures) (c .if1 .taken))
+returns c = simp (test-is (c .before .chances-broken .ensures) (c .if1 .taken))
 
 delays-broken-requires : tie.Need-delays-broken-requires
 delays-broken-requires c κs = search needs
 
 returns-2 : tie.Need-returns-2
 unfolding configBroken
-returns-2 c = simp (told (c .before .before .chances-broken .ensures) (c .before .if1 .left)) (c .delays-broken .ensures)
+returns-2 c = simp (test-is (c .before .before .chances-broken .ensures) (c .before .if1 .left)) (c .delays-broken .ensures)
 
 pub config-broken-spec : {M : Type 1} → statement M
 config-broken-spec =
