@@ -1,5 +1,6 @@
 use mathlib.Core.Path.{sym, _∙_}
 use Prim.Native.Nat.{_-_}
+use native.Mathlib.Omega.{arith}
 use Rattle.refusal.specs.Order.{order, orElse, numbered, firstOf, verdict, decide}
 use Rattle.selective_repeat.specs.Receiver.{bufferedCount}
 use Rattle.selective_repeat.proofs.States.{ready}
