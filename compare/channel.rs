@@ -693,7 +693,7 @@ fn some_calls(g: &mut Gen, t: &mut Replayed, calls: u64, cases: &mut Cases) {
         let now = if g.below(16) == 0 { [MAX_TIME, MAX_TIME + 1, u64::MAX][g.below(3) as usize] } else { time };
         let n = length_for_cases(g);
         let packet = g.bytes(n);
-        match g.below(12) {
+        match g.below(14) {
             0..=5 => {
                 let mut r = rolls(g, &t.setup);
                 if g.below(12) == 0 {
@@ -713,6 +713,7 @@ fn some_calls(g: &mut Gen, t: &mut Replayed, calls: u64, cases: &mut Cases) {
                 let room = if g.below(4) == 0 { due.saturating_sub(1) } else { due + g.below(3) as usize };
                 cases.case(format!("t {now} {room}"), t.pop(now, room));
             }
+            _ if t.model.records.len() < 10 && g.below(2) == 0 => cases.case("d".to_string(), t.dump()),
             _ => cases.case("q".to_string(), t.read()),
         }
         time += [0, 1_000_000, 5_000_000_000, g.below(60_000_000_000)][g.below(4) as usize];
