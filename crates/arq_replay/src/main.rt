@@ -1,19 +1,22 @@
-// Replays calls on the ends of a protocol from standard input, and writes an answer for each, as the reference gave it (file `stdout`).
-// The form of lines is replay_io's. The letters, and what follows them:
-//   n PROTOCOL WINDOW RETRIES SENT HELD OUTPUT   new ends of Stop-and-Wait (0), Go-Back-N (1) or Selective Repeat (2), with a sender's store
-//     of SENT bytes, a receiver's of HELD and an output of OUTPUT, each byte a5 before; answers `made` or the refusal of each. A refused end
-//     is one of Stop-and-Wait
+// Replays calls on the ends of a protocol from standard input, and writes an answer for each, as the reference gave
+// it (file `stdout`). The form of lines is replay_io's. The letters, and what follows them:
+//   n PROTOCOL WINDOW RETRIES SENT HELD OUTPUT   new ends of Stop-and-Wait (0), Go-Back-N (1) or Selective Repeat
+//     (2), with a sender's store of SENT bytes, a receiver's of HELD and an output of OUTPUT, each byte a5 before;
+//     answers `made` or the refusal of each. A refused end is one of Stop-and-Wait
 //   s ROOM PAYLOAD         send_chunk
 //   o NUMBER ROOM          handle_timeout, of Selective Repeat for this number
 //   a DATAGRAM             handle_ack
 //   p ROOM DATAGRAM        handle_packet
-//   q                      can_send, in_flight_count, has_unacked_packets and buffered_count, where the protocol has them
-//   d                      answers the slots of both stores, their payloads up to their lengths, and the CRC-32 of each store
+//   q                      can_send, in_flight_count, has_unacked_packets and buffered_count, where the protocol has
+//     them
+//   d                      answers the slots of both stores, their payloads up to their lengths, and the CRC-32 of
+//     each store
 //   i BASE NEXT SENT AGAIN           sets the sender's base, next number and counters
 //   j BASE FILLED FIRST SECOND THIRD   sets the receiver's base, fill mark and counters
 //   k PLACE BYTE, l PLACE BYTE       set a byte of the sender's store, or of the receiver's
-// ROOM is the length of the lent buffer, each byte a5 before; it is answered whole. After the answer of s, o and a come the sender's base, next
-// number, counters and retries; after that of p the base, the fill mark, the counters, the bytes delivered and the CRC-32 of the output.
+// ROOM is the length of the lent buffer, each byte a5 before; it is answered whole. After the answer of s, o and a
+// come the sender's base, next number, counters and retries; after that of p the base, the fill mark, the counters,
+// the bytes delivered and the CRC-32 of the output.
 use go_back_n::GoBackNReceiver;
 use go_back_n::GoBackNSender;
 use go_back_n::GoBackNSenderAnswer;

@@ -1,9 +1,12 @@
-// Replays calls of the channel and the schedule from standard input, and writes an answer for each, as the reference gave it (file `stdout`).
-// The form of lines is replay_io's; times are in ns, delays in ms, chances and rolls are doubles. The letters, and what follows them:
-//   n LOSS DUPLICATE REORDER CORRUPT EXTRA BASE JITTER RECORDS PLACES   a channel of this setup, or where it is refused the one before, and an
-//     empty schedule of so many records and places, 320 and 300 at most, each number and each byte 5 before
-//   p NOW ROOM ROLL .. PACKET   eight rolls: process into a buffer of ROOM bytes, each a5 before, and its copies scheduled at NOW; answers
-//     the number of copies and their delays, the buffer, the six counters, what schedule_at answers, and how many wait
+// Replays calls of the channel and the schedule from standard input, and writes an answer for each, as the reference
+// gave it (file `stdout`). The form of lines is replay_io's; times are in ns, delays in ms, chances and rolls are
+// doubles. The letters, and what follows them:
+//   n LOSS DUPLICATE REORDER CORRUPT EXTRA BASE JITTER RECORDS PLACES   a channel of this setup, or where it is
+//     refused the one before, and an empty schedule of so many records and places, 320 and 300 at most, each number
+//     and each byte 5 before
+//   p NOW ROOM ROLL .. PACKET   eight rolls: process into a buffer of ROOM bytes, each a5 before, and its copies
+//     scheduled at NOW; answers the number of copies and their delays, the buffer, the six counters, what schedule_at
+//     answers, and how many wait
 //   s NOW COPIES FIRST SECOND PACKET   schedule_at, of so many copies with these delays; answers also how many wait
 //   t NOW ROOM     pop_ready_at into a buffer of ROOM bytes, each a5 before; answers also the buffer and how many wait
 //   q              next_deadline, len, is_empty and room

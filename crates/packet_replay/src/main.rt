@@ -1,5 +1,5 @@
-// Replays calls of the packet layer from standard input, and writes an answer for each, as the reference gave it (file `stdout`).
-// The form of lines is replay_io's. The letters, and what follows them:
+// Replays calls of the packet layer from standard input, and writes an answer for each, as the reference gave it
+// (file `stdout`). The form of lines is replay_io's. The letters, and what follows them:
 //   r DATAGRAM                                  from_bytes, is_valid and payload
 //   c NUMBER KIND FLAGS CHECKSUM PAYLOAD        compute_checksum and compute_and_set_checksum
 //   w NUMBER KIND FLAGS CHECKSUM ROOM PAYLOAD   to_bytes into a buffer of ROOM bytes, each a5 before

@@ -1,9 +1,10 @@
 // What the programs share that replay answers of the Rust: the one form of their input and of their answers.
 //
-// A case is a line: a letter, then numbers, then bytes where the letter takes some, with a blank before each. Numbers are decimal and below
-// 2^64; the bytes are `x` and two hexadecimal digits for each, 2,048 at most. A double is the number of its bits. A line that starts with '#'
-// is a comment. The answer is a line too: the letter, then words, numbers and bytes, with a blank before each. Bytes are printed as they are
-// read; of more than 2,048 the answer has their number, `crc32` and their CRC-32 (IEEE 802.3, reflected) in hexadecimal.
+// A case is a line: a letter, then numbers, then bytes where the letter takes some, with a blank before each. Numbers
+// are decimal and below 2^64; the bytes are `x` and two hexadecimal digits for each, 2,048 at most. A double is the
+// number of its bits. A line that starts with '#' is a comment. The answer is a line too: the letter, then words,
+// numbers and bytes, with a blank before each. Bytes are printed as they are read; of more than 2,048 the answer has
+// their number, `crc32` and their CRC-32 (IEEE 802.3, reflected) in hexadecimal.
 // Any other line is answered by `bad line`, and an input that fills its buffer by `input too long`.
 use libc::STDOUT_FILENO;
 use refusal::Refusal;

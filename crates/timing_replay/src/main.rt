@@ -1,6 +1,8 @@
-// Replays calls of the timing layer from standard input, and writes an answer for each, as the reference gave it (file `stdout`).
-// The form of lines is replay_io's; durations and times are in ns. The letters, and what follows them:
-//   e INITIAL MIN MAX GRANULARITY ALPHA BETA K MULTIPLIER   an estimator of this setup; where it is refused, the one before stays
+// Replays calls of the timing layer from standard input, and writes an answer for each, as the reference gave it
+// (file `stdout`). The form of lines is replay_io's; durations and times are in ns. The letters, and what follows
+// them:
+//   e INITIAL MIN MAX GRANULARITY ALPHA BETA K MULTIPLIER   an estimator of this setup; where it is refused, the one
+//     before stays
 //   s SAMPLE AGAIN         update_rtt, of a retransmitted packet where AGAIN is not 0
 //   o                      on_timeout
 //   b                      reset_backoff
@@ -20,8 +22,8 @@
 //   w GENERATION NOW       is_expired_for_at
 //   f NS                   as_secs_f64
 //   g SECONDS              from_secs_f64, of a double; `none` out of range
-// An estimator is answered by RTO, SRTT, RTTVAR and base RTO, whether it backs off, the consecutive timeouts, the counts of samples, rejected
-// ones, timeouts and backoffs, the most consecutive timeouts and the mean RTT in ms.
+// An estimator is answered by RTO, SRTT, RTTVAR and base RTO, whether it backs off, the consecutive timeouts, the
+// counts of samples, rejected ones, timeouts and backoffs, the most consecutive timeouts and the mean RTT in ms.
 use libc::STDIN_FILENO;
 use multi_timer::CancelAnswer;
 use multi_timer::EarliestAnswer;

@@ -18,8 +18,8 @@ fn main() {
     print_reading(b"K6", b"\x00\x00\x00\x00\x01\x00\x00\x01\x00\x00");
 }
 
-// The sum of section 3's octets, and its complement as a checksum: of a packet with these words as number and payload, and one word more,
-// the complement of kind and length together, so that these add nothing.
+// The sum of section 3's octets, and its complement as a checksum: of a packet with these words as number and
+// payload, and one word more, the complement of kind and length together, so that these add nothing.
 fn rfc1071_example() {
     print(b"RFC 1071");
     print_word(checksum::ones_sum_unchecked(0, b"\x00\x01\xF2\x03\xF4\xF5\xF6\xF7"));
