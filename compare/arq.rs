@@ -8,7 +8,12 @@ mod calls;
 #[path = "generator.rs"]
 mod generator;
 
+#[path = "cases.rs"]
+#[allow(dead_code)]
+mod cases;
+
 use calls::{Answer, Protocol, Receiver, Sender};
+use cases::{crc, given, numbers, shown, Cases};
 use generator::{fail, verdict, Gen};
 use reference::arq::{GoBackNReceiver, GoBackNSender, SelectiveRepeatReceiver, SelectiveRepeatSender, StopAndWaitReceiver, StopAndWaitSender};
 use reference::packet::{Packet, PacketError, PacketType};
@@ -328,139 +333,170 @@ fn counts_bad(counts: &[u64]) -> bool {
     counts.iter().any(|&c| COUNT <= c)
 }
 
+// What a call must answer, write and leave in the store. The reference takes its step where the call isn't refused.
+struct Expected {
+    answer: Answer,
+    wrote: Vec<u8>,
+    store: Vec<u8>,
+}
+
+fn expected_refusal(code: u64, values: [u64; 2], store: &[u8]) -> Expected {
+    Expected { answer: refused(code, values), wrote: vec![], store: store.to_vec() }
+}
+
+fn expected_send(before: &Sender, theirs: &mut TheirSender, payload: &[u8], room: usize) -> Expected {
+    let [window, base, next, sent, again, ..] = before.state;
+    let free = next.wrapping_sub(base) < window;
+    let code = verdict(&[
+        (9, sender_nine(before)),
+        (8, counts_bad(&[sent, again])),
+        (6, 1400 < payload.len()),
+        (7, free && next == LIMIT),
+        (5, free && room < 10 + payload.len()),
+    ]);
+    if code != 0 {
+        return expected_refusal(code, [0, 0], &before.store);
+    }
+    let mut store = before.store.clone();
+    let wrote = theirs.send(payload).map_or(vec![], |q| q.to_bytes());
+    if wrote.is_empty() {
+        return Expected { answer: [0, 0, 0], wrote, store };
+    }
+    fill(&mut store, window, next, payload);
+    Expected { answer: [1, wrote.len() as u64, 0], wrote, store }
+}
+
+fn expected_ack(before: &Sender, theirs: &mut TheirSender, raw: &[u8]) -> Expected {
+    let [window, _, _, sent, again, ..] = before.state;
+    let (mut lines, packet, values) = datagram_lines(raw);
+    lines.push((9, sender_nine(before)));
+    lines.push((8, counts_bad(&[sent, again])));
+    let code = verdict(&lines);
+    if code != 0 {
+        return expected_refusal(code, values, &before.store);
+    }
+    let packet = packet.unwrap();
+    let old = theirs.numbers()[0];
+    let taken = theirs.ack(&packet);
+    let mut store = before.store.clone();
+    if taken && before.protocol == Protocol::SelectiveRepeat {
+        slot_mut(&mut store, window, packet.seq_num as u64)[2] = 2;
+    }
+    for n in old..theirs.numbers()[0] {
+        slot_mut(&mut store, window, n).fill(0);
+    }
+    Expected { answer: [taken as u64, 0, 0], wrote: vec![], store }
+}
+
+// The numbers that a timeout sends again, and how many bytes that takes.
+fn resent(before: &Sender, which: u64) -> (Vec<u64>, usize) {
+    let [window, base, next, _, _, max, retries] = before.state;
+    if sender_nine(before) {
+        return (vec![], 0);
+    }
+    let numbers: Vec<u64> = match before.protocol {
+        Protocol::StopAndWait => (base..next).filter(|_| retries < max).collect(),
+        Protocol::GoBackN => (base..next).take(if which == 1 { 1 } else { 32 }).collect(),
+        Protocol::SelectiveRepeat => (base..next).filter(|&n| n == which && slot(&before.store, window, n)[2] != 2).collect(),
+    };
+    let need = numbers.iter().map(|&n| 10 + u16::from_be_bytes([slot(&before.store, window, n)[0], slot(&before.store, window, n)[1]]) as usize).sum();
+    (numbers, need)
+}
+
+// which: of Go-Back-N 0 all, 1 the earliest, which the reference doesn't have; of Selective Repeat the number.
+fn expected_timeout(before: &Sender, theirs: &mut TheirSender, which: u64, room: usize) -> Expected {
+    let [window, _, _, sent, again, ..] = before.state;
+    let (numbers, need) = resent(before, which);
+    let code = verdict(&[(9, sender_nine(before)), (8, counts_bad(&[sent, again])), (5, room < need)]);
+    if code != 0 {
+        return expected_refusal(code, [0, 0], &before.store);
+    }
+    let mut store = before.store.clone();
+    for &n in &numbers {
+        slot_mut(&mut store, window, n)[3] |= 1;
+    }
+    let packets = if before.protocol == Protocol::GoBackN && which == 1 {
+        numbers.iter().map(|&n| earliest_packet(slot(&store, window, n), n)).collect()
+    } else {
+        theirs.timeout(which)
+    };
+    let wrote: Vec<u8> = packets.iter().flat_map(|q| q.to_bytes()).collect();
+    let answer = if packets.is_empty() { [0, 0, 0] } else { [1, wrote.len() as u64, 0] };
+    Expected { answer, wrote, store }
+}
+
+// The reference sends the whole window again: here one of its packets.
+fn earliest_packet(slot: &[u8], n: u64) -> Packet {
+    let l = u16::from_be_bytes([slot[0], slot[1]]) as usize;
+    let mut q = GoBackNSender::new(32).send_chunk(slot[4..4 + l].to_vec()).unwrap();
+    q.seq_num = n as u32;
+    q.set_retransmitted();
+    q.compute_and_set_checksum();
+    q
+}
+
+// Our answer, state, store and buffer against what was expected.
+fn check_call(what: &str, p: &SenderPair, before: &Sender, a: Answer, e: &Expected, out: &[u8], buffer: &[u8]) {
+    if a != e.answer {
+        fail(what, format!("{:?} {:?} answer {a:?}, expected {:?}", before.protocol, before.state, e.answer));
+    }
+    check_buffer(what, out, buffer, &e.wrote);
+    if a[0] < 16 {
+        check_state(what, p, &e.store);
+    } else if p.ours != *before {
+        fail(what, format!("{:?} refused by {a:?} and changed", before.state));
+    }
+}
+
 fn one_send(g: &mut Gen, p: &mut SenderPair, made: &mut Vec<Vec<u8>>, payload: &[u8], seen: &mut Seen) -> Answer {
     seen.calls += 1;
     let before = p.ours.clone();
-    let [_, base, next, sent, again, ..] = before.state;
-    let nine = sender_nine(&before);
-    let free = next.wrapping_sub(base) < p.window;
     let n = room(g, 10 + payload.len());
-    let lines = [(9, nine), (8, counts_bad(&[sent, again])), (6, 1400 < payload.len()), (7, free && next == LIMIT), (5, free && n < 10 + payload.len())];
     let buffer = g.bytes(n);
     let mut out = buffer.clone();
     let a = p.ours.send_chunk(payload, &mut out);
-    let code = verdict(&lines);
-    if code != 0 {
-        if a != refused(code, [0, 0]) || p.ours != before || out != buffer {
-            fail("send refused", format!("{:?} answer {a:?}, expected {code}", before.state));
-        }
-        return a;
+    let e = expected_send(&before, &mut p.theirs, payload, n);
+    check_call("send", p, &before, a, &e, &out, &buffer);
+    if a[0] == 1 {
+        made.push(e.wrote);
     }
-    let mut store = before.store.clone();
-    match p.theirs.send(payload) {
-        Some(packet) => {
-            let wire = packet.to_bytes();
-            if a != [1, wire.len() as u64, 0] {
-                fail("send", format!("answer {a:?}, expected sent"));
-            }
-            check_buffer("send", &out, &buffer, &wire);
-            fill(&mut store, p.window, next, payload);
-            made.push(wire);
-            seen.sent += 1;
-        }
-        None => {
-            if a != [0, 0, 0] || out != buffer {
-                fail("send", format!("answer {a:?}, expected a full window"));
-            }
-            seen.full += 1;
-        }
-    }
-    check_state("send", p, &store);
+    seen.sent += (a[0] == 1) as u64;
+    seen.full += (a[0] == 0) as u64;
     a
 }
 
 fn one_ack(p: &mut SenderPair, raw: &[u8], seen: &mut Seen) -> Answer {
     seen.calls += 1;
     let before = p.ours.clone();
-    let [_, _, _, sent, again, ..] = before.state;
-    let (mut lines, packet, values) = datagram_lines(raw);
-    lines.push((9, sender_nine(&before)));
-    lines.push((8, counts_bad(&[sent, again])));
     let a = p.ours.handle_ack(raw);
-    let code = verdict(&lines);
-    if code != 0 {
-        if a != refused(code, values) || p.ours != before {
-            fail("ack refused", format!("{:?} raw {:?} answer {a:?}, expected {code}", before.state, &raw[..raw.len().min(12)]));
-        }
-        return a;
-    }
-    let packet = packet.unwrap();
-    let old = p.theirs.numbers()[0];
-    let taken = p.theirs.ack(&packet);
-    let base = p.theirs.numbers()[0];
-    if a != [taken as u64, 0, 0] {
-        fail("ack", format!("{:?} {packet:?} answer {a:?}, expected {taken}", before.state));
-    }
-    seen.acknowledged += taken as u64;
-    let mut store = before.store.clone();
-    if taken && p.ours.protocol == Protocol::SelectiveRepeat {
-        slot_mut(&mut store, p.window, packet.seq_num as u64)[2] = 2;
-    }
-    for n in old..base {
-        slot_mut(&mut store, p.window, n).fill(0);
-    }
-    check_state("ack", p, &store);
+    let e = expected_ack(&before, &mut p.theirs, raw);
+    check_call("ack", p, &before, a, &e, &[], &[]);
+    seen.acknowledged += (a[0] == 1) as u64;
     a
 }
 
 fn one_timeout(g: &mut Gen, p: &mut SenderPair, made: &mut Vec<Vec<u8>>, which: u64, seen: &mut Seen) -> Answer {
     seen.calls += 1;
     let before = p.ours.clone();
-    let [_, base, next, sent, again, max, retries] = before.state;
-    let earliest = p.ours.protocol == Protocol::GoBackN && which == 1;
-    let nine = sender_nine(&before);
-    let numbers: Vec<u64> = if nine {
-        vec![]
-    } else {
-        match p.ours.protocol {
-            Protocol::StopAndWait => (base..next).filter(|_| retries < max).collect(),
-            Protocol::GoBackN => (base..next).take(if earliest { 1 } else { 32 }).collect(),
-            Protocol::SelectiveRepeat => (base..next).filter(|&n| n == which && slot(&before.store, p.window, n)[2] != 2).collect(),
-        }
-    };
-    let need: usize = numbers.iter().map(|&n| 10 + u16::from_be_bytes([slot(&before.store, p.window, n)[0], slot(&before.store, p.window, n)[1]]) as usize).sum();
+    let (numbers, need) = resent(&before, which);
     let n = room(g, need);
     let buffer = g.bytes(n);
     let mut out = buffer.clone();
     let a = p.ours.handle_timeout(which, &mut out);
-    let code = verdict(&[(9, nine), (8, counts_bad(&[sent, again])), (5, n < need)]);
-    if code != 0 {
-        if a != refused(code, [0, 0]) || p.ours != before || out != buffer {
-            fail("timeout refused", format!("{:?} which {which} answer {a:?}, expected {code}", before.state));
-        }
-        return a;
-    }
-    let mut store = before.store.clone();
-    for &n in &numbers {
-        slot_mut(&mut store, p.window, n)[3] |= 1;
-    }
-    let packets = if earliest {
-        // one of the reference's packets: it sends the whole window again
+    let e = expected_timeout(&before, &mut p.theirs, which, n);
+    if a[0] == 1 && p.ours.protocol == Protocol::GoBackN && which == 1 {
         p.extra += numbers.len() as u64;
-        let mut copy = GoBackNSender::new(32);
-        let mut packets = vec![];
-        for &n in &numbers {
-            let s = slot(&store, p.window, n);
-            let l = u16::from_be_bytes([s[0], s[1]]) as usize;
-            let mut q = copy.send_chunk(s[4..4 + l].to_vec()).unwrap();
-            q.seq_num = n as u32;
-            q.set_retransmitted();
-            q.compute_and_set_checksum();
-            packets.push(q);
-        }
-        packets
-    } else {
-        p.theirs.timeout(which)
-    };
-    let wire: Vec<u8> = packets.iter().flat_map(|q| q.to_bytes()).collect();
-    let want = if packets.is_empty() { [0, 0, 0] } else { [1, wire.len() as u64, 0] };
-    if a != want {
-        fail("timeout", format!("{:?} which {which} answer {a:?}, expected {want:?}", before.state));
     }
-    check_buffer("timeout", &out, &buffer, &wire);
-    seen.resent += packets.len() as u64;
-    made.extend(packets.iter().map(|q| q.to_bytes()));
-    check_state("timeout", p, &store);
+    check_call("timeout", p, &before, a, &e, &out, &buffer);
+    if a[0] == 1 {
+        let mut wire = &e.wrote[..];
+        for _ in &numbers {
+            let (one, rest) = wire.split_at(10 + u16::from_be_bytes([wire[6], wire[7]]) as usize);
+            made.push(one.to_vec());
+            wire = rest;
+        }
+        seen.resent += numbers.len() as u64;
+    }
     a
 }
 
@@ -484,13 +520,19 @@ struct ReceiverPair {
     made: Vec<Vec<u8>>,
 }
 
-fn one_packet(g: &mut Gen, p: &mut ReceiverPair, raw: &[u8], seen: &mut Seen) -> Answer {
-    seen.calls += 1;
-    let before = p.ours.clone();
-    let window = before.state[0];
-    let [_, base, filled, c0, c1, c2] = before.state;
+// The reference takes its step where the packet isn't refused. delivered: the bytes for the output.
+struct ExpectedPacket {
+    answer: Answer,
+    ack: Vec<u8>,
+    delivered: Vec<u8>,
+    store: Vec<u8>,
+}
+
+fn expected_packet(before: &Receiver, theirs: &mut TheirReceiver, raw: &[u8], output: usize, room: usize) -> ExpectedPacket {
+    let [window, base, filled, c0, c1, c2] = before.state;
+    let selective = before.protocol == Protocol::SelectiveRepeat;
     let (mut lines, packet, values) = datagram_lines(raw);
-    let nine = receiver_nine(&before, p.output.len());
+    let nine = receiver_nine(before, output);
     lines.push((9, nine));
     lines.push((8, counts_bad(&[c0, c1, c2])));
     let valid = packet.as_ref().is_some_and(|q| q.is_valid());
@@ -502,7 +544,6 @@ fn one_packet(g: &mut Gen, p: &mut ReceiverPair, raw: &[u8], seen: &mut Seen) ->
     let mut answers = packet.as_ref().is_some_and(|q| valid && q.pkt_type == PacketType::Fin);
     if let (false, Some(q)) = (nine, data) {
         let n = q.seq_num as u64;
-        let selective = before.protocol == Protocol::SelectiveRepeat;
         if n == base {
             delivers = q.payload.clone();
             let mut m = base + 1;
@@ -519,57 +560,67 @@ fn one_packet(g: &mut Gen, p: &mut ReceiverPair, raw: &[u8], seen: &mut Seen) ->
             Protocol::SelectiveRepeat => base.saturating_sub(window) <= n && n < base + window,
         };
     }
+    lines.push((5, !nine && ((output as u64 - filled) < delivers.len() as u64 || answers && room < 10)));
+    let code = verdict(&lines);
+    if code != 0 {
+        return ExpectedPacket { answer: refused(code, values), ack: vec![], delivered: vec![], store: before.store.clone() };
+    }
+    let packet = packet.unwrap();
+    let delivered = theirs.delivered().len();
+    let buffered = theirs.buffered();
+    let reply = theirs.handle(&packet);
+    if theirs.delivered()[delivered..].concat() != delivers {
+        fail("the model's delivery", format!("{:?} {:?} {packet:?}", before.protocol, before.state));
+    }
+    let mut store = before.store.clone();
+    for m in held {
+        slot_mut(&mut store, window, m).fill(0);
+    }
+    if selective && buffered < theirs.buffered() {
+        fill(&mut store, window, packet.seq_num as u64, &packet.payload);
+    }
+    let answer = reply.as_ref().map_or([0, 0, 0], |q| [1, q.seq_num as u64, 0]);
+    ExpectedPacket { answer, ack: reply.map_or(vec![], |q| q.to_bytes()), delivered: delivers, store }
+}
+
+fn one_packet(g: &mut Gen, p: &mut ReceiverPair, raw: &[u8], seen: &mut Seen) -> Answer {
+    seen.calls += 1;
+    let before = p.ours.clone();
+    let [window, _, filled, ..] = before.state;
     let n = if g.below(12) == 0 { g.below(10) as usize } else { 10 + g.below(3) as usize };
-    lines.push((5, !nine && ((p.output.len() as u64 - filled) < delivers.len() as u64 || answers && n < 10)));
     let buffer = g.bytes(n);
     let mut ack = buffer.clone();
     let mut output = p.output.clone();
     let a = p.ours.handle_packet(raw, &mut output, &mut ack);
-    let code = verdict(&lines);
-    if code != 0 {
-        if a != refused(code, values) || p.ours != before || output != p.output || ack != buffer {
-            fail("packet refused", format!("{:?} {:?} raw {:?} answer {a:?}, expected {code}", before.protocol, before.state, &raw[..raw.len().min(12)]));
+    let delivered = p.theirs.delivered().len();
+    let buffered = p.theirs.buffered();
+    let e = expected_packet(&before, &mut p.theirs, raw, output.len(), n);
+    let shown = || format!("{:?} {:?} raw {:?} answer {a:?}, expected {:?}", before.protocol, before.state, &raw[..raw.len().min(12)], e.answer);
+    if a != e.answer {
+        fail("packet", shown());
+    }
+    check_buffer("ACK", &ack, &buffer, &e.ack);
+    if 16 <= a[0] {
+        if p.ours != before || output != p.output {
+            fail("packet refused", shown());
         }
         return a;
     }
-    let packet = packet.unwrap();
-    let delivered = p.theirs.delivered().len();
-    let buffered = p.theirs.buffered();
-    let reply = p.theirs.handle(&packet);
-    let new: Vec<u8> = p.theirs.delivered()[delivered..].concat();
-    let want = match &reply {
-        Some(q) => [1, q.seq_num as u64, 0],
-        None => [0, 0, 0],
-    };
-    if a != want || new != delivers {
-        fail("packet", format!("{:?} {:?} {packet:?} answer {a:?}, expected {want:?}", before.protocol, before.state));
-    }
-    let wire = reply.map_or(vec![], |q| q.to_bytes());
-    check_buffer("ACK", &ack, &buffer, &wire);
-    if !wire.is_empty() {
-        p.made.push(wire);
+    if !e.ack.is_empty() {
+        p.made.push(e.ack.clone());
     }
     seen.delivered += (p.theirs.delivered().len() - delivered) as u64;
     seen.several += (p.theirs.delivered().len() > delivered + 1) as u64;
     seen.held += (buffered < p.theirs.buffered()) as u64;
     seen.unanswered += (a[0] == 0) as u64;
-    let mut after = p.output.clone();
-    after[filled as usize..filled as usize + new.len()].copy_from_slice(&new);
-    if output != after {
-        fail("output", format!("{:?} {:?} {packet:?}", before.protocol, before.state));
-    }
-    p.output = output;
-    let mut store = before.store.clone();
-    for m in held {
-        slot_mut(&mut store, window, m).fill(0);
-    }
-    if before.protocol == Protocol::SelectiveRepeat && buffered < p.theirs.buffered() {
-        fill(&mut store, window, packet.seq_num as u64, &packet.payload);
+    p.output[filled as usize..filled as usize + e.delivered.len()].copy_from_slice(&e.delivered);
+    if output != p.output {
+        fail("output", shown());
     }
     let counts = p.theirs.counts().map(|c| *c);
-    let want = [window, p.theirs.base(), filled + new.len() as u64, counts[0], counts[1], counts[2]];
-    if p.ours.state != want || p.ours.store != store {
-        fail("receiver state", format!("{:?} {packet:?} {:?} state {:?}, expected {want:?}", before.protocol, before.state, p.ours.state));
+    let want = [window, p.theirs.base(), filled + e.delivered.len() as u64, counts[0], counts[1], counts[2]];
+    if p.ours.state != want || p.ours.store != e.store {
+        fail("receiver state", format!("{} state {:?}, expected {want:?}", shown(), p.ours.state));
     }
     let want = if counts_bad(&counts) { [24, 0, 0] } else { [1, p.theirs.buffered(), 0] };
     if before.protocol == Protocol::SelectiveRepeat && p.ours.buffered_count() != want {
@@ -864,120 +915,281 @@ fn makings(g: &mut Gen, seen: &mut Seen) {
 
 // ---- cases for crates/arq_replay: see the head of its source
 
-fn chunk(n: u64, seed: u64) -> Vec<u8> {
-    (0..n).map(|i| ((seed + 7 * i) % 256) as u8).collect()
-}
+const GUARD: u8 = 0xA5;
 
-fn byte_sum(bytes: &[u8]) -> u64 {
-    bytes.iter().map(|&b| b as u64).sum::<u64>() % 1000000
-}
-
-// Which bit is turned over, if one is; mostly none.
-fn flip(g: &mut Gen, size: u64) -> [u64; 2] {
-    [g.below(size), if g.below(6) == 0 { g.below(8) } else { 8 }]
-}
-
-fn with_flip(mut q: Packet, [byte, bit]: [u64; 2]) -> Vec<u8> {
-    q.compute_and_set_checksum();
-    let mut raw = q.to_bytes();
-    if bit < 8 {
-        raw[byte as usize] ^= 1 << bit;
-    }
-    raw
-}
-
-fn datagrams_answer(packets: &[Packet], nothing: &str) -> String {
-    let bytes: Vec<u8> = packets.iter().flat_map(|q| q.to_bytes()).collect();
-    if packets.is_empty() {
-        return nothing.to_string();
-    }
-    format!("{}\t{}", bytes.len(), byte_sum(&bytes))
-}
-
-fn tabbed(numbers: &[u64]) -> String {
-    numbers.iter().map(|n| format!("\t{n}")).collect()
-}
-
-// The answer to a datagram: the reference's, or the refusal of one that the reference can't read.
-fn read_answer(raw: &[u8], answer: impl FnOnce(&Packet) -> String) -> String {
-    match datagram_lines(raw) {
-        (_, Some(q), _) => answer(&q),
-        (lines, None, _) => format!("refused {}", verdict(&lines) - 16),
+fn answer_text(a: Answer, nothing: &str, done: impl FnOnce(u64) -> String) -> String {
+    match a {
+        [0, ..] => format!(" {nothing}"),
+        [1, n, _] => done(n),
+        [code, x, y] => format!(" refused {}", code - 16) + &numbers(&[x, y][..match code - 16 { 1 | 2 => 1, 3 => 2, _ => 0 }]),
     }
 }
 
-fn sample_calls(g: &mut Gen, protocol: Protocol, window: u64, retries: u64, calls: u64) -> Vec<(String, String)> {
+// The buffer after a call that wrote these bytes.
+fn buffer_text(wrote: &[u8], room: usize) -> String {
+    let mut out = wrote.to_vec();
+    out.resize(room, GUARD);
+    shown(&out)
+}
+
+fn slots_text(store: &[u8]) -> String {
+    let slot_text = |s: &[u8]| {
+        let n = u16::from_be_bytes([s[0], s[1]]) as usize;
+        shown(&s[..if n <= 1400 { 4 + n } else { 4 }])
+    };
+    store.chunks_exact(SLOT).map(slot_text).collect::<String>() + &crc(store)
+}
+
+// The ends as the replay has them: the reference's, and the states, stores and output that document 01 gives them.
+struct Replayed {
+    s: Sender,
+    their_sender: TheirSender,
+    r: Receiver,
+    their_receiver: TheirReceiver,
+    output: Vec<u8>,
+    // datagrams and ACKs that were made
+    made: Vec<Vec<u8>>,
+    acks: Vec<Vec<u8>>,
+}
+
+impl Replayed {
+    fn sender_text(&mut self, e: Expected, nothing: &str, accepted: &str, room: Option<usize>) -> String {
+        let answer = answer_text(e.answer, nothing, |n| if accepted.is_empty() { format!(" {n}") } else { format!(" {accepted}") });
+        if e.answer[0] < 16 {
+            let [base, next, sent, again] = self.their_sender.numbers();
+            let [window, .., max, _] = self.s.state;
+            self.s.state = [window, base, next, sent, again, max, self.their_sender.retries()];
+            self.s.store = e.store;
+        }
+        let [_, base, next, sent, again, _, retries] = self.s.state;
+        answer + &room.map_or(String::new(), |n| buffer_text(&e.wrote, n)) + &numbers(&[base, next, sent, again, retries])
+    }
+    fn send(&mut self, g: &mut Gen, cases: &mut Cases) {
+        let n = case_length(g);
+        let payload = g.bytes(n);
+        let room = room(g, 10 + n);
+        let e = expected_send(&self.s, &mut self.their_sender, &payload, room);
+        if e.answer[0] == 1 {
+            self.made.push(e.wrote.clone());
+        }
+        cases.case(format!("s {room}{}", given(&payload)), self.sender_text(e, "full", "", Some(room)));
+    }
+    fn timeout(&mut self, g: &mut Gen, cases: &mut Cases) {
+        let [window, base, ..] = self.s.state;
+        // of Go-Back-N always all: the number is passed over
+        let number = if self.s.protocol == Protocol::GoBackN { 0 } else { (base + g.below(window + 1)).saturating_sub(g.below(8) / 7) };
+        let (_, need) = resent(&self.s, number);
+        let room = room(g, need);
+        let e = expected_timeout(&self.s, &mut self.their_sender, number, room);
+        cases.case(format!("o {number} {room}"), self.sender_text(e, "none", "", Some(room)));
+    }
+    fn ack(&mut self, g: &mut Gen, cases: &mut Cases) {
+        let [window, base, ..] = self.s.state;
+        let last = self.acks.last().filter(|_| g.below(2) == 0).cloned();
+        let raw = last.unwrap_or_else(|| handed(g, &self.acks, base, window));
+        let e = expected_ack(&self.s, &mut self.their_sender, &raw);
+        cases.case("a".to_string() + &given(&raw), self.sender_text(e, "ignored", "accepted", None));
+    }
+    fn packet(&mut self, g: &mut Gen, cases: &mut Cases) {
+        let [window, base, filled, ..] = self.r.state;
+        let due = self.made.iter().rev().find(|m| m[..4] == (base as u32).to_be_bytes()).filter(|_| g.below(3) == 0).cloned();
+        let raw = due.unwrap_or_else(|| handed(g, &self.made, base, window));
+        let room = if g.below(12) == 0 { g.below(10) as usize } else { 10 + g.below(3) as usize };
+        let e = expected_packet(&self.r, &mut self.their_receiver, &raw, self.output.len(), room);
+        if e.answer[0] < 16 {
+            let at = filled as usize;
+            self.output[at..at + e.delivered.len()].copy_from_slice(&e.delivered);
+            let [a, b, c] = self.their_receiver.counts().map(|c| *c);
+            self.r.state = [window, self.their_receiver.base(), filled + e.delivered.len() as u64, a, b, c];
+            self.r.store = e.store;
+            self.acks.extend((!e.ack.is_empty()).then_some(e.ack.clone()));
+        }
+        let answer = answer_text(e.answer, "none", |n| format!(" {n}")) + &buffer_text(&e.ack, room);
+        cases.case(format!("p {room}{}", given(&raw)), answer + &numbers(&self.r.state[1..]) + &shown(&e.delivered) + &crc(&self.output));
+    }
+    fn read(&mut self, cases: &mut Cases) {
+        let [can_send, in_flight, unacked] = self.their_sender.getters();
+        let sender = match self.s.protocol {
+            Protocol::StopAndWait => numbers(&[can_send, unacked]),
+            Protocol::GoBackN => numbers(&[can_send, in_flight, unacked]),
+            Protocol::SelectiveRepeat => numbers(&[can_send, in_flight]),
+        };
+        let buffered = if self.s.protocol == Protocol::SelectiveRepeat { numbers(&[self.their_receiver.buffered()]) } else { String::new() };
+        cases.case("q".to_string(), sender + &buffered);
+    }
+    fn dump(&self, cases: &mut Cases) {
+        cases.case("d".to_string(), slots_text(&self.s.store) + &slots_text(&self.r.store));
+    }
+    fn call(&mut self, g: &mut Gen, cases: &mut Cases) {
+        let [window, base, next, ..] = self.s.state;
+        match g.below(20) {
+            0..=6 if next - base < window || g.below(4) == 0 => self.send(g, cases),
+            7..=9 => self.timeout(g, cases),
+            10..=13 if !self.acks.is_empty() => self.ack(g, cases),
+            14 => self.read(cases),
+            _ => self.packet(g, cases),
+        }
+    }
+    fn set_sender(&self, cases: &mut Cases) {
+        cases.case("i".to_string() + &numbers(&self.s.state[1..5]), String::new());
+    }
+    fn set_receiver(&self, cases: &mut Cases) {
+        cases.case("j".to_string() + &numbers(&self.r.state[1..]), String::new());
+    }
+    // All numbers raised by a multiple of the window, to just below the limit.
+    fn raise(&mut self, g: &mut Gen, cases: &mut Cases) {
+        let window = self.s.state[0];
+        let above = (LIMIT - self.s.state[2].max(self.r.state[1]) - g.below(window + 3)) / window * window;
+        self.their_sender.above = above;
+        self.their_receiver.above = above;
+        self.s.state[1] += above;
+        self.s.state[2] += above;
+        self.r.state[1] += above;
+        for raw in self.made.iter_mut().chain(&mut self.acks) {
+            *raw = raised(Packet::from_bytes(raw).unwrap(), above).to_bytes();
+        }
+        self.set_sender(cases);
+        self.set_receiver(cases);
+    }
+    // A state or a store that is out of bounds in one place: every call is refused. Then it is mended.
+    fn broken_sender(&mut self, g: &mut Gen, cases: &mut Cases) {
+        let good = self.s.clone();
+        let window = good.state[0];
+        let at = g.below(window) as usize * SLOT + g.below(3) as usize;
+        match g.below(4) {
+            0 => self.s.state[3 + g.below(2) as usize] = COUNT + g.below(2),
+            1 => (self.s.state[1], self.s.state[2]) = (LIMIT + 1, LIMIT + 1),
+            2 if self.s.protocol != Protocol::StopAndWait => self.s.state[1 + g.below(2) as usize] += 1 + g.below(40),
+            _ => self.s.store[at] = [0, 1, 2, 3, 6, 255][g.below(6) as usize],
+        }
+        if !sender_nine(&self.s) && !counts_bad(&self.s.state[3..5]) {
+            self.s = good;
+            return;
+        }
+        let byte = |s: &Sender| format!("k {at} {}", s.store[at]);
+        if self.s.store != good.store {
+            cases.case(byte(&self.s), String::new());
+        }
+        self.set_sender(cases);
+        self.send(g, cases);
+        self.ack(g, cases);
+        self.timeout(g, cases);
+        self.s = good;
+        cases.case(byte(&self.s), String::new());
+        self.set_sender(cases);
+    }
+    fn broken_receiver(&mut self, g: &mut Gen, cases: &mut Cases) {
+        let good = self.r.clone();
+        let window = good.state[0];
+        let selective = self.r.protocol == Protocol::SelectiveRepeat;
+        let at = if selective { g.below(window) as usize * SLOT + g.below(3) as usize } else { 0 };
+        match g.below(5) {
+            0 => self.r.state[3 + g.below(3) as usize] = COUNT + g.below(2),
+            1 => self.r.state[1] = LIMIT + 1,
+            2 => self.r.state[2] = self.output.len() as u64 + 1,
+            _ if selective => self.r.store[at] = [1, 2, 3, 6, 255][g.below(5) as usize],
+            _ => {}
+        }
+        if !receiver_nine(&self.r, self.output.len()) && !counts_bad(&self.r.state[3..]) {
+            self.r = good;
+            return;
+        }
+        let byte = |r: &Receiver| format!("l {at} {}", r.store[at]);
+        if self.r.store != good.store {
+            cases.case(byte(&self.r), String::new());
+        }
+        self.set_receiver(cases);
+        for _ in 0..3 {
+            self.packet(g, cases);
+        }
+        self.r = good;
+        if selective {
+            cases.case(byte(&self.r), String::new());
+        }
+        self.set_receiver(cases);
+    }
+}
+
+// Mostly short, so that the lists stay so.
+fn case_length(g: &mut Gen) -> usize {
+    match g.below(40) {
+        0 => 1399,
+        1 => 1400,
+        2 => 1401,
+        3 => g.below(1401) as usize,
+        4 | 5 => 0,
+        _ => g.below(20) as usize,
+    }
+}
+
+fn new_replayed(g: &mut Gen, protocol: Protocol, window: u64, retries: u64, cases: &mut Cases) -> Replayed {
+    let sized = if protocol == Protocol::StopAndWait { 1 } else { window as usize };
+    let store = |g: &mut Gen| vec![GUARD; sized * SLOT + g.below(3) as usize];
+    let (mut sent, mut held) = (store(g), store(g));
+    let output = vec![GUARD; [60, 700, 4000][g.below(3) as usize]];
+    cases.case(format!("n {} {window} {retries} {} {} {}", protocol as u64, sent.len(), held.len(), output.len()), " made made".to_string());
+    sent[..sized * SLOT].fill(0);
+    if protocol == Protocol::SelectiveRepeat {
+        held[..sized * SLOT].fill(0);
+    }
     let setting = if protocol == Protocol::StopAndWait { retries } else { window };
-    let mut s = TheirSender::new(protocol, setting);
-    let mut r = TheirReceiver::new(protocol, window);
-    let mut chunks: Vec<[u64; 2]> = vec![];
-    let mut acks = vec![];
-    let mut cases = vec![(format!("1 {} {window} {retries}", protocol as u64), "made".to_string())];
-    for _ in 0..calls {
-        let [base, next, ..] = s.numbers();
-        let sender = |s: &TheirSender| tabbed(&s.numbers());
-        cases.push(match g.below(10) {
-            0..=2 => {
-                let c = [g.below(65), g.below(256)];
-                let sent = s.send(&chunk(c[0], c[1]));
-                chunks.extend(sent.iter().map(|_| c));
-                (format!("2 {} {}", c[0], c[1]), datagrams_answer(&sent.into_iter().collect::<Vec<_>>(), "full") + &sender(&s))
-            }
-            3 => {
-                let number = base + g.below(next - base + 1);
-                (format!("3 {number}"), datagrams_answer(&s.timeout(number), "none") + &sender(&s))
-            }
-            4..=7 => {
-                // most often one of the latest chunks; else a number past all that were sent, or a Fin
-                let sent = chunks.len() as u64;
-                let number = if sent == 0 || g.below(8) == 0 { sent + g.below(2 * window) } else { sent - 1 - g.below(sent.min(window + 1)) };
-                let fin = g.below(8) == 0;
-                let [n, seed] = if fin { [0, 0] } else { chunks.get(number as usize).copied().unwrap_or([g.below(65), g.below(256)]) };
-                let mut q = if fin { Packet::new_fin(number as u32) } else { Packet::new_data(number as u32, chunk(n, seed)) };
-                q.flags = g.below(2) as u8;
-                let f = flip(g, 10 + n);
-                let line = format!("4 {number} {n} {seed} {} {} {} {}", if fin { 3 } else { 1 }, q.flags, f[0], f[1]);
-                let answer = read_answer(&with_flip(q, f), |q| match r.handle(q) {
-                    Some(ack) => {
-                        acks.push(ack.seq_num as u64);
-                        format!("{}", ack.seq_num)
-                    }
-                    None => "none".to_string(),
-                });
-                let output = r.delivered().concat();
-                let counts = r.counts().map(|c| *c);
-                (line, answer + &tabbed(&[r.base(), output.len() as u64, byte_sum(&output)]) + &tabbed(&counts))
-            }
-            _ => {
-                let made = acks.len() as u64;
-                let number = if made == 0 || g.below(6) == 0 { (base + g.below(window + 2)).saturating_sub(1) } else { acks[(made - 1 - g.below(made.min(3))) as usize] };
-                let f = flip(g, 10);
-                let answer = read_answer(&with_flip(Packet::new_ack(number as u32), f), |q| if s.ack(q) { "accepted" } else { "not accepted" }.to_string());
-                (format!("5 {number} {} {}", f[0], f[1]), answer + &sender(&s))
-            }
-        });
+    let retries = if protocol == Protocol::StopAndWait { retries } else { 0 };
+    Replayed {
+        s: Sender { protocol, state: [sized as u64, 0, 0, 0, 0, retries, 0], store: sent },
+        their_sender: TheirSender::new(protocol, setting),
+        r: Receiver { protocol, state: [sized as u64, 0, 0, 0, 0, 0], store: held },
+        their_receiver: TheirReceiver::new(protocol, sized as u64),
+        output,
+        made: vec![],
+        acks: vec![],
     }
-    cases
+}
+
+// Makings that are turned away: 9 for a short store, then 4 for the window.
+fn refused_makings(g: &mut Gen, cases: &mut Cases) {
+    for protocol in PROTOCOLS {
+        for _ in 0..4 {
+            let window = [0, 1, 2, 32, 33, u64::MAX, u64::MAX / 1404 + 1][g.below(7) as usize];
+            let n = |g: &mut Gen| [0, 1, 1403, 1404, 2 * 1404, 32 * 1404 - 1, 32 * 1404, 33 * 1404][g.below(8) as usize];
+            let (sent, held) = (n(g), n(g));
+            let sized = if protocol == Protocol::StopAndWait { 1 } else { window };
+            let code = |n: u64| match verdict(&[(9, n / (SLOT as u64) < sized), (4, sized < 1 || 32 < sized)]) {
+                0 => " made".to_string(),
+                v => format!(" refused {}", v - 16),
+            };
+            let receiver = if protocol == Protocol::SelectiveRepeat { code(held) } else { " made".to_string() };
+            cases.case(format!("n {} {window} 3 {sent} {held} 0", protocol as u64), code(sent) + &receiver);
+        }
+    }
 }
 
 fn sample(dir: &str, seed: u64) {
     let mut g = Gen(seed);
-    let mut cases = vec![];
-    for (protocol, window, retries) in [(0, 1, 2), (0, 1, 0), (1, 4, 0), (1, 2, 0), (2, 4, 0), (2, 3, 0)] {
-        cases.extend(sample_calls(&mut g, PROTOCOLS[protocol], window, retries, 19));
+    let mut cases = Cases::new("arq", seed);
+    refused_makings(&mut g, &mut cases);
+    let setups = [(0, 1, 0), (0, 1, 1), (0, 9, 3), (0, 0, 4294967295), (1, 1, 0), (1, 2, 0), (1, 4, 7), (1, 32, 0), (2, 1, 0), (2, 3, 0), (2, 4, 0), (2, 8, 0), (2, 32, 0)];
+    for (protocol, window, retries) in setups {
+        let mut t = new_replayed(&mut g, PROTOCOLS[protocol], window, retries, &mut cases);
+        for k in 0..64 {
+            t.call(&mut g, &mut cases);
+            match k {
+                14 | 40 | 60 => t.broken_sender(&mut g, &mut cases),
+                15 | 41 | 61 => t.broken_receiver(&mut g, &mut cases),
+                24 => t.dump(&mut cases),
+                48 if 0 < t.s.state[1] && t.s.state[0] < t.r.state[1] => t.raise(&mut g, &mut cases),
+                _ => {}
+            }
+        }
+        t.dump(&mut cases);
     }
-    let (stdin, stdout): (Vec<String>, Vec<String>) = cases.into_iter().unzip();
-    std::fs::create_dir_all(dir).unwrap();
-    std::fs::write(format!("{dir}/stdin"), stdin.join("\n") + "\n").unwrap();
-    std::fs::write(format!("{dir}/stdout"), stdout.join("\n") + "\n").unwrap();
+    cases.save(dir);
 }
 
 fn main() {
     let args: Vec<String> = std::env::args().collect();
     let seconds: f64 = args.get(1).and_then(|s| s.parse().ok()).unwrap_or(5.0);
     if let Some(i) = args.iter().position(|a| a == "--sample") {
-        // of 3,000 seeds the one whose calls differ most in kind
-        sample(&args[i + 1], args.get(i + 2).map_or(2239, |s| s.parse().expect("SEED")));
+        sample(&args[i + 1], args.get(i + 2).map_or(105, |s| s.parse().expect("SEED")));
         return;
     }
     let mut g = Gen(std::env::var("SEED").ok().and_then(|s| s.parse().ok()).unwrap_or(1));

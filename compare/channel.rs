@@ -9,7 +9,12 @@ mod calls;
 #[path = "generator.rs"]
 mod generator;
 
+#[path = "cases.rs"]
+#[allow(dead_code)]
+mod cases;
+
 use calls::{new_channel, process, Ours};
+use cases::{crc, given, numbers, shown, Cases};
 use generator::{fail, verdict, Gen};
 use reference::channel::scheduler::ChannelScheduler;
 use reference::channel::{Channel, ChannelConfig, ChannelStats, Delivery};
@@ -97,7 +102,7 @@ fn joined(a: &[f64], b: &[f64]) -> Vec<f64> {
     a.iter().chain(b).copied().collect()
 }
 
-fn numbers(s: &Setup, stats: &[u64; 6]) -> Vec<u64> {
+fn setup_numbers(s: &Setup, stats: &[u64; 6]) -> Vec<u64> {
     s.delays.iter().chain(stats).copied().collect()
 }
 
@@ -117,7 +122,7 @@ fn one_packet(s: &Setup, stats: &mut [u64; 6], reference: &mut Channel, packet: 
     let shown = || format!("setup {:?} {:?} rolls {:?} packet {:?} stats {:?}", s.reals, s.delays, r, packet, stats);
     let (theirs, tallies) = their_packet(reference, packet, r);
     let mut out: Vec<u8> = spare.to_vec();
-    let a = process(&joined(&s.reals, r), &numbers(s, stats), packet, &mut out);
+    let a = process(&joined(&s.reals, r), &setup_numbers(s, stats), packet, &mut out);
     let mut want = [0; 9];
     want[0] = theirs.len() as u64;
     for (i, d) in theirs.iter().enumerate() {
@@ -222,7 +227,7 @@ fn channel_refusals(g: &mut Gen, refusals: &mut u64) {
         one_packet(&s, &mut stats, &mut reference, &packet, &r, &spare);
     } else {
         let mut out = spare.clone();
-        let a = process(&joined(&s.reals, &r), &numbers(&s, &stats), &packet, &mut out);
+        let a = process(&joined(&s.reals, &r), &setup_numbers(&s, &stats), &packet, &mut out);
         if a[..3] != [want, 0, 0] || out != spare || a[3..9] != stats {
             fail("refusal", format!("{:?} {:?} stats {:?} rolls {:?} n {} out {} ours {:?} want {}", s.reals, s.delays, stats, r, n, spare.len(), a, want));
         }
@@ -551,92 +556,168 @@ fn schedule_calls(g: &mut Gen, mut m: Model, all: bool, n: &mut Counts) {
 }
 
 // Cases for crates/channel_replay: see the head of its source. Refusals are document 01's.
-fn sample(dir: &str, seed: u64) {
-    use std::fmt::Write;
-    let mut g = Gen(seed);
-    let mut stdin = String::new();
-    let mut stdout = String::new();
-    let two53 = 9007199254740992u64;
-    for i in 0..14 {
-        let chance = |g: &mut Gen| [0, two53, two53 / 2, two53 / 4, g.next() >> 11][g.below(5) as usize];
-        let k = [chance(&mut g) / 4, chance(&mut g), chance(&mut g), chance(&mut g)];
-        let mut s = Setup { reals: k.map(|x| x as f64 / two53 as f64), delays: [g.delay(), g.delay(), g.delay()] };
-        if i % 5 == 4 {
-            s.delays[g.below(3) as usize] = 60001;
-        }
-        writeln!(stdin, "1 {} {} {} {} {} {} {}", k[0], k[1], k[2], k[3], s.delays[0], s.delays[1], s.delays[2]).unwrap();
-        if s.delays.contains(&60001) {
-            writeln!(stdout, "refused 4").unwrap();
-            s = Setup { reals: [0.0; 4], delays: [0; 3] };
-        } else {
-            writeln!(stdout, "made").unwrap();
-        }
-        let mut reference = Channel::new(config(&s));
-        let mut stats = [0u64; 6];
-        let mut theirs = ChannelScheduler::new();
-        let mut model = Model { records: vec![[0; 4]; 8], places: vec![0; 8 * PLACE], count: 0, next: 0, placed: [0; 3] };
-        let base = Instant::now();
-        let mut time = 0u64;
-        for _ in 0..30 {
-            let now = if g.below(16) == 0 { MAX_TIME + g.below(2) } else { time };
-            if g.below(2) == 0 {
-                let (n, seed) = (g.below(64), g.below(256));
-                let packet: Vec<u8> = (0..n).map(|i| ((seed + 7 * i) % 256) as u8).collect();
-                let mut r = [0u64; 8];
-                for x in r.iter_mut() {
-                    *x = [0, two53 - 1, 6004799503160661, g.next() >> 11][g.below(4) as usize];
-                }
-                if g.below(12) == 0 {
-                    r[g.below(8) as usize] = two53;
-                }
-                let rolls: [f64; 8] = r.map(|x| x as f64 / two53 as f64);
-                let rolled = !r.contains(&two53);
-                let mut deliveries = vec![];
-                if rolled {
-                    (deliveries, stats) = their_packet(&mut reference, &packet, &rolls);
-                }
-                let delays: Vec<u64> = deliveries.iter().map(|d| d.delay_ms).collect();
-                let bytes = deliveries.first().map_or(vec![], |d| d.data.clone());
-                let queued = model.schedule_at(now, &bytes, &delays);
-                if queued == 0 {
-                    theirs.schedule_at(base + Duration::from_nanos(now), deliveries);
-                }
-                write!(stdin, "2 {now} {n} {seed}").unwrap();
-                for x in r {
-                    write!(stdin, " {x}").unwrap();
-                }
-                writeln!(stdin).unwrap();
-                let fold: u64 = bytes.iter().map(|&b| b as u64).sum();
-                write!(stdout, "{}", if rolled { delays.len().to_string() } else { "refused 11".to_string() }).unwrap();
-                for d in &delays {
-                    write!(stdout, "\t{d}").unwrap();
-                }
-                write!(stdout, "\t{fold}").unwrap();
-                for c in stats {
-                    write!(stdout, "\t{c}").unwrap();
-                }
-                if queued != 0 {
-                    write!(stdout, "\trefused {}", queued - 16).unwrap();
-                }
-                writeln!(stdout, "\t{}", theirs.len()).unwrap();
-            } else {
-                writeln!(stdin, "3 {now}").unwrap();
-                let (popped, _) = model.pop_ready_at(now, &mut [0; 64]);
-                if popped > 1 {
-                    writeln!(stdout, "refused {}\t{}", popped - 16, theirs.len()).unwrap();
-                    continue;
-                }
-                match theirs.pop_ready_at(base + Duration::from_nanos(now)) {
-                    Some(p) => writeln!(stdout, "{}\t{}\t{}", p.len(), p.iter().map(|&b| b as u64).sum::<u64>(), theirs.len()).unwrap(),
-                    None => writeln!(stdout, "none\t{}", theirs.len()).unwrap(),
-                }
-            }
-            time += [0, 1_000_000, 5_000_000_000, g.below(60_000_000_000)][g.below(4) as usize];
-        }
+fn refusal(v: u64) -> String {
+    format!(" refused {}", v - 16)
+}
+
+// A channel, a schedule and the model of its memory, as the replay has them.
+struct Replayed {
+    setup: Setup,
+    reference: Channel,
+    stats: [u64; 6],
+    theirs: ChannelScheduler,
+    model: Model,
+    base: Instant,
+}
+
+impl Replayed {
+    fn new_schedule(&mut self, records: usize, places: usize) {
+        self.theirs = ChannelScheduler::new();
+        self.model = Model { records: vec![[0; 4]; records], places: vec![0; places * PLACE], count: 0, next: 0, placed: [0; 3] };
     }
-    std::fs::create_dir_all(dir).unwrap();
-    std::fs::write(format!("{dir}/stdin"), stdin).unwrap();
-    std::fs::write(format!("{dir}/stdout"), stdout).unwrap();
+    fn schedule(&mut self, now: u64, packet: &[u8], delays: &[u64]) -> String {
+        let v = self.model.schedule_at(now, packet, delays);
+        if v == 0 {
+            let copies = delays.iter().map(|&d| Delivery { delay_ms: d, data: packet.to_vec() }).collect();
+            self.theirs.schedule_at(self.base + Duration::from_nanos(now), copies);
+        }
+        let answer = if v == 0 { " done".to_string() } else { refusal(v) };
+        answer + &format!(" {}", self.theirs.len())
+    }
+    fn pop(&mut self, now: u64, room: usize) -> String {
+        let mut out = vec![0xA5; room];
+        let (v, n) = self.model.pop_ready_at(now, &mut out);
+        let answer = if v > 1 {
+            refusal(v)
+        } else {
+            match self.theirs.pop_ready_at(self.base + Duration::from_nanos(now)) {
+                Some(p) if v == 1 && out[..n] == p => format!(" {}", p.len()),
+                None if v == 0 => " none".to_string(),
+                _ => fail("the model's pop", format!("now {now}")),
+            }
+        };
+        answer + &shown(&out) + &format!(" {}", self.theirs.len())
+    }
+    fn dump(&self) -> String {
+        let records: Vec<u64> = self.model.records.concat();
+        numbers(&[self.theirs.len() as u64, self.model.next]) + &numbers(&records) + &crc(&self.model.places)
+    }
+    fn read(&self) -> String {
+        let v = verdict(&[(9, self.model.line9()), (8, self.model.line8()), (10, self.model.held_late())]);
+        if v != 0 {
+            return refusal(v).repeat(4);
+        }
+        let deadline = self.theirs.next_deadline().map(|t| (t - self.base).as_nanos() as u64);
+        deadline.map_or(" none".to_string(), |t| format!(" {t}")) + &numbers(&[self.theirs.len() as u64, self.theirs.is_empty() as u64, self.model.room() as u64])
+    }
+    // The rolls that are broken, the packet's length and the buffer's, in document 01's order; a lost packet needs no buffer.
+    fn process(&mut self, now: u64, room: usize, rolls: &[f64; 8], packet: &[u8]) -> String {
+        let lost = rolls[0] < self.setup.reals[0];
+        let v = verdict(&[(11, !rolls.iter().all(|&x| x >= 0.0 && x < 1.0)), (6, packet.len() > 1410), (5, !lost && room < packet.len())]);
+        let mut out = vec![0xA5; room];
+        let mut deliveries = vec![];
+        let mut answer = if v == 0 { String::new() } else { refusal(v) };
+        if v == 0 {
+            (deliveries, self.stats) = their_packet(&mut self.reference, packet, rolls);
+            for d in &deliveries {
+                out[..packet.len()].copy_from_slice(&d.data);
+            }
+            answer = format!(" {}", deliveries.len()) + &numbers(&deliveries.iter().map(|d| d.delay_ms).collect::<Vec<_>>());
+        }
+        let delays: Vec<u64> = deliveries.iter().map(|d| d.delay_ms).collect();
+        let carried = out[..packet.len().min(room)].to_vec();
+        answer + &shown(&out) + &numbers(&self.stats) + &self.schedule(now, &carried, &delays)
+    }
+}
+
+fn length_for_cases(g: &mut Gen) -> usize {
+    match g.below(24) {
+        0 => 1410,
+        1 => 1411,
+        2 => 1409,
+        3 => 0,
+        _ => g.below(40) as usize,
+    }
+}
+
+fn sample(dir: &str, seed: u64) {
+    let mut g = Gen(seed);
+    let mut cases = Cases::new("channel", seed);
+    let idle = Setup { reals: [0.0; 4], delays: [0; 3] };
+    let mut t = Replayed { reference: Channel::new(config(&idle)), setup: idle, stats: [0; 6], theirs: ChannelScheduler::new(), model: Model { records: vec![], places: vec![], count: 0, next: 0, placed: [0; 3] }, base: Instant::now() };
+    for i in 0..24 {
+        let mut s = setup(&mut g);
+        s.reals[0] /= 4.0;
+        match i % 6 {
+            2 => s.delays[g.below(3) as usize] = [60001, u64::MAX][g.below(2) as usize],
+            5 => s.reals[g.below(4) as usize] = [f64::NAN, -f64::MIN_POSITIVE, 1.0000000000000002, f64::INFINITY, -1.0][g.below(5) as usize],
+            _ => {}
+        }
+        let (records, places) = if i % 8 == 7 { (300, 300) } else { (g.below(9) as usize, g.below(9) as usize) };
+        let broken = !s.reals.iter().all(|x| (0.0..=1.0).contains(x)) || s.delays.iter().any(|&d| d > 60000);
+        let line = format!("n{}{} {records} {places}", numbers(&s.reals.map(f64::to_bits)), numbers(&s.delays));
+        cases.case(line, if broken { refusal(16 + 4) } else { " made".to_string() });
+        t.new_schedule(records, places);
+        if !broken {
+            t.reference = Channel::new(config(&s));
+            t.setup = s;
+            t.stats = [0; 6];
+        }
+        let large = places > 256;
+        if large {
+            fill_places(&mut g, &mut t, &mut cases);
+        }
+        some_calls(&mut g, &mut t, if large { 12 } else { 30 }, &mut cases);
+        cases.case("d".to_string(), t.dump());
+    }
+    cases.save(dir);
+}
+
+// Copies in nearly all of 300 places; some leave again, so that places above 256 are filled, freed and filled once more.
+fn fill_places(g: &mut Gen, t: &mut Replayed, cases: &mut Cases) {
+    for k in 0..149 + g.below(2) {
+        let delays = [g.below(100), 100000 + g.below(80001)];
+        let n = if k % 50 == 49 { 1410 } else { g.below(6) as usize };
+        let packet = g.bytes(n);
+        cases.case(format!("s 0 2 {} {}{}", delays[0], delays[1], given(&packet)), t.schedule(0, &packet, &delays));
+    }
+    cases.case("d".to_string(), t.dump());
+    for _ in 0..6 + g.below(6) {
+        cases.case("t 100000000 1410".to_string(), t.pop(100_000_000, 1410));
+    }
+}
+
+fn some_calls(g: &mut Gen, t: &mut Replayed, calls: u64, cases: &mut Cases) {
+    let mut time = 0u64;
+    for _ in 0..calls {
+        let now = if g.below(16) == 0 { [MAX_TIME, MAX_TIME + 1, u64::MAX][g.below(3) as usize] } else { time };
+        let n = length_for_cases(g);
+        let packet = g.bytes(n);
+        match g.below(14) {
+            0..=5 => {
+                let mut r = rolls(g, &t.setup);
+                if g.below(12) == 0 {
+                    r[g.below(8) as usize] = [f64::NAN, 1.0, -1e-320, 2.0, f64::NEG_INFINITY][g.below(5) as usize];
+                }
+                let room = if g.below(10) == 0 { n.saturating_sub(1) } else { n + g.below(3) as usize };
+                let line = format!("p {now} {room}{}{}", numbers(&r.map(f64::to_bits)), given(&packet));
+                cases.case(line, t.process(now, room, &r, &packet));
+            }
+            6 | 7 => {
+                let delays: Vec<u64> = (0..g.below(3)).map(|_| [0, 1, g.below(180001), 180000, 180001][g.below(5) as usize]).collect();
+                let d = |i: usize| delays.get(i).copied().unwrap_or(0);
+                cases.case(format!("s {now} {} {} {}{}", delays.len(), d(0), d(1), given(&packet)), t.schedule(now, &packet, &delays));
+            }
+            8..=10 => {
+                let due = t.model.records.first().map_or(0, |r| r[2] as usize);
+                let room = if g.below(4) == 0 { due.saturating_sub(1) } else { due + g.below(3) as usize };
+                cases.case(format!("t {now} {room}"), t.pop(now, room));
+            }
+            _ if t.model.records.len() < 10 && g.below(2) == 0 => cases.case("d".to_string(), t.dump()),
+            _ => cases.case("q".to_string(), t.read()),
+        }
+        time += [0, 1_000_000, 5_000_000_000, g.below(60_000_000_000)][g.below(4) as usize];
+    }
 }
 
 fn main() {

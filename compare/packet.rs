@@ -3,6 +3,10 @@
 //        packet --sample DIR [SEED] writes DIR/stdin (cases) and DIR/stdout (the reference's answers) for crates/packet_replay
 // Where document 01 refuses and the reference does not (6: payload above 1,400; 5: buffer too short), the expected answer is document 01's.
 extern crate reference;
+#[path = "cases.rs"]
+mod cases;
+
+use cases::{given, numbers, shown, Cases};
 use reference::packet::{self as rust, Packet, PacketError, PacketType};
 use std::fmt::Write as _;
 use std::time::{Duration, Instant};
@@ -339,50 +343,46 @@ fn main() {
     }
 }
 
-// The reference's answers in the text form of crates/packet_replay.
+// The reference's answers in the form of crates/packet_replay.
 fn text(a: Answer) -> String {
     match a {
-        (0, [s, k, f, c]) => format!("{:08x} {:02x} {:02x} {:04x}", s, k, f, c),
-        (n, [a, b, ..]) => match n { SHORT | KIND => format!("refused {} {}", n, a), CUT => format!("refused {} {} {}", n, a, b), _ => format!("refused {}", n) },
+        (0, fields) => numbers(&fields),
+        (n, [a, b, ..]) => format!(" refused {n}") + &numbers(&[a, b][..match n { SHORT | KIND => 1, CUT => 2, _ => 0 }]),
     }
 }
-fn dash(b: &[u8]) -> String { if b.is_empty() { "-".into() } else { hex(b) } }
-fn head(f: Fields) -> String { format!("{:08x}{:02x}{:02x}{:04x}", f.0, f.1, f.2, f.3) }
+fn head(f: Fields) -> String { numbers(&[f.0 as u64, f.1 as u64, f.2 as u64, f.3 as u64]) }
 
-struct Sample { stdin: String, stdout: String, cases: usize, seen: std::collections::HashSet<String> }
+struct Sample { cases: Cases, seen: std::collections::HashSet<String> }
 impl Sample {
     fn case(&mut self, input: String, answer: String) {
-        if !self.seen.insert(input.clone()) { return; }
-        writeln!(self.stdin, "{}", input).unwrap();
-        writeln!(self.stdout, "{}", answer).unwrap();
-        self.cases += 1;
+        if self.seen.insert(input.clone()) { self.cases.case(input, answer); }
     }
     fn read(&mut self, raw: &[u8]) {
         let (head, valid, payload) = match Packet::from_bytes(raw) {
-            Ok(p) => (text(fields(&p)), if p.is_valid() { "valid".to_string() } else { "invalid".to_string() }, dash(&p.payload)),
-            Err(e) => (text(error(&e)), text(error(&e)), "-".to_string()),
+            Ok(p) => (text(fields(&p)), if p.is_valid() { " valid".to_string() } else { " invalid".to_string() }, shown(&p.payload)),
+            Err(e) => (text(error(&e)), text(error(&e)), shown(&[])),
         };
-        self.case(format!("r{}", hex(raw)), format!("{} {} {}", head, valid, payload));
+        self.case("r".to_string() + &given(raw), head + &valid + &payload);
     }
     fn checksum(&mut self, f: Fields, payload: &[u8]) {
         let mut p = packet(f, payload);
         let k = p.compute_checksum();
         p.compute_and_set_checksum();
         let no = text(refused(LONG, 0, 0));
-        self.case(format!("c{}{}", head(f), hex(payload)), if payload.len() > 1400 { format!("{} {}", no, no) } else { format!("{:04x} {}", k, text(fields(&p))) });
+        self.case("c".to_string() + &head(f) + &given(payload), if payload.len() > 1400 { format!("{no}{no}") } else { format!(" {k}{}", text(fields(&p))) });
     }
     fn write(&mut self, f: Fields, payload: &[u8], room: usize) {
         let mut out = vec![GUARD; room];
         let answer = if payload.len() > 1400 { text(refused(LONG, 0, 0)) } else if room < 10 + payload.len() { text(refused(FULL, 0, 0)) } else {
             let bytes = packet(f, payload).to_bytes();
             out[..bytes.len()].copy_from_slice(&bytes);
-            bytes.len().to_string()
+            format!(" {}", bytes.len())
         };
-        self.case(format!("w{}{:04x}{}", head(f), room, hex(payload)), format!("{} {}", answer, dash(&out)));
+        self.case(format!("w{} {room}{}", head(f), given(payload)), answer + &shown(&out));
     }
     fn kind(&mut self, b: u8) {
-        let answer = match PacketType::try_from(b) { Ok(t) => format!("{:02x}", t as u8), Err(e) => text(error(&e)) };
-        self.case(format!("t{:02x}", b), answer);
+        let answer = match PacketType::try_from(b) { Ok(t) => format!(" {}", t as u8), Err(e) => text(error(&e)) };
+        self.case(format!("t {b}"), answer);
     }
     fn flags(&mut self, f: Fields) {
         let answer = match PacketType::try_from(f.1) {
@@ -391,19 +391,17 @@ impl Sample {
                 let is = p.is_retransmitted() as u8;
                 p.set_retransmitted();
                 let new = match t { PacketType::Data => Packet::new_data(f.0, Vec::new()), PacketType::Ack => Packet::new_ack(f.0), PacketType::Fin => Packet::new_fin(f.0) };
-                format!("{} {} {}", is, text(fields(&p)), text(fields(&new)))
+                format!(" {is}{}{}", text(fields(&p)), text(fields(&new)))
             }
             Err(e) => text(error(&e)),
         };
-        self.case(format!("f{}", head(f)), answer);
+        self.case("f".to_string() + &head(f), answer);
     }
 }
 
 fn sample(dir: &str, seed: u64) {
     let mut g = Rng(seed);
-    let mut s = Sample { stdin: String::new(), stdout: String::new(), cases: 0, seen: Default::default() };
-    writeln!(s.stdin, "# Cases of the packet layer: made by 'target/compare/packet --sample DIR {:#x}' (compare/packet.rs), which also wrote", seed).unwrap();
-    writeln!(s.stdin, "# the reference's answers to DIR/stdout. Refusals 5 and 6, which the reference does not have, are document 01's.").unwrap();
+    let mut s = Sample { cases: Cases::new("packet", seed), seen: Default::default() };
     // The proof sheet's rows, and bytes 6 and 7 of a made datagram.
     for (f, p) in [((0, 1, 0, 0), &[][..]), ((0, 1, 0, 0), &[0x41][..]), ((u32::MAX, 1, 0, 0), &[][..]), ((0, 1, 0, 0), &[0xFF, 0xFD][..])] { s.checksum(f, p); }
     for b in [0u8, 2] { s.read(&[0, 0, 0, 0, 1, 0, 0, b, 0xFE, 0xFF, 0xFF, 0xFD]); }
@@ -412,6 +410,9 @@ fn sample(dir: &str, seed: u64) {
     s.read(&[0, 0, 0, 0, 1, 0, 0, 1, 0, 0]);
     s.read(&[0, 0, 0xFE, 0xFF, 1, 0, 0, 0, 0xFF, 0xFF]);
     for b in [0u8, 1, 2, 3, 4, 5, 127, 128, 255] { s.kind(b); }
+    // What replay_io reads: a kind is cut to 8 bits, and lines of another form are bad.
+    s.case(format!("t {}", u64::MAX), text(refused(KIND, 255, 0)));
+    for line in cases::BAD_LINES { s.case(line.to_string(), " bad line".to_string()); }
     for n in 0..14 { let raw = g.bytes(n); s.read(&raw); let mut zeros = vec![0; n]; if n > 4 { zeros[4] = 1; } s.read(&zeros); }
     for kind in 0..5u8 { for flags in [0u8, 1, 2, 0x80, 0xFE, 0xFF] { let number = (g.next() >> 32) as u32; s.flags((number, kind, flags, (g.next() >> 32) as u16)); } }
     for &n in &[0usize, 1, 2, 3, 4, 7, 8, 15, 16, 17, 18, 31, 32, 33, 63, 64, 65] {
@@ -428,17 +429,17 @@ fn sample(dir: &str, seed: u64) {
         s.read(&longer);
         for i in [0, 4, 5, 6, 7, 8, 9, raw.len() - 1] { let mut other = raw.clone(); other[i] ^= 1 << g.below(8); s.read(&other); }
     }
-    for &n in &[1399usize, 1400, 1401] {
+    for &n in &[1398usize, 1399, 1400, 1401] {
         let (f, p) = (random_fields(&mut g), g.bytes(n));
         s.checksum(f, &p);
-        s.write(f, &p, 12);
-        s.write(f, &p, 10 + n);
+        for room in [12, 9 + n, 10 + n, 20 + n] { s.write(f, &p, room); }
         let mut q = packet(f, &p);
         q.compute_and_set_checksum();
-        s.read(&q.to_bytes());
+        let mut raw = q.to_bytes();
+        s.read(&raw);
+        let i = g.below(raw.len());
+        raw[i] ^= 1 << g.below(8);
+        s.read(&raw);
     }
-    std::fs::create_dir_all(dir).unwrap();
-    std::fs::write(format!("{}/stdin", dir), &s.stdin).unwrap();
-    std::fs::write(format!("{}/stdout", dir), &s.stdout).unwrap();
-    println!("packet: {} cases, {} bytes of input, {} of answers, in {}", s.cases, s.stdin.len(), s.stdout.len(), dir);
+    s.cases.save(dir);
 }

@@ -8,6 +8,11 @@ extern crate reference;
 #[path = "generator.rs"]
 mod generator;
 
+#[path = "cases.rs"]
+#[allow(dead_code)]
+mod cases;
+
+use cases::{numbers, Cases};
 use generator::{fail, verdict, Gen};
 use reference::rto::{RtoConfig, RtoEstimator};
 use reference::timer::{MultiTimer, RetransmissionTimer};
@@ -433,113 +438,182 @@ fn estimators(r: &mut Gen, n: &mut u64) {
     *n += 2;
 }
 
-// Cases for crates/timing_replay and the reference's answers (what document 01 refuses, as it refuses).
-fn sample(dir: &str, seed: u64) {
-    use std::fmt::Write as _;
-    let mut r = Gen(seed);
-    let (mut cases, mut answers) = (String::new(), String::new());
-    let zero = Instant::now();
-    let at = |x: u64| zero + Duration::from_nanos(x);
-    writeln!(cases, "# Made by compare/timing.rs --sample: random calls, often at the edges; the answers are the reference's.").unwrap();
-    for i in 0..120 {
-        let unit = 1u64 << 20;
-        let mut c = [r.span(), r.span(), r.span(), r.span() % 1_000_000_001, r.below(unit + 1), r.below(unit + 1), r.below(16 * unit + 1), r.below(16 * unit + 1)];
-        if c[1] > c[2] { c.swap(1, 2); }
-        if i == 0 { c = [1_000_000_000, 1_000_000, 60_000_000_000, 1_000_000, unit / 8, unit / 4, 4 * unit, unit]; }
-        if i == 1 { c = [1_000_000_000, 1_000_000_000, 60_000_000_000, 1_000_000, unit / 8, unit / 4, 4 * unit, unit]; }
-        if i == 2 { c = [300_000_000, 1_000_000, 500_000_000, 1_000_000, unit / 8, unit / 4, 4 * unit, unit]; }
-        if i % 40 == 39 { let j = r.below(8) as usize; c[j] = [DAY + 1, DAY + 1, DAY + 1, 1_000_000_001, unit + 1, unit + 1, 16 * unit + 1, 16 * unit + 1][j]; }
-        cases.push('e');
-        for x in c { write!(cases, "{x:016x}").unwrap(); }
-        let good = c[..3].iter().all(|x| *x <= DAY) && c[3] <= 1_000_000_000 && c[1] <= c[2] && c[4] <= unit && c[5] <= unit && c[6] <= 16 * unit && c[7] <= 16 * unit;
-        let f = |x: u64| x as f64 / 1048576.0;
-        let d = Duration::from_nanos;
-        let mut e = if good { Some(RtoEstimator::with_config(RtoConfig { initial_rto: d(c[0]), min_rto: d(c[1]), max_rto: d(c[2]), granularity: d(c[3]), alpha: f(c[4]), beta: f(c[5]), k: f(c[6]), rto_multiplier: f(c[7]) })) } else { answers.push_str("refused 4 ; "); None };
+// Cases for crates/timing_replay: see the head of its source. What document 01 refuses is refused as it says.
+fn refusal(n: u64) -> String { format!(" refused {n}") }
+fn maybe(x: Option<u64>) -> String { x.map_or(" none".to_string(), |x| format!(" {x}")) }
+
+fn shown_estimator(e: &RtoEstimator) -> String {
+    let s = &e.stats;
+    numbers(&[ns(e.current_rto())]) + &maybe(e.srtt().map(ns)) + &maybe(e.rttvar().map(ns))
+        + &numbers(&[ns(e.base_rto()), e.is_in_backoff() as u64, e.consecutive_timeouts() as u64, s.sample_count, s.karn_rejected_count, s.timeout_count, s.backoff_count, s.max_consecutive_timeouts as u64, e.mean_rtt_ms().to_bits()])
+}
+
+fn estimator_cases(r: &mut Gen, cases: &mut Cases) {
+    let d = Duration::from_nanos;
+    let mut e = RtoEstimator::new();
+    for i in 0..90 {
+        let mut c = ([r.span(), r.span(), r.span(), r.span() % 1_000_000_001], [r.chance(), r.chance(), r.factor(), r.factor()]);
+        if c.0[1] > c.0[2] { c.0.swap(1, 2); }
+        // R1, R1 with a minimum of 1 s, R2
+        let sheet = [0.125, 0.25, 4.0, 1.0];
+        if i == 0 { c = ([1_000_000_000, 1_000_000, 60_000_000_000, 1_000_000], sheet); }
+        if i == 1 { c = ([1_000_000_000, 1_000_000_000, 60_000_000_000, 1_000_000], sheet); }
+        if i == 2 { c = ([300_000_000, 1_000_000, 500_000_000, 1_000_000], sheet); }
+        if i % 9 == 8 {
+            match r.below(10) {
+                j @ 0..=2 => c.0[j as usize] = DAY + 1 + r.below(2) * (u64::MAX - DAY - 1),
+                3 => c.0[3] = 1_000_000_001,
+                4 => { c.0[1] = 2; c.0[2] = 1; }
+                5 => c.1[r.below(4) as usize] = f64::NAN,
+                6 => c.1[r.below(4) as usize] = r.of(&[-f64::MIN_POSITIVE, -1.0, f64::NEG_INFINITY, f64::INFINITY, 17.0]),
+                j @ 7..=8 => c.1[j as usize - 7] = f64::from_bits(1.0f64.to_bits() + 1),
+                _ => c.1[2 + r.below(2) as usize] = f64::from_bits(16.0f64.to_bits() + 1),
+            }
+        }
+        let ([initial, min, max, granularity], [alpha, beta, k, multiplier]) = c;
+        let good = initial <= DAY && max <= DAY && min <= max && granularity <= 1_000_000_000 && [alpha, beta].iter().all(|x| (0.0..=1.0).contains(x)) && [k, multiplier].iter().all(|x| (0.0..=16.0).contains(x));
+        let line = "e".to_string() + &numbers(&c.0) + &numbers(&c.1.map(f64::to_bits));
+        if good {
+            e = RtoEstimator::with_config(RtoConfig { initial_rto: d(initial), min_rto: d(min), max_rto: d(max), granularity: d(granularity), alpha, beta, k, rto_multiplier: multiplier });
+            cases.case(line, shown_estimator(&e));
+        } else {
+            cases.case(line, refusal(4));
+        }
         let around = r.span();
         for j in 0..12 {
-            let (mut op, mut x) = (r.of(&[0u64, 0, 0, 0, 1, 2, 2, 3, 4]), 0);
-            if op == 4 { x = r.below(3); }
-            if op < 2 { x = if r.below(2) == 0 { around } else { r.maybe_out() }; }
-            if i < 2 && j == 0 { op = 0; x = 100_000_000; }
-            if i == 2 && j == 0 { op = 2; x = 0; }
-            write!(cases, "{op:016x}{x:016x}").unwrap();
-            if let Some(e) = &mut e {
-                if op == 4 { write!(answers, "{} ; ", e.has_exceeded_retry_limit(x as u32) as u64).unwrap(); continue; }
-                if x > DAY { answers.push_str("refused 10 ; "); continue; }
-                match op { 2 => write!(answers, "{} ", ns(e.on_timeout())).unwrap(), 3 => e.reset_backoff(), _ => write!(answers, "{} ", e.update_rtt(d(x), op == 1) as u64).unwrap() }
-                let o = |x: Option<Duration>| x.map_or("-".to_string(), |d| ns(d).to_string());
-                write!(answers, "{} {} {} {} {} {} ", ns(e.current_rto()), o(e.srtt()), o(e.rttvar()), ns(e.base_rto()), e.is_in_backoff() as u64, e.consecutive_timeouts()).unwrap();
-                let s = &e.stats;
-                write!(answers, "{} {} {} {} {} {} ; ", s.sample_count, s.karn_rejected_count, s.timeout_count, s.backoff_count, s.max_consecutive_timeouts, e.mean_rtt_ms().to_bits()).unwrap();
+            let mut op = r.of(&[0u64, 0, 0, 0, 1, 2, 2, 3, 4]);
+            let mut x = match r.below(3) { 0 => (around + r.below(around / 4 + 2)).min(DAY), 1 => r.next() % (DAY + 1), _ => r.maybe_out() };
+            if i < 2 && j == 0 { (op, x) = (0, 100_000_000); }
+            if i == 2 && j == 0 { op = 2; }
+            match op {
+                2 => { let rto = ns(e.on_timeout()); cases.case("o".to_string(), format!(" {rto}") + &shown_estimator(&e)) }
+                3 => { e.reset_backoff(); cases.case("b".to_string(), " done".to_string() + &shown_estimator(&e)) }
+                4 => { let limit = r.below(3); cases.case(format!("l {limit}"), format!(" {}", e.has_exceeded_retry_limit(limit as u32) as u64)) }
+                _ => {
+                    let answer = if x > DAY { refusal(10) } else { format!(" {}", e.update_rtt(d(x), op == 1) as u64) };
+                    cases.case(format!("s {x} {op}"), answer + &shown_estimator(&e));
+                }
             }
         }
-        cases.push('\n');
-        answers.push('\n');
     }
-    for _ in 0..80 {
-        let room = r.of(&[0u64, 1, 2, 4, 8, 32]);
-        write!(cases, "m{room:016x}").unwrap();
+}
+
+fn timer_set_cases(r: &mut Gen, cases: &mut Cases) {
+    let zero = Instant::now();
+    let at = |x: u64| zero + Duration::from_nanos(x);
+    for _ in 0..60 {
+        let room = r.of(&[0usize, 1, 2, 3, 4, 8, 32, 40]);
+        let keys_in_use = r.of(&[12, 60]);
+        cases.case(format!("m {room}"), " made".to_string());
         let mut t: MultiTimer<u32> = MultiTimer::new();
-        let mut keys = BTreeMap::new();
-        for _ in 0..14 {
-            let (op, key, mut now, dur) = (r.of(&[0u64, 0, 0, 0, 1, 2, 3, 4, 4, 5]), r.below(12) as u32, if r.below(30) == 0 { TWO_DAYS + 1 } else { r.span() }, r.maybe_out());
+        let mut held: BTreeMap<u32, u64> = BTreeMap::new();
+        for _ in 0..if room > 8 { 50 } else { 16 } {
+            let key = match r.below(12) { 0 => u32::MAX, 1 => r.next() as u32, _ => r.below(keys_in_use) as u32 };
+            let mut now = if r.below(30) == 0 { r.of(&[TWO_DAYS, TWO_DAYS + 1, u64::MAX]) } else { r.span() };
+            let late = |now: u64| now > TWO_DAYS;
             // often at a deadline
-            if op != 0 && r.below(2) == 0 { now = keys.get(&key).or(keys.values().next()).copied().unwrap_or(now); }
-            let (key, now, dur) = match op { 0 => (key, now, dur), 1 => (key, 0, 0), 2 => (0, now, 0), 4 => (key, now, 0), _ => (0, 0, 0) };
-            write!(cases, "{op:016x}{key:016x}{now:016x}{dur:016x}").unwrap();
-            match op {
-                0 if now > TWO_DAYS || dur > DAY || now + dur > TWO_DAYS => answers.push_str("refused 10 ; "),
-                0 if !keys.contains_key(&key) && keys.len() as u64 == room => answers.push_str("refused 5 ; "),
-                0 => { keys.insert(key, now + dur); write!(answers, "{} ; ", t.start_timer_at(key, at(now), Duration::from_nanos(dur))).unwrap(); }
-                1 => { keys.remove(&key); write!(answers, "{} ; ", t.cancel_timer(&key) as u64).unwrap(); }
-                2 if now > TWO_DAYS => answers.push_str("refused 10 ; "),
-                2 => { let mut out = t.pop_expired_at(at(now)); out.sort(); for k in &out { keys.remove(k); write!(answers, "{k} ").unwrap(); } answers.push_str("; "); }
-                4 if now > TWO_DAYS => answers.push_str("refused 10 ; "),
-                4 => write!(answers, "{} ; ", t.is_expired_at(&key, at(now)) as u64).unwrap(),
-                5 => { t.clear(); keys.clear(); write!(answers, "{} ; ", t.len()).unwrap(); }
-                _ => { match t.earliest_deadline() { Some(i) => write!(answers, "{} ; ", ns(i - zero)).unwrap(), None => answers.push_str("- ; ") } }
+            if r.below(2) == 0 { now = held.get(&key).or(held.values().next()).copied().unwrap_or(now) - r.below(2).min(held.get(&key).copied().unwrap_or(0)); }
+            match r.below(20) {
+                0..=8 => {
+                    let span = if r.below(2) == 0 { r.span() } else { r.maybe_out() };
+                    let answer = if late(now) || span > DAY || now + span > TWO_DAYS { refusal(10) } else if !held.contains_key(&key) && held.len() == room { refusal(5) } else {
+                        held.insert(key, now + span);
+                        format!(" {}", t.start_timer_at(key, at(now), Duration::from_nanos(span)))
+                    };
+                    cases.case(format!("k {key} {now} {span}"), answer);
+                }
+                9 | 10 => { held.remove(&key); cases.case(format!("c {key}"), format!(" {}", t.cancel_timer(&key) as u64)); }
+                11..=13 => cases.case(format!("x {key} {now}"), if late(now) { refusal(10) } else { format!(" {}", t.is_expired_at(&key, at(now)) as u64) }),
+                14 | 15 => {
+                    let due: Vec<u32> = held.iter().filter(|e| *e.1 <= now).map(|e| *e.0).collect();
+                    let size = if r.below(4) == 0 { due.len().saturating_sub(1) } else { due.len() + r.below(3) as usize }.min(40);
+                    let mut out = vec![7u64; size];
+                    let answer = if late(now) { refusal(10) } else if due.len() > size { refusal(5) } else {
+                        let mut keys = t.pop_expired_at(at(now));
+                        keys.sort();
+                        for (i, k) in keys.iter().enumerate() { held.remove(k); out[i] = *k as u64; }
+                        format!(" {}", keys.len())
+                    };
+                    cases.case(format!("p {now} {size}"), answer + &numbers(&out));
+                }
+                16 | 17 => cases.case("q".to_string(), maybe(t.earliest_deadline().map(|i| ns(i - zero)))),
+                18 if r.below(3) == 0 => { t.clear(); held.clear(); cases.case("z".to_string(), format!(" done {}", t.len())); }
+                _ => cases.case("d".to_string(), shown_set(&t, &held, room)),
             }
         }
-        cases.push('\n');
-        answers.push('\n');
+        cases.case("d".to_string(), shown_set(&t, &held, room));
     }
+}
+
+// Document 01's slices: the used entries by ascending key, then zeros.
+fn shown_set(t: &MultiTimer<u32>, held: &BTreeMap<u32, u64>, room: usize) -> String {
+    let mut keys: Vec<u64> = held.keys().map(|k| *k as u64).collect();
+    let mut deadlines: Vec<u64> = held.values().copied().collect();
+    keys.resize(room, 0);
+    deadlines.resize(room, 0);
+    format!(" {}", t.len()) + &numbers(&keys) + &numbers(&deadlines)
+}
+
+fn timer_cases(r: &mut Gen, cases: &mut Cases) {
+    let zero = Instant::now();
+    let at = |x: u64| zero + Duration::from_nanos(x);
     for _ in 0..40 {
-        cases.push('t');
+        cases.case("n".to_string(), String::new());
         let mut t = RetransmissionTimer::new();
+        let mut deadline = 0;
         for _ in 0..16 {
-            let now = if r.below(20) == 0 { r.of(&[TWO_DAYS, TWO_DAYS + 1, u64::MAX]) } else { r.span() };
-            let op = r.of(&[0u64, 0, 1, 2, 2, 3]);
-            let (x, y) = match op { 0 => (now, r.maybe_out()), 1 => (0, 0), 2 => (now, 0), _ => (t.generation() - r.below(2).min(t.generation()), now) };
-            write!(cases, "{op:016x}{x:016x}{y:016x}").unwrap();
-            match op {
-                0 if x > TWO_DAYS || y > DAY || x + y > TWO_DAYS => answers.push_str("refused 10 ; "),
-                0 => write!(answers, "{} ; ", t.start_at(at(x), Duration::from_nanos(y))).unwrap(),
-                1 => write!(answers, "{} ; ", t.cancel()).unwrap(),
-                2 if x > TWO_DAYS => write!(answers, "{} ; refused 10 ; refused 10 ; ", t.is_active() as u64).unwrap(),
-                2 => write!(answers, "{} ; {} ; {} ; ", t.is_active() as u64, t.is_expired_at(at(x)) as u64, t.remaining_at(at(x)).map_or("-".to_string(), |d| ns(d).to_string())).unwrap(),
-                _ if y > TWO_DAYS => answers.push_str("refused 10 ; "),
-                _ => write!(answers, "{} ; ", t.is_expired_for_at(x, at(y)) as u64).unwrap(),
+            let mut now = if r.below(20) == 0 { r.of(&[TWO_DAYS, TWO_DAYS + 1, u64::MAX]) } else { r.span() };
+            let late = now > TWO_DAYS;
+            match r.below(6) {
+                0 | 1 => {
+                    let span = r.maybe_out();
+                    let answer = if late || span > DAY || now + span > TWO_DAYS { refusal(10) } else { deadline = now + span; format!(" {}", t.start_at(at(now), Duration::from_nanos(span))) };
+                    cases.case(format!("t {now} {span}"), answer);
+                }
+                2 => cases.case("u".to_string(), format!(" {}", t.cancel())),
+                op => {
+                    // often at the deadline, or just before it
+                    if !late && r.below(2) == 0 { now = deadline - r.below(2).min(deadline); }
+                    if op == 5 {
+                        let g = t.generation() - r.below(2).min(t.generation());
+                        cases.case(format!("w {g} {now}"), if late { refusal(10) } else { format!(" {}", t.is_expired_for_at(g, at(now)) as u64) });
+                    } else {
+                        let timed = if late { refusal(10) + &refusal(10) } else { format!(" {}", t.is_expired_at(at(now)) as u64) + &maybe(t.remaining_at(at(now)).map(ns)) };
+                        cases.case(format!("v {now}"), format!(" {}", t.is_active() as u64) + &timed);
+                    }
+                }
             }
         }
-        cases.push('\n');
-        answers.push('\n');
     }
-    for _ in 0..40 {
-        cases.push('d');
-        for _ in 0..16 {
-            let x = if r.below(4) == 0 { r.next() } else { r.span() };
-            write!(cases, "{x:016x}").unwrap();
-            let s = Duration::from_nanos(x).as_secs_f64();
-            for y in [s, s / 2.0, s * 1024.0, (x % (1 << 32)) as f64 / 1048576.0] {
-                if y < 17179869184.0 { write!(answers, "{} ", ns(Duration::from_secs_f64(y))).unwrap(); } else { answers.push_str("- "); }
-            }
-            answers.push_str("; ");
-        }
-        cases.push('\n');
-        answers.push('\n');
+}
+
+fn duration_cases(r: &mut Gen, cases: &mut Cases) {
+    for i in 0..500 {
+        let x = if i < 2 { u64::MAX - 1 + i } else if r.below(3) == 0 { r.next() } else { r.span() };
+        let s = Duration::from_nanos(x).as_secs_f64();
+        cases.case(format!("f {x}"), format!(" {}", s.to_bits()));
+        // all 53 bits of the mantissa, halves of a nanosecond, edges of the range
+        let y = match r.below(7) {
+            0 => f64::from_bits(r.next()),
+            1 => (r.next() >> 11) as f64 / (1u64 << (19 + r.below(44))) as f64,
+            2 => s,
+            3 => f64::from_bits(s.to_bits() ^ 1),
+            4 => (r.below(1 << 34) as f64) + (r.below(2048) as f64) / 2048.0,
+            5 => (r.below(1 << 20) as f64 + 0.5) / 1e9,
+            _ => r.of(&[0.0, -0.0, -1.0, f64::NAN, f64::INFINITY, 17179869184.0, 17179869183.999998, 2097152.0, 2097151.9999999998, 4.656612873077393e-10, 4.65661287307739e-10, 5e-10, 1.5e-9, 2.5e-9, 5e-324]),
+        };
+        cases.case(format!("g {}", y.to_bits()), maybe((y >= 0.0 && y < 17179869184.0).then(|| ns(Duration::from_secs_f64(y)))));
     }
-    std::fs::write(format!("{dir}/stdin"), cases).unwrap();
-    std::fs::write(format!("{dir}/stdout"), answers).unwrap();
+}
+
+fn sample(dir: &str, seed: u64) {
+    let mut r = Gen(seed);
+    let mut cases = Cases::new("timing", seed);
+    estimator_cases(&mut r, &mut cases);
+    timer_set_cases(&mut r, &mut cases);
+    timer_cases(&mut r, &mut cases);
+    duration_cases(&mut r, &mut cases);
+    cases.save(dir);
 }
 
 fn main() {

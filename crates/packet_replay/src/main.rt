@@ -1,19 +1,12 @@
-// Replays cases of the packet layer from standard input, and writes an answer for each, as the reference gave it (file `stdout`).
-//
-// A case is a line: a letter and then bytes, two hexadecimal digits each. A line that starts with '#' is a comment.
-//   r DATAGRAM                               from_bytes, is_valid and payload
-//   c NUMBER KIND FLAGS CHECKSUM PAYLOAD     compute_checksum and compute_and_set_checksum
+// Replays calls of the packet layer from standard input, and writes an answer for each, as the reference gave it
+// (file `stdout`). The form of lines is replay_io's. The letters, and what follows them:
+//   r DATAGRAM                                  from_bytes, is_valid and payload
+//   c NUMBER KIND FLAGS CHECKSUM PAYLOAD        compute_checksum and compute_and_set_checksum
 //   w NUMBER KIND FLAGS CHECKSUM ROOM PAYLOAD   to_bytes into a buffer of ROOM bytes, each a5 before
-//   t KIND                                   try_from and to_byte
-//   f NUMBER KIND FLAGS CHECKSUM             is_retransmitted, set_retransmitted, and the maker of this kind
-// with nothing between the parts: NUMBER has 4 bytes, KIND and FLAGS 1, CHECKSUM and ROOM 2.
-// An answer is a packet (number, kind, flags, checksum, hexadecimal), a value, or `refused` with the number and the values in decimal;
-// bytes are hexadecimal, and `-` where there are none.
-ghost use mathlib.Core.Path.{_≡_};
-ghost use Prim.Native.Nat.{_+_, _*_, _≤_, _<_};
-ghost use lib.ListN.{length};
-ghost use Rattle.io.specs.Counts.{Counts};
-use libc::STDOUT_FILENO;
+//   t KIND                                      try_from and to_byte
+//   f NUMBER KIND FLAGS CHECKSUM                is_retransmitted, set_retransmitted, and the maker of this kind
+// A packet is answered by number, kind, flags and checksum, a refusal by `refused`, its number and its values.
+use libc::STDIN_FILENO;
 use packet::ChecksumAnswer;
 use packet::LengthAnswer;
 use packet::Packet;
@@ -21,11 +14,12 @@ use packet::PacketAnswer;
 use packet::PacketType;
 use packet::PacketTypeAnswer;
 use packet::ValidityAnswer;
-use refusal::Refusal;
+use replay_io::Fields;
 
 fn main() {
-    let mut text = [0u8; 262144];
-    let n = io::read_full(0, &mut text);
+    let mut text = [0u8; 524288];
+    let n = io::read_full(STDIN_FILENO, &mut text);
+    replay_io::print_if_full(&text, n);
     replay(&text[..n]);
 }
 
@@ -42,109 +36,95 @@ fn replay(text: &[u8]) {
 }
 
 fn case(line: &[u8]) {
-    if line.len() == 0 {
-        return;
-    }
-    let op = line[0];
-    if op == b'#' {
+    let f = replay_io::read_fields(line);
+    if f.letter == b'#' {
         return;
     }
     let mut bytes = [0u8; 2048];
-    let n = decode(&line[1..], &mut bytes);
-    run(op, &bytes[..n]);
-    io::write_all(STDOUT_FILENO, b"\n");
+    let n = replay_io::read_bytes(line, f.bytes_at, &mut bytes);
+    replay_io::print_letter(f.letter);
+    run(f, &bytes[..n]);
+    replay_io::print(b"\n");
 }
 
-fn run(op: u8, bytes: &[u8]) {
-    match op {
-        b'r' => read_case(bytes),
-        b'c' => checksum_case(bytes),
-        b'w' => write_case(bytes),
-        b't' => type_case(bytes),
-        b'f' => flags_case(bytes),
-        _ => bad(),
+fn run(f: Fields, bytes: &[u8]) {
+    if replay_io::is(f, b'r', 0) {
+        read_case(bytes);
+        return;
     }
-}
-
-fn bad() {
-    io::write_all(STDOUT_FILENO, b"bad case");
+    if replay_io::is(f, b'c', 4) {
+        checksum_case(packet_of(f), bytes);
+        return;
+    }
+    if replay_io::is(f, b'w', 5) {
+        write_case(f, bytes);
+        return;
+    }
+    if replay_io::is(f, b't', 1) {
+        type_case(f);
+        return;
+    }
+    if replay_io::is(f, b'f', 4) {
+        flags_case(packet_of(f));
+        return;
+    }
+    replay_io::print_bad_line();
 }
 
 fn read_case(raw: &[u8]) {
     print_packet_answer(Packet::from_bytes(raw));
-    space();
     print_validity(Packet::is_valid(raw));
-    space();
-    print_bytes(Packet::payload(raw));
+    replay_io::print_bytes(Packet::payload(raw));
 }
 
-fn checksum_case(bytes: &[u8]) {
-    if bytes.len() < 8 {
-        bad();
-        return;
-    }
-    match packet_of(bytes) {
+fn checksum_case(a: PacketAnswer, payload: &[u8]) {
+    match a {
         PacketAnswer::Packet(p) => {
-            print_checksum(p.compute_checksum(&bytes[8..]));
-            space();
-            print_packet_answer(p.compute_and_set_checksum(&bytes[8..]));
+            print_checksum(p.compute_checksum(payload));
+            print_packet_answer(p.compute_and_set_checksum(payload));
         }
-        PacketAnswer::Refused(r) => print_refusal(r),
+        PacketAnswer::Refused(r) => replay_io::print_refusal(r),
     }
 }
 
-fn write_case(bytes: &[u8]) {
+fn write_case(f: Fields, payload: &[u8]) {
+    let v = f.values;
     let mut out = [0xa5u8; 2048];
-    write_within(bytes, &mut out);
+    write_within(packet_of(f), v[4] as usize, payload, &mut out);
 }
 
-fn write_within(bytes: &[u8], out: &mut [u8]) {
-    if bytes.len() < 10 {
-        bad();
-        return;
-    }
-    let room = be16(bytes[8], bytes[9]) as usize;
+fn write_within(a: PacketAnswer, room: usize, payload: &[u8], out: &mut [u8]) {
     if out.len() < room {
-        bad();
+        replay_io::print_bad_line();
         return;
     }
-    match packet_of(bytes) {
-        PacketAnswer::Packet(p) => write_packet(p, &bytes[10..], &mut out[..room]),
-        PacketAnswer::Refused(r) => print_refusal(r),
+    match a {
+        PacketAnswer::Packet(p) => write_packet(p, payload, &mut out[0..room]),
+        PacketAnswer::Refused(r) => replay_io::print_refusal(r),
     }
 }
 
 fn write_packet(p: Packet, payload: &[u8], out: &mut [u8]) {
     print_length(p.to_bytes(payload, out));
-    space();
-    print_bytes(out);
+    replay_io::print_bytes(out);
 }
 
-fn type_case(bytes: &[u8]) {
-    if bytes.len() < 1 {
-        bad();
-        return;
-    }
-    match PacketType::try_from(bytes[0]) {
-        PacketTypeAnswer::Type(t) => print_hex(t.to_byte() as u64, 2),
-        PacketTypeAnswer::Refused(r) => print_refusal(r),
+fn type_case(f: Fields) {
+    let v = f.values;
+    match PacketType::try_from((v[0] % 256) as u8) {
+        PacketTypeAnswer::Type(t) => replay_io::print_number(t.to_byte() as u64),
+        PacketTypeAnswer::Refused(r) => replay_io::print_refusal(r),
     }
 }
 
-fn flags_case(bytes: &[u8]) {
-    if bytes.len() < 8 {
-        bad();
-        return;
-    }
-    match packet_of(bytes) {
+fn flags_case(a: PacketAnswer) {
+    match a {
         PacketAnswer::Packet(p) => {
-            print_hex(p.is_retransmitted() as u64, 1);
-            space();
+            replay_io::print_test(p.is_retransmitted());
             print_packet(p.set_retransmitted());
-            space();
             print_packet(new_packet(p));
         }
-        PacketAnswer::Refused(r) => print_refusal(r),
+        PacketAnswer::Refused(r) => replay_io::print_refusal(r),
     }
 }
 
@@ -158,163 +138,53 @@ fn new_packet(p: Packet) -> Packet {
     }
 }
 
-// The packet of number, kind, flags and checksum.
-fn packet_of(bytes: &[u8]) -> PacketAnswer
-    requires { ⌜ 8 ≤ length (now bytes) ⌝ }
-{
-    match PacketType::try_from(bytes[4]) {
+// The packet of number, kind, flags and checksum, each cut to its width.
+fn packet_of(f: Fields) -> PacketAnswer {
+    let v = f.values;
+    match PacketType::try_from((v[1] % 256) as u8) {
         PacketTypeAnswer::Type(pkt_type) => PacketAnswer::Packet(Packet {
-            seq_num: be32(bytes[0], bytes[1], bytes[2], bytes[3]),
+            seq_num: replay_io::low(v[0]),
             pkt_type,
-            flags: bytes[5],
-            checksum: be16(bytes[6], bytes[7]),
+            flags: (v[2] % 256) as u8,
+            checksum: (v[3] % 65536) as u16,
         }),
         PacketTypeAnswer::Refused(r) => PacketAnswer::Refused(r),
     }
 }
 
-fn be16(a: u8, b: u8) -> u16
-    ensures { λ r. ⌜ r ≡ a * 256 + b ⌝ }
-{
-    (a as u16) * 256 + (b as u16)
-}
-
-fn be32(a: u8, b: u8, c: u8, d: u8) -> u32
-    ensures { λ r. ⌜ r ≡ ((a * 256 + b) * 256 + c) * 256 + d ⌝ }
-{
-    (((a as u32) * 256 + (b as u32)) * 256 + (c as u32)) * 256 + (d as u32)
-}
-
 fn print_packet_answer(a: PacketAnswer) {
     match a {
         PacketAnswer::Packet(p) => print_packet(p),
-        PacketAnswer::Refused(r) => print_refusal(r),
+        PacketAnswer::Refused(r) => replay_io::print_refusal(r),
     }
 }
 
 fn print_packet(p: Packet) {
     let pkt_type = p.pkt_type;
-    print_hex(p.seq_num as u64, 8);
-    space();
-    print_hex(pkt_type.to_byte() as u64, 2);
-    space();
-    print_hex(p.flags as u64, 2);
-    space();
-    print_hex(p.checksum as u64, 4);
+    replay_io::print_number(p.seq_num as u64);
+    replay_io::print_number(pkt_type.to_byte() as u64);
+    replay_io::print_number(p.flags as u64);
+    replay_io::print_number(p.checksum as u64);
 }
 
 fn print_validity(a: ValidityAnswer) {
     match a {
-        ValidityAnswer::Valid => {
-            io::write_all(STDOUT_FILENO, b"valid");
-        }
-        ValidityAnswer::Invalid => {
-            io::write_all(STDOUT_FILENO, b"invalid");
-        }
-        ValidityAnswer::Refused(r) => print_refusal(r),
+        ValidityAnswer::Valid => replay_io::print(b" valid"),
+        ValidityAnswer::Invalid => replay_io::print(b" invalid"),
+        ValidityAnswer::Refused(r) => replay_io::print_refusal(r),
     }
 }
 
 fn print_checksum(a: ChecksumAnswer) {
     match a {
-        ChecksumAnswer::Checksum(k) => print_hex(k as u64, 4),
-        ChecksumAnswer::Refused(r) => print_refusal(r),
+        ChecksumAnswer::Checksum(k) => replay_io::print_number(k as u64),
+        ChecksumAnswer::Refused(r) => replay_io::print_refusal(r),
     }
 }
 
 fn print_length(a: LengthAnswer) {
     match a {
-        LengthAnswer::Length(n) => print_decimal(n as u64),
-        LengthAnswer::Refused(r) => print_refusal(r),
+        LengthAnswer::Length(n) => replay_io::print_number(n as u64),
+        LengthAnswer::Refused(r) => replay_io::print_refusal(r),
     }
-}
-
-fn print_refusal(r: Refusal) {
-    io::write_all(STDOUT_FILENO, b"refused ");
-    print_decimal(r.number() as u64);
-    print_values(r);
-}
-
-fn print_values(r: Refusal) {
-    let values = r.values();
-    if 0 < values.count {
-        print_value(values.first);
-    }
-    if 1 < values.count {
-        print_value(values.second);
-    }
-}
-
-fn print_value(n: u64) {
-    space();
-    print_decimal(n);
-}
-
-fn space() {
-    io::write_all(STDOUT_FILENO, b" ");
-}
-
-fn print_decimal(n: u64) {
-    io::print_decimal(STDOUT_FILENO, n);
-}
-
-fn print_hex(n: u64, width: usize) {
-    io::print_hex(STDOUT_FILENO, n, width);
-}
-
-fn print_bytes(bytes: &[u8]) {
-    if bytes.len() == 0 {
-        io::write_all(STDOUT_FILENO, b"-");
-        return;
-    }
-    let mut text = [0u8; 4096];
-    let n = encode(bytes, &mut text);
-    io::write_all(STDOUT_FILENO, &text[..n]);
-}
-
-// Two digits for each byte, as many as `out` has room for; answers how many digits.
-fn encode(bytes: &[u8], out: &mut [u8]) -> usize
-    ensures { λ r. ⌜ Counts r (now (out .exit)) ⌝ }
-{
-    let most = least(bytes.len(), out.len() / 2);
-    let mut i: usize = 0;
-    while i < most {
-        out[2 * i] = high(bytes[i]);
-        out[2 * i + 1] = low(bytes[i]);
-        i += 1;
-    }
-    2 * most
-}
-
-// The bytes that the digits make, as many as `out` has room for; answers how many.
-fn decode(text: &[u8], out: &mut [u8]) -> usize
-    ensures { λ r. ⌜ Counts r (now (out .exit)) ⌝ }
-{
-    let most = least(text.len() / 2, out.len());
-    let mut i: usize = 0;
-    while i < most {
-        out[i] = replay_io::hex_value(text[2 * i]) * 16 + replay_io::hex_value(text[2 * i + 1]);
-        i += 1;
-    }
-    most
-}
-
-fn least(a: usize, b: usize) -> usize
-    ensures { λ r. ⌜ (r ≤ a) × (r ≤ b) ⌝ }
-{
-    if a < b { a } else { b }
-}
-
-fn high(b: u8) -> u8 {
-    hex_digit(b / 16)
-}
-
-fn low(b: u8) -> u8 {
-    hex_digit(b % 16)
-}
-
-fn hex_digit(d: u8) -> u8
-    requires { ⌜ d < 16 ⌝ }
-{
-    if d < 10 { d + 48 } else { d + 87 }
 }

@@ -1,24 +1,30 @@
-// Replays calls of the timing layer from standard input, and writes an answer for each line, as the reference gave it (file `stdout`).
-//
-// A case is a line: a letter, then words of 16 hexadecimal digits each, with nothing between. A line that starts with '#' is a comment.
-//   e INITIAL MIN MAX GRANULARITY ALPHA BETA K MULTIPLIER CALLS   an estimator of this setup; durations in ns, doubles in units of 2^-20
-//       a call is two words: 0 and a sample, 1 and a retransmitted sample, 2 and 0 for a timeout, 3 and 0 for reset_backoff, 4 and a retry limit
-//   m ROOM CALLS                                                  a timer set of at most 32 entries
-//       a call is four words: 0, key, now, duration to start; 1, key, 0, 0 to cancel; 2, 0, now, 0 to pop; 3, 0, 0, 0 for the earliest;
-//       4, key, now, 0 for expired; 5, 0, 0, 0 to clear, which prints how many are left
-//   t CALLS                                                       the retransmission timer
-//       a call is three words: 0, now, duration to start; 1, 0, 0 to cancel; 2, now, 0 for active, expired and remaining; 3, generation, now for
-//       expired of that generation
-//   d NANOSECONDS ..                                              durations: S is such a number in seconds as a double
-//       printed in ns, or `-` out of range: S, S / 2, S * 1024, and the number's lower 32 digits in units of 2^-20 s
-// Each call prints its answer and `;`: a generation; 0 or 1; keys; a deadline; `-` where there is none; or `refused` and the number.
-// A sample prints 0 or 1 and a timeout the RTO that it answers, and after these and a reset stand RTO, SRTT, RTTVAR and base RTO in ns,
-// whether it backs off, the consecutive timeouts, the counts of samples, rejected ones, timeouts and backoffs, the most consecutive
-// timeouts and the bits of the mean RTT in ms.
-ghost use mathlib.Core.Path.{_≡_};
-ghost use Prim.Native.Nat.{_≤_, _<_};
-ghost use lib.ListN.{length};
-use libc::STDOUT_FILENO;
+// Replays calls of the timing layer from standard input, and writes an answer for each, as the reference gave it
+// (file `stdout`). The form of lines is replay_io's; durations and times are in ns. The letters, and what follows
+// them:
+//   e INITIAL MIN MAX GRANULARITY ALPHA BETA K MULTIPLIER   an estimator of this setup; where it is refused, the one
+//     before stays
+//   s SAMPLE AGAIN         update_rtt, of a retransmitted packet where AGAIN is not 0
+//   o                      on_timeout
+//   b                      reset_backoff
+//   l LIMIT                has_exceeded_retry_limit
+//   m ROOM                 an empty timer set of that many entries, 40 at most, each filled with ones before
+//   k KEY NOW DURATION     start_timer_at
+//   c KEY                  cancel_timer
+//   x KEY NOW              is_expired_at
+//   p NOW ROOM             pop_expired_at into ROOM keys, 40 at most, each 7 before; answers all of them
+//   q                      earliest_deadline
+//   z                      clear
+//   d                      answers how many entries are used, and all keys and deadlines
+//   n                      a retransmission timer
+//   t NOW DURATION         start_at
+//   u                      cancel
+//   v NOW                  is_active, is_expired_at and remaining_at
+//   w GENERATION NOW       is_expired_for_at
+//   f NS                   as_secs_f64
+//   g SECONDS              from_secs_f64, of a double; `none` out of range
+// An estimator is answered by RTO, SRTT, RTTVAR and base RTO, whether it backs off, the consecutive timeouts, the
+// counts of samples, rejected ones, timeouts and backoffs, the most consecutive timeouts and the mean RTT in ms.
+use libc::STDIN_FILENO;
 use multi_timer::CancelAnswer;
 use multi_timer::EarliestAnswer;
 use multi_timer::MultiTimer;
@@ -26,8 +32,9 @@ use multi_timer::MultiTimerAnswer;
 use multi_timer::PopAnswer;
 use multi_timer::StartAnswer;
 use refusal::DoneAnswer;
-use refusal::Refusal;
 use refusal::TestAnswer;
+use replay_io::Fields;
+use rto::EstimatorAnswer;
 use rto::MaybeDuration;
 use rto::MeanAnswer;
 use rto::RtoAnswer;
@@ -40,17 +47,37 @@ use timer::RetransmissionTimer;
 use timer::TimerAnswer;
 use timer::TimerResult;
 
-fn main() {
-    let mut text = [0u8; 262144];
-    let n = io::read_full(0, &mut text);
-    replay(&text[..n]);
+struct State {
+    estimator: RtoEstimator,
+    timer: RetransmissionTimer,
+    timers: MultiTimer,
+    room: usize,
 }
 
-fn replay(text: &[u8]) {
+fn main() {
+    let mut text = [0u8; 524288];
+    let n = io::read_full(STDIN_FILENO, &mut text);
+    let mut keys = [0u32; 40];
+    let mut deadlines = [0u64; 40];
+    replay_io::print_if_full(&text, n);
+    replay(&text[..n], start(), &mut keys, &mut deadlines);
+}
+
+fn start() -> State {
+    State {
+        estimator: RtoEstimator::new(),
+        timer: RetransmissionTimer::new(),
+        timers: no_timers(),
+        room: 0,
+    }
+}
+
+fn replay(text: &[u8], first: State, keys: &mut [u32], deadlines: &mut [u64]) {
+    let mut state = first;
     let mut at: usize = 0;
     while at < text.len() {
         let end = replay_io::line_end_unchecked(text, at);
-        case(&text[at..end]);
+        state = case(&text[at..end], state, keys, deadlines);
         at = end;
         if at < text.len() {
             at += 1;
@@ -58,118 +85,104 @@ fn replay(text: &[u8]) {
     }
 }
 
-fn case(line: &[u8]) {
-    if line.len() == 0 {
-        return;
+fn case(line: &[u8], state: State, keys: &mut [u32], deadlines: &mut [u64]) -> State {
+    let f = replay_io::read_fields(line);
+    if f.letter == b'#' {
+        return state;
     }
-    let op = line[0];
-    if op == b'e' {
-        estimator_case(&line[1..]);
-        return;
+    replay_io::print_letter(f.letter);
+    let after = call(f, state, keys, deadlines);
+    replay_io::print(b"\n");
+    after
+}
+
+fn call(f: Fields, state: State, keys: &mut [u32], deadlines: &mut [u64]) -> State {
+    let e = state.estimator;
+    let t = state.timer;
+    let m = state.timers;
+    let room = state.room;
+    if is_estimator_call(f) {
+        return State {
+            estimator: estimator_call(f, e),
+            timer: t,
+            timers: m,
+            room: room,
+        };
     }
-    if op == b'm' {
-        timers_case(&line[1..]);
-        return;
+    if is_timer_call(f) {
+        return State {
+            estimator: e,
+            timer: timer_call(f, t),
+            timers: m,
+            room: room,
+        };
     }
-    if op == b't' {
-        timer_calls(&line[1..]);
-        return;
+    if replay_io::is(f, b'm', 1) {
+        return new_set(f, state, keys, deadlines);
     }
-    if op == b'd' {
-        durations(&line[1..]);
+    State {
+        estimator: e,
+        timer: t,
+        timers: set_within(f, room, m, keys, deadlines),
+        room: room,
     }
 }
 
-// The word at place i of the digits; 0 past their end.
-fn word(digits: &[u8], i: usize) -> u64 {
-    if i < digits.len() / 16 {
-        return word_at(digits, i * 16);
+fn is_estimator_call(f: Fields) -> bool {
+    if replay_io::is(f, b'e', 8) {
+        return true;
     }
-    0
-}
-
-fn word_at(digits: &[u8], at: usize) -> u64 {
-    let mut x: u64 = 0;
-    let mut i: usize = 0;
-    while i < 16 {
-        x = std::num::wrapping_add_u64(
-            shifted(x),
-            replay_io::hex_value(byte(digits, at, i)) as u64,
-        );
-        i += 1;
+    if replay_io::is(f, b's', 2) {
+        return true;
     }
-    x
-}
-
-fn byte(digits: &[u8], at: usize, i: usize) -> u8 {
-    if at < digits.len() {
-        if i < digits.len() - at {
-            return digits[at + i];
-        }
+    if replay_io::is(f, b'o', 0) {
+        return true;
     }
-    b'0'
+    if replay_io::is(f, b'b', 0) {
+        return true;
+    }
+    replay_io::is(f, b'l', 1)
 }
 
-// 16 * x, modulo 2^64.
-fn shifted(x: u64) -> u64 {
-    (x % 1152921504606846976) * 16
+fn estimator_call(f: Fields, e: RtoEstimator) -> RtoEstimator {
+    let v = f.values;
+    let letter = f.letter;
+    match letter {
+        b'e' => new_estimator(f, e),
+        b's' => sample_call(e, v[0], v[1] != 0),
+        b'o' => timeout_call(e),
+        b'b' => reset_call(e),
+        _ => limit_call(e, v[0]),
+    }
 }
 
-fn double(x: u64) -> f64 {
-    (narrow(x) as f64) / 1048576.0
-}
-
-fn narrow(x: u64) -> u32 {
-    (x % 4294967296) as u32
-}
-
-fn estimator_case(digits: &[u8]) {
+fn new_estimator(f: Fields, before: RtoEstimator) -> RtoEstimator {
+    let v = f.values;
     let c = RtoConfig {
-        initial_rto: word(digits, 0),
-        min_rto: word(digits, 1),
-        max_rto: word(digits, 2),
-        granularity: word(digits, 3),
-        alpha: double(word(digits, 4)),
-        beta: double(word(digits, 5)),
-        k: double(word(digits, 6)),
-        rto_multiplier: double(word(digits, 7)),
+        initial_rto: v[0],
+        min_rto: v[1],
+        max_rto: v[2],
+        granularity: v[3],
+        alpha: replay_io::real(v[4]),
+        beta: replay_io::real(v[5]),
+        k: replay_io::real(v[6]),
+        rto_multiplier: replay_io::real(v[7]),
     };
     match RtoEstimator::with_config(c) {
-        rto::EstimatorAnswer::Made(e) => estimator_calls(digits, e),
-        rto::EstimatorAnswer::Refused(r) => print_refusal(r),
-    }
-    end_line();
-}
-
-fn estimator_calls(digits: &[u8], first: RtoEstimator) {
-    let mut e = first;
-    let calls = digits.len() / 32;
-    let mut i: usize = 4;
-    while i < calls {
-        e = estimator_call(e, word(digits, 2 * i), word(digits, 2 * i + 1));
-        i += 1;
+        EstimatorAnswer::Made(e) => {
+            print_estimator(e);
+            e
+        }
+        EstimatorAnswer::Refused(r) => {
+            replay_io::print_refusal(r);
+            before
+        }
     }
 }
 
-fn estimator_call(e: RtoEstimator, op: u64, x: u64) -> RtoEstimator {
-    if op == 2 {
-        return timeout_call(e);
-    }
-    if op == 3 {
-        return reset_call(e);
-    }
-    if op == 4 {
-        limit_call(e, x);
-        return e;
-    }
-    sample_call(e, x, op == 1)
-}
-
-fn limit_call(e: RtoEstimator, x: u64) {
-    match e.has_exceeded_retry_limit(narrow(x)) {
-        TestAnswer::Is(b) => answer(b as u64),
-        TestAnswer::Refused(r) => print_refusal(r),
-    }
+fn limit_call(e: RtoEstimator, limit: u64) -> RtoEstimator {
+    print_test(e.has_exceeded_retry_limit(replay_io::low(limit)));
+    e
 }
 
 fn sample_call(e: RtoEstimator, x: u64, again: bool) -> RtoEstimator {
@@ -177,12 +190,10 @@ fn sample_call(e: RtoEstimator, x: u64, again: bool) -> RtoEstimator {
     let next = c.estimator;
     let a = c.answer;
     match a {
-        UpdateAnswer::Accepted(b) => {
-            number(b as u64);
-            print_estimator(next);
-        }
-        UpdateAnswer::Refused(r) => print_refusal(r),
+        UpdateAnswer::Accepted(b) => replay_io::print_test(b),
+        UpdateAnswer::Refused(r) => replay_io::print_refusal(r),
     }
+    print_estimator(next);
     next
 }
 
@@ -191,12 +202,10 @@ fn timeout_call(e: RtoEstimator) -> RtoEstimator {
     let next = c.estimator;
     let a = c.answer;
     match a {
-        RtoAnswer::Rto(rto) => {
-            number(rto);
-            print_estimator(next);
-        }
-        RtoAnswer::Refused(r) => print_refusal(r),
+        RtoAnswer::Rto(rto) => replay_io::print_number(rto),
+        RtoAnswer::Refused(r) => replay_io::print_refusal(r),
     }
+    print_estimator(next);
     next
 }
 
@@ -204,10 +213,8 @@ fn reset_call(e: RtoEstimator) -> RtoEstimator {
     let c = e.reset_backoff();
     let next = c.estimator;
     let a = c.answer;
-    match a {
-        DoneAnswer::Done => print_estimator(next),
-        DoneAnswer::Refused(r) => print_refusal(r),
-    }
+    print_done(a);
+    print_estimator(next);
     next
 }
 
@@ -215,135 +222,211 @@ fn print_estimator(e: RtoEstimator) {
     let srtt = e.srtt;
     let rttvar = e.rttvar;
     let stats = e.stats;
-    number(e.current_rto);
+    replay_io::print_number(e.current_rto);
     print_rtt(srtt);
     print_rtt(rttvar);
-    number(e.base_rto);
-    number(e.in_backoff as u64);
-    number(wide(e.consecutive_timeouts));
+    replay_io::print_number(e.base_rto);
+    replay_io::print_test(e.in_backoff);
+    replay_io::print_number(wide(e.consecutive_timeouts));
     print_stats(stats);
     print_mean(e.mean_rtt_ms());
-    semicolon();
 }
 
 fn print_stats(s: RtoStats) {
-    number(s.sample_count);
-    number(s.karn_rejected_count);
-    number(s.timeout_count);
-    number(s.backoff_count);
-    number(wide(s.max_consecutive_timeouts));
+    replay_io::print_number(s.sample_count);
+    replay_io::print_number(s.karn_rejected_count);
+    replay_io::print_number(s.timeout_count);
+    replay_io::print_number(s.backoff_count);
+    replay_io::print_number(wide(s.max_consecutive_timeouts));
 }
 
 fn print_mean(a: MeanAnswer) {
     match a {
         MeanAnswer::Millis(x) => print_bits(x),
-        MeanAnswer::Refused(r) => print_refusal(r),
+        MeanAnswer::Refused(r) => replay_io::print_refusal(r),
     }
 }
 
 // The bits of a number from 0 on.
 fn print_bits(x: f64) {
     if x >= 0.0 {
-        number(f64::to_bits(x));
+        replay_io::print_number(f64::to_bits(x));
     } else {
-        none();
+        print_none();
     }
 }
 
 fn print_rtt(r: MaybeDuration) {
     match r {
-        MaybeDuration::Unset => none(),
-        MaybeDuration::Set(x) => number(x),
+        MaybeDuration::Unset => print_none(),
+        MaybeDuration::Set(x) => replay_io::print_number(x),
     }
 }
 
-fn timers_case(digits: &[u8]) {
-    let mut keys = [0u32; 32];
-    let mut deadlines = [0u64; 32];
-    timers_in(digits, word(digits, 0), &mut keys, &mut deadlines);
-    end_line();
+fn is_timer_call(f: Fields) -> bool {
+    if replay_io::is(f, b'n', 0) {
+        return true;
+    }
+    if replay_io::is(f, b't', 2) {
+        return true;
+    }
+    if replay_io::is(f, b'u', 0) {
+        return true;
+    }
+    if replay_io::is(f, b'v', 1) {
+        return true;
+    }
+    replay_io::is(f, b'w', 2)
 }
 
-fn timers_in(digits: &[u8], room: u64, keys: &mut [u32], deadlines: &mut [u64]) {
-    let n = room as usize;
+fn timer_call(f: Fields, t: RetransmissionTimer) -> RetransmissionTimer {
+    let v = f.values;
+    let letter = f.letter;
+    match letter {
+        b'n' => RetransmissionTimer::new(),
+        b't' => print_change(t.started_at(v[0], v[1])),
+        b'u' => print_change(t.cancelled()),
+        b'v' => print_timer(t, v[0]),
+        _ => print_timer_for(t, v[0], v[1]),
+    }
+}
+
+fn print_timer(t: RetransmissionTimer, now: u64) -> RetransmissionTimer {
+    print_test(t.is_active());
+    print_test(t.is_expired_at(now));
+    print_remaining(t.remaining_at(now));
+    t
+}
+
+fn print_timer_for(t: RetransmissionTimer, generation: u64, now: u64) -> RetransmissionTimer {
+    print_test(t.is_expired_for_at(generation, now));
+    t
+}
+
+fn print_change(c: TimerResult) -> RetransmissionTimer {
+    let t = c.timer;
+    let a = c.answer;
+    match a {
+        TimerAnswer::Id(g) => replay_io::print_number(g),
+        TimerAnswer::Refused(r) => replay_io::print_refusal(r),
+    }
+    t
+}
+
+fn print_remaining(a: Remaining) {
+    match a {
+        Remaining::Inactive => print_none(),
+        Remaining::For(d) => replay_io::print_number(d),
+        Remaining::Refused(r) => replay_io::print_refusal(r),
+    }
+}
+
+fn new_set(f: Fields, state: State, keys: &mut [u32], deadlines: &mut [u64]) -> State {
+    let v = f.values;
+    let n = v[0] as usize;
     if keys.len() < n {
-        return;
+        replay_io::print_bad_line();
+        return state;
     }
     if deadlines.len() < n {
-        return;
+        replay_io::print_bad_line();
+        return state;
     }
-    timers_within(digits, &mut keys[0..n], &mut deadlines[0..n]);
+    let e = state.estimator;
+    let t = state.timer;
+    State {
+        estimator: e,
+        timer: t,
+        timers: new_set_within(&mut keys[0..n], &mut deadlines[0..n]),
+        room: n,
+    }
 }
 
-fn timers_within(digits: &[u8], keys: &mut [u32], deadlines: &mut [u64]) {
+fn new_set_within(keys: &mut [u32], deadlines: &mut [u64]) -> MultiTimer {
+    fill_keys(keys, 1);
+    fill_deadlines(deadlines, 1);
     match multi_timer::new_timers(keys, deadlines) {
-        MultiTimerAnswer::Made(t) => timers_calls(digits, t, keys, deadlines),
-        MultiTimerAnswer::Refused(r) => print_refusal(r),
+        MultiTimerAnswer::Made(t) => {
+            replay_io::print(b" made");
+            t
+        }
+        MultiTimerAnswer::Refused(r) => {
+            replay_io::print_refusal(r);
+            no_timers()
+        }
     }
 }
 
-fn timers_calls(digits: &[u8], first: MultiTimer, keys: &mut [u32], deadlines: &mut [u64]) {
-    let mut t = first;
-    let words = digits.len() / 16;
-    let mut i: usize = 1;
-    while i + 3 < words {
-        t = timers_call(
-            t,
-            keys,
-            deadlines,
-            word(digits, i),
-            narrow(word(digits, i + 1)),
-            word(digits, i + 2),
-            word(digits, i + 3),
-        );
-        i += 4;
+fn no_timers() -> MultiTimer {
+    MultiTimer {
+        count: 0,
+        global_generation: 0,
     }
 }
 
-fn timers_call(
+fn fill_keys(keys: &mut [u32], x: u32) {
+    let mut i: usize = 0;
+    while i < keys.len() {
+        keys[i] = x;
+        i += 1;
+    }
+}
+
+fn fill_deadlines(deadlines: &mut [u64], x: u64) {
+    let mut i: usize = 0;
+    while i < deadlines.len() {
+        deadlines[i] = x;
+        i += 1;
+    }
+}
+
+fn set_within(
+    f: Fields,
+    room: usize,
     t: MultiTimer,
     keys: &mut [u32],
     deadlines: &mut [u64],
-    op: u64,
-    key: u32,
-    now: u64,
-    duration: u64,
 ) -> MultiTimer {
-    if op == 0 {
-        return start_call(t, keys, deadlines, key, now, duration);
+    let a = replay_io::min(room, keys.len());
+    let b = replay_io::min(room, deadlines.len());
+    set_call(f, t, &mut keys[0..a], &mut deadlines[0..b])
+}
+
+fn set_call(f: Fields, t: MultiTimer, keys: &mut [u32], deadlines: &mut [u64]) -> MultiTimer {
+    let v = f.values;
+    if replay_io::is(f, b'k', 3) {
+        return start_call(t, keys, deadlines, replay_io::low(v[0]), v[1], v[2]);
     }
-    if op == 1 {
-        return cancel_call(t, keys, deadlines, key);
+    if replay_io::is(f, b'c', 1) {
+        return cancel_call(t, keys, deadlines, replay_io::low(v[0]));
     }
-    if op == 2 {
-        return pop_call(t, keys, deadlines, now);
+    if replay_io::is(f, b'p', 2) {
+        return pop_call(t, keys, deadlines, v[0], v[1] as usize);
     }
-    if op == 4 {
-        expired_call(t, keys, deadlines, key, now);
-        return t;
-    }
-    if op == 5 {
+    if replay_io::is(f, b'z', 0) {
         return clear_call(t, keys, deadlines);
     }
-    earliest_call(t, keys, deadlines)
+    read_call(f, t, keys, deadlines);
+    t
 }
 
-fn expired_call(t: MultiTimer, keys: &[u32], deadlines: &[u64], key: u32, now: u64) {
-    match t.is_expired_at(keys, deadlines, key, now) {
-        TestAnswer::Is(b) => answer(b as u64),
-        TestAnswer::Refused(r) => print_refusal(r),
+fn read_call(f: Fields, t: MultiTimer, keys: &[u32], deadlines: &[u64]) {
+    let v = f.values;
+    if replay_io::is(f, b'x', 2) {
+        print_test(t.is_expired_at(keys, deadlines, replay_io::low(v[0]), v[1]));
+        return;
     }
-}
-
-fn clear_call(t: MultiTimer, keys: &mut [u32], deadlines: &mut [u64]) -> MultiTimer {
-    let c = t.clear(keys, deadlines);
-    let next = c.timers;
-    let a = c.answer;
-    match a {
-        DoneAnswer::Done => answer(next.len() as u64),
-        DoneAnswer::Refused(r) => print_refusal(r),
+    if replay_io::is(f, b'q', 0) {
+        print_earliest(t.earliest_deadline(keys, deadlines));
+        return;
     }
-    next
+    if replay_io::is(f, b'd', 0) {
+        replay_io::print_number(t.len() as u64);
+        print_keys(keys);
+        print_deadlines(deadlines);
+        return;
+    }
+    duration_call(f);
 }
 
 fn start_call(
@@ -358,8 +441,8 @@ fn start_call(
     let next = c.timers;
     let a = c.answer;
     match a {
-        StartAnswer::Id(g) => answer(g),
-        StartAnswer::Refused(r) => print_refusal(r),
+        StartAnswer::Id(g) => replay_io::print_number(g),
+        StartAnswer::Refused(r) => replay_io::print_refusal(r),
     }
     next
 }
@@ -369,156 +452,127 @@ fn cancel_call(t: MultiTimer, keys: &mut [u32], deadlines: &mut [u64], key: u32)
     let next = c.timers;
     let a = c.answer;
     match a {
-        CancelAnswer::Existed(x) => answer(x as u64),
-        CancelAnswer::Refused(r) => print_refusal(r),
+        CancelAnswer::Existed(x) => replay_io::print_test(x),
+        CancelAnswer::Refused(r) => replay_io::print_refusal(r),
     }
     next
 }
 
-fn pop_call(t: MultiTimer, keys: &mut [u32], deadlines: &mut [u64], now: u64) -> MultiTimer {
-    let mut out = [0u32; 32];
-    let c = t.pop_expired_at(keys, deadlines, now, &mut out);
+fn pop_call(
+    t: MultiTimer,
+    keys: &mut [u32],
+    deadlines: &mut [u64],
+    now: u64,
+    room: usize,
+) -> MultiTimer {
+    let mut out = [7u32; 40];
+    pop_within(t, keys, deadlines, now, room, &mut out)
+}
+
+fn pop_within(
+    t: MultiTimer,
+    keys: &mut [u32],
+    deadlines: &mut [u64],
+    now: u64,
+    room: usize,
+    out: &mut [u32],
+) -> MultiTimer {
+    if out.len() < room {
+        replay_io::print_bad_line();
+        return t;
+    }
+    pop_to(t, keys, deadlines, now, &mut out[0..room])
+}
+
+fn pop_to(
+    t: MultiTimer,
+    keys: &mut [u32],
+    deadlines: &mut [u64],
+    now: u64,
+    out: &mut [u32],
+) -> MultiTimer {
+    let c = t.pop_expired_at(keys, deadlines, now, out);
     let next = c.timers;
     let a = c.answer;
     match a {
-        PopAnswer::Keys(n) => print_keys(&out, n),
-        PopAnswer::Refused(r) => print_refusal(r),
+        PopAnswer::Keys(n) => replay_io::print_number(n as u64),
+        PopAnswer::Refused(r) => replay_io::print_refusal(r),
     }
+    print_keys(out);
     next
+}
+
+fn clear_call(t: MultiTimer, keys: &mut [u32], deadlines: &mut [u64]) -> MultiTimer {
+    let c = t.clear(keys, deadlines);
+    let next = c.timers;
+    let a = c.answer;
+    print_done(a);
+    replay_io::print_number(next.len() as u64);
+    next
+}
+
+fn print_earliest(a: EarliestAnswer) {
+    match a {
+        EarliestAnswer::Nothing => print_none(),
+        EarliestAnswer::At(x) => replay_io::print_number(x),
+        EarliestAnswer::Refused(r) => replay_io::print_refusal(r),
+    }
+}
+
+fn print_keys(keys: &[u32]) {
+    let mut i: usize = 0;
+    while i < keys.len() {
+        replay_io::print_number(wide(keys[i]));
+        i += 1;
+    }
+}
+
+fn print_deadlines(deadlines: &[u64]) {
+    let mut i: usize = 0;
+    while i < deadlines.len() {
+        replay_io::print_number(deadlines[i]);
+        i += 1;
+    }
+}
+
+fn duration_call(f: Fields) {
+    let v = f.values;
+    if replay_io::is(f, b'f', 1) {
+        print_bits(duration::as_secs_f64(v[0]));
+        return;
+    }
+    if replay_io::is(f, b'g', 1) {
+        print_nanos(duration::from_secs_f64(replay_io::real(v[0])));
+        return;
+    }
+    replay_io::print_bad_line();
+}
+
+fn print_nanos(a: duration::FromSecs) {
+    match a {
+        duration::FromSecs::Nanos(n) => replay_io::print_number(n),
+        duration::FromSecs::OutOfRange => print_none(),
+    }
 }
 
 fn wide(x: u32) -> u64 {
     x as u64
 }
 
-fn print_keys(out: &[u32], n: usize) {
-    let mut i: usize = 0;
-    while i < out.len() {
-        if i < n {
-            number(wide(out[i]));
-        }
-        i += 1;
-    }
-    semicolon();
-}
-
-fn earliest_call(t: MultiTimer, keys: &[u32], deadlines: &[u64]) -> MultiTimer {
-    match t.earliest_deadline(keys, deadlines) {
-        EarliestAnswer::Nothing => {
-            none();
-            semicolon();
-        }
-        EarliestAnswer::At(x) => answer(x),
-        EarliestAnswer::Refused(r) => print_refusal(r),
-    }
-    t
-}
-
-fn timer_calls(digits: &[u8]) {
-    let mut t = RetransmissionTimer::new();
-    let words = digits.len() / 16;
-    let mut i: usize = 0;
-    while i + 2 < words {
-        t = timer_call(t, word(digits, i), word(digits, i + 1), word(digits, i + 2));
-        i += 3;
-    }
-    end_line();
-}
-
-fn timer_call(t: RetransmissionTimer, op: u64, x: u64, y: u64) -> RetransmissionTimer {
-    if op == 0 {
-        return print_change(t.started_at(x, y));
-    }
-    if op == 1 {
-        return print_change(t.cancelled());
-    }
-    if op == 2 {
-        print_test(t.is_active());
-        print_test(t.is_expired_at(x));
-        print_remaining(t.remaining_at(x));
-        return t;
-    }
-    print_test(t.is_expired_for_at(x, y));
-    t
-}
-
-fn print_change(c: TimerResult) -> RetransmissionTimer {
-    let t = c.timer;
-    let a = c.answer;
-    match a {
-        TimerAnswer::Id(g) => answer(g),
-        TimerAnswer::Refused(r) => print_refusal(r),
-    }
-    t
-}
-
 fn print_test(a: TestAnswer) {
     match a {
-        TestAnswer::Is(b) => answer(b as u64),
-        TestAnswer::Refused(r) => print_refusal(r),
+        TestAnswer::Is(b) => replay_io::print_test(b),
+        TestAnswer::Refused(r) => replay_io::print_refusal(r),
     }
 }
 
-fn print_remaining(a: Remaining) {
+fn print_done(a: DoneAnswer) {
     match a {
-        Remaining::Inactive => {
-            none();
-            semicolon();
-        }
-        Remaining::For(d) => answer(d),
-        Remaining::Refused(r) => print_refusal(r),
+        DoneAnswer::Done => replay_io::print(b" done"),
+        DoneAnswer::Refused(r) => replay_io::print_refusal(r),
     }
 }
 
-fn durations(digits: &[u8]) {
-    let words = digits.len() / 16;
-    let mut i: usize = 0;
-    while i < words {
-        print_duration(word(digits, i));
-        i += 1;
-    }
-    end_line();
-}
-
-fn print_duration(n: u64) {
-    let s = duration::as_secs_f64(n);
-    print_secs(s);
-    print_secs(s / 2.0);
-    print_secs(s * 1024.0);
-    print_secs(double(n));
-    semicolon();
-}
-
-fn print_secs(x: f64) {
-    match duration::from_secs_f64(x) {
-        duration::FromSecs::Nanos(n) => number(n),
-        duration::FromSecs::OutOfRange => none(),
-    }
-}
-
-fn print_refusal(r: Refusal) {
-    io::write_all(STDOUT_FILENO, b"refused ");
-    answer(r.number() as u64);
-}
-
-fn answer(n: u64) {
-    number(n);
-    semicolon();
-}
-
-fn number(n: u64) {
-    io::print_decimal(STDOUT_FILENO, n);
-    io::write_all(STDOUT_FILENO, b" ");
-}
-
-fn none() {
-    io::write_all(STDOUT_FILENO, b"- ");
-}
-
-fn semicolon() {
-    io::write_all(STDOUT_FILENO, b"; ");
-}
-
-fn end_line() {
-    io::write_all(STDOUT_FILENO, b"\n");
+fn print_none() {
+    replay_io::print(b" none");
 }

@@ -18,22 +18,26 @@ fn main() {
     print_reading(b"K6", b"\x00\x00\x00\x00\x01\x00\x00\x01\x00\x00");
 }
 
+// The sum of section 3's octets, and its complement as a checksum: of a packet with these words as number and
+// payload, and one word more, the complement of kind and length together, so that these add nothing.
 fn rfc1071_example() {
-    let octets = [0x00, 0x01, 0xF2, 0x03, 0xF4, 0xF5, 0xF6, 0xF7];
-    let sum = checksum::ones_sum_unchecked(0, &octets);
     print(b"RFC 1071");
-    print_word(sum);
-    print_word(!sum);
+    print_word(checksum::ones_sum_unchecked(0, b"\x00\x01\xF2\x03\xF4\xF5\xF6\xF7"));
+    print_computed(Packet::new_data(0x0001_F203), b"\xF4\xF5\xF6\xF7\xFE\xF9");
     print_line_end();
 }
 
 fn print_checksum(name: &[u8], packet: Packet, payload: &[u8]) {
     print(name);
+    print_computed(packet, payload);
+    print_line_end();
+}
+
+fn print_computed(packet: Packet, payload: &[u8]) {
     match packet.compute_checksum(payload) {
         ChecksumAnswer::Checksum(k) => print_word(k),
         ChecksumAnswer::Refused(r) => print_refusal(r),
     }
-    print_line_end();
 }
 
 fn print_reading(name: &[u8], raw: &[u8]) {

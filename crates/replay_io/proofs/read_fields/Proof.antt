@@ -1,18 +1,24 @@
-use borrow.Author.Needs.{needs}
 use Prim.Native.Nat.{_≤_, _-_}
 use mathlib.Core.Path.{_≡_}
 use lib.ListN.{length}
+use borrow.Author.Needs.{needs}
 use Rattle.replay_io.proofs.read_fields.Statement.{statement}
 use Rattle.replay_io.proofs.read_fields.Tie as tie
 
 abbrev Inv-loop : tie.InvT-loop
-Inv-loop text at n values₀ next₀ k₀ values next k = (k ≤ 12) × (length values ≡ 12)
+Inv-loop line values₀ next₀ good₀ k₀ values next good k = (k ≤ 12) × (length values ≡ 12)
 
 abbrev μ-loop : tie.MeasureT-loop
-μ-loop text at n values₀ next₀ k₀ values next k = 12 - k
+μ-loop line values₀ next₀ good₀ k₀ values next good k = 12 - k
+
+starts-requires : tie.Need-starts-requires Inv-loop μ-loop
+starts-requires c κs = search needs
 
 loop-holds : tie.Need-loop-holds Inv-loop μ-loop
 loop-holds c = search needs
+
+no-number-requires : tie.Need-no-number-requires Inv-loop μ-loop
+no-number-requires c κs = search needs
 
 read-number-requires : tie.Need-read-number-requires Inv-loop μ-loop
 read-number-requires c κs = search needs
@@ -23,6 +29,9 @@ mul-values c = search needs
 array-write-values : tie.Need-array-write-values Inv-loop μ-loop
 array-write-values c = search needs
 
+both-requires : tie.Need-both-requires Inv-loop μ-loop
+both-requires c κs = search needs
+
 add-k : tie.Need-add-k Inv-loop μ-loop
 add-k c = search needs
 
@@ -32,11 +41,17 @@ loop-less c = search needs
 loop-again : tie.Need-loop-again Inv-loop μ-loop
 loop-again c = search needs
 
+byte-requires : tie.Need-byte-requires Inv-loop μ-loop
+byte-requires c κs = search needs
+
+ends-requires : tie.Need-ends-requires Inv-loop μ-loop
+ends-requires c κs = search needs
+
+both-requires-2 : tie.Need-both-requires-2 Inv-loop μ-loop
+both-requires-2 c κs = search needs
+
 returns : tie.Need-returns Inv-loop μ-loop
 returns c = search needs
-
-returns-2 : tie.Need-returns-2 Inv-loop μ-loop
-returns-2 c = search needs
 
 pub read-fields-spec : {M : Type 1} → statement M
 read-fields-spec =
@@ -44,12 +59,17 @@ read-fields-spec =
     (tie.spec
     Inv-loop
     μ-loop
+    starts-requires
     loop-holds
+    no-number-requires
     read-number-requires
     mul-values
     array-write-values
+    both-requires
     add-k
     loop-less
     loop-again
-    returns
-    returns-2)
+    byte-requires
+    ends-requires
+    both-requires-2
+    returns)

@@ -14,18 +14,18 @@ no-nan nan h = absurd h
 no-nan (inf s) h = tt
 no-nan (fin s m e) h = tt
 
-float-to-bits-number : tie.Need-float-to-bits-number
+float-to-bits-print-number : tie.Need-float-to-bits-print-number
 unfolding ofBits
-float-to-bits-number c =
+float-to-bits-print-number c =
     let x = c .before .args .x in
     let d : le (fin false 0 (pos 0)) x ≡ true = c .if1 .taken in
     no-nan x (passes _ d)
 
-number-requires : tie.Need-number-requires
-number-requires c κs = search needs
+print-number-requires : tie.Need-print-number-requires
+print-number-requires c κs = search needs
 
-none-requires : tie.Need-none-requires
-none-requires c κs = search needs
+print-none-requires : tie.Need-print-none-requires
+print-none-requires c κs = search needs
 
 returns : tie.Need-returns
 returns c = search needs
@@ -34,4 +34,4 @@ returns-2 : tie.Need-returns-2
 returns-2 c = search needs
 
 pub print-bits-spec : {M : Type 1} → statement M
-print-bits-spec = tie.close (tie.spec float-to-bits-number number-requires none-requires returns returns-2)
+print-bits-spec = tie.close (tie.spec float-to-bits-print-number print-number-requires print-none-requires returns returns-2)

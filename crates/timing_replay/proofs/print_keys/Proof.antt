@@ -5,10 +5,10 @@ use Rattle.timing_replay.proofs.print_keys.Statement.{statement}
 use Rattle.timing_replay.proofs.print_keys.Tie as tie
 
 abbrev Inv-loop : tie.InvT-loop
-Inv-loop out n i₀ i = i ≤ length out
+Inv-loop keys i₀ i = i ≤ length keys
 
 abbrev μ-loop : tie.MeasureT-loop
-μ-loop out n i₀ i = length out - i
+μ-loop keys i₀ i = length keys - i
 
 loop-holds : tie.Need-loop-holds Inv-loop μ-loop
 loop-holds c = search needs
@@ -22,8 +22,8 @@ shared-slice-read-wide c = search needs
 wide-requires : tie.Need-wide-requires Inv-loop μ-loop
 wide-requires c κs = search needs
 
-number-requires : tie.Need-number-requires Inv-loop μ-loop
-number-requires c κs = search needs
+print-number-requires : tie.Need-print-number-requires Inv-loop μ-loop
+print-number-requires c κs = search needs
 
 add-i : tie.Need-add-i Inv-loop μ-loop
 add-i c = search needs
@@ -33,9 +33,6 @@ loop-less c = search needs
 
 loop-again : tie.Need-loop-again Inv-loop μ-loop
 loop-again c = search needs
-
-semicolon-requires : tie.Need-semicolon-requires Inv-loop μ-loop
-semicolon-requires c κs = search needs
 
 returns : tie.Need-returns Inv-loop μ-loop
 returns c = search needs
@@ -50,9 +47,8 @@ print-keys-spec =
     mul-wide
     shared-slice-read-wide
     wide-requires
-    number-requires
+    print-number-requires
     add-i
     loop-less
     loop-again
-    semicolon-requires
     returns)

@@ -4,17 +4,17 @@ use native.Mathlib.Omega.{arith}
 use borrow.Author.Needs.{needs}
 use lib.ListN.{length, length-set}
 use lib.Seq.{length-take-le}
-use Rattle.packet_replay.proofs.decode.Statement.{statement}
-use Rattle.packet_replay.proofs.decode.Tie as tie
+use Rattle.replay_io.proofs.decode.Statement.{statement}
+use Rattle.replay_io.proofs.decode.Tie as tie
 
 abbrev Inv-loop : tie.InvT-loop
-Inv-loop text out₀ most i₀ out i = (length out ≡ length out₀) × (i ≤ most) × (most ≤ length out₀) × (2 * most ≤ length text)
+Inv-loop digits out₀ most i₀ out i = (length out ≡ length out₀) × (i ≤ most) × (most ≤ length out₀) × (2 * most ≤ length digits)
 
 abbrev μ-loop : tie.MeasureT-loop
-μ-loop text out₀ most i₀ out i = most - i
+μ-loop digits out₀ most i₀ out i = most - i
 
-least-requires : tie.Need-least-requires Inv-loop μ-loop
-least-requires c κs = search needs
+min-requires : tie.Need-min-requires Inv-loop μ-loop
+min-requires c κs = search needs
 
 loop-holds : tie.Need-loop-holds Inv-loop μ-loop
 loop-holds c = search needs
@@ -70,7 +70,7 @@ decode-spec =
     (tie.spec
     Inv-loop
     μ-loop
-    least-requires
+    min-requires
     loop-holds
     mul-hex-value
     shared-slice-read-hex-value

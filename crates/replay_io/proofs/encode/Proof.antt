@@ -1,11 +1,11 @@
-use Prim.Native.Nat.{_+_, _*_, _-_, _≤_, _<_}
+use Prim.Native.Nat.{_*_, _-_, _≤_}
 use mathlib.Core.Path.{_≡_, sym}
 use native.Mathlib.Omega.{arith}
-use borrow.Author.Needs.{needs}
 use lib.ListN.{length, length-set}
 use lib.Seq.{length-take-le}
-use Rattle.packet_replay.proofs.encode.Statement.{statement}
-use Rattle.packet_replay.proofs.encode.Tie as tie
+use borrow.Author.Needs.{needs}
+use Rattle.replay_io.proofs.encode.Statement.{statement}
+use Rattle.replay_io.proofs.encode.Tie as tie
 
 abbrev Inv-loop : tie.InvT-loop
 Inv-loop bytes out₀ most i₀ out i = (length out ≡ length out₀) × (i ≤ most) × (2 * most ≤ length out₀) × (most ≤ length bytes)
@@ -13,17 +13,17 @@ Inv-loop bytes out₀ most i₀ out i = (length out ≡ length out₀) × (i ≤
 abbrev μ-loop : tie.MeasureT-loop
 μ-loop bytes out₀ most i₀ out i = most - i
 
-least-requires : tie.Need-least-requires Inv-loop μ-loop
-least-requires c κs = search needs
+min-requires : tie.Need-min-requires Inv-loop μ-loop
+min-requires c κs = search needs
 
 loop-holds : tie.Need-loop-holds Inv-loop μ-loop
 loop-holds c = search needs
 
-shared-slice-read-high : tie.Need-shared-slice-read-high Inv-loop μ-loop
-shared-slice-read-high c = search needs
+shared-slice-read-high-digit : tie.Need-shared-slice-read-high-digit Inv-loop μ-loop
+shared-slice-read-high-digit c = search needs
 
-high-requires : tie.Need-high-requires Inv-loop μ-loop
-high-requires c κs = search needs
+high-digit-requires : tie.Need-high-digit-requires Inv-loop μ-loop
+high-digit-requires c κs = search needs
 
 mul-out : tie.Need-mul-out Inv-loop μ-loop
 mul-out c = search needs
@@ -31,11 +31,11 @@ mul-out c = search needs
 slice-write-out : tie.Need-slice-write-out Inv-loop μ-loop
 slice-write-out c = search needs
 
-shared-slice-read-low : tie.Need-shared-slice-read-low Inv-loop μ-loop
-shared-slice-read-low c = search needs
+shared-slice-read-low-digit : tie.Need-shared-slice-read-low-digit Inv-loop μ-loop
+shared-slice-read-low-digit c = search needs
 
-low-requires : tie.Need-low-requires Inv-loop μ-loop
-low-requires c κs = search needs
+low-digit-requires : tie.Need-low-digit-requires Inv-loop μ-loop
+low-digit-requires c κs = search needs
 
 mul-out-2 : tie.Need-mul-out-2 Inv-loop μ-loop
 mul-out-2 c = search needs
@@ -70,14 +70,14 @@ encode-spec =
     (tie.spec
     Inv-loop
     μ-loop
-    least-requires
+    min-requires
     loop-holds
-    shared-slice-read-high
-    high-requires
+    shared-slice-read-high-digit
+    high-digit-requires
     mul-out
     slice-write-out
-    shared-slice-read-low
-    low-requires
+    shared-slice-read-low-digit
+    low-digit-requires
     mul-out-2
     add-out
     slice-write-out-2
