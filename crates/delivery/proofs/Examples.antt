@@ -188,5 +188,5 @@ abbrev likeBook : {T : Type 0} → T → List (Call T)
 likeBook t = send (65 ∷ []) buffer ∷ timeout t buffer ∷ toReceiver (whole 0) buffer ∷ toSender (whole 0) ∷ []
 
 lists-like-book : CallsLikeBook StopAndWait (start StopAndWait 1 3) (likeBook one) × CallsLikeBook GoBackN (start GoBackN 1 0) (likeBook all)
-unfolding words onesAdd onesSum checksum flip anyOf order orElse numbered firstOf verdict decide headerBytes datagram checksumOf matches readChecks headerOf payloadPart payloadOf readDatagram slotAt slotBytes putSlot slot.slotPayload anyBelow senderSlotBroken senderSlotsBroken receiverSlotBroken receiverSlotsBroken markedRun payloadsFrom windowBroken storeShort window.numbersBroken window.stateBroken window.countsBroken fresh hold markRetransmitted datagramFor emptyFrom release sendChecks sendChunk datagramsFrom markFrom resend ackDecision byDecision countsBroken ackAfter roomMissing applied receive acknowledgeOne sr.stateBroken sr.receivingBroken sr.dataDecision sr.decision sr.deliveredBytes datagrams step run stopAndWaitReceiver.decision stopAndWaitReceiver.dataDecision goBackNReceiver.decision goBackNReceiver.dataDecision marksBroken fedBy fedIn plainStart plainSend plainData plainAck plainCall plainStep plainRun plainOutstanding eventBy slotsRead
+unfolding words onesAdd onesSum checksum flip anyOf order orElse numbered firstOf verdict decide headerBytes datagram checksumOf matches readChecks headerOf payloadPart payloadOf readDatagram slotAt slotBytes putSlot slot.slotPayload anyBelow senderSlotBroken senderSlotsBroken receiverSlotBroken receiverSlotsBroken markedRun payloadsFrom windowBroken storeShort window.numbersBroken window.stateBroken window.countsBroken fresh hold markRetransmitted datagramFor emptyFrom release sendChecks sendChunk datagramsFrom markFrom resend ackDecision byDecision countsBroken ackAfter roomMissing applied receive acknowledgeOne sr.stateBroken sr.receivingBroken sr.dataDecision sr.decision sr.deliveredBytes datagrams step run stopAndWaitReceiver.decision stopAndWaitReceiver.dataDecision goBackNReceiver.decision goBackNReceiver.dataDecision receiverState.stateBroken fedBy fedIn plainStart plainSend plainData plainAck plainCall plainStep plainRun plainOutstanding eventBy slotsRead
 lists-like-book = ((tt, ((refl, refl), ((λ e. refl), ((λ a b. refl), tt)))), (tt, ((refl, refl), ((λ e. refl), (lit≤ tt, tt)))))
