@@ -1,6 +1,7 @@
-// The protocol ends for a caller in Rust or C, by numbers and slices. protocol: 0 Stop-and-Wait, 1 Go-Back-N, 2 Selective Repeat.
-// A sender's state: window_size, send_base, next_seq_num, total_sent, retransmissions, max_retries, current_retries; a receiver's: window_size,
-// base, fill mark, and its three counters. answer: 0 nothing, 1 done, 16 + n the refusal n; then a length, a number, or the refusal's values.
+// The protocol ends for a caller in Rust or C, by numbers and slices. protocol: 0 Stop-and-Wait, 1 Go-Back-N, 2
+// Selective Repeat. A sender's state: window_size, send_base, next_seq_num, total_sent, retransmissions, max_retries,
+// current_retries; a receiver's: window_size, base, fill mark, and its three counters. answer: 0 nothing, 1 done, 16 +
+// n the refusal n; then a length, a number, or the refusal's values.
 ghost use mathlib.Core.Path.{_≡_};
 ghost use Prim.Native.Nat.{_<_, _%_};
 use go_back_n::GoBackNReceiver;

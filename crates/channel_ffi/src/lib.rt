@@ -1,10 +1,9 @@
 // The channel and the schedule for a C or Rust program: numbers and slices only.
 //
-// reals: loss, duplicate, reorder, corrupt, then the eight rolls.
-// numbers: reorder_extra_ms, base_delay_ms, jitter_ms, then the six counters.
-// A refusal is 16 and its number.
-// Of a schedule's parameters the slices come first, in registers, and count and next order stand apart: two words that a caller has
-// just written to the stack, read back as one, make the processor wait.
+// reals: loss, duplicate, reorder, corrupt, then the eight rolls. numbers: reorder_extra_ms, base_delay_ms, jitter_ms,
+// then the six counters. A refusal is 16 and its number. Of a schedule's parameters the slices come first, in
+// registers, and count and next order stand apart: two words that a caller has just written to the stack, read back as
+// one, make the processor wait.
 ghost use mathlib.Core.Path.{_≡_};
 ghost use Prim.Native.Nat.{_<_};
 ghost use Rattle.schedule.specs.State.{schedule, CanSchedule};
@@ -263,8 +262,8 @@ pub extern "C" fn pop_ready_at(
     put_scheduler(answer, after);
 }
 
-// answer: 0 nothing, 1 a deadline, or a refusal, and the deadline; 1 or a refusal and the number, for `len` and for `room`; `is_empty` or a
-// refusal.
+// answer: 0 nothing, 1 a deadline, or a refusal, and the deadline; 1 or a refusal and the number, for `len` and for
+// `room`; `is_empty` or a refusal.
 #[no_mangle]
 pub extern "C" fn schedule_read(
     records: &[[u64; 4]],
@@ -306,7 +305,8 @@ pub extern "C" fn schedule_at_unchecked(
     next: u64,
     delay: u64,
 )
-    requires { ⌜ CanSchedule (schedule (records .now) (places .now) (scheduler count next)) now (packet .now) (One delay) ⌝ }
+    requires { ⌜ CanSchedule (schedule (records .now) (places .now) (scheduler count next)) now (packet .now)
+        (One delay) ⌝ }
 {
     let s = ChannelScheduler {
         count: count,

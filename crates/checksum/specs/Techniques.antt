@@ -18,8 +18,8 @@ folded n = n - (n - 1) / 65535 * 65535
 abbrev pub sumFrom : List ℕ → ℕ → ℕ
 sumFrom s i = plainSum (words (drop i s))
 
--- r sums the octets of s from the place i up to the place k with each word's octets swapped: 256 r leaves the same remainder by
--- 65535 as the sum of the words, and is 0 only with it
+-- r sums the octets of s from the place i up to the place k with each word's octets swapped: 256 r leaves the same
+-- remainder by 65535 as the sum of the words, and is 0 only with it
 pub record Swapped (s : List ℕ) (i k r : ℕ) : Type 0 where
   pub same : (256 * r + sumFrom s k) % 65535 ≡ sumFrom s i % 65535
   pub least : sumFrom s i ≤ 256 * r + sumFrom s k

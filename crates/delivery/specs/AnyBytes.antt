@@ -43,6 +43,8 @@ SenderSound GoBackN v = stateBroken false (v .window) (v .store) ≡ false
 SenderSound SelectiveRepeat v = stateBroken true (v .window) (v .store) ≡ false
 
 abbrev pub ReceiverSound : (p : ProtocolType) → ends p .Receiver → Type 0
-ReceiverSound StopAndWait r = receiverState.stateBroken (r .receiver .«expected_seq») (r .receiver .filled) (r .output) ≡ false
-ReceiverSound GoBackN r = receiverState.stateBroken (r .receiver .«expected_seq») (r .receiver .filled) (r .output) ≡ false
+ReceiverSound StopAndWait r = receiverState.stateBroken (r .receiver .«expected_seq») (r .receiver .filled) (r .output)
+    ≡ false
+ReceiverSound GoBackN r = receiverState.stateBroken (r .receiver .«expected_seq») (r .receiver .filled) (r .output)
+    ≡ false
 ReceiverSound SelectiveRepeat r = receivingBroken (r .receiver .state) (r .receiver .store) (r .output) ≡ false

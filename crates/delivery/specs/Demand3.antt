@@ -7,7 +7,8 @@ use lib.ListN.{length, getD, take, drop}
 use lib.Dec.{ltb, leb}
 use Rattle.protocol.specs.declared.ProtocolType.{ProtocolType}
 use Rattle.protocol.specs.PlainMachine.{PlainState, plainStart, plainStep, plainRun, plainOutstanding, First}
-use Rattle.delivery.specs.Calls.{copyBytes, isWhole, Call, send, timeout, toReceiver, toSender, Ends, World, datagrams, step, run, numberOf, fedBy, fedIn}
+use Rattle.delivery.specs.Calls.{copyBytes, isWhole, Call, send, timeout, toReceiver, toSender, Ends, World}
+use Rattle.delivery.specs.Calls.{datagrams, step, run, numberOf, fedBy, fedIn}
 
 -- the plain machine after a list of calls
 abbrev pub plainAfter : ProtocolType → ℕ → (E : Ends) → World E → List (Call (E .Timeout)) → PlainState

@@ -4,7 +4,7 @@ use mathlib.Core.List.{List, [], _++_}
 use mathlib.Core.Path.{_≡_}
 use mathlib.Core.Bool.{Bool, true, false, not}
 use lib.ListN.{take, drop, replicate}
-use Rattle.bounds.specs.Bounds.{slotSize}
+use Rattle.bounds.specs.Bounds.{headerSize, slotSize}
 use Rattle.octets.specs.Octets.{Octets}
 use Rattle.window.specs.State.{windowBroken, storeShort}
 use Rattle.window.specs.Slots as slots
@@ -80,7 +80,7 @@ abbrev pub byAcknowledging : {S : Type 0} → AckExit S → Done S
 byAcknowledging x = done (x .after) [] (isHandled (x .answer)) (not (isHandled (x .answer)))
 
 abbrev pub bytesReplied : ReceiveAnswer → List ℕ → List ℕ
-bytesReplied (receiveAnswer.Ack n) ack = take 10 ack
+bytesReplied (receiveAnswer.Ack n) ack = take headerSize ack
 bytesReplied receiveAnswer.Silent ack = []
 bytesReplied (receiveAnswer.Refused r) ack = []
 

@@ -35,14 +35,18 @@ dataOne = made (newPacket 1 Data) (0x41 ∷ [])
 
 pub record S3 : Type 0 where
   pub go-back-n : goBackN.handlePacket goBackN.newReceiver dataOne [] (replicate 10 0) .answer ≡ answer.Silent
-  pub stop-and-wait : stopAndWait.handlePacket stopAndWait.newReceiver dataOne [] (replicate 10 0) .answer ≡ answer.Ack 0
+  pub stop-and-wait : stopAndWait.handlePacket stopAndWait.newReceiver dataOne [] (replicate 10 0) .answer
+      ≡ answer.Ack 0
 
 pub s3 : S3
-unfolding words onesAdd onesSum checksum anyOf order orElse numbered firstOf verdict decide headerBytes datagram checksumOf matches readChecks headerOf payloadPart payloadOf readDatagram receiverState.stateBroken countsBroken ackAfter roomMissing applied receive stopAndWait.dataDecision stopAndWait.decision goBackN.dataDecision goBackN.decision
+unfolding words onesAdd onesSum checksum anyOf order orElse numbered firstOf verdict decide headerBytes datagram
+    checksumOf matches readChecks headerOf payloadPart payloadOf readDatagram receiverState.stateBroken countsBroken
+    ackAfter roomMissing applied receive stopAndWait.dataDecision stopAndWait.decision goBackN.dataDecision
+    goBackN.decision
 s3 = record { go-back-n = refl; stop-and-wait = refl }
 
--- Departures from Kurose and Ross (docs/DIFFERENCES.md), on whole calls: Data 0 with a bit flipped is not answered; with a retry limit of 0 a
--- timeout after an empty chunk sends nothing.
+-- Departures from Kurose and Ross (docs/DIFFERENCES.md), on whole calls: Data 0 with a bit flipped is not answered;
+-- with a retry limit of 0 a timeout after an empty chunk sends nothing.
 abbrev flippedZero : List ℕ
 flippedZero = flip (made (newPacket 0 Data) (0x41 ∷ [])) 10 3
 
@@ -50,10 +54,18 @@ abbrev limitZero : stopAndWaitSender.End
 limitZero = stopAndWaitSender.endOf (stopAndWaitSender.state 0 false 0 0 0 0) (replicate slotSize 0)
 
 pub record Departures : Type 0 where
-  pub go-back-n-corrupt : goBackN.handlePacket goBackN.newReceiver flippedZero [] (replicate 10 0) .answer ≡ answer.Silent
-  pub stop-and-wait-corrupt : stopAndWait.handlePacket stopAndWait.newReceiver flippedZero [] (replicate 10 0) .answer ≡ answer.Silent
-  pub retry-limit : stopAndWaitSender.handleTimeout (stopAndWaitSender.sendChunk limitZero [] (replicate 10 0) .after) (replicate 10 0) .answer ≡ timeoutAnswer.Nothing
+  pub go-back-n-corrupt : goBackN.handlePacket goBackN.newReceiver flippedZero [] (replicate 10 0) .answer
+      ≡ answer.Silent
+  pub stop-and-wait-corrupt : stopAndWait.handlePacket stopAndWait.newReceiver flippedZero [] (replicate 10 0) .answer
+      ≡ answer.Silent
+  pub retry-limit : stopAndWaitSender.handleTimeout (stopAndWaitSender.sendChunk limitZero [] (replicate 10 0) .after)
+      (replicate 10 0) .answer ≡ timeoutAnswer.Nothing
 
 pub departures : Departures
-unfolding words onesAdd onesSum checksum anyOf order orElse numbered firstOf verdict decide headerBytes datagram checksumOf matches readChecks headerOf payloadPart payloadOf readDatagram receiverState.stateBroken countsBroken ackAfter roomMissing applied receive stopAndWait.dataDecision stopAndWait.decision goBackN.dataDecision goBackN.decision flip anyBelow senderSlotBroken senderSlotsBroken slotAt slotBytes putSlot windowBroken storeShort numbersBroken stateBroken window.countsBroken hold markRetransmitted datagramFor sendChecks sendChunk datagramsFrom markFrom resend
+unfolding words onesAdd onesSum checksum anyOf order orElse numbered firstOf verdict decide headerBytes datagram
+    checksumOf matches readChecks headerOf payloadPart payloadOf readDatagram receiverState.stateBroken countsBroken
+    ackAfter roomMissing applied receive stopAndWait.dataDecision stopAndWait.decision goBackN.dataDecision
+    goBackN.decision flip anyBelow senderSlotBroken senderSlotsBroken slotAt slotBytes putSlot windowBroken storeShort
+    numbersBroken stateBroken window.countsBroken hold markRetransmitted datagramFor sendChecks sendChunk datagramsFrom
+    markFrom resend
 departures = record { go-back-n-corrupt = refl; stop-and-wait-corrupt = refl; retry-limit = refl }

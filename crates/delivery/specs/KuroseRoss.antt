@@ -13,7 +13,8 @@ use Rattle.protocol.specs.Machine.{Segment, SenderState, ReceiverState}
 use Rattle.protocol.specs.PlainMachine as plain
 use Rattle.protocol.specs.Trace as trace
 use Rattle.protocol.specs.KuroseRossRuns.{book, BookWorld, SenderIs, ReceiverIs, LikeBook}
-use Rattle.delivery.specs.Calls.{copyBytes, isWhole, Call, send, timeout, toReceiver, toSender, Ends, World, step, numberOf}
+use Rattle.delivery.specs.Calls.{copyBytes, isWhole, Call, send, timeout, toReceiver, toSender, Ends, World, step}
+use Rattle.delivery.specs.Calls.{numberOf}
 use Rattle.delivery.specs.Ends.{ends}
 use Rattle.delivery.specs.Demand3.{madeBy}
 

@@ -8,7 +8,8 @@ use Rattle.bounds.specs.Bounds.{headerSize, maxPayload, maxDatagram, seqNumLimi
 use Rattle.protocol.specs.declared.ProtocolType.{ProtocolType}
 use Rattle.protocol.specs.declared.ProtocolType.the-variants.{StopAndWait, GoBackN, SelectiveRepeat}
 use Rattle.protocol.specs.PlainMachine.{PlainState, plainOutstanding}
-use Rattle.delivery.specs.Calls.{copyBytes, isWhole, Call, send, timeout, toReceiver, toSender, Ends, World, step, run}
+use Rattle.delivery.specs.Calls.{copyBytes, isWhole, Call, send, timeout, toReceiver, toSender, Ends, World, step}
+use Rattle.delivery.specs.Calls.{run}
 use Rattle.delivery.specs.Ends.{all, earliest, ends}
 
 -- the chunks that a list hands to the sender

@@ -29,7 +29,8 @@ handleAck v raw = byDecision (decideAck v raw) v (acknowledged v)
 -- a timeout sends every outstanding number again, lowest first
 abbrev pub handleTimeout : Sender → List ℕ → TimeoutExit Sender
 handleTimeout v out =
-    resend (stateBroken false (v .window) (v .store)) (countsBroken (v .window)) v (v .window .«send_base») (outstanding (v .window)) out
+    resend (stateBroken false (v .window) (v .store)) (countsBroken (v .window)) v (v .window .«send_base»)
+    (outstanding (v .window)) out
 
 -- document 01, "The edition clock": only the earliest outstanding number, if there is one
 abbrev pub handleTimeoutEarliest : Sender → List ℕ → TimeoutExit Sender

@@ -9,8 +9,10 @@ ghost use Rattle.window.specs.Sending.{makeExit, makeWindow, sendExit, sendChun
 ghost use Rattle.window.specs.Acknowledgement.{ackExit};
 ghost use Rattle.window.specs.Resending.{timeoutExit};
 ghost use Rattle.window.specs.Outstanding.{canSend, inFlightCount, hasUnackedPackets};
-ghost use Rattle.go_back_n.specs.Sender.{madeWindow, decideAck, acknowledged, handleAck, handleTimeout, handleTimeoutEarliest};
-ghost use Rattle.go_back_n.specs.Receiver.{newReceiver, decided, dataDecision, decision, handlePacket, handlePacketUnchecked};
+ghost use Rattle.go_back_n.specs.Sender.{madeWindow, decideAck, acknowledged, handleAck, handleTimeout};
+ghost use Rattle.go_back_n.specs.Sender.{handleTimeoutEarliest};
+ghost use Rattle.go_back_n.specs.Receiver.{newReceiver, decided, dataDecision, decision, handlePacket};
+ghost use Rattle.go_back_n.specs.Receiver.{handlePacketUnchecked};
 ghost use Rattle.receiver.specs.Receive.{receiveExit};
 ghost use Rattle.receiver.specs.State as receiverState;
 ghost use Rattle.receiver.specs.State.{countsBroken};
@@ -68,7 +70,8 @@ impl GoBackNSender {
 
     // A chunk into its slot and as a datagram to the start of out.
     pub fn send_chunk(self, store: &mut [u8], payload: &[u8], out: &mut [u8]) -> GoBackNSendResult
-        ensures { λ r. ⌜ sendExit (r .answer) (sender (r .sender .window) (now (store .exit))) (now (out .exit)) ≡ sendChunk false (sender (self .window) (now (store .entry))) (now (payload .entry)) (now (out .entry)) ⌝ }
+        ensures { λ r. ⌜ sendExit (r .answer) (sender (r .sender .window) (now (store .exit))) (now (out .exit))
+            ≡ sendChunk false (sender (self .window) (now (store .entry))) (now (payload .entry)) (now (out .entry)) ⌝ }
     {
         let window = self.window;
         let sent = window.send_chunk(false, store, payload, out);
@@ -82,7 +85,8 @@ impl GoBackNSender {
 
     // A datagram as an ACK.
     pub fn handle_ack(self, store: &mut [u8], raw: &[u8]) -> GoBackNAckResult
-        ensures { λ r. ⌜ ackExit (r .answer) (sender (r .sender .window) (now (store .exit))) ≡ handleAck (sender (self .window) (now (store .entry))) (now (raw .entry)) ⌝ }
+        ensures { λ r. ⌜ ackExit (r .answer) (sender (r .sender .window) (now (store .exit)))
+            ≡ handleAck (sender (self .window) (now (store .entry))) (now (raw .entry)) ⌝ }
     {
         match self.decide_ack(store, raw) {
             AckDecision::Accept { seq_num, base: _ } => GoBackNAckResult {
@@ -102,7 +106,8 @@ impl GoBackNSender {
 
     // Every outstanding number again, lowest first.
     pub fn handle_timeout(self, store: &mut [u8], out: &mut [u8]) -> GoBackNTimeoutResult
-        ensures { λ r. ⌜ timeoutExit (r .answer) (sender (r .sender .window) (now (store .exit))) (now (out .exit)) ≡ handleTimeout (sender (self .window) (now (store .entry))) (now (out .entry)) ⌝ }
+        ensures { λ r. ⌜ timeoutExit (r .answer) (sender (r .sender .window) (now (store .exit))) (now (out .exit))
+            ≡ handleTimeout (sender (self .window) (now (store .entry))) (now (out .entry)) ⌝ }
     {
         let window = self.window;
         let all = bounds::MAX_WINDOW_SIZE as u32;
@@ -117,7 +122,8 @@ impl GoBackNSender {
 
     // Only the number at send_base again: the edition clock's timeout.
     pub fn handle_timeout_earliest(self, store: &mut [u8], out: &mut [u8]) -> GoBackNTimeoutResult
-        ensures { λ r. ⌜ timeoutExit (r .answer) (sender (r .sender .window) (now (store .exit))) (now (out .exit)) ≡ handleTimeoutEarliest (sender (self .window) (now (store .entry))) (now (out .entry)) ⌝ }
+        ensures { λ r. ⌜ timeoutExit (r .answer) (sender (r .sender .window) (now (store .exit))) (now (out .exit))
+            ≡ handleTimeoutEarliest (sender (self .window) (now (store .entry))) (now (out .entry)) ⌝ }
     {
         let window = self.window;
         let result = window.resend_outstanding(store, 1, out);
@@ -139,7 +145,8 @@ impl GoBackNSender {
 
     // What the accepted ACK of an outstanding number does.
     pub fn acknowledge_unchecked(self, store: &mut [u8], seq_num: u32) -> GoBackNSender
-        requires { ⌜ (0 < self .window .«window_size») × (self .window .«window_size» * slotSize ≤ length (now store)) ⌝ }
+        requires { ⌜ (0 < self .window .«window_size»)
+            × (self .window .«window_size» * slotSize ≤ length (now store)) ⌝ }
         requires { ⌜ (self .window .«send_base» ≤ «seq_num») × («seq_num» < seqNumLimit) ⌝ }
         ensures { λ r. ⌜ sender (r .window) (now (store .exit))
             ≡ acknowledged (sender (self .window) (now (store .entry))) «seq_num» ⌝ }
@@ -242,7 +249,8 @@ impl GoBackNReceiver {
         ack: &mut [u8],
     ) -> GoBackNReceiveResult
         requires { ⌜ receiverState.stateBroken (self .«expected_seq») (self .filled) (now output) ≡ false ⌝ }
-        requires { ⌜ countsBroken (self .«total_received») (self .«discarded_out_of_order») (self .«duplicate_acks_sent») ≡ false ⌝ }
+        requires { ⌜ countsBroken (self .«total_received») (self .«discarded_out_of_order»)
+            (self .«duplicate_acks_sent») ≡ false ⌝ }
         ensures { λ r. ⌜ receiveExit (r .answer) (r .receiver) (now (output .exit)) (now (ack .exit))
             ≡ handlePacketUnchecked self reading (now (payload .entry)) (now (output .entry)) (now (ack .entry)) ⌝ }
     {
@@ -263,7 +271,8 @@ impl GoBackNReceiver {
 
     // What a packet does to the state, and what is to be written.
     pub fn decide_unchecked(mut self, reading: PacketReading) -> GoBackNDecision
-        requires { ⌜ countsBroken (self .«total_received») (self .«discarded_out_of_order») (self .«duplicate_acks_sent») ≡ false ⌝ }
+        requires { ⌜ countsBroken (self .«total_received») (self .«discarded_out_of_order»)
+            (self .«duplicate_acks_sent») ≡ false ⌝ }
         requires { ⌜ self .«expected_seq» ≤ seqNumLimit ⌝ }
         ensures { λ r. ⌜ r ≡ decision self reading ⌝ }
     {
@@ -277,7 +286,8 @@ impl GoBackNReceiver {
     }
 
     fn decide_data(mut self, n: u32) -> GoBackNDecision
-        requires { ⌜ (self .«expected_seq» ≤ seqNumLimit) × (self .«discarded_out_of_order» < countLimit) × (self .«duplicate_acks_sent» < countLimit) ⌝ }
+        requires { ⌜ (self .«expected_seq» ≤ seqNumLimit) × (self .«discarded_out_of_order» < countLimit)
+            × (self .«duplicate_acks_sent» < countLimit) ⌝ }
         ensures { λ r. ⌜ r ≡ dataDecision self n ⌝ }
     {
         let expected = self.expected_seq;

@@ -1,4 +1,5 @@
--- Document 01, `packet.rs`: number 0-3, kind 4, flags 5, payload length 6-7, checksum 8-9, all big-endian, and then the payload.
+-- Document 01, `packet.rs`: number 0-3, kind 4, flags 5, payload length 6-7, checksum 8-9, all big-endian, and then the
+-- payload.
 use Prim.Native.Nat.{ℕ, _+_, _*_, _/_, _%_}
 use mathlib.Core.List.{List, [], _∷_, _++_}
 use mathlib.Core.Bool.{Bool}
@@ -25,12 +26,18 @@ abbrev pub isRetransmitted : Packet → Bool
 isRetransmitted p = eqb (p .flags % 2) 1
 
 abbrev pub setRetransmitted : Packet → Packet
-setRetransmitted p = record { «seq_num» = p .«seq_num»; «pkt_type» = p .«pkt_type»; flags = p .flags / 2 * 2 + 1; checksum = p .checksum }
+setRetransmitted p = record {
+  «seq_num» = p .«seq_num»;
+  «pkt_type» = p .«pkt_type»;
+  flags = p .flags / 2 * 2 + 1;
+  checksum = p .checksum;
+}
 
 -- the header, for a payload of n bytes and the checksum k
 unfoldable pub headerBytes : Packet → ℕ → ℕ → List ℕ
 headerBytes p n k =
-    (p .«seq_num» / 16777216) ∷ (p .«seq_num» / 65536 % 256) ∷ (p .«seq_num» / 256 % 256) ∷ (p .«seq_num» % 256) ∷ byteOf (p .«pkt_type») ∷ p .flags ∷ (n / 256) ∷ (n % 256) ∷ (k / 256) ∷ (k % 256) ∷ []
+    (p .«seq_num» / 16777216) ∷ (p .«seq_num» / 65536 % 256) ∷ (p .«seq_num» / 256 % 256) ∷ (p .«seq_num» % 256)
+    ∷ byteOf (p .«pkt_type») ∷ p .flags ∷ (n / 256) ∷ (n % 256) ∷ (k / 256) ∷ (k % 256) ∷ []
 
 -- the datagram, with the checksum field as it stands
 unfoldable pub datagram : Packet → List ℕ → List ℕ
@@ -41,7 +48,12 @@ unfoldable pub checksumOf : Packet → List ℕ → ℕ
 checksumOf p payload = checksum (headerBytes p (length payload) 0 ++ payload)
 
 abbrev pub withChecksum : Packet → List ℕ → Packet
-withChecksum p payload = record { «seq_num» = p .«seq_num»; «pkt_type» = p .«pkt_type»; flags = p .flags; checksum = checksumOf p payload }
+withChecksum p payload = record {
+  «seq_num» = p .«seq_num»;
+  «pkt_type» = p .«pkt_type»;
+  flags = p .flags;
+  checksum = checksumOf p payload;
+}
 
 -- the datagram with its checksum computed
 abbrev pub made : Packet → List ℕ → List ℕ

@@ -43,7 +43,8 @@ pub record PacketRows : Type 0 where
   pub field-invalid : validity fieldFFFF ≡ Invalid
 
 pub packet-rows : PacketRows
-unfolding words onesAdd onesSum checksum flip order orElse numbered firstOf verdict decide headerBytes datagram checksumOf matches readChecks headerOf payloadPart fromBytes payloadOf validity
+unfolding words onesAdd onesSum checksum flip order orElse numbered firstOf verdict decide headerBytes datagram
+    checksumOf matches readChecks headerOf payloadPart fromBytes payloadOf validity
 packet-rows =
     record {
       k1 = refl;

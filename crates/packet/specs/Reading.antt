@@ -1,4 +1,5 @@
--- Document 01, `packet.rs` and "Turned away" 1, 2, 3: what a datagram reads as. Bytes after the declared payload are ignored.
+-- Document 01, `packet.rs` and "Turned away" 1, 2, 3: what a datagram reads as. Bytes after the declared payload are
+-- ignored.
 use Prim.Native.Nat.{ℕ, _+_, _-_, _*_}
 use mathlib.Core.List.{List, [], _∷_}
 use mathlib.Core.Bool.{Bool, true, false, cond, not}
@@ -41,7 +42,8 @@ present raw = length raw - headerSize
 
 unfoldable pub readChecks : List ℕ → List Check
 readChecks raw =
-    check (ltb (length raw) headerSize) (Short (length raw)) ∷ checkType (getD raw 4 0) ∷ check (ltb (present raw) (declared raw)) (Cut (declared raw) (present raw)) ∷ []
+    check (ltb (length raw) headerSize) (Short (length raw)) ∷ checkType (getD raw 4 0)
+    ∷ check (ltb (present raw) (declared raw)) (Cut (declared raw) (present raw)) ∷ []
 
 unfoldable pub headerOf : List ℕ → Packet
 headerOf raw = record {

@@ -16,10 +16,12 @@ use Rattle.packet.specs.declared.LengthAnswer.{LengthAnswer}
 use Rattle.packet.specs.declared.LengthAnswer.the-variants as lengthAnswer
 
 unfoldable pub computeChecksum : Packet → List ℕ → ChecksumAnswer
-computeChecksum p payload = decide (verdict (checkLong payload ∷ [])) checksumAnswer.Refused (checksumAnswer.Checksum (checksumOf p payload))
+computeChecksum p payload =
+    decide (verdict (checkLong payload ∷ [])) checksumAnswer.Refused (checksumAnswer.Checksum (checksumOf p payload))
 
 unfoldable pub computeAndSetChecksum : Packet → List ℕ → PacketAnswer
-computeAndSetChecksum p payload = decide (verdict (checkLong payload ∷ [])) packetAnswer.Refused (packetAnswer.Packet (withChecksum p payload))
+computeAndSetChecksum p payload =
+    decide (verdict (checkLong payload ∷ [])) packetAnswer.Refused (packetAnswer.Packet (withChecksum p payload))
 
 -- the answer, and the lent buffer when the call returns
 pub record Written : Type 0 where
@@ -33,4 +35,5 @@ unfoldable pub toBytes : Packet → List ℕ → List ℕ → Written
 toBytes p payload out =
     decide (verdict (checkLong payload ∷ check (ltb (length out) (headerSize + length payload)) Full ∷ []))
     (λ r. written (lengthAnswer.Refused r) out)
-    (written (lengthAnswer.Length (headerSize + length payload)) (datagram p payload ++ drop (headerSize + length payload) out))
+    (written (lengthAnswer.Length (headerSize + length payload))
+    (datagram p payload ++ drop (headerSize + length payload) out))

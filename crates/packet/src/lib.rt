@@ -1,11 +1,14 @@
-// Packets and their wire format: packet.rs of the reference. The payload lies beside the packet, in the caller's memory.
+// Packets and their wire format: packet.rs of the reference. The payload lies beside the packet, in the caller's
+// memory.
 ghost use mathlib.Core.Path.{_≡_};
 ghost use Prim.Native.Nat.{_+_, _≤_};
 ghost use mathlib.Core.List.{_++_};
 ghost use lib.ListN.{length, drop};
 ghost use Rattle.bounds.specs.Bounds.{headerSize};
-ghost use Rattle.packet.specs.Format.{byteOf, newPacket, isRetransmitted, setRetransmitted, headerBytes, datagram, checksumOf, withChecksum, matches};
-ghost use Rattle.packet.specs.Reading.{tryFrom, declared, payloadPart, fromBytes, payloadOf, validity, readDatagram};
+ghost use Rattle.packet.specs.Format.{byteOf, newPacket, isRetransmitted, setRetransmitted, headerBytes};
+ghost use Rattle.packet.specs.Format.{datagram, checksumOf, withChecksum, matches};
+ghost use Rattle.packet.specs.Reading.{tryFrom, declared, payloadPart, fromBytes, payloadOf, validity};
+ghost use Rattle.packet.specs.Reading.{readDatagram};
 ghost use Rattle.packet.specs.Writing.{computeChecksum, computeAndSetChecksum, toBytes, written};
 use refusal::Refusal;
 
@@ -223,7 +226,8 @@ impl Packet {
         }
     }
 
-    // What a datagram given to a sender or a receiver is: refused by 1, 2, 3 or 6, else its packet and whether its checksum matches.
+    // What a datagram given to a sender or a receiver is: refused by 1, 2, 3 or 6, else its packet and whether its
+    // checksum matches.
     pub fn read_datagram(raw: &[u8]) -> DatagramReading
         ensures { λ r. ⌜ r ≡ readDatagram (now (raw .entry)) ⌝ }
     {
@@ -284,7 +288,9 @@ impl Packet {
 
     pub fn to_bytes_unchecked(self, payload: &[u8], out: &mut [u8])
         requires { ⌜ (length (now payload) ≤ 65535) × (headerSize + length (now payload) ≤ length (now out)) ⌝ }
-        ensures { λ _. ⌜ now (out .exit) ≡ datagram self (now (payload .entry)) ++ drop (headerSize + length (now (payload .entry))) (now (out .entry)) ⌝ }
+        ensures { λ _. ⌜ now (out .exit)
+            ≡ datagram self (now (payload .entry))
+            ++ drop (headerSize + length (now (payload .entry))) (now (out .entry)) ⌝ }
     {
         let n = payload.len();
         put_header(self, n as u16, out);
@@ -295,7 +301,8 @@ impl Packet {
 
 fn put_header(p: Packet, payload_len: u16, out: &mut [u8])
     requires { ⌜ headerSize ≤ length (now out) ⌝ }
-    ensures { λ _. ⌜ now (out .exit) ≡ headerBytes p «payload_len» (p .checksum) ++ drop headerSize (now (out .entry)) ⌝ }
+    ensures { λ _. ⌜ now (out .exit)
+        ≡ headerBytes p «payload_len» (p .checksum) ++ drop headerSize (now (out .entry)) ⌝ }
 {
     let pkt_type = p.pkt_type;
     out[0] = (p.seq_num >> 24) as u8;

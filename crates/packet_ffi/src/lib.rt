@@ -1,6 +1,6 @@
-// The packet layer for a caller in Rust or C, by numbers and slices.
-// An export answers 0, or the number of the refusal. What else there is to say lies in the first four places of `answer`: a packet's
-// number, kind, flags and checksum; a single value; or a refusal's values. A shorter `answer` is left as it is.
+// The packet layer for a caller in Rust or C, by numbers and slices. An export answers 0, or the number of the refusal.
+// What else there is to say lies in the first four places of `answer`: a packet's number, kind, flags and checksum; a
+// single value; or a refusal's values. A shorter `answer` is left as it is.
 use packet::ChecksumAnswer;
 use packet::LengthAnswer;
 use packet::Packet;

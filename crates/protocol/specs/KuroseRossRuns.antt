@@ -7,7 +7,13 @@ use lib.ListN.{length}
 use Rattle.protocol.specs.Machine.{Segment, SenderState, ReceiverState}
 use Rattle.protocol.specs.PlainMachine.{sendChunk, handleTimeout, handleData, handleAck}
 use Rattle.protocol.specs.Trace.{World, Event, sent, resent, received, acknowledged, other, step}
-use Rattle.protocol.specs.KuroseRoss.{Data, Packet, Rcvpkt, corrupt, notcorrupt, SenderDid, ReceiverDid, Rdt3Sender, waitForCall, rdt3Send, rdt3Timeout, rdt3SenderRcv, rdt3ReceiverRcv, rdt3Packet, rdt3SenderOf, GbnSender, gbnSender, gbnSend, gbnTimeout, gbnSenderRcv, GbnReceiver, gbnReceiver, gbnReceiverRcv, gbnPacket, gbnReceiverOf, GbnSenderIs, SrSender, srSender, srSend, srTimeout, srSenderRcv, SrReceiver, srReceiver, srReceiverRcv, srPacket, SrSenderIs, SrReceiverIs}
+use Rattle.protocol.specs.KuroseRoss.{Data, Packet, Rcvpkt, corrupt, notcorrupt, SenderDid, ReceiverDid}
+use Rattle.protocol.specs.KuroseRoss.{Rdt3Sender, waitForCall, rdt3Send, rdt3Timeout, rdt3SenderRcv}
+use Rattle.protocol.specs.KuroseRoss.{rdt3ReceiverRcv, rdt3Packet, rdt3SenderOf, GbnSender, gbnSender, gbnSend}
+use Rattle.protocol.specs.KuroseRoss.{gbnTimeout, gbnSenderRcv, GbnReceiver, gbnReceiver, gbnReceiverRcv}
+use Rattle.protocol.specs.KuroseRoss.{gbnPacket, gbnReceiverOf, GbnSenderIs, SrSender, srSender, srSend}
+use Rattle.protocol.specs.KuroseRoss.{srTimeout, srSenderRcv, SrReceiver, srReceiver, srReceiverRcv, srPacket}
+use Rattle.protocol.specs.KuroseRoss.{SrSenderIs, SrReceiverIs}
 use Rattle.protocol.specs.declared.ProtocolType.{ProtocolType}
 use Rattle.protocol.specs.declared.ProtocolType.the-variants.{StopAndWait, GoBackN, SelectiveRepeat}
 

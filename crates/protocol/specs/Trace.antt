@@ -6,8 +6,10 @@ use mathlib.Core.Bool.{Bool, true, false, cond, not, _&&_}
 use mathlib.Core.List.{List, [], _∷_, _++_, map, List·Memᴰ}
 use lib.ListN.{length, take, drop}
 use Rattle.protocol.specs.Runs.{upFrom}
-use Rattle.protocol.specs.Machine.{Chunk, Segment, SenderState, ReceiverState, newSender, newReceiver, nextNumber, send, segmentsFrom, inWindow, isAcknowledged, acknowledge, receive}
-use Rattle.protocol.specs.PlainMachine.{Call, sendChunk, handleTimeout, handleData, handleAck, PlainState, plainStart, plainRun, Fed, fed, plainOutstanding, First}
+use Rattle.protocol.specs.Machine.{Chunk, Segment, SenderState, ReceiverState, newSender, newReceiver, nextNumber}
+use Rattle.protocol.specs.Machine.{send, segmentsFrom, inWindow, isAcknowledged, acknowledge, receive}
+use Rattle.protocol.specs.PlainMachine.{Call, sendChunk, handleTimeout, handleData, handleAck, PlainState}
+use Rattle.protocol.specs.PlainMachine.{plainStart, plainRun, Fed, fed, plainOutstanding, First}
 use Rattle.protocol.specs.declared.ProtocolType.{ProtocolType}
 
 -- both ends, the chunks delivered, the segments that the sender made and the numbers that the receiver acknowledged,

@@ -54,7 +54,8 @@ numberHigh (datagram.Refused r) = false
 
 -- the reading, or its refusal
 abbrev pub readingAnswer : DatagramReading → ReadingAnswer
-readingAnswer (datagram.Valid p) = cond (isNumberHigh p) (answer.Refused Numbers) (answer.Reading (packetReading p true))
+readingAnswer (datagram.Valid p) =
+    cond (isNumberHigh p) (answer.Refused Numbers) (answer.Reading (packetReading p true))
 readingAnswer (datagram.Corrupted p) = answer.Reading (packetReading p false)
 readingAnswer (datagram.Refused r) = answer.Refused r
 

@@ -33,8 +33,8 @@ apply d payload filled output ack =
     (receiveExit (answer.Refused Full) filled output ack)
     (applyResult (λ n. n) d (applied d payload filled output ack))
 
--- a state, whether 9 and 8 are true of it, and its fill mark; and what a packet that isn't refused does: the decision on it, the bytes
--- that are delivered if the decision says so, and the state after it, by its fill mark
+-- a state, whether 9 and 8 are true of it, and its fill mark; and what a packet that isn't refused does: the decision
+-- on it, the bytes that are delivered if the decision says so, and the state after it, by its fill mark
 pub record Reception (R : Type 0) : Type 0 where
   pub state : R
   pub stateBroken : Bool
@@ -51,7 +51,8 @@ abbrev pub refusedExit : {R : Type 0} → Reception R → List ℕ → List ℕ 
 refusedExit x output ack a = receiveExit a (x .state) output ack
 
 abbrev pub receivedExit : {R : Type 0} → Reception R → List ℕ → List ℕ → ReceiveExit R
-receivedExit x output ack = applyResult (x .after) (x .decision) (applied (x .decision) (x .delivered) (x .filled) output ack)
+receivedExit x output ack =
+    applyResult (x .after) (x .decision) (applied (x .decision) (x .delivered) (x .filled) output ack)
 
 abbrev pub receiveChecks : {R : Type 0} → Reception R → List ℕ → List ℕ → List ℕ → List Check
 receiveChecks x raw output ack =
@@ -61,8 +62,10 @@ receiveChecks x raw output ack =
 
 unfoldable pub receive : {R : Type 0} → Reception R → List ℕ → List ℕ → List ℕ → ReceiveExit R
 receive x raw output ack =
-    decide (verdict (receiveChecks x raw output ack)) (λ s. refusedExit x output ack (answer.Refused s)) (receivedExit x output ack)
+    decide (verdict (receiveChecks x raw output ack)) (λ s. refusedExit x output ack (answer.Refused s))
+    (receivedExit x output ack)
 
 -- below the entry points: only 5 is left
 unfoldable pub receiveUnchecked : {R : Type 0} → Reception R → List ℕ → List ℕ → ReceiveExit R
-receiveUnchecked x output ack = cond (noRoom x output ack) (refusedExit x output ack (answer.Refused Full)) (receivedExit x output ack)
+receiveUnchecked x output ack =
+    cond (noRoom x output ack) (refusedExit x output ack (answer.Refused Full)) (receivedExit x output ack)

@@ -1,4 +1,5 @@
--- Document 01, "`delivered_data` becomes a lent output and its fill mark", "Turned away" 5, and arq/*.rs, `handle_packet`.
+-- Document 01, "`delivered_data` becomes a lent output and its fill mark", "Turned away" 5, and arq/*.rs,
+-- `handle_packet`.
 use Prim.Native.Nat.{ℕ, _+_, _-_, _≤_}
 use mathlib.Core.List.{List, [], _++_}
 use mathlib.Core.Bool.{Bool, true, false, cond, _||_, _&&_}
@@ -48,7 +49,8 @@ applyExit filled output ack = record { filled = filled; output = output; ack = a
 unfoldable pub applied : Decision → List ℕ → ℕ → List ℕ → List ℕ → ApplyExit
 applied d payload filled output ack =
     cond (d .deliver)
-    (applyExit (filled + length payload) (take filled output ++ payload ++ drop (filled + length payload) output) (ackAfter (d .reply) ack))
+    (applyExit (filled + length payload) (take filled output ++ payload ++ drop (filled + length payload) output)
+    (ackAfter (d .reply) ack))
     (applyExit filled output (ackAfter (d .reply) ack))
 
 -- what carrying out asks for

@@ -7,7 +7,8 @@ ghost use mathlib.Core.Bool.{_&&_};
 ghost use Rattle.packet.specs.Reading.{readDatagram};
 ghost use Rattle.receiver.specs.State.{stateBroken, countsBroken};
 ghost use Rattle.receiver.specs.Reading.{packetReading, isNumberHigh, readingAnswer, readAfter};
-ghost use Rattle.receiver.specs.Reply.{applyExit, applied, roomMissing, RoomFor, RoomForReply, ackAfter, answerOf, isRefused};
+ghost use Rattle.receiver.specs.Reply.{applyExit, applied, roomMissing, RoomFor, RoomForReply, ackAfter};
+ghost use Rattle.receiver.specs.Reply.{answerOf, isRefused};
 ghost use Rattle.receiver.specs.Receive.{receiveExit, apply};
 use bounds::COUNT_LIMIT;
 use bounds::SEQ_NUM_LIMIT;
@@ -174,7 +175,8 @@ pub fn apply_in_room_unchecked(
     ack: &mut [u8],
 ) -> usize
     requires { ⌜ RoomFor decision (length (now payload)) filled (now output) (now ack) ⌝ }
-    ensures { λ r. ⌜ applyExit r (now (output .exit)) (now (ack .exit)) ≡ applied decision (now (payload .entry)) filled (now (output .entry)) (now (ack .entry)) ⌝ }
+    ensures { λ r. ⌜ applyExit r (now (output .exit)) (now (ack .exit))
+        ≡ applied decision (now (payload .entry)) filled (now (output .entry)) (now (ack .entry)) ⌝ }
 {
     let reply = decision.reply;
     write_reply(reply, ack);

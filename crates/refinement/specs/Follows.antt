@@ -28,8 +28,10 @@ slotsRead reading store window base count = map (λ k. reading (slotOf store win
 abbrev pub senderOf : Sender → SenderState
 senderOf v = record {
   base = v .window .«send_base»;
-  chunks = slotsRead slotPayload (v .store) (v .window .«window_size») (v .window .«send_base») (outstanding (v .window));
-  acknowledged = slotsRead acknowledgedIn (v .store) (v .window .«window_size») (v .window .«send_base») (outstanding (v .window));
+  chunks = slotsRead slotPayload (v .store) (v .window .«window_size») (v .window .«send_base»)
+      (outstanding (v .window));
+  acknowledged = slotsRead acknowledgedIn (v .store) (v .window .«window_size») (v .window .«send_base»)
+      (outstanding (v .window));
 }
 
 -- a Stop-and-Wait or Go-Back-N receiver holds nothing

@@ -14,9 +14,11 @@ use Rattle.selective_repeat.specs.Receiver.{Receiver, receivingBroken}
 abbrev pub Good : Bool → Sender → Type 0
 Good selective v = stateBroken selective (v .window) (v .store) ≡ false
 
--- a Selective Repeat receiver holds no number from limit on: delivering such a number would take its base past the bound
+-- a Selective Repeat receiver holds no number from limit on: delivering such a number would take its base past the
+-- bound
 abbrev pub NoneHeldFrom : ℕ → List ℕ → ℕ → ℕ → Type 0
-NoneHeldFrom limit store window base = (k : ℕ) → k < window → limit ≤ base + k → slotMark (slotOf store window base k) ≡ 0
+NoneHeldFrom limit store window base =
+    (k : ℕ) → k < window → limit ≤ base + k → slotMark (slotOf store window base k) ≡ 0
 
 pub record GoodSelectiveReceiver (v : Receiver) (output : List ℕ) : Type 0 where
   pub sound : receivingBroken (v .state) (v .store) output ≡ false

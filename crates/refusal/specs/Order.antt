@@ -1,4 +1,5 @@
--- Document 01, "Checks go 9, 8, 10, 11, 4, 1, 2, 3, 6, 7, 5": of the lines that are true of a call, the first in this order is answered.
+-- Document 01, "Checks go 9, 8, 10, 11, 4, 1, 2, 3, 6, 7, 5": of the lines that are true of a call, the first in this
+-- order is answered.
 use Prim.Native.Nat.{ℕ}
 use mathlib.Core.Bool.{Bool, cond}
 use mathlib.Core.List.{List, [], _∷_}
@@ -27,7 +28,8 @@ orElse (Refused r) v = Refused r
 -- the checks of one number
 unfoldable pub numbered : ℕ → List Check → Verdict
 numbered n [] = Accepted
-numbered n (c ∷ cs) = orElse (cond (eqb (entryOf (c .refusal) .number) n) (cond (c .fires) (Refused (c .refusal)) Accepted) Accepted) (numbered n cs)
+numbered n (c ∷ cs) = orElse (cond (eqb (entryOf (c .refusal) .number) n)
+    (cond (c .fires) (Refused (c .refusal)) Accepted) Accepted) (numbered n cs)
 
 unfoldable pub firstOf : List ℕ → List Check → Verdict
 firstOf [] cs = Accepted

@@ -5,7 +5,8 @@ use Prim.Native.String as text
 use mathlib.Core.List.{List, [], _∷_, _++_}
 use lib.ListN.{length, drop, replicate}
 use Rattle.refusal.specs.declared.Refusal.{Refusal}
-use Rattle.refusal.specs.declared.Refusal.the-variants.{Short, Kind, Cut, Setup, Full, Long, Numbers, Counts, State, Time, Roll}
+use Rattle.refusal.specs.declared.Refusal.the-variants.{Short, Kind, Cut, Setup, Full, Long, Numbers, Counts}
+use Rattle.refusal.specs.declared.Refusal.the-variants.{State, Time, Roll}
 use Rattle.refusal.specs.declared.Word.{Word}
 use Rattle.refusal.specs.declared.Values.{Values}
 

@@ -1,6 +1,6 @@
-// Why a call is turned away, for every layer: document 01, "Turned away".
-// A new refusal has six places: its case in `Refusal`, its arms in `number`, `word` and, where it has values, `values`; its line of
-// `entryOf` in specs/Refusal.antt; its place in `order` in specs/Order.antt; its line of `in-order` in proofs/Laws.antt.
+// Why a call is turned away, for every layer: document 01, "Turned away". A new refusal has six places: its case in
+// `Refusal`, its arms in `number`, `word` and, where it has values, `values`; its line of `entryOf` in
+// specs/Refusal.antt; its place in `order` in specs/Order.antt; its line of `in-order` in proofs/Laws.antt.
 ghost use mathlib.Core.Path.{_≡_};
 ghost use Prim.Native.Nat.{_≤_};
 ghost use lib.ListN.{length};

@@ -19,7 +19,8 @@ use Rattle.receiver.specs.State.{countsBroken}
 use Rattle.receiver.specs.Reply.{ackAfter, roomMissing, applied}
 use Rattle.receiver.specs.Receive.{ReceiveExit, receive}
 use Rattle.receiver.specs.declared.ReceiveAnswer.the-variants as answer
-use Rattle.selective_repeat.specs.Receiver.{Receiver, receiver, newReceiver, withBase, stateBroken, receivingBroken}
+use Rattle.selective_repeat.specs.Receiver.{Receiver, receiver, newReceiver, withBase, stateBroken}
+use Rattle.selective_repeat.specs.Receiver.{receivingBroken}
 use Rattle.selective_repeat.specs.Receiver.{held, dataDecision, decision, deliveredBytes, handlePacket}
 
 -- a receiver with window 4 that holds nothing, handed Data n with one byte, and a buffer for the ACK

@@ -18,7 +18,8 @@ ghost use Rattle.selective_repeat.specs.Sender.{inFlightCount, inFlightC
 ghost use Rattle.selective_repeat.specs.Receiver.{receiver, makeReceiver, bufferedCount};
 ghost use Rattle.selective_repeat.specs.Receiver.{stateBroken, receivingBroken, countersBroken, Ready};
 ghost use Rattle.selective_repeat.specs.Receiver.{released, decided, dataDecision, decision};
-ghost use Rattle.selective_repeat.specs.Receiver.{deliveredBytes, changedSlots, handlePacket, handlePacketUnchecked};
+ghost use Rattle.selective_repeat.specs.Receiver.{deliveredBytes, changedSlots, handlePacket};
+ghost use Rattle.selective_repeat.specs.Receiver.{handlePacketUnchecked};
 use packet::Packet;
 use receiver::Decision;
 use receiver::PacketReading;

@@ -26,7 +26,14 @@ use Rattle.stop_and_wait.specs.declared.StopAndWaitSenderAnswer.the-vari
 
 abbrev pub state : ℕ → Bool → ℕ → ℕ → ℕ → ℕ → StopAndWaitSender
 state current inFlight limit retries sent again =
-    record { «current_seq» = current; «in_flight» = inFlight; «max_retries» = limit; «current_retries» = retries; «total_sent» = sent; retransmissions = again }
+    record {
+      «current_seq» = current;
+      «in_flight» = inFlight;
+      «max_retries» = limit;
+      «current_retries» = retries;
+      «total_sent» = sent;
+      retransmissions = again;
+    }
 
 -- its window is 1: base is current_seq, next is one more while a packet is in flight
 abbrev pub windowOf : StopAndWaitSender → SendWindow
@@ -62,7 +69,8 @@ isWaitingForAck s = unlessBroken (windowOf s) windowTest.Refused (windowTest.Is 
 
 -- the state by what its window w of 1 has counted
 abbrev pub counted : StopAndWaitSender → Bool → ℕ → SendWindow → StopAndWaitSender
-counted s inFlight retries w = state (s .«current_seq») inFlight (s .«max_retries») retries (w .«total_sent») (w .retransmissions)
+counted s inFlight retries w =
+    state (s .«current_seq») inFlight (s .«max_retries») retries (w .«total_sent») (w .retransmissions)
 
 -- a send: what its window does; the chunk is in flight, with no retries yet
 abbrev pub bySend : StopAndWaitSender → SendAnswer → SendWindow → StopAndWaitSender
@@ -83,7 +91,8 @@ sendChunkUnchecked v payload out = sent (v .sender) (window.sendChunkUnchecked (
 -- an accepted ACK: the next number, nothing in flight, the slot emptied
 abbrev pub acknowledged : End → ℕ → End
 acknowledged v n =
-    endOf (state (v .sender .«current_seq» + 1) false (v .sender .«max_retries») 0 (v .sender .«total_sent») (v .sender .retransmissions))
+    endOf (state (v .sender .«current_seq» + 1) false (v .sender .«max_retries») 0 (v .sender .«total_sent»)
+    (v .sender .retransmissions))
     (release (windowEnd v) (n + 1) .store)
 
 abbrev pub decideAck : End → List ℕ → AckDecision

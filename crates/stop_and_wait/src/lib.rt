@@ -11,8 +11,12 @@ ghost use Rattle.window.specs.Acknowledgement.{ackExit};
 ghost use Rattle.window.specs.Resending.{timeoutExit};
 ghost use Rattle.window.specs.declared.TimeoutAnswer.the-variants as timeoutAnswer;
 ghost use Rattle.refusal.specs.declared.TestAnswer.the-variants as windowTest;
-ghost use Rattle.stop_and_wait.specs.Sender.{windowOf, windowEnd, endOf, newSender, canSend, isWaitingForAck, bySend, sendChunk, sendChunkUnchecked, decideAck, acknowledged, handleAck, retriesLeft, markedAgain, byTimeout, decideTimeout, handleTimeout};
-ghost use Rattle.stop_and_wait.specs.Receiver.{newReceiver, decided, dataDecision, decision, handlePacket, handlePacketUnchecked};
+ghost use Rattle.stop_and_wait.specs.Sender.{windowOf, windowEnd, endOf, newSender, canSend, isWaitingForAck};
+ghost use Rattle.stop_and_wait.specs.Sender.{bySend, sendChunk, sendChunkUnchecked, decideAck, acknowledged};
+ghost use Rattle.stop_and_wait.specs.Sender.{handleAck, retriesLeft, markedAgain, byTimeout, decideTimeout};
+ghost use Rattle.stop_and_wait.specs.Sender.{handleTimeout};
+ghost use Rattle.stop_and_wait.specs.Receiver.{newReceiver, decided, dataDecision, decision, handlePacket};
+ghost use Rattle.stop_and_wait.specs.Receiver.{handlePacketUnchecked};
 ghost use Rattle.receiver.specs.Receive.{receiveExit};
 ghost use Rattle.receiver.specs.State as receiverState;
 ghost use Rattle.receiver.specs.State.{countsBroken};
@@ -97,7 +101,8 @@ impl StopAndWaitSender {
         payload: &[u8],
         out: &mut [u8],
     ) -> StopAndWaitSendResult
-        ensures { λ r. ⌜ sendExit (r .answer) (endOf (r .sender) (now (store .exit))) (now (out .exit)) ≡ sendChunk (endOf self (now (store .entry))) (now (payload .entry)) (now (out .entry)) ⌝ }
+        ensures { λ r. ⌜ sendExit (r .answer) (endOf (r .sender) (now (store .exit))) (now (out .exit))
+            ≡ sendChunk (endOf self (now (store .entry))) (now (payload .entry)) (now (out .entry)) ⌝ }
     {
         if self.numbers_broken() {
             return StopAndWaitSendResult {
@@ -117,7 +122,8 @@ impl StopAndWaitSender {
 
     // A datagram as an ACK.
     pub fn handle_ack(self, store: &mut [u8], raw: &[u8]) -> StopAndWaitAckResult
-        ensures { λ r. ⌜ ackExit (r .answer) (endOf (r .sender) (now (store .exit))) ≡ handleAck (endOf self (now (store .entry))) (now (raw .entry)) ⌝ }
+        ensures { λ r. ⌜ ackExit (r .answer) (endOf (r .sender) (now (store .exit)))
+            ≡ handleAck (endOf self (now (store .entry))) (now (raw .entry)) ⌝ }
     {
         match self.decide_ack(store, raw) {
             AckDecision::Accept { seq_num, base: _ } => StopAndWaitAckResult {
@@ -137,7 +143,8 @@ impl StopAndWaitSender {
 
     // The packet in flight again, unless the retry limit is met.
     pub fn handle_timeout(self, store: &mut [u8], out: &mut [u8]) -> StopAndWaitTimeoutResult
-        ensures { λ r. ⌜ timeoutExit (r .answer) (endOf (r .sender) (now (store .exit))) (now (out .exit)) ≡ handleTimeout (endOf self (now (store .entry))) (now (out .entry)) ⌝ }
+        ensures { λ r. ⌜ timeoutExit (r .answer) (endOf (r .sender) (now (store .exit))) (now (out .exit))
+            ≡ handleTimeout (endOf self (now (store .entry))) (now (out .entry)) ⌝ }
     {
         match self.decide_timeout(store) {
             TimeoutDecision::Resend { first, count } => {
@@ -192,7 +199,8 @@ impl StopAndWaitSender {
     ) -> StopAndWaitSender
         requires { ⌜ numbersBroken (windowOf self) ≡ false ⌝ }
         requires { ⌜ CanSendChunk (windowEnd (endOf self (now store))) (now payload) (now out) ⌝ }
-        ensures { λ r. ⌜ sendExit (SendAnswer.Sent (headerSize + length (now (payload .entry)))) (endOf r (now (store .exit))) (now (out .exit))
+        ensures { λ r. ⌜ sendExit (SendAnswer.Sent (headerSize + length (now (payload .entry))))
+            (endOf r (now (store .exit))) (now (out .exit))
             ≡ sendChunkUnchecked (endOf self (now (store .entry))) (now (payload .entry)) (now (out .entry)) ⌝ }
     {
         let window = self.window_unchecked();
@@ -393,7 +401,8 @@ impl StopAndWaitReceiver {
         ack: &mut [u8],
     ) -> StopAndWaitReceiveResult
         requires { ⌜ receiverState.stateBroken (self .«expected_seq») (self .filled) (now output) ≡ false ⌝ }
-        requires { ⌜ countsBroken (self .«total_received») (self .«duplicates_count») (self .«corrupted_count») ≡ false ⌝ }
+        requires { ⌜ countsBroken (self .«total_received») (self .«duplicates_count») (self .«corrupted_count»)
+            ≡ false ⌝ }
         ensures { λ r. ⌜ receiveExit (r .answer) (r .receiver) (now (output .exit)) (now (ack .exit))
             ≡ handlePacketUnchecked self reading (now (payload .entry)) (now (output .entry)) (now (ack .entry)) ⌝ }
     {
@@ -414,7 +423,8 @@ impl StopAndWaitReceiver {
 
     // What a packet does to the state, and what is to be written.
     pub fn decide_unchecked(mut self, reading: PacketReading) -> StopAndWaitDecision
-        requires { ⌜ countsBroken (self .«total_received») (self .«duplicates_count») (self .«corrupted_count») ≡ false ⌝ }
+        requires { ⌜ countsBroken (self .«total_received») (self .«duplicates_count») (self .«corrupted_count»)
+            ≡ false ⌝ }
         requires { ⌜ self .«expected_seq» ≤ seqNumLimit ⌝ }
         ensures { λ r. ⌜ r ≡ decision self reading ⌝ }
     {

@@ -1,5 +1,6 @@
--- Document 01, "What the Rust forms turn into": slots of 1,404 bytes: length (2 bytes, big-endian), mark (0 empty, 1 held,
--- 2 acknowledged), flags, 1,400 payload bytes. Filling writes the whole slot, bytes past the length 0; emptying clears it to 0.
+-- Document 01, "What the Rust forms turn into": slots of 1,404 bytes: length (2 bytes, big-endian), mark (0 empty, 1
+-- held, 2 acknowledged), flags, 1,400 payload bytes. Filling writes the whole slot, bytes past the length 0; emptying
+-- clears it to 0.
 use Prim.Native.Nat.{ℕ, _+_, _-_, _*_, _/_, _%_, _≤_}
 use mathlib.Core.List.{List, [], _∷_, _++_}
 use lib.ListN.{length, getD, take, drop, set, replicate}
@@ -29,7 +30,8 @@ abbrev pub headBytes : ℕ → ℕ → ℕ → List ℕ
 headBytes n mark flags = (n / 256) ∷ (n % 256) ∷ mark ∷ flags ∷ []
 
 unfoldable pub slotBytes : List ℕ → ℕ → ℕ → List ℕ
-slotBytes payload mark flags = headBytes (length payload) mark flags ++ payload ++ replicate (maxPayload - length payload) 0
+slotBytes payload mark flags =
+    headBytes (length payload) mark flags ++ payload ++ replicate (maxPayload - length payload) 0
 
 -- the store with slot j written over
 unfoldable pub putSlot : List ℕ → ℕ → List ℕ → List ℕ

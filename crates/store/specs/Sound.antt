@@ -1,5 +1,6 @@
--- Document 01, "Turned away" 9, the lines on slots: length out of bounds; mark above 2; sender slots not filled for exactly base to
--- next - 1; mark 2 elsewhere than in a Selective Repeat sender above base; a receiver's slot for base filled. Filled is mark not 0.
+-- Document 01, "Turned away" 9, the lines on slots: length out of bounds; mark above 2; sender slots not filled for
+-- exactly base to next - 1; mark 2 elsewhere than in a Selective Repeat sender above base; a receiver's slot for base
+-- filled. Filled is mark not 0.
 use Prim.Native.Nat.{ℕ, zero, suc, _+_, _%_}
 use mathlib.Core.List.{List}
 use mathlib.Core.Bool.{Bool, false, cond, not, _||_, _&&_}
@@ -21,7 +22,8 @@ outOfBounds length mark = ltb maxPayload length || ltb 2 mark
 -- a sender's slot, by whether its number is outstanding and may be acknowledged
 unfoldable pub senderSlotBroken : Bool → Bool → ℕ → ℕ → Bool
 senderSlotBroken outstanding mayBeAcknowledged length mark =
-    outOfBounds length mark || cond outstanding (not (isFilled mark)) (isFilled mark) || (eqb mark 2 && not mayBeAcknowledged)
+    outOfBounds length mark || cond outstanding (not (isFilled mark)) (isFilled mark)
+    || (eqb mark 2 && not mayBeAcknowledged)
 
 -- a receiver's slot, by whether it is base's
 unfoldable pub receiverSlotBroken : Bool → ℕ → ℕ → Bool
@@ -34,10 +36,12 @@ slotOf store window base k = slotAt store ((base + k) % window)
 -- whether that slot is broken, with count numbers from base on outstanding
 abbrev pub senderTest : Bool → List ℕ → ℕ → ℕ → ℕ → ℕ → Bool
 senderTest selective store window base count k =
-    senderSlotBroken (ltb k count) (selective && ltb 0 k) (slotLength (slotOf store window base k)) (slotMark (slotOf store window base k))
+    senderSlotBroken (ltb k count) (selective && ltb 0 k) (slotLength (slotOf store window base k))
+    (slotMark (slotOf store window base k))
 
 abbrev pub receiverTest : List ℕ → ℕ → ℕ → ℕ → Bool
-receiverTest store window base k = receiverSlotBroken (eqb k 0) (slotLength (slotOf store window base k)) (slotMark (slotOf store window base k))
+receiverTest store window base k =
+    receiverSlotBroken (eqb k 0) (slotLength (slotOf store window base k)) (slotMark (slotOf store window base k))
 
 unfoldable pub senderSlotsBroken : Bool → List ℕ → ℕ → ℕ → ℕ → Bool
 senderSlotsBroken selective store window base count = anyBelow window (senderTest selective store window base count)

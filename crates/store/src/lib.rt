@@ -8,7 +8,8 @@ ghost use Rattle.bounds.specs.Bounds.{maxPayload, seqNumLimit, slotSize};
 ghost use Rattle.store.specs.Sound.{senderSlotsBroken, receiverSlotsBroken};
 ghost use Rattle.store.specs.Scans.{slotOutside, slotsOutside, partBroken};
 ghost use Rattle.store.specs.Numbers.{markedRun, markedCount, payloadsFrom, writtenAt, PayloadsIn};
-ghost use Rattle.store.specs.Slot.{SlotIn, headBytes, slotBytes, slotAt, slotLength, slotMark, slotFlags, slotPayload, fillSlot, emptySlot, setMark, setFlags};
+ghost use Rattle.store.specs.Slot.{SlotIn, headBytes, slotBytes, slotAt, slotLength, slotMark, slotFlags};
+ghost use Rattle.store.specs.Slot.{slotPayload, fillSlot, emptySlot, setMark, setFlags};
 use bounds::SLOT_SIZE;
 
 pub fn length_unchecked(store: &[u8], slot: usize) -> u16
@@ -78,7 +79,8 @@ pub fn empty_unchecked(store: &mut [u8], slot: usize)
 // Empties the first slots of a store; what lies past them is left as it is.
 pub fn empty_all_unchecked(store: &mut [u8], slots: usize)
     requires { ⌜ slots * slotSize ≤ length (now store) ⌝ }
-    ensures { λ _. ⌜ now (store .exit) ≡ replicate (slots * slotSize) 0 ++ drop (slots * slotSize) (now (store .entry)) ⌝ }
+    ensures { λ _. ⌜ now (store .exit)
+        ≡ replicate (slots * slotSize) 0 ++ drop (slots * slotSize) (now (store .entry)) ⌝ }
 {
     let end = slots * SLOT_SIZE;
     octets::clear(&mut store[..end]);
@@ -179,7 +181,8 @@ pub fn payloads_length_unchecked(store: &[u8], window: usize, first: u32, count:
     total
 }
 
-// Writes the payloads of count numbers from first on, joined, to the buffer from a place on, and answers where they end.
+// Writes the payloads of count numbers from first on, joined, to the buffer from a place on, and answers where they
+// end.
 pub fn copy_payloads_unchecked(
     store: &[u8],
     window: usize,
@@ -191,7 +194,8 @@ pub fn copy_payloads_unchecked(
     requires { ⌜ PayloadsIn (now store) window first count × (count ≤ seqNumLimit) ⌝ }
     requires { ⌜ place + length (payloadsFrom (now store) window first count) ≤ length (now buffer) ⌝ }
     ensures { λ r. ⌜ r ≡ place + length (payloadsFrom (now (store .entry)) window first count) ⌝ }
-    ensures { λ _. ⌜ now (buffer .exit) ≡ writtenAt (now (buffer .entry)) place (payloadsFrom (now (store .entry)) window first count) ⌝ }
+    ensures { λ _. ⌜ now (buffer .exit)
+        ≡ writtenAt (now (buffer .entry)) place (payloadsFrom (now (store .entry)) window first count) ⌝ }
 {
     let mut k: usize = 0;
     let mut start = place;
@@ -219,8 +223,8 @@ fn next_slot_unchecked(slot: usize, window: usize) -> usize
     next
 }
 
-// Whether of the slots before `to` from `from` on the first count, outstanding, or the others, empty, break line 9; mark 2 at base is
-// left aside.
+// Whether of the slots before `to` from `from` on the first count, outstanding, or the others, empty, break line 9;
+// mark 2 at base is left aside.
 fn sender_part_broken_unchecked(
     selective: bool,
     store: &[u8],
@@ -248,8 +252,8 @@ fn highest_mark(selective: bool) -> u8
     1
 }
 
-// Whether one of the slots before `to` from `from` on has a length out of bounds, or a mark below low or above high. No exit in the loop: it is
-// faster so.
+// Whether one of the slots before `to` from `from` on has a length out of bounds, or a mark below low or above high. No
+// exit in the loop: it is faster so.
 fn slots_outside_unchecked(store: &[u8], from: usize, to: usize, low: u8, high: u8) -> bool
     requires { ⌜ (from ≤ to) × (to * slotSize ≤ length (now store)) ⌝ }
     ensures { λ r. ⌜ r ≡ slotsOutside low high (now (store .entry)) from (to - from) ⌝ }

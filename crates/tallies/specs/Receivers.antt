@@ -12,7 +12,8 @@ use Rattle.go_back_n.specs.declared.GoBackNReceiver.{GoBackNReceiver}
 use Rattle.selective_repeat.specs.Receiver.{Receiver, receiver, newReceiver}
 use Rattle.selective_repeat.specs.declared.SelectiveRepeatReceiver.{SelectiveRepeatReceiver}
 use Rattle.delivery.specs.Ends.{isReceived}
-use Rattle.tallies.specs.Readings.{count, isCorrupted, expected, isOlder, isOutOfOrder, isAnsweredAgain, base, isBuffered, isDuplicate}
+use Rattle.tallies.specs.Readings.{count, isCorrupted, expected, isOlder, isOutOfOrder, isAnsweredAgain, base}
+use Rattle.tallies.specs.Readings.{isBuffered, isDuplicate}
 
 -- a datagram, the output and the buffer for the ACK, with any bytes
 pub record Call : Type 0 where

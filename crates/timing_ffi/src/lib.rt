@@ -1,9 +1,8 @@
-// The timing layer for a caller in Rust or C, by numbers and slices.
-// An export answers 0, or the number of the refusal; `timing_from_secs_f64` answers 255 out of range.
-// A timer is three words: 1 where it is set, its deadline, its generation. A timer set is two: count and generation.
-// An estimator is 23 words and 5 doubles, in the order of `load_estimator`.
-// A slice that is too short stands for a new timer, an empty set or the default setup. Nothing is stored in it, but for the durations of a
-// setup in an estimator's first four words.
+// The timing layer for a caller in Rust or C, by numbers and slices. An export answers 0, or the number of the refusal;
+// `timing_from_secs_f64` answers 255 out of range. A timer is three words: 1 where it is set, its deadline, its
+// generation. A timer set is two: count and generation. An estimator is 23 words and 5 doubles, in the order of
+// `load_estimator`. A slice that is too short stands for a new timer, an empty set or the default setup. Nothing is
+// stored in it, but for the durations of a setup in an estimator's first four words.
 ghost use mathlib.Core.Path.{_≡_};
 ghost use mathlib.Core.Bool.{false};
 ghost use Prim.Native.Nat.{_≤_};
@@ -591,7 +590,8 @@ pub extern "C" fn timing_rto_run(samples: &[u64]) -> u64 {
     e.current_rto
 }
 
-// The estimator after these samples, and the answer to the last one. The one place that calls `update_rtt`, so that it is inlined here.
+// The estimator after these samples, and the answer to the last one. The one place that calls `update_rtt`, so that it
+// is inlined here.
 fn updated_by(first: RtoEstimator, samples: &[u64], is_retransmission: bool) -> UpdateResult {
     let mut e = first;
     let mut a = UpdateAnswer::Accepted(false);
@@ -608,7 +608,8 @@ fn updated_by(first: RtoEstimator, samples: &[u64], is_retransmission: bool) -> 
     }
 }
 
-// The timer set below the entry points, for the benchmark; the caller answers for what they require. Each gives the new count.
+// The timer set below the entry points, for the benchmark; the caller answers for what they require. Each gives the new
+// count.
 #[no_mangle]
 pub extern "C" fn timing_multi_start_unchecked(
     keys: &mut [u32],
@@ -618,7 +619,8 @@ pub extern "C" fn timing_multi_start_unchecked(
     key: u32,
     deadline: u64,
 ) -> usize
-    requires { ⌜ (broken count (now keys) (now deadlines) ≡ false) × (startFull (timers count generation) (now keys) (now deadlines) key ≡ false) ⌝ }
+    requires { ⌜ (broken count (now keys) (now deadlines) ≡ false)
+        × (startFull (timers count generation) (now keys) (now deadlines) key ≡ false) ⌝ }
 {
     let t = MultiTimer {
         count: count,

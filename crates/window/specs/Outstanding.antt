@@ -1,4 +1,5 @@
--- arq/gbn.rs and arq/sr.rs, the calls that only read: `in_flight_count`, `can_send`, `has_unacked_packets`; "Turned away" 9 and 8.
+-- arq/gbn.rs and arq/sr.rs, the calls that only read: `in_flight_count`, `can_send`, `has_unacked_packets`; "Turned
+-- away" 9 and 8.
 use mathlib.Core.List.{[], _∷_}
 use lib.Dec.{ltb}
 use Rattle.refusal.specs.declared.Refusal.{Refusal}
@@ -13,7 +14,8 @@ use Rattle.refusal.specs.declared.TestAnswer.the-variants as windowTest
 
 -- a call that isn't lent the store checks what it has
 unfoldable pub unlessBroken : {A : Type 0} → SendWindow → (Refusal → A) → A → A
-unlessBroken s refused a = decide (verdict (check (numbersBroken s) State ∷ check (countsBroken s) Counts ∷ [])) refused a
+unlessBroken s refused a =
+    decide (verdict (check (numbersBroken s) State ∷ check (countsBroken s) Counts ∷ [])) refused a
 
 abbrev pub inFlightCount : SendWindow → CountAnswer
 inFlightCount s = unlessBroken s windowCount.Refused (windowCount.Count (outstanding s))

@@ -42,23 +42,28 @@ timeoutExit a s out = record { answer = a; after = s; out = out }
 -- k numbers from n on; 5 speaks of the very bytes that are written
 unfoldable pub resend : Bool → Bool → Sender → ℕ → ℕ → List ℕ → TimeoutExit Sender
 resend stateBroken countsBroken v n k out =
-    decide (verdict (check stateBroken State ∷ check countsBroken Counts ∷ check (ltb (length out) (length (sentAgain v n k))) Full ∷ []))
+    decide (verdict (check stateBroken State ∷ check countsBroken Counts
+    ∷ check (ltb (length out) (length (sentAgain v n k))) Full ∷ []))
     (λ r. timeoutExit (timeoutAnswer.Refused r) v out)
     (cond (eqb k 0) (timeoutExit timeoutAnswer.Nothing v out)
-    (timeoutExit (timeoutAnswer.Resent (length (sentAgain v n k))) (markFrom v n k) (sentAgain v n k ++ drop (length (sentAgain v n k)) out)))
+    (timeoutExit (timeoutAnswer.Resent (length (sentAgain v n k))) (markFrom v n k)
+    (sentAgain v n k ++ drop (length (sentAgain v n k)) out)))
 
 -- the lowest outstanding numbers of a Stop-and-Wait or Go-Back-N sender, at most so many
 abbrev pub resendOutstanding : Sender → ℕ → List ℕ → TimeoutExit Sender
 resendOutstanding v most out =
-    resend (stateBroken false (v .window) (v .store)) (countsBroken (v .window)) v (v .window .«send_base») (min most (outstanding (v .window))) out
+    resend (stateBroken false (v .window) (v .store)) (countsBroken (v .window)) v (v .window .«send_base»)
+    (min most (outstanding (v .window))) out
 
 -- which numbers that is, decided before anything is written and whatever the room
 unfoldable pub timeoutDecision : Bool → Bool → ℕ → ℕ → TimeoutDecision
 timeoutDecision stateBroken countsBroken n k =
-    decide (verdict (check stateBroken State ∷ check countsBroken Counts ∷ [])) decision.Refused (cond (eqb k 0) decision.Nothing (decision.Resend n k))
+    decide (verdict (check stateBroken State ∷ check countsBroken Counts ∷ [])) decision.Refused
+    (cond (eqb k 0) decision.Nothing (decision.Resend n k))
 
 abbrev pub outstandingDecision : SendWindow → List ℕ → ℕ → TimeoutDecision
-outstandingDecision s store most = timeoutDecision (stateBroken false s store) (countsBroken s) (s .«send_base») (min most (outstanding s))
+outstandingDecision s store most =
+    timeoutDecision (stateBroken false s store) (countsBroken s) (s .«send_base») (min most (outstanding s))
 
 -- such a decision carried out
 unfoldable pub byTimeoutDecision : TimeoutDecision → Sender → List ℕ → TimeoutExit Sender

@@ -1,4 +1,5 @@
--- Document 01, "Turned away" and "A full window is an ordinary answer"; arq/gbn.rs and arq/sr.rs, `new` and `send_chunk`.
+-- Document 01, "Turned away" and "A full window is an ordinary answer"; arq/gbn.rs and arq/sr.rs, `new` and
+-- `send_chunk`.
 use Prim.Native.Nat.{ℕ, _+_, _*_, _≤_, _<_}
 use mathlib.Core.List.{List, [], _∷_, _++_}
 use mathlib.Core.Bool.{Bool, cond, _&&_}

@@ -1,5 +1,5 @@
--- Document 01, "What the Rust forms turn into": number n has slot n mod window; and arq/gbn.rs, arq/sr.rs: what a sender does to its
--- state, its store and a lent buffer.
+-- Document 01, "What the Rust forms turn into": number n has slot n mod window; and arq/gbn.rs, arq/sr.rs: what a
+-- sender does to its state, its store and a lent buffer.
 use Prim.Native.Nat.{ℕ, zero, suc, _+_, _-_, _*_, _/_, _%_}
 use mathlib.Core.List.{List, _++_}
 use lib.ListN.{drop, replicate}
@@ -60,7 +60,12 @@ markRetransmitted v n =
 
 -- the datagram of number n, as its slot has it
 abbrev pub packetFor : Sender → ℕ → Packet
-packetFor v n = record { «seq_num» = n; «pkt_type» = Data; flags = slotFlags (slotAt (v .store) (slotFor (v .window) n)); checksum = 0 }
+packetFor v n = record {
+  «seq_num» = n;
+  «pkt_type» = Data;
+  flags = slotFlags (slotAt (v .store) (slotFor (v .window) n));
+  checksum = 0;
+}
 
 unfoldable pub datagramFor : Sender → ℕ → List ℕ
 datagramFor v n = made (packetFor v n) (slotPayload (slotAt (v .store) (slotFor (v .window) n)))

@@ -1,4 +1,5 @@
-// The sliding window that the three senders share: the chunks from send_base to next_seq_num - 1 lie in the store's slots.
+// The sliding window that the three senders share: the chunks from send_base to next_seq_num - 1 lie in the store's
+// slots.
 ghost use mathlib.Core.Path.{_≡_};
 ghost use Prim.Native.Nat.{_+_, _-_, _*_, _≤_, _<_, min};
 ghost use mathlib.Core.Bool.{true, false};
@@ -6,9 +7,12 @@ ghost use lib.ListN.{length, drop};
 ghost use mathlib.Core.List.{_++_};
 ghost use Rattle.bounds.specs.Bounds.{countLimit, headerSize, maxPayload, seqNumLimit, slotSize};
 ghost use Rattle.window.specs.Acknowledgement.{inWindow, byPacket, byReading, ackDecision};
-ghost use Rattle.window.specs.Sending.{makeExit, makeWindow, sendExit, sendChunk, sendChunkUnchecked, CanSendChunk};
-ghost use Rattle.window.specs.Slots.{sender, fresh, slotFor, hold, firstDatagram, markRetransmitted, datagramFor, emptyFrom, release};
-ghost use Rattle.window.specs.Resending.{datagramsFrom, markFrom, timeoutExit, resend, resendOutstanding, outstandingDecision, Resendable};
+ghost use Rattle.window.specs.Sending.{makeExit, makeWindow, sendExit, sendChunk, sendChunkUnchecked};
+ghost use Rattle.window.specs.Sending.{CanSendChunk};
+ghost use Rattle.window.specs.Slots.{sender, fresh, slotFor, hold, firstDatagram, markRetransmitted, datagramFor};
+ghost use Rattle.window.specs.Slots.{emptyFrom, release};
+ghost use Rattle.window.specs.Resending.{datagramsFrom, markFrom, timeoutExit, resend, resendOutstanding};
+ghost use Rattle.window.specs.Resending.{outstandingDecision, Resendable};
 ghost use Rattle.store.specs.Slot.{slotAt, slotLength};
 ghost use Rattle.window.specs.State.{stateBroken, numbersBroken, countsBroken, windowBroken, storeShort};
 ghost use Rattle.window.specs.Outstanding.{inFlightCount, canSend, hasUnackedPackets};
@@ -101,7 +105,8 @@ impl SendWindow {
         payload: &[u8],
         out: &mut [u8],
     ) -> SendResult
-        ensures { λ r. ⌜ sendExit (r .answer) (sender (r .window) (now (store .exit))) (now (out .exit)) ≡ sendChunk selective (sender self (now (store .entry))) (now (payload .entry)) (now (out .entry)) ⌝ }
+        ensures { λ r. ⌜ sendExit (r .answer) (sender (r .window) (now (store .exit))) (now (out .exit))
+            ≡ sendChunk selective (sender self (now (store .entry))) (now (payload .entry)) (now (out .entry)) ⌝ }
     {
         let n = payload.len();
         if self.state_broken(selective, store) {
@@ -180,7 +185,8 @@ impl SendWindow {
 
     // Sends the lowest outstanding numbers of a Stop-and-Wait or Go-Back-N sender again, at most so many.
     pub fn resend_outstanding(self, store: &mut [u8], most: u32, out: &mut [u8]) -> TimeoutResult
-        ensures { λ r. ⌜ timeoutExit (r .answer) (sender (r .window) (now (store .exit))) (now (out .exit)) ≡ resendOutstanding (sender self (now (store .entry))) most (now (out .entry)) ⌝ }
+        ensures { λ r. ⌜ timeoutExit (r .answer) (sender (r .window) (now (store .exit))) (now (out .exit))
+            ≡ resendOutstanding (sender self (now (store .entry))) most (now (out .entry)) ⌝ }
     {
         match self.decide_timeout(store, most) {
             TimeoutDecision::Resend { first, count } => {
@@ -218,7 +224,8 @@ impl SendWindow {
         out: &mut [u8],
     ) -> SendWindow
         requires { ⌜ CanSendChunk (sender self (now store)) (now payload) (now out) ⌝ }
-        ensures { λ r. ⌜ sendExit (SendAnswer.Sent (headerSize + length (now (payload .entry)))) (sender r (now (store .exit))) (now (out .exit))
+        ensures { λ r. ⌜ sendExit (SendAnswer.Sent (headerSize + length (now (payload .entry))))
+            (sender r (now (store .exit))) (now (out .exit))
             ≡ sendChunkUnchecked (sender self (now (store .entry))) (now (payload .entry)) (now (out .entry)) ⌝ }
     {
         let next = self.next_seq_num;
@@ -235,7 +242,8 @@ impl SendWindow {
     pub fn mark_retransmitted_unchecked(mut self, store: &mut [u8], seq_num: u32) -> SendWindow
         requires { ⌜ (0 < self .«window_size») × (self .«window_size» * slotSize ≤ length (now store)) ⌝ }
         requires { ⌜ (self .«total_sent» < 9223372036854775808) × (self .retransmissions < 9223372036854775808) ⌝ }
-        ensures { λ r. ⌜ sender r (now (store .exit)) ≡ markRetransmitted (sender self (now (store .entry))) «seq_num» ⌝ }
+        ensures { λ r. ⌜ sender r (now (store .exit))
+            ≡ markRetransmitted (sender self (now (store .entry))) «seq_num» ⌝ }
     {
         let slot = seq_num as usize % self.window_size;
         let flags = store::flags_unchecked(store, slot) | packet::FLAG_RETRANSMITTED;
@@ -248,9 +256,12 @@ impl SendWindow {
     // Writes a number's datagram, as its slot has it, to the start of out, and answers its length.
     pub fn write_datagram_unchecked(self, store: &[u8], seq_num: u32, out: &mut [u8]) -> usize
         requires { ⌜ (0 < self .«window_size») × (self .«window_size» * slotSize ≤ length (now store)) ⌝ }
-        requires { ⌜ (slotLength (slotAt (now store) (slotFor self «seq_num»)) ≤ maxPayload) × (headerSize + slotLength (slotAt (now store) (slotFor self «seq_num»)) ≤ length (now out)) ⌝ }
+        requires { ⌜ (slotLength (slotAt (now store) (slotFor self «seq_num»)) ≤ maxPayload)
+            × (headerSize + slotLength (slotAt (now store) (slotFor self «seq_num»)) ≤ length (now out)) ⌝ }
         ensures { λ r. ⌜ r ≡ length (datagramFor (sender self (now (store .entry))) «seq_num») ⌝ }
-        ensures { λ r. ⌜ now (out .exit) ≡ datagramFor (sender self (now (store .entry))) «seq_num» ++ drop (length (datagramFor (sender self (now (store .entry))) «seq_num»)) (now (out .entry)) ⌝ }
+        ensures { λ r. ⌜ now (out .exit)
+            ≡ datagramFor (sender self (now (store .entry))) «seq_num»
+            ++ drop (length (datagramFor (sender self (now (store .entry))) «seq_num»)) (now (out .entry)) ⌝ }
     {
         let slot = seq_num as usize % self.window_size;
         let payload = store::payload_unchecked(store, slot);
@@ -307,7 +318,9 @@ impl SendWindow {
     pub fn write_datagrams_unchecked(self, store: &[u8], first: u32, count: u32, out: &mut [u8])
         requires { ⌜ Resendable self (now store) first count ⌝ }
         requires { ⌜ length (datagramsFrom (sender self (now store)) first count) ≤ length (now out) ⌝ }
-        ensures { λ _. ⌜ now (out .exit) ≡ datagramsFrom (sender self (now (store .entry))) first count ++ drop (length (datagramsFrom (sender self (now (store .entry))) first count)) (now (out .entry)) ⌝ }
+        ensures { λ _. ⌜ now (out .exit)
+            ≡ datagramsFrom (sender self (now (store .entry))) first count
+            ++ drop (length (datagramsFrom (sender self (now (store .entry))) first count)) (now (out .entry)) ⌝ }
     {
         let end = first + count;
         let mut at: usize = 0;
@@ -328,7 +341,8 @@ impl SendWindow {
     ) -> TimeoutResult
         requires { ⌜ Resendable self (now store) first count ⌝ }
         requires { ⌜ (self .«total_sent» < countLimit) × (self .retransmissions < countLimit) ⌝ }
-        ensures { λ r. ⌜ timeoutExit (r .answer) (sender (r .window) (now (store .exit))) (now (out .exit)) ≡ resend false false (sender self (now (store .entry))) first count (now (out .entry)) ⌝ }
+        ensures { λ r. ⌜ timeoutExit (r .answer) (sender (r .window) (now (store .exit))) (now (out .exit))
+            ≡ resend false false (sender self (now (store .entry))) first count (now (out .entry)) ⌝ }
     {
         if count == 0 {
             return TimeoutResult {
