@@ -44,7 +44,7 @@ use Rattle.delivery.specs.Ends.{SingleTimeout, one, GoBackNTimeout, all,
 use Rattle.delivery.specs.Demand3.{plainAfter, resendStart, ResendsAll, Demand3}
 use Rattle.refinement.specs.Follows.{slotsRead}
 use Rattle.delivery.specs.KuroseRoss.{eventBy, CallsLikeBook}
-use Rattle.delivery.specs.Room.{Suffices}
+use Rattle.delivery.specs.Room.{Suffices, RoomToResend, RetryLeft}
 use Rattle.delivery.proofs.Demand3.{demand-3}
 use Rattle.delivery.proofs.NotRefused.{sent-within}
 
@@ -187,6 +187,16 @@ selective-repeat-suffices = record {
 abbrev likeBook : {T : Type 0} → T → List (Call T)
 likeBook t = send (65 ∷ []) buffer ∷ timeout t buffer ∷ toReceiver (whole 0) buffer ∷ toSender (whole 0) ∷ []
 
-lists-like-book : CallsLikeBook StopAndWait (start StopAndWait 1 3) (likeBook one) × CallsLikeBook GoBackN (start GoBackN 1 0) (likeBook all)
-unfolding words onesAdd onesSum checksum flip anyOf order orElse numbered firstOf verdict decide headerBytes datagram checksumOf matches readChecks headerOf payloadPart payloadOf readDatagram slotAt slotBytes putSlot slot.slotPayload anyBelow senderSlotBroken senderSlotsBroken receiverSlotBroken receiverSlotsBroken markedRun payloadsFrom windowBroken storeShort window.numbersBroken window.stateBroken window.countsBroken fresh hold markRetransmitted datagramFor emptyFrom release sendChecks sendChunk datagramsFrom markFrom resend ackDecision byDecision countsBroken ackAfter roomMissing applied receive acknowledgeOne sr.stateBroken sr.receivingBroken sr.dataDecision sr.decision sr.deliveredBytes datagrams step run stopAndWaitReceiver.decision stopAndWaitReceiver.dataDecision goBackNReceiver.decision goBackNReceiver.dataDecision receiverState.stateBroken fedBy fedIn plainStart plainSend plainData plainAck plainCall plainStep plainRun plainOutstanding eventBy slotsRead
-lists-like-book = ((tt, ((refl, refl), ((λ e. refl), ((λ a b. refl), tt)))), (tt, ((refl, refl), ((λ e. refl), (lit≤ tt, tt)))))
+-- what a resending after a list asks for
+abbrev pub CanBeResent : (p : ProtocolType) (w limit : ℕ) → List (Call (ends p .Timeout)) → Type 0
+CanBeResent p w limit cs =
+    let v = start p w limit in
+    RoomToResend p (ends p .unwritten (v .receiver)) (run (ends p) v cs) (plainAfter p w (ends p) v cs) (length cs) × RetryLeft p (run (ends p) v cs .sender)
+
+pub also-computed : (CallsLikeBook StopAndWait (start StopAndWait 1 3) (likeBook one) × CallsLikeBook GoBackN (start GoBackN 1 0) (likeBook all))
+    × (CanBeResent StopAndWait 1 3 stopAndWait × CanBeResent GoBackN 2 0 goBackN × CanBeResent SelectiveRepeat 2 0 selectiveRepeat)
+unfolding flatten words onesAdd onesSum checksum flip anyOf order orElse numbered firstOf verdict decide headerBytes datagram checksumOf matches readChecks headerOf payloadPart payloadOf readDatagram slotAt slotBytes putSlot slot.slotPayload anyBelow senderSlotBroken senderSlotsBroken receiverSlotBroken receiverSlotsBroken markedRun payloadsFrom windowBroken storeShort window.numbersBroken window.stateBroken window.countsBroken fresh hold markRetransmitted datagramFor emptyFrom release sendChecks sendChunk datagramsFrom markFrom resend ackDecision byDecision countsBroken ackAfter roomMissing applied receive acknowledgeOne sr.stateBroken sr.receivingBroken sr.dataDecision sr.decision sr.deliveredBytes datagrams step run stopAndWaitReceiver.decision stopAndWaitReceiver.dataDecision goBackNReceiver.decision goBackNReceiver.dataDecision receiverState.stateBroken fedBy fedIn plainStart plainSend plainData plainAck plainCall plainStep plainRun plainOutstanding eventBy slotsRead
+also-computed = (
+  ((tt, ((refl, refl), ((λ e. refl), ((λ a b. refl), tt)))), (tt, ((refl, refl), ((λ e. refl), (lit≤ tt, tt))))),
+  ((record { output = lit≤ tt; numbers = lit≤ tt; datagrams-few = lit< tt; calls-few = lit< tt }, lit< tt), (record { output = lit≤ tt; numbers = lit≤ tt; datagrams-few = lit< tt; calls-few = lit< tt }, tt), (record { output = lit≤ tt; numbers = lit≤ tt; datagrams-few = lit< tt; calls-few = lit< tt }, tt)),
+)

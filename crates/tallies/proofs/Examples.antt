@@ -26,7 +26,10 @@ use Rattle.receiver.specs.declared.ReceiveAnswer.the-variants as receiveAnswer
 use Rattle.stop_and_wait.specs.Receiver as stopAndWait
 use Rattle.go_back_n.specs.Receiver as goBackN
 use Rattle.selective_repeat.specs.Receiver as selectiveRepeat
-use Rattle.delivery.specs.Calls.{datagrams}
+use Rattle.delivery.specs.Calls.{Call, datagrams, run}
+use Rattle.delivery.specs.Demand3.{plainAfter, resendStart}
+use Rattle.protocol.specs.PlainMachine.{WindowFits}
+use Rattle.protocol.specs.declared.ProtocolType.{ProtocolType}
 use Rattle.protocol.specs.declared.ProtocolType.the-variants.{StopAndWait, GoBackN, SelectiveRepeat}
 use Rattle.delivery.specs.Ends.{GoBackNTimeout, all, ends}
 use Rattle.delivery.specs.Room.{NoneRefused}
@@ -38,6 +41,8 @@ use Rattle.tallies.specs.Receivers.{readingsWith, stopAndWaitAfter, goBa
 use Rattle.tallies.specs.Senders as senders
 use Rattle.tallies.specs.Senders.{Answered, sent, resent, acknowledged, sentBy, resentBy, total, retriesFrom, retries, goBackNSender}
 use Rattle.tallies.proofs.NoneRefused.{none-refused}
+use Rattle.tallies.proofs.HandOvers.{Completed}
+use Rattle.tallies.proofs.SomeResending.{some-resending}
 use Rattle.tallies.proofs.Limits.{go-back-n-sender-no-8, go-back-n-receiver-no-8}
 
 -- a chunk sent; two datagrams of ten bytes sent again; an ACK accepted, one that isn't; a send refused
@@ -121,4 +126,18 @@ lists-not-refused = (
   none-refused StopAndWait 1 3 _ _ _ delivery.stop-and-wait-made delivery.stopAndWait (delivery.computed .0 .fair) delivery.stop-and-wait-suffices,
   none-refused GoBackN 2 0 _ _ _ (delivery.two-made GoBackN tt) delivery.goBackN (delivery.computed .1 .fair) delivery.go-back-n-suffices,
   none-refused SelectiveRepeat 2 0 _ _ _ (delivery.two-made SelectiveRepeat tt) delivery.selectiveRepeat (delivery.computed .2 .fair) delivery.selective-repeat-suffices,
+)
+
+-- ---- lists after which a resending exists
+abbrev CanResend : (p : ProtocolType) (w limit : ℕ) → WindowFits p w → List (Call (ends p .Timeout)) → Type 0
+CanResend p w limit o cs =
+    let v = delivery.start p w limit in
+    Completed p w o (ends p .unwritten (v .receiver)) (resendStart (ends p) (run (ends p) v cs) (plainAfter p w (ends p) v cs))
+
+pub lists-resent : CanResend StopAndWait 1 3 (delivery.stop-and-wait-made .window) delivery.stopAndWait × CanResend GoBackN 2 0 tt delivery.goBackN
+    × CanResend SelectiveRepeat 2 0 tt delivery.selectiveRepeat
+lists-resent = (
+  some-resending StopAndWait 1 3 _ _ _ delivery.stop-and-wait-made delivery.stopAndWait (delivery.computed .0 .fair) (delivery.also-computed .1 .0 .0) (delivery.also-computed .1 .0 .1),
+  some-resending GoBackN 2 0 _ _ _ (delivery.two-made GoBackN tt) delivery.goBackN (delivery.computed .1 .fair) (delivery.also-computed .1 .1 .0) (delivery.also-computed .1 .1 .1),
+  some-resending SelectiveRepeat 2 0 _ _ _ (delivery.two-made SelectiveRepeat tt) delivery.selectiveRepeat (delivery.computed .2 .fair) (delivery.also-computed .1 .2 .0) (delivery.also-computed .1 .2 .1),
 )
