@@ -1145,20 +1145,29 @@ fn new_replayed(g: &mut Gen, protocol: Protocol, window: u64, retries: u64, case
     }
 }
 
-// Makings that are turned away: 9 for a short store, then 4 for the window.
-fn refused_makings(g: &mut Gen, cases: &mut Cases) {
+// Ends made with stores of these lengths, or turned away: 9 for a short store, then 4 for the window.
+fn sample_making(protocol: Protocol, window: u64, sent: u64, held: u64, cases: &mut Cases) {
+    let sized = if protocol == Protocol::StopAndWait { 1 } else { window };
+    let code = |n: u64| match verdict(&[(9, n / (SLOT as u64) < sized), (4, sized < 1 || 32 < sized)]) {
+        0 => " made".to_string(),
+        v => format!(" refused {}", v - 16),
+    };
+    let receiver = if protocol == Protocol::SelectiveRepeat { code(held) } else { " made".to_string() };
+    cases.case(format!("n {} {window} 3 {sent} {held} 0", protocol as u64), code(sent) + &receiver);
+}
+
+// The edges of both, and some more.
+fn sample_makings(g: &mut Gen, cases: &mut Cases) {
+    let slot = SLOT as u64;
     for protocol in PROTOCOLS {
+        for (window, n) in [(0, slot), (1, slot - 1), (1, slot), (32, 32 * slot - 1), (32, 32 * slot), (33, 33 * slot - 1), (33, 33 * slot)] {
+            sample_making(protocol, window, n, n, cases);
+        }
         for _ in 0..4 {
             let window = [0, 1, 2, 32, 33, u64::MAX, u64::MAX / 1404 + 1][g.below(7) as usize];
             let n = |g: &mut Gen| [0, 1, 1403, 1404, 2 * 1404, 32 * 1404 - 1, 32 * 1404, 33 * 1404][g.below(8) as usize];
             let (sent, held) = (n(g), n(g));
-            let sized = if protocol == Protocol::StopAndWait { 1 } else { window };
-            let code = |n: u64| match verdict(&[(9, n / (SLOT as u64) < sized), (4, sized < 1 || 32 < sized)]) {
-                0 => " made".to_string(),
-                v => format!(" refused {}", v - 16),
-            };
-            let receiver = if protocol == Protocol::SelectiveRepeat { code(held) } else { " made".to_string() };
-            cases.case(format!("n {} {window} 3 {sent} {held} 0", protocol as u64), code(sent) + &receiver);
+            sample_making(protocol, window, sent, held, cases);
         }
     }
 }
@@ -1166,7 +1175,7 @@ fn refused_makings(g: &mut Gen, cases: &mut Cases) {
 fn sample(dir: &str, seed: u64) {
     let mut g = Gen(seed);
     let mut cases = Cases::new("arq", seed);
-    refused_makings(&mut g, &mut cases);
+    sample_makings(&mut g, &mut cases);
     let setups = [(0, 1, 0), (0, 1, 1), (0, 9, 3), (0, 0, 4294967295), (1, 1, 0), (1, 2, 0), (1, 4, 7), (1, 32, 0), (2, 1, 0), (2, 3, 0), (2, 4, 0), (2, 8, 0), (2, 32, 0)];
     for (protocol, window, retries) in setups {
         let mut t = new_replayed(&mut g, PROTOCOLS[protocol], window, retries, &mut cases);

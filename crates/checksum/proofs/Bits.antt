@@ -1,12 +1,12 @@
 -- One bit of one octet turned over moves the sum of a row's words by a power of two.
-use Prim.Native.Nat.{ℕ, zero, suc, _+_, _-_, _*_, _/_, _%_, _^_, _≤_, _<_}
-use mathlib.Core.Path.{_≡_, sym, ap, _∙_}
+use Prim.Native.Nat.{ℕ, zero, suc, _+_, _-_, _*_, _^_, _<_}
+use mathlib.Core.Path.{_≡_, ap}
 use mathlib.Core.List.{List, [], _∷_}
 use mathlib.Core.Logic.{_⊎_, inl, inr, ⊎-elim}
 use native.Mathlib.Omega.{arith}
-use lib.ListN.{length, getD}
-use lib.Bits.{bitXor, bitAnd, xor-add-and, and-high, xor-lt}
-use lib.Pow.{pow-pos, pow-mono, pow-add}
+use lib.ListN.{length}
+use lib.Bits.{bitXor}
+use lib.Pow.{pow-pos}
 use Rattle.checksum.specs.Rfc1071.{words}
 use Rattle.checksum.specs.Techniques.{plainSum}
 use Rattle.octets.specs.Flip.{flip}

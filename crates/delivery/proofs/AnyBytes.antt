@@ -1,13 +1,12 @@
 -- From fresh ends a good state stays good: after any list of calls with any bytes the next call meets no 9.
 use Prim.Native.Nat.{ℕ}
-use mathlib.Core.Path.{_≡_, refl, sym, subst}
+use mathlib.Core.Path.{refl, sym, subst}
 use mathlib.Core.List.{List, [], _∷_}
 use mathlib.Core.Bool.{Bool, true, false}
 use Rattle.protocol.specs.declared.ProtocolType.{ProtocolType}
 use Rattle.protocol.specs.declared.ProtocolType.the-variants.{StopAndWait, GoBackN, SelectiveRepeat}
-use Rattle.protocol.specs.Machine.{ReceiverState}
 use Rattle.window.specs.Slots as slots
-use Rattle.window.specs.Sending.{SendExit, sendChunk}
+use Rattle.window.specs.Sending.{SendExit}
 use Rattle.window.specs.Resending.{TimeoutExit}
 use Rattle.window.specs.Acknowledgement.{AckExit}
 use Rattle.receiver.specs.Receive.{ReceiveExit}
@@ -15,11 +14,11 @@ use Rattle.stop_and_wait.specs.Receiver as stopAndWaitReceiver
 use Rattle.go_back_n.specs.Receiver as goBackNReceiver
 use Rattle.selective_repeat.specs.Receiver as selectiveRepeatReceiver
 use Rattle.refinement.specs.Good.{Good}
-use Rattle.refinement.proofs.Laws.{fresh-good, fresh-receiver-good, stop-and-wait-made, send-good, AckOutcome, ack-refused, ack-ignored, ack-taken, ResendOutcome, timeout-refused, nothing-sent, sent-again}
-use Rattle.delivery.specs.Calls.{Ends, World}
+use Rattle.refinement.proofs.Laws.{fresh-good, fresh-receiver-good, stop-and-wait-made, send-good, ack-refused, ack-ignored, ack-taken, timeout-refused, nothing-sent, sent-again}
+use Rattle.delivery.specs.Calls.{Ends}
 use Rattle.delivery.specs.Ends.{endsOf, stopAndWaitEnds, goBackNEnds, selectiveRepeatEnds, ends, freshEnds, Made}
 use Rattle.delivery.specs.AnyBytes.{SenderCall, send, timeout, ack, senderStep, senderAfter, ReceiverCall, receiverAfter, SenderSound, ReceiverSound}
-use Rattle.delivery.proofs.Instances.{SenderCalls, ReceiverCalls}
+use Rattle.delivery.proofs.Instances.{SenderCalls}
 use Rattle.delivery.proofs.Demand3.{stop-and-wait-sender, go-back-n-sender, selective-repeat-sender, stop-and-wait-receiver, go-back-n-receiver, selective-repeat-receiver, GoodOf, fresh-mark}
 
 -- what each call keeps, any list keeps

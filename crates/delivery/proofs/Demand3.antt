@@ -1,25 +1,22 @@
 -- Demand 3 for the ends of the three protocols, from what making leaves.
-use Prim.Native.Nat.{ℕ, zero, suc, _+_, _-_, _*_, _≤_, _<_}
-use mathlib.Core.Path.{_≡_, refl, sym, ap, _∙_}
+use Prim.Native.Nat.{ℕ, zero, suc, _+_, _-_, _≤_, _<_}
+use mathlib.Core.Path.{_≡_, refl, _∙_}
 use mathlib.Core.List.{List, flatten}
 use mathlib.Core.Bool.{Bool, true, false, cond, _&&_}
 use native.Mathlib.Omega.{arith}
-use lib.ListN.{length, replicate, drop}
 use lib.Dec.{ltb, leb, eqb}
 use borrow.Author.Tests.{ltb-false}
 use Rattle.refusal.proofs.Laws.{none-of}
 use Rattle.octets.specs.Octets.{Octets}
-use Rattle.protocol.specs.PlainMachine.{WindowFits}
 use Rattle.protocol.specs.declared.ProtocolType.{ProtocolType}
 use Rattle.protocol.specs.declared.ProtocolType.the-variants.{StopAndWait, GoBackN, SelectiveRepeat}
 use Rattle.protocol.specs.Machine.{newSender}
 use Rattle.protocol.specs.Trace.{newWorld}
-use Rattle.packet.specs.Reading.{payloadOf}
-use Rattle.window.specs.State.{outstanding, windowBroken, storeShort}
+use Rattle.window.specs.State.{windowBroken, storeShort}
 use Rattle.window.specs.Slots as slots
 use Rattle.window.specs.Slots.{release, markRetransmitted}
 use Rattle.window.specs.Sending.{sendChunk}
-use Rattle.window.specs.Resending.{TimeoutExit, markFrom, resendOutstanding}
+use Rattle.window.specs.Resending.{TimeoutExit, markFrom}
 use Rattle.window.specs.Acknowledgement.{ackDecision}
 use Rattle.receiver.specs.State as receiverState
 use Rattle.receiver.specs.Reading.{readPacket}
@@ -33,14 +30,14 @@ use Rattle.go_back_n.specs.Receiver as goBackNReceiver
 use Rattle.selective_repeat.specs.Sender as selectiveRepeat
 use Rattle.selective_repeat.specs.Receiver as sr
 use Rattle.refinement.specs.Good.{GoodSelectiveReceiver}
-use Rattle.refinement.proofs.Laws.{ResendOutcome, timeout-refused, nothing-sent, sent-again, after-packet, after-ack, marks-octets, go-back-n-ack, go-back-n-ack-octets, go-back-n-timeout, lowest-sent-again, goBackNView, go-back-n-receives, go-back-n-receiver-good, stopAndWaitView, stop-and-wait-send, stop-and-wait-timeout, stop-and-wait-ack, stop-and-wait-ack-octets, stop-and-wait-made, state-good, stop-and-wait-receives, stop-and-wait-receiver-good, selective-ack, selective-ack-octets, selective-timeout, selectiveView, selective-receives, selective-receiver-good, fresh-good, fresh-octets, fresh-follows, zeroed, fresh-receiver-follows, fresh-receiver-good}
+use Rattle.refinement.proofs.Laws.{ResendOutcome, timeout-refused, nothing-sent, sent-again, after-packet, after-ack, marks-octets, go-back-n-ack, go-back-n-ack-octets, go-back-n-timeout, lowest-sent-again, goBackNView, go-back-n-receives, go-back-n-receiver-good, stopAndWaitView, stop-and-wait-send, stop-and-wait-timeout, stop-and-wait-ack, stop-and-wait-ack-octets, stop-and-wait-made, state-good, stop-and-wait-receives, stop-and-wait-receiver-good, selective-ack, selective-ack-octets, selective-timeout, selectiveView, selective-receives, selective-receiver-good, fresh-good, fresh-octets, fresh-follows, fresh-receiver-follows, fresh-receiver-good}
 use Rattle.delivery.specs.Calls.{Call, World, Admissible}
-use Rattle.delivery.specs.Ends.{SingleTimeout, GoBackNTimeout, all, earliest, goBackNTimeout, WithOutput, ends, freshEnds, Made}
+use Rattle.delivery.specs.Ends.{SingleTimeout, GoBackNTimeout, all, earliest, goBackNTimeout, ends, freshEnds, Made}
 use Rattle.delivery.specs.Demand3.{plainAfter, Claim, Demand3}
 use Rattle.delivery.proofs.Lists.{Reached}
 use Rattle.delivery.proofs.Follow.{Follow}
 use Rattle.delivery.proofs.SenderFollows.{SenderIs, not-handled}
-use Rattle.delivery.proofs.ReceiverFollows.{ReceiverIs, not-received}
+use Rattle.delivery.proofs.ReceiverFollows.{not-received}
 use Rattle.delivery.proofs.Instances.{TimeoutAs, SenderCalls, ReceiverCalls, calls-follow}
 use Rattle.delivery.proofs.Simulation.{Follows}
 use Rattle.delivery.proofs.FromCalls.{from-calls}

@@ -1,8 +1,8 @@
 -- What has to hold of the two ends, call by call, so that they follow the ends over numbers and chunks.
 use Prim.Native.Nat.{ℕ, _+_, _≤_, _<_}
 use mathlib.Core.Path.{_≡_}
-use mathlib.Core.List.{List, [], _∷_, _++_, flatten}
-use mathlib.Core.Bool.{Bool, true, false}
+use mathlib.Core.List.{List, [], _++_, flatten}
+use mathlib.Core.Bool.{true, false}
 use lib.ListN.{length, drop}
 use Rattle.octets.specs.Octets.{Octets}
 use Rattle.octets.specs.Flip.{flip}

@@ -1,20 +1,18 @@
 -- The ends of the three protocols follow the machine.
-use Prim.Native.Nat.{ℕ, _+_, _*_, _≤_, _<_}
-use mathlib.Core.Path.{_≡_, refl, sym, ap, _∙_}
-use mathlib.Core.List.{List, [], _∷_, _++_}
-use mathlib.Core.Bool.{Bool, true, false, cond}
+use Prim.Native.Nat.{ℕ, _<_}
+use mathlib.Core.Path.{_≡_, refl, ap, _∙_}
+use mathlib.Core.List.{List, []}
+use mathlib.Core.Bool.{Bool, true, false}
 use native.Mathlib.Omega.{arith}
-use lib.ListN.{length, take, drop}
+use lib.ListN.{length, take}
 use Rattle.octets.specs.Octets.{Octets}
 use Rattle.octets.specs.Flip.{flip}
 use Rattle.protocol.specs.declared.ProtocolType.{ProtocolType}
-use Rattle.protocol.specs.declared.ProtocolType.the-variants.{StopAndWait, GoBackN, SelectiveRepeat}
 use Rattle.protocol.specs.Machine.{Segment, SenderState, ReceiverState}
 use Rattle.window.specs.Slots as slots
-use Rattle.window.specs.Slots.{release}
 use Rattle.window.specs.Sending.{SendExit, sendChunk}
 use Rattle.window.specs.Resending.{TimeoutExit}
-use Rattle.window.specs.Acknowledgement.{ackDecision, AckExit, byDecision}
+use Rattle.window.specs.Acknowledgement.{AckExit}
 use Rattle.receiver.specs.State as receiverState
 use Rattle.receiver.specs.Receive.{ReceiveExit}
 use Rattle.packet.specs.Format.{newPacket}

@@ -1,6 +1,5 @@
 -- The fresh ends are what making leaves.
 use Prim.Native.Nat.{ℕ}
-use mathlib.Core.Path.{_≡_, sym}
 use mathlib.Core.List.{List}
 use Rattle.refusal.proofs.Laws.{none-true-accepted, on-accepted}
 use Rattle.window.specs.Sending.{makeWindow}

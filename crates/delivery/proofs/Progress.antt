@@ -1,13 +1,12 @@
 -- A call whose checks are all false is done, or at least not refused: what the theorem over lists doesn't say.
 use Prim.Native.Nat.{ℕ, zero, suc, _+_, _*_, _≤_}
 use mathlib.Core.Path.{_≡_, refl, sym, ap, _∙_}
-use mathlib.Core.List.{List, [], _∷_}
+use mathlib.Core.List.{List}
 use mathlib.Core.Bool.{Bool, true, false, cond}
 use native.Mathlib.Omega.{arith}
 use borrow.Author.Tests.{le-ltb}
 use lib.ListN.{length, length-append}
 use lib.Dec.{ltb, eqb}
-use Rattle.refusal.specs.Order.{decide}
 use Rattle.refusal.specs.declared.Refusal.{Refusal}
 use Rattle.refusal.proofs.Laws.{NoneTrue, none-true-accepted, on-accepted}
 use Rattle.bounds.specs.Bounds.{maxDatagram}

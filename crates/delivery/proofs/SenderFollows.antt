@@ -1,21 +1,20 @@
 -- A sender over bytes follows the machine, whatever its state's type: view reads the window and store from it.
 use Prim.Native.Nat.{ℕ, zero, suc, _+_, _-_, _≤_, _<_}
 use mathlib.Core.Path.{_≡_, refl, sym, ap, _∙_, subst}
-use mathlib.Core.List.{List, [], _∷_, _++_, map, flatten}
+use mathlib.Core.List.{List, [], map, flatten}
 use mathlib.Core.Bool.{Bool, true, false, cond}
 use native.Mathlib.Omega.{arith}
-use lib.ListN.{length, take, drop}
+use lib.ListN.{length, take}
 use lib.Seq.{take-append-seam}
 use Rattle.octets.specs.Octets.{Octets}
-use Rattle.octets.specs.Flip.{flip}
 use Rattle.protocol.specs.declared.ProtocolType.{ProtocolType}
 use Rattle.protocol.specs.Runs.{upFrom}
 use Rattle.protocol.specs.Machine.{SenderState, nextNumber, send, segmentAt, segmentsFrom, acknowledge}
 use Rattle.window.specs.Slots as slots
 use Rattle.window.specs.Slots.{datagramFor}
-use Rattle.window.specs.Sending.{SendExit, sendExit, sendChunk}
+use Rattle.window.specs.Sending.{SendExit, sendChunk}
 use Rattle.window.specs.Acknowledgement.{AckExit, byDecision}
-use Rattle.window.specs.Resending.{TimeoutExit, timeoutExit}
+use Rattle.window.specs.Resending.{TimeoutExit}
 use Rattle.window.specs.declared.AckDecision.{AckDecision}
 use Rattle.window.specs.declared.AckDecision.the-variants as decision
 use Rattle.window.specs.declared.SendAnswer.the-variants as sendAnswer
@@ -24,12 +23,12 @@ use Rattle.refinement.specs.Follows.{senderOf}
 use Rattle.refinement.specs.Good.{Good}
 use Rattle.packet.specs.declared.Packet.{Packet}
 use Rattle.packet.specs.declared.DatagramReading.the-variants as reading
-use Rattle.refinement.specs.Copies.{DataOf, AckOf, NotValid, IsAck}
-use Rattle.refinement.proofs.Laws.{Sent, SendOutcome, send-refused, window-full, chunk-sent, send-outcome, send-octets, AckOutcome, ack-refused, ack-ignored, ack-taken, ResendOutcome, timeout-refused, nothing-sent, sent-again, ack-number, ack-flipped, next-number}
+use Rattle.refinement.specs.Copies.{DataOf, NotValid, IsAck}
+use Rattle.refinement.proofs.Laws.{Sent, send-refused, window-full, chunk-sent, send-outcome, send-octets, AckOutcome, ack-refused, ack-ignored, ack-taken, ResendOutcome, timeout-refused, nothing-sent, sent-again, ack-number, next-number}
 use Rattle.delivery.specs.Calls.{Done, Ends}
-use Rattle.delivery.specs.Ends.{bytesSent, isSent, bySending, bytesResent, isResent, byResending, isHandled, byAcknowledging}
+use Rattle.delivery.specs.Ends.{bytesSent, isSent, bytesResent, isResent, isHandled, byAcknowledging}
 use Rattle.delivery.proofs.Datagrams.{DataBytes, AckBytes, Each}
-use Rattle.delivery.proofs.Follow.{SenderKept, ChunkSent, SentAgain, Flips}
+use Rattle.delivery.proofs.Follow.{SenderKept, ChunkSent, SentAgain}
 
 pub false-true : {X : Type 0} → _≡_ {A = Bool} false true → X
 false-true e = let z : _≡_ {A = ℕ} 1 0 = ap (λ (b : Bool). cond b 0 1) e in absurd (omega arith)

@@ -9,6 +9,7 @@ use native.Mathlib.Decide.{ℕ-discrete, decLt}
 use borrow.Author.Tests.{lt-ltb, le-ltb, ltb-false, eqb-true, not-false}
 use lib.ListN.{length, getD, drop, replicate, length-set, length-append, length-replicate, length-drop, getD-replicate, List·getD-append}
 use lib.Dec.{ltb, eqb}
+use Rattle.bounds.specs.Bounds.{maxPayload, slotSize, maxWindow, seqNumLimit}
 use Rattle.refusal.proofs.Laws.{or-false, none-of}
 use Rattle.store.specs.Slot.{slotAt, slotLength, slotMark, fillSlot}
 use Rattle.store.specs.Sound.{anyBelow, isFilled, outOfBounds, senderSlotBroken, slotOf, senderSlotsBroken}
@@ -30,21 +31,21 @@ abbrev pub slotBroken : Bool → Bool → List ℕ → Bool
 slotBroken outstanding may slot = senderSlotBroken outstanding may (slotLength slot) (slotMark slot)
 
 -- a slot just filled, an empty slot
-new-slot : (may : Bool) (n mark : ℕ) → n ≤ 1400 → mark ≡ 1 → senderSlotBroken true may n mark ≡ false
+new-slot : (may : Bool) (n mark : ℕ) → n ≤ maxPayload → mark ≡ 1 → senderSlotBroken true may n mark ≡ false
 unfolding senderSlotBroken
-new-slot may n mark h e = rw (e, le-ltb 1400 n h)
+new-slot may n mark h e = rw (e, le-ltb maxPayload n h)
 
 empty-slot : (may : Bool) (n mark : ℕ) → n ≡ 0 → mark ≡ 0 → senderSlotBroken false may n mark ≡ false
 unfolding senderSlotBroken
 empty-slot may n mark e f = rw (e, f)
 
-pub zeros-length : slotLength (replicate 1404 0) ≡ 0
-zeros-length = rw (getD-replicate {A = ℕ} 1404 0 0 0 (omega arith), getD-replicate {A = ℕ} 1404 1 0 0 (omega arith))
+pub zeros-length : slotLength (replicate slotSize 0) ≡ 0
+zeros-length = rw (getD-replicate {A = ℕ} slotSize 0 0 0 (omega arith), getD-replicate {A = ℕ} slotSize 1 0 0 (omega arith))
 
-pub zeros-mark : slotMark (replicate 1404 0) ≡ 0
-zeros-mark = getD-replicate {A = ℕ} 1404 2 0 0 (omega arith)
+pub zeros-mark : slotMark (replicate slotSize 0) ≡ 0
+zeros-mark = getD-replicate {A = ℕ} slotSize 2 0 0 (omega arith)
 
-zeros-slot : (may : Bool) → slotBroken false may (replicate 1404 0) ≡ false
+zeros-slot : (may : Bool) → slotBroken false may (replicate slotSize 0) ≡ false
 zeros-slot may = empty-slot may _ _ zeros-length zeros-mark
 
 -- whether a slot may be acknowledged matters only to a slot that is
@@ -75,19 +76,19 @@ empty-not-two may n mark h =
     let z : mark ≡ 0 = eqb-true mark 0 (not-false (eqb mark 0) e) in
     rw z
 
-pub slot-short : (outstanding may : Bool) (n mark : ℕ) → senderSlotBroken outstanding may n mark ≡ false → n ≤ 1400
+pub slot-short : (outstanding may : Bool) (n mark : ℕ) → senderSlotBroken outstanding may n mark ≡ false → n ≤ maxPayload
 unfolding senderSlotBroken
 slot-short outstanding may n mark h =
-    ltb-false 1400 n (or-false (ltb 1400 n) (ltb 2 mark) (or-false (outOfBounds n mark) _ (or-false (outOfBounds n mark || cond outstanding (not (isFilled mark)) (isFilled mark)) _ h .0) .0) .0)
+    ltb-false maxPayload n (or-false (ltb maxPayload n) (ltb 2 mark) (or-false (outOfBounds n mark) _ (or-false (outOfBounds n mark || cond outstanding (not (isFilled mark)) (isFilled mark)) _ h .0) .0) .0)
 
 -- a state that isn't broken, with the numbers base + k that may be acknowledged
 pub record SoundWith (may : ℕ → Bool) (v : Sender) : Type 0 where
   pub positive : 0 < v .window .«window_size»
-  pub small : v .window .«window_size» ≤ 32
-  pub room : v .window .«window_size» * 1404 ≤ length (v .store)
+  pub small : v .window .«window_size» ≤ maxWindow
+  pub room : v .window .«window_size» * slotSize ≤ length (v .store)
   pub ordered : v .window .«send_base» ≤ v .window .«next_seq_num»
   pub few : outstanding (v .window) ≤ v .window .«window_size»
-  pub low : v .window .«next_seq_num» ≤ 4294901760
+  pub low : v .window .«next_seq_num» ≤ seqNumLimit
   pub slots : (k : ℕ) → k < v .window .«window_size» → slotBroken (ltb k (outstanding (v .window))) (may k) (slotOf (v .store) (v .window .«window_size») (v .window .«send_base») k) ≡ false
 
 -- above base, in Selective Repeat only
@@ -147,29 +148,29 @@ same-side a b c d f g = elim (decLt a b) [
 ]
 
 -- making
-pub fresh-byte : (store : List ℕ) (w k i : ℕ) → 0 < w → i < 1404 → getD (slotOf (replicate (w * 1404) 0 ++ drop (w * 1404) store) w 0 k) i 0 ≡ 0
+pub fresh-byte : (store : List ℕ) (w k i : ℕ) → 0 < w → i < slotSize → getD (slotOf (replicate (w * slotSize) 0 ++ drop (w * slotSize) store) w 0 k) i 0 ≡ 0
 fresh-byte store w k i p h =
-    let front = replicate {A = ℕ} (w * 1404) 0 in
-    let n : length front ≡ w * 1404 = length-replicate {A = ℕ} (w * 1404) 0 in
-    let l : (0 + k) % w * 1404 + i < w * 1404 = omega (arith, mod-lt (0 + k) p) in
-    slot-byte (front ++ drop (w * 1404) store) ((0 + k) % w) i h ∙ List·getD-append front (drop (w * 1404) store) 0 ((0 + k) % w * 1404 + i) (rw n l)
-    ∙ getD-replicate {A = ℕ} (w * 1404) ((0 + k) % w * 1404 + i) 0 0 l
+    let front = replicate {A = ℕ} (w * slotSize) 0 in
+    let n : length front ≡ w * slotSize = length-replicate {A = ℕ} (w * slotSize) 0 in
+    let l : (0 + k) % w * slotSize + i < w * slotSize = omega (arith, mod-lt (0 + k) p) in
+    slot-byte (front ++ drop (w * slotSize) store) ((0 + k) % w) i h ∙ List·getD-append front (drop (w * slotSize) store) 0 ((0 + k) % w * slotSize + i) (rw n l)
+    ∙ getD-replicate {A = ℕ} (w * slotSize) ((0 + k) % w * slotSize + i) 0 0 l
 
-pub fresh-length : (store : List ℕ) (w k : ℕ) → 0 < w → slotLength (slotOf (replicate (w * 1404) 0 ++ drop (w * 1404) store) w 0 k) ≡ 0
+pub fresh-length : (store : List ℕ) (w k : ℕ) → 0 < w → slotLength (slotOf (replicate (w * slotSize) 0 ++ drop (w * slotSize) store) w 0 k) ≡ 0
 fresh-length store w k p = rw (fresh-byte store w k 0 p (omega arith), fresh-byte store w k 1 p (omega arith))
 
-fresh-slots : (selective : Bool) (store : List ℕ) (w k : ℕ) → 0 < w → slotBroken (ltb k 0) (aboveBase selective k) (slotOf (replicate (w * 1404) 0 ++ drop (w * 1404) store) w 0 k) ≡ false
+fresh-slots : (selective : Bool) (store : List ℕ) (w k : ℕ) → 0 < w → slotBroken (ltb k 0) (aboveBase selective k) (slotOf (replicate (w * slotSize) 0 ++ drop (w * slotSize) store) w 0 k) ≡ false
 fresh-slots selective store w k p = rw (le-ltb k 0 (omega arith)) (empty-slot (aboveBase selective k) _ _ (fresh-length store w k p) (fresh-byte store w k 2 p (omega arith)))
 
 pub fresh-good : (selective : Bool) (w : ℕ) (store : List ℕ) → windowBroken w ≡ false → storeShort store w ≡ false → Good selective (fresh w store)
 unfolding fresh windowBroken storeShort
 fresh-good selective w store e f =
     let l = ltb-false w 1 (none-of _ e .0) in
-    let r = ltb-false (length store) (w * 1404) f in
+    let r = ltb-false (length store) (w * slotSize) f in
     sound-good selective (fresh w store)
     (record {
       positive = omega arith;
-      small = ltb-false 32 w (none-of _ e .1 .0);
+      small = ltb-false maxWindow w (none-of _ e .1 .0);
       room = simp (length-append, length-replicate, length-drop) (omega arith);
       ordered = omega arith;
       few = omega arith;
@@ -178,7 +179,7 @@ fresh-good selective w store e f =
     })
 
 -- a chunk taken
-filled-slots : (may : ℕ → Bool) (store : List ℕ) (w base count : ℕ) (payload : List ℕ) → 0 < w → w * 1404 ≤ length store → count < w → length payload ≤ 1400
+filled-slots : (may : ℕ → Bool) (store : List ℕ) (w base count : ℕ) (payload : List ℕ) → 0 < w → w * slotSize ≤ length store → count < w → length payload ≤ maxPayload
     → ((k : ℕ) → k < w → slotBroken (ltb k count) (may k) (slotOf store w base k) ≡ false)
     → (k : ℕ) → k < w → slotBroken (ltb k (count + 1)) (may k) (slotOf (fillSlot store ((base + count) % w) payload 1 0) w base k) ≡ false
 filled-slots may store w base count payload p r l short before k h = elim (ℕ-discrete k count) [
@@ -188,7 +189,7 @@ filled-slots may store w base count payload p r l short before k h = elim (ℕ-d
 ]
 
 pub hold-good : (selective : Bool) (v : Sender) (payload : List ℕ) → Good selective v → outstanding (v .window) < v .window .«window_size»
-    → v .window .«next_seq_num» < 4294901760 → length payload ≤ 1400 → Good selective (hold v payload)
+    → v .window .«next_seq_num» < seqNumLimit → length payload ≤ maxPayload → Good selective (hold v payload)
 unfolding hold
 hold-good selective v payload g free low short =
     let s = good-sound selective v g in
@@ -229,7 +230,7 @@ mark-good selective v n g =
     })
 
 -- the numbers below base + j released, j at most as many as are outstanding
-released-slots : (selective : Bool) (store : List ℕ) (w base count j : ℕ) → 0 < w → w * 1404 ≤ length store → count ≤ w → j ≤ count
+released-slots : (selective : Bool) (store : List ℕ) (w base count j : ℕ) → 0 < w → w * slotSize ≤ length store → count ≤ w → j ≤ count
     → (j < count → eqb (slotMark (slotOf store w base j)) 2 ≡ false)
     → ((k : ℕ) → k < w → slotBroken (ltb k count) selective (slotOf store w base k) ≡ false)
     → (k : ℕ) → k < w → slotBroken (ltb k (count - j)) (aboveBase selective k) (slotOf (emptyFrom store w base j) w (base + j) k) ≡ false

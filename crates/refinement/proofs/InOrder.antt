@@ -16,7 +16,7 @@ use Rattle.packet.specs.Reading.{payloadOf}
 use Rattle.receiver.specs.State.{stateBroken}
 use Rattle.receiver.specs.Reading.{readPacket}
 use Rattle.receiver.specs.Reply.{answerOf}
-use Rattle.receiver.specs.Receive.{ReceiveExit, Reception, receive}
+use Rattle.receiver.specs.Receive.{ReceiveExit, receive}
 use Rattle.receiver.specs.declared.Decision.{Decision}
 use Rattle.receiver.specs.declared.PacketReading.{PacketReading}
 use Rattle.receiver.specs.declared.PacketReading.the-variants as reading

@@ -8,6 +8,7 @@ use native.Mathlib.Omega.{arith}
 use borrow.Author.Tests.{ltb-false, le-ltb}
 use lib.ListN.{length, drop, replicate, length-append, length-drop, length-replicate, getD-replicate}
 use lib.Dec.{eqb}
+use Rattle.bounds.specs.Bounds.{slotSize, maxWindow}
 use Rattle.protocol.specs.Machine.{newSender, newReceiver}
 use Rattle.protocol.specs.declared.ProtocolType.the-variants.{SelectiveRepeat}
 use Rattle.refusal.proofs.Laws.{none-of, any-of-none}
@@ -31,7 +32,7 @@ fresh-follows w store = refl
 
 -- a Selective Repeat receiver
 abbrev pub zeroed : ℕ → List ℕ → List ℕ
-zeroed w store = replicate (w * 1404) 0 ++ drop (w * 1404) store
+zeroed w store = replicate (w * slotSize) 0 ++ drop (w * slotSize) store
 
 pub fresh-receiver-follows : (w : ℕ) (store : List ℕ) → 0 < w → receiverOf w 0 (zeroed w store) ≡ newReceiver SelectiveRepeat w
 fresh-receiver-follows w store p =
@@ -43,12 +44,12 @@ pub fresh-receiver-good : (w : ℕ) (store output : List ℕ) → windowBroken w
 unfolding receivingBroken windowBroken storeShort receiverSlotsBroken
 fresh-receiver-good w store output e f =
     let l = ltb-false w 1 (none-of _ e .0) in
-    let r = ltb-false (length store) (w * 1404) f in
+    let r = ltb-false (length store) (w * slotSize) f in
     let p : 0 < w = omega arith in
     let sound : Ready (selective_repeat.newReceiver w) (zeroed w store) =
     record {
       positive = p;
-      small = ltb-false 32 w (none-of _ e .1 .0);
+      small = ltb-false maxWindow w (none-of _ e .1 .0);
       room = simp (length-append, length-replicate, length-drop) (omega arith);
       low = omega arith;
       slots = none-below w _ (λ k h. empty-slot (eqb k 0) _ _ (fresh-length store w k p) (fresh-byte store w k 2 p (omega arith)));

@@ -7,6 +7,7 @@ use native.Mathlib.Omega.{arith}
 use borrow.Author.Tests.{ltb-false, le-ltb}
 use lib.ListN.{length}
 use lib.Dec.{ltb, leb, eqb}
+use Rattle.bounds.specs.Bounds.{maxWindow}
 use Rattle.refusal.proofs.Laws.{none-of, any-of-none}
 use Rattle.store.specs.Numbers.{PayloadsIn}
 use Rattle.store.proofs.Laws.{receiver-slot-short, run-within}
@@ -25,7 +26,7 @@ ready r store e =
     let p : 1 ≤ r .«window_size» = ltb-false (r .«window_size») 1 (window .0) in
     record {
       positive = omega arith;
-      small = ltb-false 32 (r .«window_size») (window .1 .0);
+      small = ltb-false maxWindow (r .«window_size») (window .1 .0);
       room = ltb-false _ _ (none .1 .0);
       low = ltb-false _ _ (none .1 .1 .0);
       slots = none .1 .1 .1 .0;
@@ -36,7 +37,7 @@ unfolding stateBroken windowBroken storeShort
 not-broken r store h =
     let p = h .positive in
     any-of-none _ (
-      any-of-none _ (le-ltb (r .«window_size») 1 (omega arith), (le-ltb 32 (r .«window_size») (h .small), tt)),
+      any-of-none _ (le-ltb (r .«window_size») 1 (omega arith), (le-ltb maxWindow (r .«window_size») (h .small), tt)),
       (le-ltb _ _ (h .room), (le-ltb _ _ (h .low), (h .slots, tt))),
     )
 

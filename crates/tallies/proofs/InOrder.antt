@@ -10,7 +10,6 @@ use lib.Dec.{ltb, eqb}
 use Rattle.packet.specs.Reading.{payloadOf}
 use Rattle.receiver.specs.Reading.{readPacket}
 use Rattle.receiver.specs.State as receiverState
-use Rattle.receiver.specs.State.{countsBroken}
 use Rattle.receiver.specs.declared.PacketReading.{PacketReading}
 use Rattle.receiver.specs.declared.PacketReading.the-variants as reading
 use Rattle.receiver.specs.declared.Reply.{Reply}

@@ -1,7 +1,7 @@
 -- A receiver's counters are what the history of calls says: one law over the receivers.
 use Prim.Native.Nat.{ℕ}
 use mathlib.Core.Path.{_≡_, refl}
-use mathlib.Core.Bool.{Bool, true, false}
+use mathlib.Core.Bool.{true}
 use mathlib.Core.List.{List, [], _∷_}
 use Rattle.receiver.specs.Reading.{readPacket}
 use Rattle.receiver.specs.Reply.{answerOf}

@@ -18,7 +18,7 @@ use Rattle.receiver.specs.declared.PacketReading.{PacketReading}
 use Rattle.receiver.specs.declared.PacketReading.the-variants as reading
 use Rattle.receiver.specs.declared.Reply.{Reply}
 use Rattle.receiver.specs.declared.Reply.the-variants as reply
-use Rattle.selective_repeat.specs.Receiver.{Receiver, receiver, reception, stateBroken, receivingBroken, countersBroken, heldRun, decided, decision, deliveredBytes, changedSlots, afterPacket, handlePacket, Ready}
+use Rattle.selective_repeat.specs.Receiver.{Receiver, receiver, reception, stateBroken, heldRun, decided, decision, changedSlots, afterPacket, handlePacket, Ready}
 use Rattle.selective_repeat.specs.declared.SelectiveRepeatReceiver.{SelectiveRepeatReceiver}
 use Rattle.selective_repeat.specs.declared.SlotChange.{SlotChange}
 use Rattle.selective_repeat.specs.declared.SlotChange.the-variants as slotChange

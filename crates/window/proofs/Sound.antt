@@ -7,7 +7,7 @@ use native.Mathlib.Omega.{arith}
 use borrow.Author.Tests.{ltb-true, ltb-false, leb-false, lt-ltb, le-ltb}
 use lib.ListN.{length}
 use lib.Dec.{ltb}
-use Rattle.bounds.specs.Bounds.{countLimit}
+use Rattle.bounds.specs.Bounds.{maxPayload, slotSize, maxWindow, seqNumLimit, countLimit}
 use Rattle.refusal.specs.Clauses.{anyOf}
 use Rattle.refusal.proofs.Laws.{none-of, any-of-none, or-false}
 use Rattle.store.specs.Slot.{slotAt, slotLength}
@@ -16,30 +16,30 @@ use Rattle.store.specs.Sound.{senderTest, senderSlotBroken, senderSlotsBroken}
 use Rattle.window.specs.State.{windowBroken, storeShort, outstanding, numbersBroken, stateBroken, countsBroken}
 use Rattle.window.specs.declared.SendWindow.{SendWindow}
 
-by-slots : (n w : ℕ) (t : Bool) → ltb n (w * 1404) ≡ t → ltb (n / 1404) w ≡ t
-by-slots n w true e = let h = ltb-true n (w * 1404) e in lt-ltb (n / 1404) w (omega arith)
-by-slots n w false e = let h = ltb-false n (w * 1404) e in le-ltb (n / 1404) w (omega arith)
+by-slots : (n w : ℕ) (t : Bool) → ltb n (w * slotSize) ≡ t → ltb (n / slotSize) w ≡ t
+by-slots n w true e = let h = ltb-true n (w * slotSize) e in lt-ltb (n / slotSize) w (omega arith)
+by-slots n w false e = let h = ltb-false n (w * slotSize) e in le-ltb (n / slotSize) w (omega arith)
 
 -- the test by division is the test by multiplication
-pub fewer-slots : (n w : ℕ) → ltb (n / 1404) w ≡ ltb n (w * 1404)
-fewer-slots n w = by-slots n w (ltb n (w * 1404)) refl
+pub fewer-slots : (n w : ℕ) → ltb (n / slotSize) w ≡ ltb n (w * slotSize)
+fewer-slots n w = by-slots n w (ltb n (w * slotSize)) refl
 
 pub record Sound (selective : Bool) (s : SendWindow) (store : List ℕ) : Type 0 where
   pub positive : 0 < s .«window_size»
-  pub small : s .«window_size» ≤ 32
-  pub room : s .«window_size» * 1404 ≤ length store
+  pub small : s .«window_size» ≤ maxWindow
+  pub room : s .«window_size» * slotSize ≤ length store
   pub ordered : s .«send_base» ≤ s .«next_seq_num»
   pub few : outstanding s ≤ s .«window_size»
-  pub low : s .«next_seq_num» ≤ 4294901760
+  pub low : s .«next_seq_num» ≤ seqNumLimit
   pub slots : senderSlotsBroken selective store (s .«window_size») (s .«send_base») (outstanding s) ≡ false
 
 -- the numbers of such a state
 pub record Numbers (s : SendWindow) : Type 0 where
   pub positive : 0 < s .«window_size»
-  pub small : s .«window_size» ≤ 32
+  pub small : s .«window_size» ≤ maxWindow
   pub ordered : s .«send_base» ≤ s .«next_seq_num»
   pub few : outstanding s ≤ s .«window_size»
-  pub low : s .«next_seq_num» ≤ 4294901760
+  pub low : s .«next_seq_num» ≤ seqNumLimit
 
 pub numbers : (s : SendWindow) → numbersBroken s ≡ false → Numbers s
 unfolding numbersBroken windowBroken
@@ -49,7 +49,7 @@ numbers s e =
     let p : 1 ≤ s .«window_size» = ltb-false (s .«window_size») 1 (window .0) in
     record {
       positive = omega arith;
-      small = ltb-false 32 (s .«window_size») (window .1 .0);
+      small = ltb-false maxWindow (s .«window_size») (window .1 .0);
       ordered = ltb-false _ _ (none .1 .0);
       few = ltb-false _ _ (none .1 .1 .0);
       low = ltb-false _ _ (none .1 .1 .1 .0);
@@ -60,7 +60,7 @@ unfolding numbersBroken windowBroken
 numbers-not-broken s h =
     let p = h .positive in
     any-of-none _ (
-      any-of-none _ (le-ltb (s .«window_size») 1 (omega arith), (le-ltb 32 (s .«window_size») (h .small), tt)),
+      any-of-none _ (le-ltb (s .«window_size») 1 (omega arith), (le-ltb maxWindow (s .«window_size») (h .small), tt)),
       (le-ltb _ _ (h .ordered), (le-ltb _ _ (h .few), (le-ltb _ _ (h .low), tt))),
     )
 
@@ -92,11 +92,11 @@ not-broken selective s store h = any-of-none _ (numbers-not-broken s (sound-numb
 
 -- the lengths of a window's slots
 pub slot-low : (selective : Bool) (s : SendWindow) (store : List ℕ) → Sound selective s store → (i : ℕ) → i < s .«window_size»
-    → slotLength (slotAt store ((s .«send_base» + i) % s .«window_size»)) ≤ 1400
+    → slotLength (slotAt store ((s .«send_base» + i) % s .«window_size»)) ≤ maxPayload
 unfolding senderSlotsBroken senderSlotBroken
 slot-low selective s store h i l =
     let broken = none-found (s .«window_size») i (senderTest selective store (s .«window_size») (s .«send_base») (outstanding s)) l (h .slots) in
-    ltb-false 1400 _ (or-false _ _ (or-false _ _ (or-false _ _ broken .0) .0) .0)
+    ltb-false maxPayload _ (or-false _ _ (or-false _ _ (or-false _ _ broken .0) .0) .0)
 
 pub counts-low : (s : SendWindow) → countsBroken s ≡ false → (s .«total_sent» < countLimit) × (s .retransmissions < countLimit)
 unfolding countsBroken
@@ -107,11 +107,11 @@ pub or-false-right : (a : Bool) → (a || false) ≡ a
 or-false-right true = refl
 or-false-right false = refl
 
-pub store-fits : (store : List ℕ) (window : ℕ) → storeShort store window ≡ false → window * 1404 ≤ length store
+pub store-fits : (store : List ℕ) (window : ℕ) → storeShort store window ≡ false → window * slotSize ≤ length store
 unfolding storeShort
 store-fits store window e = ltb-false _ _ e
 
-pub windows-fit : (store : List ℕ) (window : ℕ) → windowBroken window ≡ false → storeShort store window ≡ false → (0 < window) × (window * 1404 ≤ length store)
+pub windows-fit : (store : List ℕ) (window : ℕ) → windowBroken window ≡ false → storeShort store window ≡ false → (0 < window) × (window * slotSize ≤ length store)
 unfolding windowBroken storeShort
 windows-fit store window e f =
     let p : 1 ≤ window = ltb-false window 1 (none-of _ e .0) in

@@ -1,4 +1,3 @@
-use mathlib.Core.Path.{_∙_, sym}
 use Rattle.refusal.specs.Order.{decide}
 use Rattle.receiver.specs.Reading.{readAfter}
 use borrow.Author.Needs.{needs}

@@ -1,5 +1,4 @@
-use mathlib.Core.Path.{sym, ap, _∙_}
-use Rattle.receiver.specs.Reading.{readingAnswer}
+use mathlib.Core.Path.{sym, _∙_}
 use borrow.Author.Needs.{needs}
 use Rattle.receiver.proofs.read_packet.Statement.{statement}
 use Rattle.receiver.proofs.read_packet.Tie as tie

@@ -1,7 +1,6 @@
-use mathlib.Core.Path.{ap, sym, _∙_}
+use mathlib.Core.Path.{ap, _∙_}
 use mathlib.Core.Bool.{true}
 use native.Mathlib.Omega.{arith}
-use Prim.Native.Nat.{ℕ, _+_}
 use Rattle.store.proofs.Laws.{slot-in}
 use Rattle.window.specs.Slots.{sender, release}
 use Rattle.window.proofs.Laws.{sound}

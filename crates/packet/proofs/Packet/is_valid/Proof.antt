@@ -1,4 +1,4 @@
-use mathlib.Core.Path.{sym, ap, _∙_}
+use mathlib.Core.Path.{sym, _∙_}
 use Rattle.packet.proofs.Datagrams.{payload-part}
 use Rattle.packet.proofs.Read.{declared-within, read-packet, read-refused, payload-below, validity-is, validity-none}
 use borrow.Author.Needs.{needs}

@@ -1,8 +1,4 @@
-use mathlib.Core.Path.{sym, ap, _∙_}
-use lib.ListN.{length}
-use Rattle.bounds.specs.Bounds.{maxPayload}
-use Prim.Native.Nat.{ℕ, _<_, _≤_}
-use mathlib.Core.List.{List}
+use mathlib.Core.Path.{sym, _∙_}
 use native.Mathlib.Omega.{arith}
 use Rattle.packet.proofs.Read.{declared-within, read-packet}
 use Rattle.packet.proofs.Datagrams.{payload-part, given-refused, given-long, given-packet}

@@ -1,4 +1,3 @@
-use mathlib.Core.Path.{sym}
 use borrow.Author.Tests.{lt-leb, le-leb}
 use Rattle.window.proofs.SendWindow.is_outstanding.Statement.{statement}
 use Rattle.window.proofs.SendWindow.is_outstanding.Tie as tie
