@@ -221,15 +221,15 @@ impl GoBackNReceiver {
         ensures { λ r. ⌜ receiveExit (r .answer) (r .receiver) (now (output .exit)) (now (ack .exit))
             ≡ handlePacket self (now (raw .entry)) (now (output .entry)) (now (ack .entry)) ⌝ }
     {
-        let held = refusal::held_verdict(
-            receiver::state_broken(self.expected_seq, self.filled, output),
-            receiver::counts_broken(
-                self.total_received,
-                self.discarded_out_of_order,
-                self.duplicate_acks_sent,
-            ),
-        );
-        match receiver::read_after(held, raw) {
+        match receiver::read_in_order(
+            self.expected_seq,
+            self.filled,
+            self.total_received,
+            self.discarded_out_of_order,
+            self.duplicate_acks_sent,
+            raw,
+            output,
+        ) {
             ReadingAnswer::Reading(reading) => {
                 self.handle_packet_unchecked(reading, Packet::payload(raw), output, ack)
             }

@@ -21,7 +21,7 @@ use Rattle.packet.specs.declared.PacketType.the-variants as packetType
 use Rattle.packet.specs.declared.DatagramReading.{DatagramReading}
 use Rattle.packet.specs.declared.DatagramReading.the-variants as datagram
 use Rattle.packet.proofs.Laws.{reading-after, reading-before, Taken, taken-short, valid-taken, corrupted-taken}
-use Rattle.receiver.specs.Reading.{byType, isData, isNumberHigh, numberHigh, packetReading, readingOf, readPacket, readingAnswer, readAfter}
+use Rattle.receiver.specs.Reading.{byType, isData, isNumberHigh, numberHigh, packetReading, readingOf, readPacket, readingAnswer, readAfter, readHeld}
 use Rattle.receiver.specs.Reply.{roomMissing, answerOf, isRefused, applied, applyExit}
 use Rattle.receiver.specs.Receive.{ReceiveExit, receiveExit, applyResult, apply, Reception, noRoom, refusedExit, receivedExit, receiveChecks, receive, receiveUnchecked}
 use Rattle.receiver.specs.declared.Decision.{Decision}
@@ -29,6 +29,7 @@ use Rattle.receiver.specs.declared.PacketReading.{PacketReading}
 use Rattle.receiver.specs.declared.PacketReading.the-variants as reading
 use Rattle.receiver.specs.declared.Reply.{Reply}
 use Rattle.receiver.specs.declared.Reply.the-variants as reply
+use Rattle.receiver.specs.declared.ReadingAnswer.{ReadingAnswer}
 use Rattle.receiver.specs.declared.ReadingAnswer.the-variants as read
 use Rattle.receiver.specs.declared.ReceiveAnswer.{ReceiveAnswer}
 use Rattle.receiver.specs.declared.ReceiveAnswer.the-variants as answer
@@ -211,27 +212,37 @@ unfolding apply
 apply-done d payload filled output ack written acked n a g q v =
     rw g (ap (λ (x : ReceiveAnswer). receiveExit x n written acked) q ∙ ap (applyResult (λ n. n) d) v)
 
+-- a datagram is received by what it was read as: whatever a state, a reading, a payload and an output bring
+pub receive-reading : {R : Type 0} (x : R → PacketReading → List ℕ → List ℕ → Reception R) (s : R) (raw output ack : List ℕ) {v : ReceiveExit R} {r : ReadingAnswer} {h : PacketReading} {payload : List ℕ}
+    → v ≡ receiveUnchecked (x s h payload output) output ack → r ≡ readHeld (x s h payload output .stateBroken) (x s h payload output .countsBroken) raw → r ≡ read.Reading h
+    → payload ≡ payloadOf raw → v ≡ receive (x s (readPacket raw) (payloadOf raw) output) raw output ack
+receive-reading x s raw output ack {v} {r} {h} {payload} u e f p =
+    let is = read-facts raw (x s h payload output .stateBroken) (x s h payload output .countsBroken) h (sym e ∙ f) .is-read in
+    u ∙ receive-read (x s h payload output) raw output ack h (sym e ∙ f)
+    ∙ ap (λ (g : PacketReading). receive (x s g payload output) raw output ack) is
+    ∙ ap (λ (l : List ℕ). receive (x s (readPacket raw) l output) raw output ack) p
+
+-- what a packet that was read needs of the state
+pub read-sound : {b c : Bool} (raw : List ℕ) {r : ReadingAnswer} {h : PacketReading} → r ≡ readHeld b c raw → r ≡ read.Reading h → (b ≡ false) × (c ≡ false)
+read-sound {b} {c} raw {r} {h} e f = let k = read-facts raw b c h (sym e ∙ f) in (k .state-sound, k .counts-low)
+
 -- `apply` of the decision is all that is left
-module _ {R : Type 0} (x : Reception R) (output ack : List ℕ) (v : ReceiveExit ℕ) (e : v ≡ apply (x .decision) (x .delivered) (x .filled) output ack) where
-  by-room : (b : Bool) → noRoom x output ack ≡ b
-      → (isRefused (v .answer) ≡ true → receiveExit (v .answer) (x .state) (v .output) (v .ack) ≡ receiveUnchecked x output ack)
-      × (isRefused (v .answer) ≡ false → receiveExit (v .answer) (x .after (v .receiver)) (v .output) (v .ack) ≡ receiveUnchecked x output ack)
+module _ {R : Type 0} (x : Reception R) (output ack : List ℕ) {a : ReceiveAnswer} {n : ℕ} {written acked : List ℕ} (e : receiveExit a n written acked ≡ apply (x .decision) (x .delivered) (x .filled) output ack) where
+  applied-state : receiveExit a (cond (isRefused a) (x .state) (x .after n)) written acked ≡ receiveUnchecked x output ack
   unfolding apply receiveUnchecked
-  by-room true g =
-      let full : v ≡ receiveExit (answer.Refused Full) (x .filled) output ack = e ∙ rw g in (
-        λ q. rw g (ap (λ (y : ReceiveExit ℕ). receiveExit (y .answer) (x .state) (y .output) (y .ack)) full),
-        λ q. let no = sym q ∙ ap (λ (y : ReceiveExit ℕ). isRefused (y .answer)) full in let z : _≡_ {A = ℕ} 0 1 = cc in absurd (omega arith),
-      )
-  by-room false g =
-      let done : v ≡ applyResult (λ n. n) (x .decision) (applied (x .decision) (x .delivered) (x .filled) output ack) = e ∙ rw g in (
-        λ q.
-            let no = sym q ∙ ap (λ (y : ReceiveExit ℕ). isRefused (y .answer)) done ∙ never-refused (x .decision .reply) in
-            let z : _≡_ {A = ℕ} 0 1 = cc in absurd (omega arith),
-        λ q. rw g (ap (λ (y : ReceiveExit ℕ). receiveExit (y .answer) (x .after (y .receiver)) (y .output) (y .ack)) done),
-      )
+  applied-state =
+      ap (λ (y : ReceiveExit ℕ). receiveExit (y .answer) (cond (isRefused (y .answer)) (x .state) (x .after (y .receiver))) (y .output) (y .ack)) e
+      ∙ by-room (noRoom x output ack)
+    where
+      by-room : (b : Bool)
+          → (let y : ReceiveExit ℕ = cond b (receiveExit (answer.Refused Full) (x .filled) output ack) (applyResult (λ n. n) (x .decision) (applied (x .decision) (x .delivered) (x .filled) output ack)) in
+          receiveExit (y .answer) (cond (isRefused (y .answer)) (x .state) (x .after (y .receiver))) (y .output) (y .ack))
+          ≡ cond b (refusedExit x output ack (answer.Refused Full)) (receivedExit x output ack)
+      by-room true = refl
+      by-room false = rw (never-refused (x .decision .reply))
 
-  pub apply-refused : isRefused (v .answer) ≡ true → receiveExit (v .answer) (x .state) (v .output) (v .ack) ≡ receiveUnchecked x output ack
-  apply-refused = by-room _ refl .0
+  pub apply-refused : {b : Bool} → b ≡ isRefused a → b ≡ true → receiveExit a (x .state) written acked ≡ receiveUnchecked x output ack
+  apply-refused p q = rw (sym p ∙ q) at applied-state
 
-  pub apply-received : isRefused (v .answer) ≡ false → receiveExit (v .answer) (x .after (v .receiver)) (v .output) (v .ack) ≡ receiveUnchecked x output ack
-  apply-received = by-room _ refl .1
+  pub apply-received : {b : Bool} → b ≡ isRefused a → b ≡ false → receiveExit a (x .after n) written acked ≡ receiveUnchecked x output ack
+  apply-received p q = rw (sym p ∙ q) at applied-state

@@ -6,7 +6,7 @@ use lib.Dec.{leb}
 use Rattle.bounds.specs.Bounds.{seqNumLimit}
 use Rattle.refusal.specs.declared.Refusal.the-variants.{Numbers}
 use Rattle.refusal.specs.declared.Verdict.{Verdict}
-use Rattle.refusal.specs.Order.{decide}
+use Rattle.refusal.specs.Order.{verdict, decide, heldChecks}
 use Rattle.packet.specs.Reading.{readDatagram}
 use Rattle.packet.specs.declared.Packet.{Packet}
 use Rattle.packet.specs.declared.PacketType.{PacketType}
@@ -62,3 +62,7 @@ readingAnswer (datagram.Refused r) = answer.Refused r
 -- after the verdict on what the receiver holds
 unfoldable pub readAfter : Verdict → List ℕ → ReadingAnswer
 readAfter held raw = decide held answer.Refused (readingAnswer (readDatagram raw))
+
+-- by whether 9 and 8 are true of what the receiver holds
+abbrev pub readHeld : Bool → Bool → List ℕ → ReadingAnswer
+readHeld broken counts raw = readAfter (verdict (heldChecks broken counts)) raw

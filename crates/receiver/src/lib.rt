@@ -6,7 +6,7 @@ ghost use lib.Dec.{ltb};
 ghost use mathlib.Core.Bool.{_&&_};
 ghost use Rattle.packet.specs.Reading.{readDatagram};
 ghost use Rattle.receiver.specs.State.{stateBroken, countsBroken};
-ghost use Rattle.receiver.specs.Reading.{packetReading, isNumberHigh, readingAnswer, readAfter};
+ghost use Rattle.receiver.specs.Reading.{packetReading, isNumberHigh, readingAnswer, readAfter, readHeld};
 ghost use Rattle.receiver.specs.Reply.{applyExit, applied, roomMissing, RoomFor, RoomForReply, ackAfter};
 ghost use Rattle.receiver.specs.Reply.{answerOf, isRefused};
 ghost use Rattle.receiver.specs.Receive.{receiveExit, apply};
@@ -91,6 +91,23 @@ pub fn read_after(verdict: Verdict, raw: &[u8]) -> ReadingAnswer
         Verdict::Accepted => read_packet(raw),
         Verdict::Refused(r) => ReadingAnswer::Refused(r),
     }
+}
+
+// A datagram for a receiver in order, by what it holds: its base, its fill mark in the output and its counters.
+pub fn read_in_order(
+    base: u32,
+    filled: usize,
+    a: u64,
+    b: u64,
+    c: u64,
+    raw: &[u8],
+    output: &[u8],
+) -> ReadingAnswer
+    ensures { λ r. ⌜ r ≡ readHeld (stateBroken base filled (now (output .entry))) (countsBroken a b c)
+        (now (raw .entry)) ⌝ }
+{
+    let held = refusal::held_verdict(state_broken(base, filled, output), counts_broken(a, b, c));
+    read_after(held, raw)
 }
 
 // A packet that was read, and whether its checksum matches.

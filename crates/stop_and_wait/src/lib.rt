@@ -373,15 +373,15 @@ impl StopAndWaitReceiver {
         ensures { λ r. ⌜ receiveExit (r .answer) (r .receiver) (now (output .exit)) (now (ack .exit))
             ≡ handlePacket self (now (raw .entry)) (now (output .entry)) (now (ack .entry)) ⌝ }
     {
-        let held = refusal::held_verdict(
-            receiver::state_broken(self.expected_seq, self.filled, output),
-            receiver::counts_broken(
-                self.total_received,
-                self.duplicates_count,
-                self.corrupted_count,
-            ),
-        );
-        match receiver::read_after(held, raw) {
+        match receiver::read_in_order(
+            self.expected_seq,
+            self.filled,
+            self.total_received,
+            self.duplicates_count,
+            self.corrupted_count,
+            raw,
+            output,
+        ) {
             ReadingAnswer::Reading(reading) => {
                 self.handle_packet_unchecked(reading, Packet::payload(raw), output, ack)
             }
