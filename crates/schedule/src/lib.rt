@@ -276,8 +276,8 @@ impl ChannelScheduler {
             };
         }
         let len = first[2] as usize;
-        take_packet(places, first[3] as usize, len, out);
         remove_first(records, count);
+        take_packet(places, first[3] as usize, len, out);
         PopResult {
             scheduler: ChannelScheduler {
                 count: count - 1,

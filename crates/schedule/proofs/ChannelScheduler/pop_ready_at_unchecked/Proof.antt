@@ -30,23 +30,23 @@ returns-2 c =
 array-read-len : tie.Need-array-read-len
 array-read-len c = search needs
 
+remove-first-requires : tie.Need-remove-first-requires
+remove-first-requires c κs =
+    let s = c .before .before .before .before .before .before in
+    let m = schedule (s .args .records .now) (s .args .places .now) (s .args .self) in
+    (positive (s .args .self .count) (c .before .before .before .if1 .left), within m (s .pre .sound))
+
 array-read-take-packet : tie.Need-array-read-take-packet
 array-read-take-packet c = search needs
 
 take-packet-requires : tie.Need-take-packet-requires
 take-packet-requires c κs =
-    let s = c .before .before .before .before .before .before .before in
+    let s = c .before .before .before .before .before .before .before .before .before .before in
     let m = schedule (s .args .records .now) (s .args .places .now) (s .args .self) in
-    can-take m (s .args .now) (s .args .out .now) (s .pre) (c .before .before .before .before .if1 .left) (c .before .before .if2 .left)
+    can-take m (s .args .now) (s .args .out .now) (s .pre) (c .before .before .before .before .before .before .before .if1 .left) (c .before .before .before .before .before .if2 .left)
 
-remove-first-requires : tie.Need-remove-first-requires
-remove-first-requires c κs =
-    let s = c .before .before .before .before .before .before .before .before .before .before .before .before .before in
-    let m = schedule (s .args .records .now) (s .args .places .now) (s .args .self) in
-    (positive (s .args .self .count) (c .before .before .before .before .before .before .before .before .before .before .if1 .left), within m (s .pre .sound))
-
-sub-t24 : tie.Need-sub-t24
-sub-t24 c = search needs
+sub-t26 : tie.Need-sub-t26
+sub-t26 c = search needs
 
 same-length : tie.Need-same-length
 same-length c = search needs
@@ -61,7 +61,7 @@ returns-3 : tie.Need-returns-3
 returns-3 c =
     let s = c .before .before .before .before .before .before .before .before .before .before .before .before .before .before .before in
     let m = schedule (s .args .records .now) (s .args .places .now) (s .args .self) in
-    taken-law m (s .args .now) (s .args .out .now) (c .before .before .before .before .before .before .before .before .before .before .before .before .if1 .left) (c .before .before .before .before .before .before .before .before .before .before .if2 .left) (c .before .remove-first .ensures) (c .before .before .before .before .before .before .before .take-packet .ensures .0) (c .before .before .before .before .before .before .before .take-packet .ensures .1)
+    taken-law m (s .args .now) (s .args .out .now) (c .before .before .before .before .before .before .before .before .before .before .before .before .if1 .left) (c .before .before .before .before .before .before .before .before .before .before .if2 .left) (c .before .before .before .before .before .before .before .before .remove-first .ensures) (c .before .before .before .before .take-packet .ensures .0) (c .before .before .before .before .take-packet .ensures .1)
 
 pub pop-ready-at-unchecked-spec : {M : Type 1} → statement M
 pop-ready-at-unchecked-spec =
@@ -72,10 +72,10 @@ pop-ready-at-unchecked-spec =
     array-read-if2
     returns-2
     array-read-len
+    remove-first-requires
     array-read-take-packet
     take-packet-requires
-    remove-first-requires
-    sub-t24
+    sub-t26
     same-length
     same-length-2
     same-length-3
