@@ -23,6 +23,10 @@ placeSize = 1410
 abbrev pub maxWindow : ℕ
 maxWindow = 32
 
+-- chunks of a file at most
+abbrev pub maxChunks : ℕ
+maxChunks = 65536
+
 -- a chunk never has this number or a higher one
 abbrev pub seqNumLimit : ℕ
 seqNumLimit = 4294901760

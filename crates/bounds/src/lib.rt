@@ -13,6 +13,8 @@ pub const PLACE_SIZE: usize = 1410;
 
 pub const MAX_WINDOW_SIZE: usize = 32;
 
+pub const MAX_CHUNKS: usize = 65_536;
+
 // A chunk never has this number or a higher one.
 pub const SEQ_NUM_LIMIT: u32 = 4_294_901_760;
 

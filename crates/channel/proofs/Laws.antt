@@ -4,7 +4,7 @@ use mathlib.Core.Logic.{_≢_, ⊎-elim}
 use Prim.Native.Nat.{ℕ, _+_, _^_, _<_, _≤_, _*_, _/_}
 use native.Mathlib.Omega.{arith}
 use mathlib.Core.Bool.{Bool, true, false, cond}
-use mathlib.Core.List.{List, _++_}
+use mathlib.Core.List.{List, [], _∷_, _++_}
 use lib.ListN.{length, getD, drop, length-set}
 use lib.Seq.{getD-set-same, getD-set-other}
 use lib.Dec.{T}
@@ -18,7 +18,8 @@ use Rattle.octets.proofs.Laws.{xor-moves}
 use Rattle.float.specs.Roll.{rollInBounds, scaled}
 use Rattle.float.proofs.Laws.{scaled-below, j1}
 use Rattle.schedule.specs.State.{leavesAt, deliveriesLate}
-use Rattle.refusal.specs.Order.{verdict}
+use Rattle.refusal.specs.Order.{check, verdict}
+use Rattle.refusal.specs.declared.Refusal.the-variants.{Setup}
 use Rattle.refusal.specs.declared.Verdict.the-variants.{Accepted}
 use Rattle.refusal.proofs.Laws.{on-accepted, none-true-accepted, either-answer}
 use Rattle.schedule.specs.declared.Deliveries.{Deliveries}
@@ -26,9 +27,10 @@ use Rattle.schedule.specs.declared.Deliveries.the-variants.{Lost, One, Two}
 use Rattle.schedule.proofs.Laws.{DelaysInBounds, delays-in-time}
 use Rattle.channel.specs.Bounds.{configBroken, rollsBroken, Doubles}
 use Rattle.channel.specs.Faults.{isLost, isDuplicated, isReordered, isCorrupted, byteAt, bitAt, carriedBytes, holdOf, delayOf, deliveriesOf}
-use Rattle.channel.specs.Process.{processChecks, processUnchecked, ProcessExit, transited, process, CanProcess}
+use Rattle.channel.specs.Process.{newChannel, newChannelUnchecked, processChecks, processUnchecked, ProcessExit, transited, process, CanProcess}
 use Rattle.channel.specs.declared.ChannelConfig.{ChannelConfig}
 use Rattle.channel.specs.declared.Channel.{Channel}
+use Rattle.channel.specs.declared.ChannelAnswer.the-variants as making
 use Rattle.channel.specs.declared.ProcessAnswer.the-variants as outcome
 use Rattle.channel.specs.declared.Rolls.{Rolls}
 use Rattle.channel.proofs.Limits.{delays-within, rolls-within}
@@ -41,6 +43,10 @@ pub use Rattle.channel.proofs.Counters.{CountsRise, counted-rises, rise
 pub use Rattle.channel.proofs.NoFaults.{Zero, zero, roll-not-below, NoFaults, CarriedWhole, carried-whole}
 
 -- ---- an accepted call is the call below its entry point
+pub new-accepted : (c : ChannelConfig) → configBroken c ≡ false → newChannel c ≡ making.Made (newChannelUnchecked c)
+unfolding newChannel
+new-accepted c e = on-accepted making.Refused (making.Made (newChannelUnchecked c)) (none-true-accepted (check (configBroken c) Setup ∷ []) (e, tt))
+
 module _ (ch : Channel) (p : List ℕ) (r : Rolls) (out : List ℕ) where
   pub process-accepted : verdict (processChecks ch r (length p) (length out)) ≡ Accepted → process ch p r out ≡ transited (processUnchecked ch p r out)
   unfolding process

@@ -37,10 +37,13 @@ stats6 seen lost corrupted duplicated reordered delivered =
 abbrev pub channelOf : ChannelConfig → ChannelStats → Channel
 channelOf c s = record { config = c; stats = s }
 
+-- a channel that has seen no packet
+abbrev pub newChannelUnchecked : ChannelConfig → Channel
+newChannelUnchecked c = channelOf c (stats6 0 0 0 0 0 0)
+
 unfoldable pub newChannel : ChannelConfig → ChannelAnswer
 newChannel c =
-    decide (verdict (check (configBroken c) Setup ∷ [])) making.Refused
-    (making.Made (channelOf c (stats6 0 0 0 0 0 0)))
+    decide (verdict (check (configBroken c) Setup ∷ [])) making.Refused (making.Made (newChannelUnchecked c))
 
 abbrev pub one : Bool → ℕ
 one true = 1

@@ -53,7 +53,7 @@ impl Channel {
 
 impl ChannelConfig {
     // A bound of a setup is broken.
-    pub(super) fn config_broken(self) -> bool
+    pub fn config_broken(self) -> bool
         ensures { λ r. ⌜ r ≡ configBroken self ⌝ }
     {
         if chances_broken(self.loss, self.duplicate, self.reorder, self.corrupt) {

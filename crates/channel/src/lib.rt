@@ -1,7 +1,8 @@
 // The channel: loss, duplication, reordering, corruption, delay and jitter, decided by eight rolls a packet.
 // Document 01, `channel/mod.rs`.
 ghost use mathlib.Core.Path.{_≡_};
-ghost use Rattle.channel.specs.Process.{newChannel, transitExit, processUnchecked, CanProcess};
+ghost use Rattle.channel.specs.Process.{newChannel, newChannelUnchecked};
+ghost use Rattle.channel.specs.Process.{transitExit, processUnchecked, CanProcess};
 ghost use Rattle.channel.specs.Process.{processExit, process};
 use faults::corrupt;
 use faults::counted;
@@ -78,17 +79,7 @@ impl Channel {
         if config.config_broken() {
             return ChannelAnswer::Refused(Refusal::Setup);
         }
-        ChannelAnswer::Made(Channel {
-            config: config,
-            stats: ChannelStats {
-                packets_seen: 0,
-                lost: 0,
-                corrupted: 0,
-                duplicated: 0,
-                reordered: 0,
-                copies_delivered: 0,
-            },
-        })
+        ChannelAnswer::Made(Channel::new_unchecked(config))
     }
 
     // Takes one packet and answers when its copies are delivered.
@@ -115,6 +106,23 @@ impl Channel {
 }
 
 impl Channel {
+    // A channel that has seen no packet, of a setup that isn't looked at.
+    pub fn new_unchecked(config: ChannelConfig) -> Channel
+        ensures { λ r. ⌜ r ≡ newChannelUnchecked config ⌝ }
+    {
+        Channel {
+            config: config,
+            stats: ChannelStats {
+                packets_seen: 0,
+                lost: 0,
+                corrupted: 0,
+                duplicated: 0,
+                reordered: 0,
+                copies_delivered: 0,
+            },
+        }
+    }
+
     // What becomes of one packet; the bytes of its copies are written to the front of `out`.
     pub fn process_unchecked(self, packet: &[u8], rolls: Rolls, out: &mut [u8]) -> Transit
         requires { ⌜ CanProcess self (now packet) rolls (now out) ⌝ }

@@ -52,27 +52,47 @@ module _ (p : ProtocolType) (selective : Bool) {S R T : Type 0} (view : S → sl
     | ack-taken n e x ↦ x .good
   ]
 
-  pub senders-good : (s : S) (cs : List (SenderCall T)) → Good selective (view s) → Good selective (view (senderAfter E s cs))
-  senders-good s cs g = every-sender E (λ v. Good selective (view v)) step-good s cs g
+-- a call keeps a sender's 9 false
+pub sender-step-sound : (p : ProtocolType) (s : ends p .Sender) (k : SenderCall (ends p .Timeout)) → SenderSound p s → SenderSound p (senderStep (ends p) s k)
+sender-step-sound StopAndWait = step-good StopAndWait false _ _ _ _ _ stop-and-wait-sender stopAndWaitReceiver.handlePacket (λ r. r .«expected_seq») (λ r. r .filled)
+sender-step-sound GoBackN = step-good GoBackN false _ _ _ _ _ go-back-n-sender goBackNReceiver.handlePacket (λ r. r .«expected_seq») (λ r. r .filled)
+sender-step-sound SelectiveRepeat = step-good SelectiveRepeat true _ _ _ _ _ selective-repeat-sender selectiveRepeatReceiver.handlePacket (λ r. r .state .«recv_base») (λ r. r .state .filled)
+
+pub fresh-sender-sound : (p : ProtocolType) (w limit : ℕ) (sending receiving output : List ℕ) → Made p w sending receiving → SenderSound p (freshEnds p w limit sending receiving output .sender)
+fresh-sender-sound StopAndWait w limit sending receiving output m =
+    let fresh : Good false (slots.fresh 1 sending) = subst (λ (n : ℕ). Good false (slots.fresh n sending)) (m .window) (fresh-good false w sending (m .in-bounds) (m .sending-room)) in
+    subst (Good false) (sym (stop-and-wait-made limit sending)) fresh
+fresh-sender-sound GoBackN w limit sending receiving output m = fresh-good false w sending (m .in-bounds) (m .sending-room)
+fresh-sender-sound SelectiveRepeat w limit sending receiving output m = fresh-good true w sending (m .in-bounds) (m .sending-room)
 
 -- a sender that making left in any store, after any calls
 pub sender-sound : (p : ProtocolType) (w limit : ℕ) (sending receiving output : List ℕ) → Made p w sending receiving → (cs : List (SenderCall (ends p .Timeout)))
     → SenderSound p (senderAfter (ends p) (freshEnds p w limit sending receiving output .sender) cs)
-sender-sound StopAndWait w limit sending receiving output m cs =
-    let fresh : Good false (slots.fresh 1 sending) = subst (λ (n : ℕ). Good false (slots.fresh n sending)) (m .window) (fresh-good false w sending (m .in-bounds) (m .sending-room)) in
-    senders-good StopAndWait false _ _ _ _ _ stop-and-wait-sender stopAndWaitReceiver.handlePacket (λ r. r .«expected_seq») (λ r. r .filled) (freshEnds StopAndWait w limit sending receiving output .sender) cs (subst (Good false) (sym (stop-and-wait-made limit sending)) fresh)
-sender-sound GoBackN w limit sending receiving output m cs =
-    senders-good GoBackN false _ _ _ _ _ go-back-n-sender goBackNReceiver.handlePacket (λ r. r .«expected_seq») (λ r. r .filled) (slots.fresh w sending) cs (fresh-good false w sending (m .in-bounds) (m .sending-room))
-sender-sound SelectiveRepeat w limit sending receiving output m cs =
-    senders-good SelectiveRepeat true _ _ _ _ _ selective-repeat-sender selectiveRepeatReceiver.handlePacket (λ r. r .state .«recv_base») (λ r. r .state .filled) (slots.fresh w sending) cs (fresh-good true w sending (m .in-bounds) (m .sending-room))
+sender-sound p w limit sending receiving output m cs = every-sender (ends p) (SenderSound p) (sender-step-sound p) _ cs (fresh-sender-sound p w limit sending receiving output m)
+
+-- what a receiver with a window of w keeps: a Selective Repeat receiver also holds no number too high
+abbrev pub ReceiverGood : (p : ProtocolType) → ℕ → ends p .Receiver → Type 0
+ReceiverGood StopAndWait w r = ReceiverSound StopAndWait r
+ReceiverGood GoBackN w r = ReceiverSound GoBackN r
+ReceiverGood SelectiveRepeat w r = GoodOf w (r .receiver) (r .output)
+
+pub receiver-good-sound : (p : ProtocolType) (w : ℕ) (r : ends p .Receiver) → ReceiverGood p w r → ReceiverSound p r
+receiver-good-sound StopAndWait w r g = g
+receiver-good-sound GoBackN w r g = g
+receiver-good-sound SelectiveRepeat w r g = g .good .sound
+
+pub receiver-step-good : (p : ProtocolType) (w : ℕ) (r : ends p .Receiver) (k : ReceiverCall) → ReceiverGood p w r → ReceiverGood p w (ends p .handlePacket r (k .raw) (k .buffer) .after)
+receiver-step-good StopAndWait w r k h = stop-and-wait-receiver w .good (r .receiver) (k .raw) (r .output) (k .buffer) h
+receiver-step-good GoBackN w r k h = go-back-n-receiver w .good (r .receiver) (k .raw) (r .output) (k .buffer) h
+receiver-step-good SelectiveRepeat w r k h = selective-repeat-receiver w .good (r .receiver) (k .raw) (r .output) (k .buffer) h
+
+pub fresh-receiver-sound : (p : ProtocolType) (w limit : ℕ) (sending receiving output : List ℕ) → Made p w sending receiving → ReceiverGood p w (freshEnds p w limit sending receiving output .receiver)
+fresh-receiver-sound StopAndWait w limit sending receiving output m = fresh-mark output
+fresh-receiver-sound GoBackN w limit sending receiving output m = fresh-mark output
+fresh-receiver-sound SelectiveRepeat w limit sending receiving output m = record { good = fresh-receiver-good w receiving output (m .in-bounds) (m .receiving-room); size = refl }
 
 -- a receiver, with the output as each call left it
 pub receiver-sound : (p : ProtocolType) (w limit : ℕ) (sending receiving output : List ℕ) → Made p w sending receiving → (cs : List ReceiverCall)
     → ReceiverSound p (receiverAfter (ends p) (freshEnds p w limit sending receiving output .receiver) cs)
-receiver-sound StopAndWait w limit sending receiving output m cs =
-    every-receiver stopAndWaitEnds (ReceiverSound StopAndWait) (λ r c h. stop-and-wait-receiver w .good (r .receiver) (c .raw) (r .output) (c .buffer) h) _ cs (fresh-mark output)
-receiver-sound GoBackN w limit sending receiving output m cs =
-    every-receiver goBackNEnds (ReceiverSound GoBackN) (λ r c h. go-back-n-receiver w .good (r .receiver) (c .raw) (r .output) (c .buffer) h) _ cs (fresh-mark output)
-receiver-sound SelectiveRepeat w limit sending receiving output m cs =
-    every-receiver selectiveRepeatEnds (λ r. GoodOf w (r .receiver) (r .output)) (λ r c h. selective-repeat-receiver w .good (r .receiver) (c .raw) (r .output) (c .buffer) h) _ cs
-    (record { good = fresh-receiver-good w receiving output (m .in-bounds) (m .receiving-room); size = refl }) .good .sound
+receiver-sound p w limit sending receiving output m cs =
+    receiver-good-sound p w _ (every-receiver (ends p) (ReceiverGood p w) (receiver-step-good p w) _ cs (fresh-receiver-sound p w limit sending receiving output m))

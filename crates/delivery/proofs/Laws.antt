@@ -4,3 +4,5 @@ pub use Rattle.delivery.proofs.Datagrams.{DataBytes, AckBytes, Each, ea
 pub use Rattle.delivery.proofs.Demand3.{demand-3, reached-claim}
 pub use Rattle.delivery.proofs.KuroseRoss.{bytes-like-book, selective-repeat-bytes-like-book}
 pub use Rattle.delivery.proofs.NotRefused.{senderCounts, receiverCounts, not-refused, sent-within}
+pub use Rattle.delivery.proofs.Progress.{again-within}
+pub use Rattle.delivery.proofs.AnyBytes.{sender-step-sound, fresh-sender-sound, sender-sound, ReceiverGood, receiver-good-sound, receiver-step-good, fresh-receiver-sound, receiver-sound}

@@ -258,7 +258,7 @@ fn read_packet(raw: &[u8]) -> ReadingAnswer
 }
 
 // Whether check 7 is true of a valid packet.
-fn is_number_high(packet: Packet) -> bool
+pub fn is_number_high(packet: Packet) -> bool
     ensures { λ r. ⌜ r ≡ isNumberHigh packet ⌝ }
 {
     let pkt_type = packet.pkt_type;

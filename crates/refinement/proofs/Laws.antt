@@ -3,7 +3,7 @@
 pub use Rattle.refinement.proofs.Sending.{Sent, SendOutcome, send-refused, window-full, chunk-sent, send-outcome, send-good, chunks-length, next-number}
 pub use Rattle.refinement.proofs.Acknowledging.{Acknowledged, AckOutcome, ack-refused, ack-ignored, ack-taken, Accepts, ack-outcome, go-back-n-ack}
 pub use Rattle.refinement.proofs.SelectiveSender.{selective-ack, selective-timeout}
-pub use Rattle.refinement.proofs.Resending.{SentAgain, ResendOutcome, timeout-refused, nothing-sent, sent-again, resend-outcome, resend-good, marks-octets, go-back-n-timeout, lowest-sent-again, datagram-of}
+pub use Rattle.refinement.proofs.Resending.{SentAgain, ResendOutcome, timeout-refused, nothing-sent, sent-again, resend-outcome, resend-good, marks-good, marks-octets, datagrams-are, go-back-n-timeout, lowest-sent-again, datagram-of}
 pub use Rattle.refinement.proofs.Receiving.{Took, Ignored, ReceiveOutcome, packet-refused, not-data, data-taken, receive-outcome, after-packet, written-behind, took-output, flatten-append, outcome-length, outcome-mark}
 pub use Rattle.refinement.proofs.InOrder.{state-good, stopAndWaitView, goBackNView, stop-and-wait-receives, go-back-n-receives, stop-and-wait-receiver-good, go-back-n-receiver-good}
 pub use Rattle.refinement.proofs.SelectiveReceiver.{selectiveView, selective-receives}

@@ -8,7 +8,7 @@ use Rattle.delivery.specs.AnyBytes.{SenderCall}
 use Rattle.tallies.specs.Senders.{afterCalls, answers, SenderCounted, retries, stopAndWaitSender, goBackNSender, selectiveRepeatSender, newStopAndWait}
 use Rattle.tallies.proofs.Senders.{from-zero, go-back-n-counted, selective-repeat-counted}
 use Rattle.tallies.proofs.StopAndWait.{stop-and-wait-counted, current-retries}
-pub use Rattle.tallies.proofs.Senders.{Counted, EachCallCounted, total-sent, total-resent, from-zero, go-back-n-counted, selective-repeat-counted}
+pub use Rattle.tallies.proofs.Senders.{all-framed, how-many, Counted, EachCallCounted, total-sent, total-resent, from-zero, go-back-n-counted, selective-repeat-counted}
 pub use Rattle.tallies.proofs.StopAndWait.{stop-and-wait-counted, current-retries}
 pub use Rattle.tallies.proofs.Receivers.{EachReadingCounted, every-list}
 pub use Rattle.tallies.proofs.InOrder.{stop-and-wait-receiver, go-back-n-receiver}

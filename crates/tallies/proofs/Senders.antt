@@ -77,12 +77,12 @@ one-written p payload rest =
     ∙ ap (λ (l : List ℕ). length (datagrams l)) (take-append-seam (made p payload) rest ∙ sym (append-nil (made p payload)))
     ∙ ap length (datagrams-flatten (made p payload ∷ []) (made-framed p payload, tt))
 
-all-framed : (v : Sender) (n k : ℕ) → AllFramed (map (datagramFor v) (upFrom n k))
+pub all-framed : (v : Sender) (n k : ℕ) → AllFramed (map (datagramFor v) (upFrom n k))
 unfolding datagramFor
 all-framed v n zero = tt
 all-framed v n (suc k) = (made-framed (packetFor v n) _, all-framed v (suc n) k)
 
-how-many : (v : Sender) (n k : ℕ) → length (map (datagramFor v) (upFrom n k)) ≡ k
+pub how-many : (v : Sender) (n k : ℕ) → length (map (datagramFor v) (upFrom n k)) ≡ k
 how-many v n zero = refl
 how-many v n (suc k) = ap suc (how-many v (suc n) k)
 

@@ -12,9 +12,12 @@ returns : tie.Need-returns
 unfolding newChannel verdict firstOf numbered orElse decide order
 returns c = simp (test-is (c .before .config-broken .ensures) (c .if1 .taken))
 
+new-unchecked-requires : tie.Need-new-unchecked-requires
+new-unchecked-requires c κs = search needs
+
 returns-2 : tie.Need-returns-2
 unfolding newChannel verdict firstOf numbered orElse decide order
-returns-2 c = simp (test-is (c .before .config-broken .ensures) (c .if1 .left))
+returns-2 c = simp (c .new-unchecked .ensures, test-is (c .before .before .config-broken .ensures) (c .before .if1 .left))
 
 pub new-spec : {M : Type 1} → statement M
-new-spec = tie.close (tie.spec config-broken-requires returns returns-2)
+new-spec = tie.close (tie.spec config-broken-requires returns new-unchecked-requires returns-2)

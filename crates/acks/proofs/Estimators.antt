@@ -1,0 +1,57 @@
+-- The estimator and the notes after a sample.
+use Prim.Native.Nat.{ℕ, _+_, _≤_, _<_}
+use native.Mathlib.Omega.{arith}
+use mathlib.Core.Path.{_≡_, sym, ap, _∙_, subst}
+use mathlib.Core.Bool.{false}
+use borrow.Author.Tests.{lt-leb}
+use lib.ListN.{length}
+use Rattle.bounds.specs.Bounds.{countLimit, maxDuration}
+use Rattle.rto.specs.Rto.{countsFull}
+use Rattle.rto.specs.declared.RtoEstimator.{RtoEstimator}
+use Rattle.rto.specs.declared.RtoStats.{RtoStats}
+use Rattle.rto.proofs.Checks.{rto-in-time}
+use Rattle.notes.specs.Notes.{SegMetas, Timely, ScheduledBelow}
+use Rattle.notes.proofs.Laws.{timely-sample, scheduled-sample, sample-length}
+use Rattle.clock.specs.Clock.{sampleRtt, CanSample}
+use Rattle.clock.proofs.Laws.{sample-rtt-metas, sample-rtt-good, sample-rtt-counts}
+use Rattle.acks.specs.Good.{GoodEstimator}
+
+not-full : (s : RtoStats) → s .«sample_count» < countLimit → s .«karn_rejected_count» < countLimit → s .«timeout_count» < countLimit → s .«backoff_count» < countLimit → countsFull s ≡ false
+unfolding countsFull
+not-full s a b d f = rw (lt-leb countLimit (s .«sample_count») a, lt-leb countLimit (s .«karn_rejected_count») b, lt-leb countLimit (s .«timeout_count») d, lt-leb countLimit (s .«backoff_count») f)
+
+low : (a b k l : ℕ) → a + b ≤ k → k < l → (a < l) × (b < l)
+low a b k l h f = (omega arith, omega arith)
+
+module _ (e : RtoEstimator) (k : ℕ) (g : GoodEstimator e k) where
+  pub estimator-more : (n : ℕ) → k ≤ n → GoodEstimator e n
+  estimator-more n h = let a = g .sampled in record { factors = g .factors; state = g .state; times = g .times; sampled = omega arith; timeouts = g .timeouts; backoffs = g .backoffs }
+
+  module _ (m : SegMetas) (now : ℕ) (t : Timely m now) where
+    pub can-sample : k < countLimit → CanSample e m now
+    can-sample few =
+        let n = low (e .stats .«sample_count») (e .stats .«karn_rejected_count») k countLimit (g .sampled) few in
+        record { state = g .state; counts = not-full (e .stats) (n .0) (n .1) (g .timeouts) (g .backoffs); fits = t .fits; time = t .within }
+
+    -- at most one sample more
+    pub sampled-good : (seq : ℕ) → GoodEstimator (sampleRtt e m seq now .estimator) (k + 1)
+    sampled-good seq =
+        let f = g .factors in
+        let n = sample-rtt-counts e m seq now in
+        let r = sample-rtt-good e m seq now (record { alpha = f .alpha; beta = f .beta; k = f .k; multiplier = f .multiplier }) (record { state = g .state; times = g .times }) (t .within) in
+        let a = n .samples in
+        let b = g .sampled in
+        record { factors = rw (n .config) f; state = r .state; times = r .times; sampled = omega arith; timeouts = rw (n .timeouts) (g .timeouts); backoffs = rw (n .backoffs) (g .backoffs) }
+
+    pub rto-within : (seq : ℕ) → sampleRtt e m seq now .estimator .«current_rto» ≤ maxDuration
+    rto-within seq = rto-in-time (sampleRtt e m seq now .estimator) (sampled-good seq .times)
+
+module _ (e : RtoEstimator) (m : SegMetas) (seq now : ℕ) where
+  pub sampled-timely : Timely m now → Timely (sampleRtt e m seq now .metas) now
+  sampled-timely t = rw (sample-rtt-metas e m seq now) (timely-sample m seq now t)
+
+  pub sampled-scheduled : ScheduledBelow m → ScheduledBelow (sampleRtt e m seq now .metas)
+  sampled-scheduled s = rw (sample-rtt-metas e m seq now) (scheduled-sample m seq now s)
+
+  pub sampled-length : length (sampleRtt e m seq now .metas .rows) ≡ length (m .rows)
+  sampled-length = rw (sample-rtt-metas e m seq now) (sample-length m seq now)

@@ -1,0 +1,6 @@
+pub mod Estimators
+pub mod Calls
+pub mod Answers
+pub mod Keeps
+pub mod Reverse
+pub mod Laws

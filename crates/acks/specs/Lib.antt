@@ -1,0 +1,4 @@
+pub mod Acks
+pub mod Good
+pub mod Internal
+pub mod Reverse

@@ -1,0 +1,2 @@
+pub mod EditionClock
+pub mod Clock

@@ -1,0 +1,5 @@
+pub mod Marks
+pub mod Updates
+pub mod Times
+pub mod Scheduled
+pub mod Laws

@@ -1,0 +1,2 @@
+pub mod SegMeta
+pub mod Notes

@@ -1,0 +1,6 @@
+pub mod Calls
+pub mod Packets
+pub mod Answers
+pub mod Copies
+pub mod Laws
+pub mod Examples

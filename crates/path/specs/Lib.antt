@@ -1,0 +1,3 @@
+pub mod Rolls
+pub mod Direction
+pub mod Path

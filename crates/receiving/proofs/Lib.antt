@@ -1,0 +1,6 @@
+pub mod Calls
+pub mod Kept
+pub mod Completion
+pub mod Serving
+pub mod Turns
+pub mod Laws

@@ -1,0 +1,5 @@
+pub mod Sends
+pub mod Calls
+pub mod Pumps
+pub mod Retransmits
+pub mod Laws

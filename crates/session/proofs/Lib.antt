@@ -1,0 +1,12 @@
+pub mod Windows
+pub mod Sends
+pub mod Acks
+pub mod Resends
+pub mod Kept
+pub mod Receives
+pub mod Replies
+pub mod KeptReceivers
+pub mod Rises
+pub mod Lengths
+pub mod EndsCalls
+pub mod Laws
