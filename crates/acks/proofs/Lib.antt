@@ -3,4 +3,5 @@ pub mod Calls
 pub mod Answers
 pub mod Keeps
 pub mod Reverse
+pub mod Fresh
 pub mod Laws

@@ -1,13 +1,13 @@
 -- What the calls of the receiving side ask and answer, over plain values: one law for each return.
-use Prim.Native.Nat.{ℕ, _+_, _-_, _^_, _≤_, _<_}
-use mathlib.Core.Path.{_≡_, refl, sym, ap, _∙_, subst}
+use Prim.Native.Nat.{ℕ, _+_, _^_, _≤_, _<_}
+use mathlib.Core.Path.{_≡_, refl, sym, ap, _∙_}
 use mathlib.Core.Bool.{Bool, true, false, cond, _&&_, _||_}
 use mathlib.Core.List.{List}
 use native.Mathlib.Omega.{arith}
 use lib.ListN.{length}
 use lib.Dec.{ltb}
 use lib.Ieee.{Float}
-use Rattle.bounds.specs.Bounds.{headerSize, maxDatagram, maxPayload, countLimit}
+use Rattle.bounds.specs.Bounds.{headerSize}
 use Rattle.packet.specs.Reading.{readDatagram, payloadOf}
 use Rattle.packet.specs.declared.Packet.{Packet}
 use Rattle.packet.specs.declared.PacketType.{PacketType}
@@ -19,22 +19,18 @@ use Rattle.receiver.specs.Receive.{ReceiveExit, receiveExit}
 use Rattle.receiver.specs.declared.ReceiveAnswer.{ReceiveAnswer}
 use Rattle.receiver.specs.declared.ReceiveAnswer.the-variants as receiveAnswer
 use Rattle.refusal.specs.declared.Refusal.{Refusal}
-use Rattle.schedule.specs.State.{copies}
-use Rattle.schedule.specs.declared.Deliveries.{Deliveries}
-use Rattle.notes.specs.Notes.{SegMetas, segMetas, markAckScheduled, ScheduledBelow}
+use Rattle.notes.specs.Notes.{SegMetas, markAckScheduled, ScheduledBelow}
 use Rattle.path.specs.Direction.{Direction, direction}
 use Rattle.path.specs.Path.{CarryExit, carryExit, leftByCarry, carry, stopOf, CanCarry}
-use Rattle.path.specs.declared.Carriage.{Carriage}
-use Rattle.path.specs.declared.Carriage.the-variants as carriage
 use Rattle.path.specs.declared.CarryResult.{CarryResult}
 use Rattle.path.specs.declared.Stop.{Stop}
 use Rattle.path.specs.declared.Stop.the-variants as stop
-use Rattle.session.specs.Receiving.{ReceiverEnd, receiverEnd, handlePacket, handlePacketUnchecked, base, isCumulative, duplicateCount, gbnAlreadyDelivered}
+use Rattle.session.specs.Receiving.{ReceiverEnd, receiverEnd, handlePacketUnchecked, base, isCumulative, gbnAlreadyDelivered}
 use Rattle.session.specs.GoodReceiver.{ReceiverUnbroken, CanHandlePacket}
 use Rattle.session.specs.declared.Receiver.{Receiver}
 use Rattle.session.proofs.Laws.{readAs, taken-as, packet-read, receiver-unbroken, good-can-receive, Rises, packet-rises, cumulative-none}
-use Rattle.receiving.specs.Receiving.{Inbound, inbound, ForwardExit, forwardExit, ackCounted, anyCopies, submitAck, isDataType, isData, gbnDuplicate, one, newDuplicates, delivered, completedAt, absorb, ackBuffer, handled, received, byReply, onForward}
-use Rattle.receiving.specs.Good.{GoodInbound, CanOnForward}
+use Rattle.receiving.specs.Receiving.{Inbound, inbound, ForwardExit, forwardExit, ackCounted, anyCopies, submitAck, isDataType, isData, gbnDuplicate, newDuplicates, delivered, completedAt, absorb, ackBuffer, handled, received, byReply, onForward}
+use Rattle.receiving.specs.Good.{CanOnForward}
 use Rattle.receiving.specs.Internal.{dataArrival, arrivalOf}
 use Rattle.receiving.specs.declared.ReceivingSide.{ReceivingSide}
 use Rattle.receiving.specs.declared.Arrival.{Arrival}
@@ -108,13 +104,14 @@ module _ (total now : ℕ) (x : ReceivingSide) where
   unfolding absorb
   absorb-all h e k = rw (h, ← e, k)
 
-  pub absorb-acks : absorb total now x .«ack_sent» ≡ x .«ack_sent»
+  -- it leaves the side, or notes the completion
+  pub absorb-either : (P : ReceivingSide → Type 0) → P x → P (completedAt x now) → P (absorb total now x)
   unfolding absorb
-  absorb-acks = either (x .completed || ltb (base (x .receiver)) total)
+  absorb-either P a c = either (x .completed || ltb (base (x .receiver)) total)
     where
-      either : (b : Bool) → cond b x (completedAt x now) .«ack_sent» ≡ x .«ack_sent»
-      either true = refl
-      either false = refl
+      either : (b : Bool) → P (cond b x (completedAt x now))
+      either true = a
+      either false = c
 
 -- ---- `submit_ack`
 module _ (rolls : List Float) (now seq : ℕ) (wire : List ℕ) (side : ReceivingSide) (metas : SegMetas) (reverse : Direction) where
@@ -157,7 +154,7 @@ module _ (rolls : List Float) (total now : ℕ) (raw : List ℕ) (b : Inbound) w
       module _ {counted absorbed : ReceivingSide} (l : counted ≡ delivered (b .side) late after) (m : absorbed ≡ absorb total now counted) where
         pub can-submit : length ack ≡ headerSize → (absorbed .«ack_sent» + 1 < 2 ^ 64) × ((b .metas .notes .count ≤ length (b .metas .rows)) × ScheduledBelow (b .metas)) × CanCarry (b .reverse) rolls now ack
         can-submit size =
-            let n : absorbed .«ack_sent» ≡ b .side .«ack_sent» = ap (λ (x : ReceivingSide). x .«ack_sent») m ∙ absorb-acks total now counted ∙ ap (λ (x : ReceivingSide). x .«ack_sent») l in
+            let n : absorbed .«ack_sent» ≡ b .side .«ack_sent» = ap (λ (x : ReceivingSide). x .«ack_sent») m ∙ absorb-either total now counted (λ (x : ReceivingSide). x .«ack_sent» ≡ counted .«ack_sent») refl refl ∙ ap (λ (x : ReceivingSide). x .«ack_sent») l in
             (omega (arith, n, can .few, can .good .acks), (can .good .noted, can .good .scheduled), record { good = can .good .reverse; in-time = can .in-time; short = omega (arith, size) })
 
         pub replied : {r : ReceiveAnswer} → answer ≡ r → byReply r rolls now ack (inbound absorbed store output (b .metas) (b .reverse)) ≡ onForward rolls total now raw b

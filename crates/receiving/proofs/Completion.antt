@@ -2,18 +2,16 @@
 use Prim.Native.Nat.{ℕ, _≤_, _<_}
 use mathlib.Core.Path.{_≡_, refl, sym, ap, _∙_}
 use mathlib.Core.Bool.{Bool, true, false, cond, not, _||_, true≢false}
-use mathlib.Core.List.{List, []}
+use mathlib.Core.List.{List}
 use native.Mathlib.Omega.{arith}
 use lib.Dec.{ltb}
 use lib.Ieee.{Float}
-use borrow.Author.Tests.{ltb-true, ltb-false, lt-ltb, le-ltb}
-use Rattle.packet.specs.Format.{newPacket, made}
-use Rattle.packet.specs.declared.PacketType.the-variants as packetType
+use borrow.Author.Tests.{ltb-true, ltb-false, lt-ltb}
 use Rattle.session.specs.Receiving.{base}
 use Rattle.session.specs.declared.Receiver.{Receiver}
 use Rattle.receiving.specs.Receiving.{Inbound, ForwardExit, newSide, ackCounted, delivered, completedAt, absorb, submitAck, handled, received, onForward}
 use Rattle.receiving.specs.declared.ReceivingSide.{ReceivingSide}
-use Rattle.receiving.proofs.Kept.{counted, rises, data-received, ack-submitted, forward-either}
+use Rattle.receiving.proofs.Kept.{counted, rises, data-received, forward-either}
 
 -- a side and the side after it, at a moment: once completed it stays so, with the moment at which it was
 pub record Completes (total now : ℕ) (x after : ReceivingSide) : Type 0 where

@@ -1,14 +1,13 @@
 -- What a datagram leaves: a receiving side as good as before it, with each counter at most one higher.
-use Prim.Native.Nat.{ℕ, _+_, _≤_, _<_}
+use Prim.Native.Nat.{ℕ, _+_, _≤_}
 use mathlib.Core.Path.{_≡_, refl, sym, ap, _∙_, subst}
-use mathlib.Core.Bool.{Bool, true, false, cond, not, _||_, false≢true, true≢false}
-use mathlib.Core.List.{List, [], _++_, append-nil}
+use mathlib.Core.Bool.{Bool, true, false, cond, not, false≢true}
+use mathlib.Core.List.{List, [], append-nil}
 use native.Mathlib.Omega.{arith}
 use lib.ListN.{length}
 use lib.Dec.{ltb}
 use lib.Ieee.{Float}
-use borrow.Author.Tests.{ltb-false}
-use Rattle.bounds.specs.Bounds.{headerSize, maxDatagram, maxDuration, countLimit}
+use Rattle.bounds.specs.Bounds.{maxDatagram, maxDuration}
 use Rattle.packet.specs.Format.{newPacket, made}
 use Rattle.packet.specs.Reading.{readDatagram}
 use Rattle.packet.specs.declared.PacketType.the-variants as packetType
@@ -29,19 +28,10 @@ use Rattle.session.specs.Receiving.{receiverEnd, base, isCumulative}
 use Rattle.session.specs.GoodReceiver.{GoodReceiver}
 use Rattle.session.specs.declared.Receiver.{Receiver}
 use Rattle.session.proofs.Laws.{Rises, packet-rises, packet-lengths, packet-good, answeredBuffer, answered-buffer}
-use Rattle.receiving.specs.Receiving.{Inbound, inbound, newSide, ForwardExit, forwardExit, ackCounted, anyCopies, submitAck, isData, gbnDuplicate, delivered, completedAt, absorb, ackBuffer, handled, received, byReply, onForward}
+use Rattle.receiving.specs.Receiving.{Inbound, inbound, newSide, ForwardExit, forwardExit, ackCounted, anyCopies, submitAck, isData, gbnDuplicate, delivered, ackBuffer, handled, received, onForward}
 use Rattle.receiving.specs.Good.{GoodInbound, CanOnForward}
 use Rattle.receiving.specs.declared.ReceivingSide.{ReceivingSide}
-use Rattle.receiving.proofs.Calls.{new-duplicates}
-
--- ---- `absorb` leaves the side, or notes the completion
-pub absorb-either : (total now : ℕ) (x : ReceivingSide) (P : ReceivingSide → Type 0) → P x → P (completedAt x now) → P (absorb total now x)
-unfolding absorb
-absorb-either total now x P a c = either (x .completed || ltb (base (x .receiver)) total)
-  where
-    either : (b : Bool) → P (cond b x (completedAt x now))
-    either true = a
-    either false = c
+use Rattle.receiving.proofs.Calls.{new-duplicates, absorb-either}
 
 -- ---- Data
 abbrev pub RisesByOne : ℕ → ℕ → Type 0
@@ -54,14 +44,11 @@ counted raw b = delivered (b .side) (gbnDuplicate (b .side .receiver) (readDatag
 pub rises : (raw : List ℕ) (b : Inbound) → Rises (b .side .receiver) (handled raw b .receiver .receiver)
 rises raw b = packet-rises (receiverEnd (b .side .receiver) (b .store)) raw (b .output) ackBuffer
 
-module _ (total now : ℕ) (raw : List ℕ) (b : Inbound) where
-  -- the ACK that goes out: the datagram that the packet layer makes
-  pub reply-bytes : (n : ℕ) → handled raw b .answer ≡ receiveAnswer.Ack n → handled raw b .ack ≡ made (newPacket n packetType.Ack) []
-  reply-bytes n e = answered-buffer (receiverEnd (b .side .receiver) (b .store)) raw (b .output) ackBuffer ∙ ap (λ (a : ReceiveAnswer). answeredBuffer a ackBuffer) e ∙ whole (made (newPacket n packetType.Ack) [])
-    where
-      whole : (l : List ℕ) → l ++ [] ≡ l
-      whole l = append-nil l
+-- the ACK that goes out: the datagram that the packet layer makes
+pub reply-bytes : (raw : List ℕ) (b : Inbound) (n : ℕ) → handled raw b .answer ≡ receiveAnswer.Ack n → handled raw b .ack ≡ made (newPacket n packetType.Ack) []
+reply-bytes raw b n e = answered-buffer (receiverEnd (b .side .receiver) (b .store)) raw (b .output) ackBuffer ∙ ap (λ (a : ReceiveAnswer). answeredBuffer a ackBuffer) e ∙ append-nil (made (newPacket n packetType.Ack) [])
 
+module _ (total now : ℕ) (raw : List ℕ) (b : Inbound) where
   -- the receiver's part is what it made of the datagram; notes and line are untouched
   pub record Received : Type 0 where
     pub receiver : received total now raw b .side .receiver ≡ handled raw b .receiver .receiver
@@ -199,7 +186,7 @@ module _ (rolls : List Float) (total now : ℕ) (raw : List ℕ) (b : Inbound) w
 
   pub forward-acknowledged : (n : ℕ) → isData (readDatagram raw) ≡ true → handled raw b .answer ≡ receiveAnswer.Ack n → onForward rolls total now raw b ≡ submitAck rolls now n (made (newPacket n packetType.Ack) []) (received total now raw b)
   unfolding onForward
-  forward-acknowledged n h e = rw (h, e, reply-bytes total now raw b n e)
+  forward-acknowledged n h e = rw (h, e, reply-bytes raw b n e)
 
   -- whatever holds of these exits holds of the call's
   pub forward-either : (P : ForwardExit → Type 0) → (isData (readDatagram raw) ≡ false → P (forwardExit b stop.Going)) → (isData (readDatagram raw) ≡ true → P (forwardExit (received total now raw b) stop.Going))
@@ -215,6 +202,20 @@ module _ (rolls : List Float) (total now : ℕ) (raw : List ℕ) (b : Inbound) w
       by-reading : (t : Bool) → isData (readDatagram raw) ≡ t → P (onForward rolls total now raw b)
       by-reading true h = by-answer h (handled raw b .answer) refl
       by-reading false h = subst P (sym (forward-dropped h)) (dropped h)
+
+  -- Data is counted and delivered, whatever becomes of its ACK
+  pub record Delivers (x : Inbound) : Type 0 where
+    pub receiver : receiverEnd (x .side .receiver) (x .store) ≡ handled raw b .receiver
+    pub output : x .output ≡ handled raw b .output
+    pub datas : x .side .«data_received» ≡ b .side .«data_received» + 1
+
+  pub forward-delivers : isData (readDatagram raw) ≡ true → Delivers (onForward rolls total now raw b .inbound)
+  unfolding submitAck received
+  forward-delivers t =
+      let d = data-received total now raw b in
+      forward-either (λ (x : ForwardExit). Delivers (x .inbound)) (λ h. absurd (false≢true (sym h ∙ t)))
+      (λ h. record { receiver = ap (λ (r : Receiver). receiverEnd r (handled raw b .receiver .store)) (d .receiver); output = refl; datas = d .datas })
+      (λ h n e. record { receiver = ap (λ (r : Receiver). receiverEnd r (handled raw b .receiver .store)) (d .receiver); output = refl; datas = d .datas })
 
   pub forward-counts : CountsRise (b .side) (onForward rolls total now raw b .inbound .side)
   unfolding submitAck

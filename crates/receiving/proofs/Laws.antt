@@ -2,7 +2,7 @@
 -- Data and its ACK: what each leaves
 pub use Rattle.receiving.proofs.Kept.{RisesByOne, reply-bytes, Received, data-received, received-good, markedMetas, submit-stops, submit-carries, Submitted, ack-submitted, submit-good}
 -- a datagram: its cases, what it keeps
-pub use Rattle.receiving.proofs.Kept.{forward-dropped, forward-silent, forward-refused, forward-acknowledged, forward-stopped, forward-carried, forward-either, CountsRise, forward-counts, InboundKeeps, forward-keeps, forward-good, forward-each, new-inbound-good}
+pub use Rattle.receiving.proofs.Kept.{forward-dropped, forward-silent, forward-refused, forward-acknowledged, forward-stopped, forward-carried, forward-either, Delivers, forward-delivers, CountsRise, forward-counts, InboundKeeps, forward-keeps, forward-good, forward-each, new-inbound-good}
 -- completion
 pub use Rattle.receiving.proofs.Completion.{Completes, completes-same, completes-then, CompletedIs, received-completed, forward-completes, forward-completed-is, new-completed-is}
 -- the loop: its turns, what it keeps

@@ -4,3 +4,4 @@ pub mod Completion
 pub mod Serving
 pub mod Turns
 pub mod Laws
+pub mod Examples

@@ -1,79 +1,81 @@
 -- The loop over what is due on the forward line: its turns, and that what is left of it makes of the present what the whole makes of the start.
 use Prim.Native.Nat.{ℕ, zero, suc, _+_, _≤_, _<_}
-use mathlib.Core.Path.{_≡_, refl, sym, ap, _∙_, subst}
+use mathlib.Core.Path.{_≡_, refl, sym, ap, _∙_}
 use mathlib.Core.Bool.{Bool, true, false, cond, not}
 use mathlib.Core.List.{List}
 use native.Mathlib.Omega.{arith}
 use lib.ListN.{length, take}
 use lib.Seq.{length-take-le}
 use lib.Ieee.{Float}
-use Rattle.bounds.specs.Bounds.{maxDatagram, maxDuration, countLimit}
+use Rattle.bounds.specs.Bounds.{maxDatagram}
 use Rattle.refusal.specs.declared.Refusal.{Refusal}
-use Rattle.schedule.specs.State.{waitingRecords, stateBroken, heldLate}
 use Rattle.schedule.specs.declared.ReadyAnswer.{ReadyAnswer}
 use Rattle.schedule.specs.declared.ReadyAnswer.the-variants as ready
-use Rattle.path.specs.Direction.{Direction, direction, scheduleOf}
+use Rattle.path.specs.Direction.{Direction, direction}
 use Rattle.path.specs.Path.{isGoing, TakeExit, takeExit, leftByTake, takeReady, CanTake}
 use Rattle.path.specs.declared.Stop.{Stop}
 use Rattle.path.specs.declared.Stop.the-variants as stop
 use Rattle.path.specs.declared.TakeResult.{TakeResult}
-use Rattle.path.proofs.Laws.{take-count, take-leaves, take-idle, take-never-refused, take-short, going-is}
-use Rattle.receiving.specs.Receiving.{Inbound, ForwardExit, forwardExit, onForward, ServeForwardExit, serveForwardExit, progressed, packetBuffer, isTaken, takenBytes, serveAtMost, serveForward}
-use Rattle.receiving.specs.Good.{GoodInbound, CanOnForward, CanServeForward}
+use Rattle.path.proofs.Laws.{take-count, take-leaves, take-idle, take-never-refused, take-short}
+use Rattle.receiving.specs.Receiving.{Inbound, ForwardExit, forwardExit, onForward, ServeForwardExit, serveForwardExit, progressed, packetBuffer, serveAtMost, serveForward}
+use Rattle.receiving.specs.Good.{CanOnForward, CanServeForward}
 use Rattle.receiving.proofs.Kept.{forward-good, forward-counts}
 
 pub can-take : {forward : Direction} {b : Inbound} {rolls : List Float} {now : ℕ} (out : List ℕ) → CanServeForward forward b rolls now → length out ≡ maxDatagram → CanTake forward out
 can-take out can size = record { sound = can .sound; room = omega (arith, size) }
 
 -- ---- a turn
+-- the next copy
+abbrev pub nextTaken : ℕ → Direction → TakeExit
+nextTaken now forward = takeReady forward now packetBuffer
+
+-- what it does, of n bytes
+abbrev pub nextExit : List Float → ℕ → ℕ → Direction → Inbound → ℕ → ForwardExit
+nextExit rolls total now forward b n = onForward rolls total now (take n (nextTaken now forward .out)) b
+
 module _ (rolls : List Float) (total now : ℕ) (forward : Direction) (b : Inbound) where
-  abbrev pub nextTaken : TakeExit
-  nextTaken = takeReady forward now packetBuffer
-
-  -- what the next copy does, of n bytes
-  abbrev pub nextExit : ℕ → ForwardExit
-  nextExit n = onForward rolls total now (take n (nextTaken .out)) b
-
-  idle-at : (n : ℕ) → nextTaken .result .answer ≡ ready.Nothing → serveAtMost n rolls total now forward b ≡ serveForwardExit forward b false stop.Going
+  idle-at : (n : ℕ) → nextTaken now forward .result .answer ≡ ready.Nothing → serveAtMost n rolls total now forward b ≡ serveForwardExit forward b false stop.Going
   unfolding serveAtMost
   idle-at zero e = refl
   idle-at (suc n) e = rw e
 
   -- nothing is due
-  pub serve-idle : nextTaken .result .answer ≡ ready.Nothing → serveForward rolls total now forward b ≡ serveForwardExit forward b false stop.Going
+  pub serve-idle : nextTaken now forward .result .answer ≡ ready.Nothing → serveForward rolls total now forward b ≡ serveForwardExit forward b false stop.Going
   serve-idle e = idle-at (forward .path .scheduler .count) e
 
-  turn-at : (n k m : ℕ) → nextTaken .result .answer ≡ ready.Packet n → m + 1 ≡ k
-      → serveAtMost k rolls total now forward b ≡ cond (isGoing (nextExit n .stop)) (progressed (serveAtMost m rolls total now (leftByTake nextTaken) (nextExit n .inbound))) (serveForwardExit (leftByTake nextTaken) (nextExit n .inbound) true (nextExit n .stop))
+  turn-at : (n k m : ℕ) → nextTaken now forward .result .answer ≡ ready.Packet n → m + 1 ≡ k
+      → serveAtMost k rolls total now forward b ≡ cond (isGoing (nextExit rolls total now forward b n .stop)) (progressed (serveAtMost m rolls total now (leftByTake (nextTaken now forward)) (nextExit rolls total now forward b n .inbound))) (serveForwardExit (leftByTake (nextTaken now forward)) (nextExit rolls total now forward b n .inbound) true (nextExit rolls total now forward b n .stop))
   unfolding serveAtMost
   turn-at n zero m e h = absurd (omega arith)
   turn-at n (suc k) m e h = let p : m ≡ k = omega arith in rw (p, e)
 
-  turn-is : (n : ℕ) → nextTaken .result .answer ≡ ready.Packet n
-      → serveForward rolls total now forward b ≡ cond (isGoing (nextExit n .stop)) (progressed (serveForward rolls total now (leftByTake nextTaken) (nextExit n .inbound))) (serveForwardExit (leftByTake nextTaken) (nextExit n .inbound) true (nextExit n .stop))
-  turn-is n e = turn-at n (forward .path .scheduler .count) (leftByTake nextTaken .path .scheduler .count) e (take-count forward now packetBuffer n e)
+  turn-is : (n : ℕ) → nextTaken now forward .result .answer ≡ ready.Packet n → (t : Bool) → isGoing (nextExit rolls total now forward b n .stop) ≡ t
+      → serveForward rolls total now forward b ≡ cond t (progressed (serveForward rolls total now (leftByTake (nextTaken now forward)) (nextExit rolls total now forward b n .inbound))) (serveForwardExit (leftByTake (nextTaken now forward)) (nextExit rolls total now forward b n .inbound) true (nextExit rolls total now forward b n .stop))
+  turn-is n e t g =
+      turn-at n (forward .path .scheduler .count) (leftByTake (nextTaken now forward) .path .scheduler .count) e (take-count forward now packetBuffer n e)
+      ∙ ap (λ (t : Bool). cond t (progressed (serveForward rolls total now (leftByTake (nextTaken now forward)) (nextExit rolls total now forward b n .inbound))) (serveForwardExit (leftByTake (nextTaken now forward)) (nextExit rolls total now forward b n .inbound) true (nextExit rolls total now forward b n .stop))) g
 
   -- one is handed over, and the run goes on
-  pub serve-going : (n : ℕ) → nextTaken .result .answer ≡ ready.Packet n → isGoing (nextExit n .stop) ≡ true → serveForward rolls total now forward b ≡ progressed (serveForward rolls total now (leftByTake nextTaken) (nextExit n .inbound))
-  serve-going n e g = turn-is n e ∙ ap (λ (t : Bool). cond t (progressed (serveForward rolls total now (leftByTake nextTaken) (nextExit n .inbound))) (serveForwardExit (leftByTake nextTaken) (nextExit n .inbound) true (nextExit n .stop))) g
+  pub serve-going : (n : ℕ) → nextTaken now forward .result .answer ≡ ready.Packet n → isGoing (nextExit rolls total now forward b n .stop) ≡ true → serveForward rolls total now forward b ≡ progressed (serveForward rolls total now (leftByTake (nextTaken now forward)) (nextExit rolls total now forward b n .inbound))
+  serve-going n e g = turn-is n e true g
 
   -- one is handed over, and its ACK ends the run
-  pub serve-stops : (n : ℕ) → nextTaken .result .answer ≡ ready.Packet n → isGoing (nextExit n .stop) ≡ false → serveForward rolls total now forward b ≡ serveForwardExit (leftByTake nextTaken) (nextExit n .inbound) true (nextExit n .stop)
-  serve-stops n e g = turn-is n e ∙ ap (λ (t : Bool). cond t (progressed (serveForward rolls total now (leftByTake nextTaken) (nextExit n .inbound))) (serveForwardExit (leftByTake nextTaken) (nextExit n .inbound) true (nextExit n .stop))) g
+  pub serve-stops : (n : ℕ) → nextTaken now forward .result .answer ≡ ready.Packet n → isGoing (nextExit rolls total now forward b n .stop) ≡ false → serveForward rolls total now forward b ≡ serveForwardExit (leftByTake (nextTaken now forward)) (nextExit rolls total now forward b n .inbound) true (nextExit rolls total now forward b n .stop)
+  serve-stops n e g = turn-is n e false g
 
   -- ---- what a turn asks, and what it leaves
   module _ (can : CanServeForward forward b rolls now) where
-    pub can-hand-over : (n : ℕ) → nextTaken .result .answer ≡ ready.Packet n → CanOnForward b rolls now
+    pub can-hand-over : (n : ℕ) → nextTaken now forward .result .answer ≡ ready.Packet n → CanOnForward b rolls now
     can-hand-over n e = record { good = can .good; few = omega (arith, can .few, take-count forward now packetBuffer n e); in-time = can .in-time }
 
-    pub turn-good : (n : ℕ) → nextTaken .result .answer ≡ ready.Packet n → CanServeForward (leftByTake nextTaken) (nextExit n .inbound) rolls now
+    pub turn-good : (n : ℕ) → nextTaken now forward .result .answer ≡ ready.Packet n → CanServeForward (leftByTake (nextTaken now forward)) (nextExit rolls total now forward b n .inbound) rolls now
     turn-good n e =
         let s = take-leaves forward now packetBuffer (can .sound) (can .times) in
         record {
           sound = s .sound;
           times = s .times;
-          good = forward-good rolls total now (take n (nextTaken .out)) b (can-hand-over n e);
-          few = omega (arith, can .few, take-count forward now packetBuffer n e, forward-counts rolls total now (take n (nextTaken .out)) b .datas .1);
+          good = forward-good rolls total now (take n (nextTaken now forward .out)) b (can-hand-over n e);
+          few = omega (arith, can .few, take-count forward now packetBuffer n e, forward-counts rolls total now (take n (nextTaken now forward .out)) b .datas .1);
           in-time = can .in-time;
         }
 

@@ -1,7 +1,7 @@
 -- What the loop over the forward line leaves, turn by turn.
-use Prim.Native.Nat.{ℕ, zero, suc, _+_, _≤_, _<_}
+use Prim.Native.Nat.{ℕ, zero, suc, _+_, _≤_}
 use mathlib.Core.Path.{_≡_, refl, sym, ap, _∙_, subst}
-use mathlib.Core.Bool.{Bool, true, false, cond, false≢true}
+use mathlib.Core.Bool.{Bool, true, false, false≢true}
 use mathlib.Core.List.{List, [], _∷_, _++_}
 use native.Mathlib.Omega.{arith}
 use native.Mathlib.Nat.{add-zero}
@@ -16,10 +16,9 @@ use Rattle.schedule.specs.declared.ReadyAnswer.{ReadyAnswer}
 use Rattle.schedule.specs.declared.ReadyAnswer.the-variants as ready
 use Rattle.path.specs.Direction.{Direction, scheduleOf, Good}
 use Rattle.path.specs.Path.{isGoing, leftByTake, takeReady}
-use Rattle.path.specs.declared.Stop.{Stop}
 use Rattle.path.specs.declared.Stop.the-variants as stop
 use Rattle.path.proofs.Laws.{copyBytes, EachWaiting, TakesCopy, take-count, take-never-refused, take-leaves, take-used, take-good, take-each, take-copy}
-use Rattle.receiving.specs.Receiving.{Inbound, onForward, ServeForwardExit, serveForwardExit, progressed, packetBuffer, isTaken, serveForward}
+use Rattle.receiving.specs.Receiving.{Inbound, ServeForwardExit, serveForwardExit, progressed, packetBuffer, isTaken, serveForward}
 use Rattle.receiving.specs.Good.{GoodInbound, CanServeForward}
 use Rattle.receiving.specs.declared.ReceivingSide.{ReceivingSide}
 use Rattle.receiving.proofs.Kept.{InboundKeeps, forward-counts, forward-each, forward-keeps}
@@ -77,30 +76,30 @@ module _ (rolls : List Float) (total now : ℕ) where
 
   -- whatever holds where nothing is due and where the ACK of the next copy ends the run, and before a turn if it holds after it, holds of the loop
   pub serve-turns : (R : Direction → Inbound → ServeForwardExit → Type 0)
-      → ((f : Direction) (c : Inbound) → nextTaken rolls total now f c .result .answer ≡ ready.Nothing → R f c (serveForwardExit f c false stop.Going))
-      → ((f : Direction) (c : Inbound) (n : ℕ) (x : ServeForwardExit) → nextTaken rolls total now f c .result .answer ≡ ready.Packet n → isGoing (nextExit rolls total now f c n .stop) ≡ true → R (leftByTake (nextTaken rolls total now f c)) (nextExit rolls total now f c n .inbound) x → R f c (progressed x))
-      → ((f : Direction) (c : Inbound) (n : ℕ) → nextTaken rolls total now f c .result .answer ≡ ready.Packet n → isGoing (nextExit rolls total now f c n .stop) ≡ false → R f c (serveForwardExit (leftByTake (nextTaken rolls total now f c)) (nextExit rolls total now f c n .inbound) true (nextExit rolls total now f c n .stop)))
+      → ((f : Direction) (c : Inbound) → nextTaken now f .result .answer ≡ ready.Nothing → R f c (serveForwardExit f c false stop.Going))
+      → ((f : Direction) (c : Inbound) (n : ℕ) (x : ServeForwardExit) → nextTaken now f .result .answer ≡ ready.Packet n → isGoing (nextExit rolls total now f c n .stop) ≡ true → R (leftByTake (nextTaken now f)) (nextExit rolls total now f c n .inbound) x → R f c (progressed x))
+      → ((f : Direction) (c : Inbound) (n : ℕ) → nextTaken now f .result .answer ≡ ready.Packet n → isGoing (nextExit rolls total now f c n .stop) ≡ false → R f c (serveForwardExit (leftByTake (nextTaken now f)) (nextExit rolls total now f c n .inbound) true (nextExit rolls total now f c n .stop)))
       → (f : Direction) (c : Inbound) → R f c (serveForward rolls total now f c)
   serve-turns R idle going stops f c = by-count (f .path .scheduler .count) f c refl
     where
-      by-stop : (f : Direction) (c : Inbound) (n : ℕ) → nextTaken rolls total now f c .result .answer ≡ ready.Packet n → R (leftByTake (nextTaken rolls total now f c)) (nextExit rolls total now f c n .inbound) (serveForward rolls total now (leftByTake (nextTaken rolls total now f c)) (nextExit rolls total now f c n .inbound))
+      by-stop : (f : Direction) (c : Inbound) (n : ℕ) → nextTaken now f .result .answer ≡ ready.Packet n → R (leftByTake (nextTaken now f)) (nextExit rolls total now f c n .inbound) (serveForward rolls total now (leftByTake (nextTaken now f)) (nextExit rolls total now f c n .inbound))
           → (t : Bool) → isGoing (nextExit rolls total now f c n .stop) ≡ t → R f c (serveForward rolls total now f c)
       by-stop f c n e rest true g = subst (R f c) (sym (serve-going rolls total now f c n e g)) (going f c n _ e g rest)
       by-stop f c n e rest false g = subst (R f c) (sym (serve-stops rolls total now f c n e g)) (stops f c n e g)
 
-      by-answer : (f : Direction) (c : Inbound) → ((n : ℕ) → nextTaken rolls total now f c .result .answer ≡ ready.Packet n → R (leftByTake (nextTaken rolls total now f c)) (nextExit rolls total now f c n .inbound) (serveForward rolls total now (leftByTake (nextTaken rolls total now f c)) (nextExit rolls total now f c n .inbound)))
-          → (a : ReadyAnswer) → nextTaken rolls total now f c .result .answer ≡ a → R f c (serveForward rolls total now f c)
+      by-answer : (f : Direction) (c : Inbound) → ((n : ℕ) → nextTaken now f .result .answer ≡ ready.Packet n → R (leftByTake (nextTaken now f)) (nextExit rolls total now f c n .inbound) (serveForward rolls total now (leftByTake (nextTaken now f)) (nextExit rolls total now f c n .inbound)))
+          → (a : ReadyAnswer) → nextTaken now f .result .answer ≡ a → R f c (serveForward rolls total now f c)
       by-answer f c rest ready.Nothing e = subst (R f c) (sym (serve-idle rolls total now f c e)) (idle f c e)
       by-answer f c rest (ready.Refused r) e = absurd (take-never-refused f now packetBuffer r e)
       by-answer f c rest (ready.Packet n) e = by-stop f c n e (rest n e) (isGoing (nextExit rolls total now f c n .stop)) refl
 
       by-count : (k : ℕ) (f : Direction) (c : Inbound) → f .path .scheduler .count ≡ k → R f c (serveForward rolls total now f c)
-      by-count zero f c h = by-answer f c (λ n e. absurd (omega (arith, h, take-count f now packetBuffer n e))) (nextTaken rolls total now f c .result .answer) refl
-      by-count (suc k) f c h = by-answer f c (λ n e. by-count k (leftByTake (nextTaken rolls total now f c)) (nextExit rolls total now f c n .inbound) (omega (arith, h, take-count f now packetBuffer n e))) (nextTaken rolls total now f c .result .answer) refl
+      by-count zero f c h = by-answer f c (λ n e. absurd (omega (arith, h, take-count f now packetBuffer n e))) (nextTaken now f .result .answer) refl
+      by-count (suc k) f c h = by-answer f c (λ n e. by-count k (leftByTake (nextTaken now f)) (nextExit rolls total now f c n .inbound) (omega (arith, h, take-count f now packetBuffer n e))) (nextTaken now f .result .answer) refl
 
   -- an invariant of the turns holds at the end
   pub serve-keeps : (Q : Direction → Inbound → Type 0)
-      → ((f : Direction) (c : Inbound) (n : ℕ) → nextTaken rolls total now f c .result .answer ≡ ready.Packet n → Q f c → Q (leftByTake (nextTaken rolls total now f c)) (nextExit rolls total now f c n .inbound))
+      → ((f : Direction) (c : Inbound) (n : ℕ) → nextTaken now f .result .answer ≡ ready.Packet n → Q f c → Q (leftByTake (nextTaken now f)) (nextExit rolls total now f c n .inbound))
       → (f : Direction) (c : Inbound) → Q f c → Q (serveForward rolls total now f c .forward) (serveForward rolls total now f c .inbound)
   serve-keeps Q turn f c =
       serve-turns (λ f c x. Q f c → Q (x .forward) (x .inbound)) (λ f c e q. q) (λ f c n x e g rest q. rest (turn f c n e q)) (λ f c n e g q. turn f c n e q) f c
@@ -141,7 +140,7 @@ module _ (rolls : List Float) (total now : ℕ) where
     serve-each-reverse {P} can each a =
         serve-keeps (λ g d. CanServeForward g d rolls now × (d .reverse .path .channel .config ≡ c .reverse .path .channel .config) × EachWaiting P (d .reverse))
         (λ g d n e q.
-        let raw = take n (nextTaken rolls total now g d .out) in
+        let raw = take n (nextTaken now g .out) in
         let on = can-hand-over rolls total now g d (q .0) n e in
         (turn-good rolls total now g d (q .0) n e, forward-keeps rolls total now raw d on .reverse .config ∙ q .1, forward-each rolls total now raw d on (λ m a. each (d .reverse) m (q .1)) (q .2)))
         f c (can, refl, a) .2
@@ -152,8 +151,8 @@ module _ (rolls : List Float) (total now : ℕ) where
         (λ f c n x e g rest can. keeps-then (one f c n e can) (rest (turn-good rolls total now f c can n e)))
         (λ f c n e g can. one f c n e can) f c
       where
-        one : (f : Direction) (c : Inbound) (n : ℕ) → nextTaken rolls total now f c .result .answer ≡ ready.Packet n → CanServeForward f c rolls now → InboundKeeps c (nextExit rolls total now f c n .inbound)
-        one f c n e can = forward-keeps rolls total now (take n (nextTaken rolls total now f c .out)) c (can-hand-over rolls total now f c can n e)
+        one : (f : Direction) (c : Inbound) (n : ℕ) → nextTaken now f .result .answer ≡ ready.Packet n → CanServeForward f c rolls now → InboundKeeps c (nextExit rolls total now f c n .inbound)
+        one f c n e can = forward-keeps rolls total now (take n (nextTaken now f .out)) c (can-hand-over rolls total now f c can n e)
 
     -- no counter falls, and none rises by more than the copies handed over
     pub serve-counts : CountsRiseBy (f .path .scheduler .count) (serveForward rolls total now f c .forward .path .scheduler .count) (c .side) (serveForward rolls total now f c .inbound .side)
@@ -161,7 +160,7 @@ module _ (rolls : List Float) (total now : ℕ) where
         serve-turns (λ f c x. CountsRiseBy (f .path .scheduler .count) (x .forward .path .scheduler .count) (c .side) (x .inbound .side))
         (λ f c e. record { datas = (omega arith, omega arith); acks = (omega arith, omega arith); duplicates = (omega arith, omega arith) })
         (λ f c n x e g rest.
-        let m = forward-counts rolls total now (take n (nextTaken rolls total now f c .out)) c in
+        let m = forward-counts rolls total now (take n (nextTaken now f .out)) c in
         let k = take-count f now packetBuffer n e in
         record {
           datas = (omega (arith, m .datas .0, rest .datas .0), omega (arith, m .datas .1, rest .datas .1, k));
@@ -169,7 +168,7 @@ module _ (rolls : List Float) (total now : ℕ) where
           duplicates = (omega (arith, m .duplicates .0, rest .duplicates .0), omega (arith, m .duplicates .1, rest .duplicates .1, k));
         })
         (λ f c n e g.
-        let m = forward-counts rolls total now (take n (nextTaken rolls total now f c .out)) c in
+        let m = forward-counts rolls total now (take n (nextTaken now f .out)) c in
         let k = take-count f now packetBuffer n e in
         record { datas = (m .datas .0, omega (arith, m .datas .1, k)); acks = (m .acks .0, omega (arith, m .acks .1, k)); duplicates = (m .duplicates .0, omega (arith, m .duplicates .1, k)) }) f c
 
@@ -177,15 +176,15 @@ module _ (rolls : List Float) (total now : ℕ) where
     pub serve-completes : Completes total now (c .side) (serveForward rolls total now f c .inbound .side)
     serve-completes =
         serve-turns (λ f c x. Completes total now (c .side) (x .inbound .side)) (λ f c e. completes-same total now (c .side))
-        (λ f c n x e g rest. completes-then (forward-completes rolls total now (take n (nextTaken rolls total now f c .out)) c) rest)
-        (λ f c n e g. forward-completes rolls total now (take n (nextTaken rolls total now f c .out)) c) f c
+        (λ f c n x e g rest. completes-then (forward-completes rolls total now (take n (nextTaken now f .out)) c) rest)
+        (λ f c n e g. forward-completes rolls total now (take n (nextTaken now f .out)) c) f c
 
     pub serve-completed-is : CompletedIs total (c .side) → CompletedIs total (serveForward rolls total now f c .inbound .side)
-    serve-completed-is h = serve-keeps (λ f c. CompletedIs total (c .side)) (λ f c n e q. forward-completed-is rolls total now (take n (nextTaken rolls total now f c .out)) c q) f c h
+    serve-completed-is h = serve-keeps (λ f c. CompletedIs total (c .side)) (λ f c n e q. forward-completed-is rolls total now (take n (nextTaken now f .out)) c q) f c h
 
     -- ---- progress, and the end of the loop
-    pub serve-progress : serveForward rolls total now f c .progress ≡ isTaken (nextTaken rolls total now f c .result .answer)
-    serve-progress = serve-turns (λ f c x. x .progress ≡ isTaken (nextTaken rolls total now f c .result .answer)) (λ f c e. ap isTaken (sym e)) (λ f c n x e g rest. ap isTaken (sym e)) (λ f c n e g. ap isTaken (sym e)) f c
+    pub serve-progress : serveForward rolls total now f c .progress ≡ isTaken (nextTaken now f .result .answer)
+    serve-progress = serve-turns (λ f c x. x .progress ≡ isTaken (nextTaken now f .result .answer)) (λ f c e. ap isTaken (sym e)) (λ f c n x e g rest. ap isTaken (sym e)) (λ f c n e g. ap isTaken (sym e)) f c
 
     -- a loop that the run outlives leaves nothing that is due
     pub serve-drained : isGoing (serveForward rolls total now f c .stop) ≡ true → takeReady (serveForward rolls total now f c .forward) now packetBuffer .result .answer ≡ ready.Nothing

@@ -1,5 +1,5 @@
--- app/transfer.rs, the receiving side of a run: `on_forward` with `deliver_data` and `absorb`, and `submit_ack`; the loop
--- over what is due on the forward line.
+-- app/transfer.rs, the receiving side of a run: `on_forward` with `deliver_data` and `absorb`, and `submit_ack`; the
+-- loop over what is due on the forward line.
 use Prim.Native.Nat.{ℕ, zero, suc, _+_, _-_}
 use mathlib.Core.Bool.{Bool, true, false, cond, _||_}
 use mathlib.Core.List.{List, []}
@@ -18,6 +18,7 @@ use Rattle.receiver.specs.declared.ReceiveAnswer.the-variants as receiveAnswer
 use Rattle.schedule.specs.State.{copies}
 use Rattle.schedule.specs.declared.ReadyAnswer.{ReadyAnswer}
 use Rattle.schedule.specs.declared.ReadyAnswer.the-variants as ready
+use Rattle.rows.specs.Rows.{asNumber}
 use Rattle.notes.specs.Notes.{SegMetas, markAckScheduled}
 use Rattle.path.specs.Direction.{Direction}
 use Rattle.path.specs.Path.{leftByCarry, carry, stopOf, isGoing, leftByTake, takeReady}
@@ -106,12 +107,8 @@ gbnDuplicate r (reading.Valid p) = gbnAlreadyDelivered r (p .«seq_num»)
 gbnDuplicate r (reading.Corrupted p) = false
 gbnDuplicate r (reading.Refused x) = false
 
-abbrev pub one : Bool → ℕ
-one true = 1
-one false = 0
-
 abbrev pub newDuplicates : Receiver → Bool → Receiver → ℕ
-newDuplicates before late after = (duplicateCount after - duplicateCount before) + one late
+newDuplicates before late after = (duplicateCount after - duplicateCount before) + asNumber late
 
 -- with the receiver after it
 abbrev pub delivered : ReceivingSide → Bool → Receiver → ReceivingSide

@@ -10,7 +10,7 @@ ghost use Rattle.notes.specs.Notes.{segMetas, markAckScheduled, ScheduledBelow}
 ghost use Rattle.path.specs.Direction.{direction};
 ghost use Rattle.path.specs.Path.{CanCarry};
 ghost use Rattle.session.specs.Receiving.{gbnAlreadyDelivered};
-ghost use Rattle.receiving.specs.Receiving.{inbound, forwardExit, one, newDuplicates, delivered, absorb};
+ghost use Rattle.receiving.specs.Receiving.{inbound, forwardExit, newDuplicates, delivered, absorb};
 ghost use Rattle.receiving.specs.Receiving.{newSide, anyCopies, submitAck, onForward};
 ghost use Rattle.receiving.specs.Receiving.{serveForwardExit, serveForward};
 ghost use Rattle.receiving.specs.Good.{CanOnForward, CanServeForward};
@@ -294,18 +294,12 @@ fn delivered(side: ReceivingSide, late: bool, receiver: Receiver) -> ReceivingSi
     ensures { λ r. ⌜ r ≡ delivered side late receiver ⌝ }
 {
     let before = side.receiver;
-    let more = less(receiver.duplicate_count(), before.duplicate_count()) + one(late);
+    let more = less(receiver.duplicate_count(), before.duplicate_count()) + rows::flag(late);
     let mut side = side;
     side.receiver = receiver;
     side.data_received = side.data_received + 1;
     side.duplicate_data = side.duplicate_data + more;
     side
-}
-
-fn one(late: bool) -> u64
-    ensures { λ r. ⌜ r ≡ one late ⌝ }
-{
-    if late { 1 } else { 0 }
 }
 
 // a - b, or 0.

@@ -3,3 +3,4 @@ pub mod Calls
 pub mod Pumps
 pub mod Retransmits
 pub mod Laws
+pub mod Fresh

@@ -24,7 +24,8 @@ use Rattle.session.specs.declared.Oldest.{Oldest}
 use Rattle.session.proofs.Laws.{unbroken-numbers}
 use Rattle.submission.specs.Submission.{Outgoing, SubmitExit, submit, GoodOutgoing, CanSubmit}
 use Rattle.submission.proofs.Laws.{SubmitKeeps, can-submit, submit-good, submit-keeps, submit-again-notes}
-use Rattle.sending.specs.Retransmit.{one, countedAgain, RetransmitExit, retransmitExit, retransmit, CanRetransmit}
+use Rattle.rows.specs.Rows.{asNumber}
+use Rattle.sending.specs.Retransmit.{countedAgain, RetransmitExit, retransmitExit, retransmit, CanRetransmit}
 use Rattle.sending.specs.declared.Resends.{Resends}
 
 up : {a b c : ℕ} → a < b → b < c → a + 1 < c
@@ -48,10 +49,10 @@ module _ {t : Timing} {rolls : List Float} {rto now : ℕ} {v : SenderEnd} {seq 
   pub resend-numbers : numbersBroken (windowOf (v .sender)) ≡ false
   resend-numbers = unbroken-numbers v (can .sender)
 
-  pub can-count : (b : Bool) → (r .«retx_submitted» + 1 < 2 ^ 64) × (r .premature + one b < 2 ^ 64)
+  pub can-count : (b : Bool) → (r .«retx_submitted» + 1 < 2 ^ 64) × (r .premature + asNumber b < 2 ^ 64)
   can-count b = (up (can .few) (lit< tt), below b (can .premature) (can .few) (lit< tt))
     where
-      below : {p n l m : ℕ} (b : Bool) → p ≤ n → n < l → l < m → p + one b < m
+      below : {p n l m : ℕ} (b : Bool) → p ≤ n → n < l → l < m → p + asNumber b < m
       below true h k j = omega arith
       below false h k j = omega arith
 

@@ -6,6 +6,7 @@ use mathlib.Core.List.{List}
 use lib.Ieee.{Float}
 use lib.ListN.{length}
 use Rattle.bounds.specs.Bounds.{countLimit, maxDuration}
+use Rattle.rows.specs.Rows.{asNumber}
 use Rattle.path.specs.declared.Stop.{Stop}
 use Rattle.notes.specs.Notes.{isPremature}
 use Rattle.clock.specs.Clock.{Submission}
@@ -18,14 +19,10 @@ use Rattle.submission.specs.Submission.{Outgoing, submit, GoodOutgoing}
 use Rattle.sending.specs.Good.{TimersWithin}
 use Rattle.sending.specs.declared.Resends.{Resends}
 
-abbrev pub one : Bool → ℕ
-one true = 1
-one false = 0
-
 abbrev pub countedAgain : Resends → Bool → Resends
 countedAgain r premature = record {
   «retx_submitted» = r .«retx_submitted» + 1;
-  premature = r .premature + one premature;
+  premature = r .premature + asNumber premature;
   exhausted = r .exhausted;
 }
 

@@ -6,13 +6,14 @@ ghost use Rattle.window.specs.State.{numbersBroken};
 ghost use Rattle.window.specs.Slots.{datagramFor};
 ghost use Rattle.chunks.specs.Chunks.{chunksOf};
 ghost use Rattle.path.specs.Direction.{direction};
+ghost use Rattle.rows.specs.Rows.{asNumber};
 ghost use Rattle.notes.specs.Notes.{segMetas};
 ghost use Rattle.multi_timer.specs.MultiTimer.{timersExit};
 ghost use Rattle.session.specs.Sending.{senderEnd, windowOf, windowEnd, oldestOutstanding};
 ghost use Rattle.submission.specs.Submission.{outgoing};
 ghost use Rattle.sending.specs.Sending.{pumpState, pumpExit, canPump, sendOne, pumpSends};
 ghost use Rattle.sending.specs.Good.{CanPump};
-ghost use Rattle.sending.specs.Retransmit.{one, countedAgain, retransmitExit, retransmit, CanRetransmit};
+ghost use Rattle.sending.specs.Retransmit.{countedAgain, retransmitExit, retransmit, CanRetransmit};
 use bounds::HEADER_SIZE;
 use bounds::MAX_DATAGRAM_SIZE;
 use clock::Timing;
@@ -259,18 +260,12 @@ pub fn retransmit_unchecked(
 }
 
 fn counted_again(resends: Resends, premature: bool) -> Resends
-    requires { ⌜ (resends .«retx_submitted» + 1 < 2 ^ 64) × (resends .premature + one premature < 2 ^ 64) ⌝ }
+    requires { ⌜ (resends .«retx_submitted» + 1 < 2 ^ 64) × (resends .premature + asNumber premature < 2 ^ 64) ⌝ }
     ensures { λ r. ⌜ r ≡ countedAgain resends premature ⌝ }
 {
-    let more = one(premature);
+    let more = rows::flag(premature);
     let mut resends = resends;
     resends.retx_submitted = resends.retx_submitted + 1;
     resends.premature = resends.premature + more;
     resends
-}
-
-fn one(premature: bool) -> u64
-    ensures { λ r. ⌜ r ≡ one premature ⌝ }
-{
-    if premature { 1 } else { 0 }
 }

@@ -1,5 +1,4 @@
 use mathlib.Core.Path.{sym, ap}
-use mathlib.Core.Bool.{Bool}
 use Rattle.packet.specs.declared.PacketType.{PacketType}
 use Rattle.receiving.specs.Internal.{dataArrival}
 use borrow.Author.Needs.{needs}

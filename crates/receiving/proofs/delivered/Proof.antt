@@ -11,8 +11,8 @@ duplicate-count-requires-2 c κs = search needs
 less-requires : tie.Need-less-requires
 less-requires c κs = search needs
 
-one-requires : tie.Need-one-requires
-one-requires c κs = search needs
+flag-requires : tie.Need-flag-requires
+flag-requires c κs = search needs
 
 add-more : tie.Need-add-more
 add-more c = search needs
@@ -24,7 +24,7 @@ add-side-2 : tie.Need-add-side-2
 add-side-2 c = search needs
 
 returns : tie.Need-returns
-returns c = rw (c .before .before .one .ensures, c .before .before .before .less .ensures, c .before .before .before .before .before .duplicate-count .ensures, c .before .before .before .before .duplicate-count2 .ensures)
+returns c = rw (c .before .before .flag .ensures, c .before .before .before .less .ensures, c .before .before .before .before .before .duplicate-count .ensures, c .before .before .before .before .duplicate-count2 .ensures)
 
 pub delivered-spec : {M : Type 1} → statement M
 delivered-spec =
@@ -33,7 +33,7 @@ delivered-spec =
     duplicate-count-requires
     duplicate-count-requires-2
     less-requires
-    one-requires
+    flag-requires
     add-more
     add-side
     add-side-2
