@@ -28,7 +28,7 @@ use Rattle.acks.specs.Good.{CanOnAck}
 use Rattle.acks.specs.Internal.{CanAccept}
 use Rattle.acks.specs.declared.AckNumber.{AckNumber}
 use Rattle.acks.specs.declared.AckNumber.the-variants as ack
-use Rattle.acks.proofs.Estimators.{can-sample, rto-within, sampled-timely}
+use Rattle.clock.proofs.Laws.{can-sample, rto-within, sampled-timely}
 
 -- ---- the number of a valid ACK
 typed : (t : PacketType) (m n : ℕ) → ofType t m ≡ ack.Number n → (t ≡ packetType.Ack) × (m ≡ n)

@@ -1,7 +1,8 @@
-pub mod Estimators
 pub mod Calls
 pub mod Answers
 pub mod Keeps
-pub mod Reverse
+pub mod Serving
+pub mod Turns
+pub mod Timers
 pub mod Fresh
 pub mod Laws

@@ -1,18 +1,15 @@
--- What is due on the reverse line is handed over (`app/transfer.rs`, `run_transfer`: `pop_ready_at`, then `on_ack`).
-use Prim.Native.Nat.{ℕ}
+-- What is due on the reverse line: `while let Some(bytes) = pop_ready_at(now)`, each to `on_ack` (`app/transfer.rs`,
+-- `run_transfer`).
+use Prim.Native.Nat.{ℕ, zero, suc, _+_, _≤_}
 use mathlib.Core.Path.{_≡_}
-use mathlib.Core.Bool.{Bool, true, false}
-use mathlib.Core.List.{List}
-use lib.ListN.{take, replicate}
-use Rattle.bounds.specs.Bounds.{maxDatagram}
-use Rattle.schedule.specs.State.{stateBroken}
-use Rattle.schedule.specs.declared.ReadyAnswer.{ReadyAnswer}
-use Rattle.schedule.specs.declared.ReadyAnswer.the-variants as ready
+use mathlib.Core.Bool.{Bool, true, false, cond}
+use Rattle.bounds.specs.Bounds.{countLimit}
+use Rattle.schedule.specs.State.{waitingRecords, stateBroken, heldLate}
 use Rattle.path.specs.Direction.{Direction, scheduleOf}
-use Rattle.path.specs.Path.{TakeExit, leftByTake, takeReady}
+use Rattle.path.specs.Path.{leftByTake, takeReady, packetBuffer, isTaken, takenBytes}
 use Rattle.clock.specs.declared.Timing.{Timing}
 use Rattle.acks.specs.Acks.{AckState, onAck}
-use Rattle.acks.specs.Good.{CanOnAck}
+use Rattle.acks.specs.Good.{GoodAcks}
 
 -- what is left, and whether a copy was handed over
 pub record ServeExit : Type 0 where
@@ -23,21 +20,26 @@ pub record ServeExit : Type 0 where
 abbrev pub serveExit : Direction → AckState → Bool → ServeExit
 serveExit d s progress = record { reverse = d; state = s; progress = progress }
 
-abbrev pub packetBuffer : List ℕ
-packetBuffer = replicate maxDatagram 0
+-- something was handed over
+abbrev pub progressed : ServeExit → ServeExit
+progressed x = serveExit (x .reverse) (x .state) true
 
-abbrev pub byReady : ReadyAnswer → Timing → ℕ → TakeExit → AckState → ServeExit
-byReady (ready.Packet len) timing now t s =
-    serveExit (leftByTake t) (onAck timing now (take len (t .out)) s) true
-byReady ready.Nothing timing now t s = serveExit (leftByTake t) s false
-byReady (ready.Refused r) timing now t s = serveExit (leftByTake t) s false
-
--- the earliest copy that is due
-unfoldable pub serveOne : Timing → ℕ → Direction → AckState → ServeExit
-serveOne timing now d s =
+-- at most n copies
+unfoldable pub serveAtMost : ℕ → Timing → ℕ → Direction → AckState → ServeExit
+serveAtMost zero timing now d s = serveExit d s false
+serveAtMost (suc n) timing now d s =
     let t = takeReady d now packetBuffer in
-    byReady (t .result .answer) timing now t s
+    let after = onAck timing now (takenBytes (t .result .answer) (t .out)) s in
+    cond (isTaken (t .result .answer)) (progressed (serveAtMost n timing now (leftByTake t) after))
+    (serveExit d s false)
 
-pub record CanServeOne (d : Direction) (s : AckState) (now : ℕ) : Type 0 where
+-- no more than wait
+abbrev pub serveReverse : Timing → ℕ → Direction → AckState → ServeExit
+serveReverse timing now d s = serveAtMost (d .path .scheduler .count) timing now d s
+
+-- the schedule and its times are within bounds, and its copies are too few for a count
+pub record CanServeReverse (d : Direction) (s : AckState) (now : ℕ) : Type 0 where
   pub sound : stateBroken (scheduleOf d) ≡ false
-  pub ack : CanOnAck s now
+  pub times : heldLate (waitingRecords (scheduleOf d)) ≡ false
+  pub good : GoodAcks s now
+  pub few : s .received + d .path .scheduler .count ≤ countLimit

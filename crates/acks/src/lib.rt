@@ -10,7 +10,7 @@ ghost use Rattle.session.specs.Sending.{senderEnd};
 ghost use Rattle.acks.specs.Acks.{ackState, ofType, ackNumber, sampleSeq, onAccepted, onAck};
 ghost use Rattle.acks.specs.Good.{CanOnAck};
 ghost use Rattle.acks.specs.Internal.{CanAccept};
-ghost use Rattle.acks.specs.Reverse.{serveExit, serveOne, CanServeOne};
+ghost use Rattle.acks.specs.Reverse.{serveExit, serveReverse, CanServeReverse};
 use bounds::MAX_DATAGRAM_SIZE;
 use clock::Clock;
 use clock::Timing;
@@ -35,10 +35,86 @@ pub struct AckSide {
     pub duplicate_acks: u64,
 }
 
+// progress: whether a datagram was handed over.
+pub struct ServeResult {
+    pub reverse: Path,
+    pub side: AckSide,
+    pub progress: bool,
+}
+
 // The number of a valid ACK.
 pub enum AckNumber {
     Number(u32),
     Nothing,
+}
+
+// Hands over what is due on the reverse line.
+pub fn serve_reverse_unchecked(
+    reverse: Path,
+    side: AckSide,
+    timing: Timing,
+    notes: Notes,
+    now: u64,
+    store: &mut [u8],
+    rows: &mut [Note],
+    records: &mut [Scheduled],
+    places: &mut [u8],
+    keys: &mut [u32],
+    deadlines: &mut [u64],
+) -> ServeResult
+    requires { ⌜ CanServeReverse (direction (records .now) (places .now) reverse)
+        (ackState (senderEnd (side .sender) (store .now)) (side .estimator)
+        (timersExit (side .clock) (keys .now) (deadlines .now)) (segMetas notes (rows .now)) (side .«ack_received»)
+        (side .«duplicate_acks»)) now ⌝ }
+    ensures { λ r. ⌜ serveExit (direction (records .exit .now) (places .exit .now) (r .reverse))
+        (ackState (senderEnd (r .side .sender) (store .exit .now)) (r .side .estimator)
+        (timersExit (r .side .clock) (keys .exit .now) (deadlines .exit .now)) (segMetas notes (rows .exit .now))
+        (r .side .«ack_received») (r .side .«duplicate_acks»)) (r .progress)
+        ≡ serveReverse timing now (direction (records .entry .now) (places .entry .now) reverse)
+        (ackState (senderEnd (side .sender) (store .entry .now)) (side .estimator)
+        (timersExit (side .clock) (keys .entry .now) (deadlines .entry .now)) (segMetas notes (rows .entry .now))
+        (side .«ack_received») (side .«duplicate_acks»)) ⌝ }
+{
+    let mut reverse = reverse;
+    let mut side = side;
+    let mut progress = false;
+    loop {
+        let mut raw = [0u8; MAX_DATAGRAM_SIZE];
+        let taken = reverse.take_unchecked(records, places, now, &mut raw);
+        let answer = taken.answer;
+        match answer {
+            ReadyAnswer::Nothing => {
+                return ServeResult {
+                    reverse,
+                    side,
+                    progress,
+                };
+            }
+            ReadyAnswer::Refused(_) => {
+                return ServeResult {
+                    reverse,
+                    side,
+                    progress,
+                };
+            }
+            ReadyAnswer::Packet(len) => {
+                let after = on_ack_unchecked(
+                    side,
+                    timing,
+                    notes,
+                    now,
+                    &raw[..len],
+                    store,
+                    rows,
+                    keys,
+                    deadlines,
+                );
+                reverse = taken.path;
+                side = after;
+                progress = true;
+            }
+        }
+    }
 }
 
 // A datagram that the reverse line hands over.
@@ -161,73 +237,4 @@ fn on_accepted(
     side.estimator = estimator;
     side.clock = clock;
     side
-}
-
-pub struct ServeResult {
-    pub reverse: Path,
-    pub side: AckSide,
-    pub progress: bool,
-}
-
-// Hands over the earliest copy that is due on the reverse line.
-pub fn serve_one_unchecked(
-    reverse: Path,
-    side: AckSide,
-    timing: Timing,
-    notes: Notes,
-    now: u64,
-    store: &mut [u8],
-    rows: &mut [Note],
-    records: &mut [Scheduled],
-    places: &mut [u8],
-    keys: &mut [u32],
-    deadlines: &mut [u64],
-) -> ServeResult
-    requires { ⌜ CanServeOne (direction (records .now) (places .now) reverse)
-        (ackState (senderEnd (side .sender) (store .now)) (side .estimator)
-        (timersExit (side .clock) (keys .now) (deadlines .now)) (segMetas notes (rows .now)) (side .«ack_received»)
-        (side .«duplicate_acks»)) now ⌝ }
-    ensures { λ r. ⌜ serveExit (direction (records .exit .now) (places .exit .now) (r .reverse))
-        (ackState (senderEnd (r .side .sender) (store .exit .now)) (r .side .estimator)
-        (timersExit (r .side .clock) (keys .exit .now) (deadlines .exit .now)) (segMetas notes (rows .exit .now))
-        (r .side .«ack_received») (r .side .«duplicate_acks»)) (r .progress)
-        ≡ serveOne timing now (direction (records .entry .now) (places .entry .now) reverse)
-        (ackState (senderEnd (side .sender) (store .entry .now)) (side .estimator)
-        (timersExit (side .clock) (keys .entry .now) (deadlines .entry .now)) (segMetas notes (rows .entry .now))
-        (side .«ack_received») (side .«duplicate_acks»)) ⌝ }
-{
-    let mut raw = [0u8; MAX_DATAGRAM_SIZE];
-    let taken = reverse.take_unchecked(records, places, now, &mut raw);
-    let reverse = taken.path;
-    let answer = taken.answer;
-    match answer {
-        ReadyAnswer::Nothing => ServeResult {
-            reverse,
-            side,
-            progress: false,
-        },
-        ReadyAnswer::Refused(_) => ServeResult {
-            reverse,
-            side,
-            progress: false,
-        },
-        ReadyAnswer::Packet(len) => {
-            let side = on_ack_unchecked(
-                side,
-                timing,
-                notes,
-                now,
-                &raw[..len],
-                store,
-                rows,
-                keys,
-                deadlines,
-            );
-            ServeResult {
-                reverse,
-                side,
-                progress: true,
-            }
-        }
-    }
 }

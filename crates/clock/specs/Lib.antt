@@ -1,2 +1,4 @@
 pub mod EditionClock
 pub mod Clock
+pub mod Timers
+pub mod Estimator

@@ -104,7 +104,7 @@ acks-framed (raw ∷ raws) [] h = absurd h
 acks-framed (raw ∷ raws) (n ∷ ns) h = (rw (h .0 .is) (made-framed (newPacket n Ack) []), acks-framed raws ns (h .1))
 
 -- the number is read back
-made-number : (p : Packet) (payload : List ℕ) → numberOf (made p payload) ≡ p .«seq_num»
+pub made-number : (p : Packet) (payload : List ℕ) → numberOf (made p payload) ≡ p .«seq_num»
 made-number p payload =
     let e = read-header (made p payload ++ []) (withChecksum p payload) (read-back (withChecksum p payload) payload []) in
     ap (λ (raw : List ℕ). numberOf raw) (sym (append-nil (made p payload))) ∙ ap (λ (q : Packet). q .«seq_num») e

@@ -8,6 +8,7 @@ pub mod SenderFollows
 pub mod ReceiverFollows
 pub mod Instances
 pub mod Demand3
+pub mod ReachedSender
 pub mod Making
 pub mod Progress
 pub mod AnyBytes

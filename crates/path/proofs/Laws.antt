@@ -1,6 +1,6 @@
 -- What crates above may cite: a direction is good from its making on, what its calls answer, and what they mean for the list of copies that wait.
 use mathlib.Core.Path.{_≡_, refl, sym, _∙_, ap, subst}
-use Prim.Native.Nat.{ℕ, _+_, _*_, _≤_, _<_}
+use Prim.Native.Nat.{ℕ, zero, suc, _+_, _*_, _≤_, _<_}
 use native.Mathlib.Omega.{arith}
 use native.Mathlib.Nat.{add-zero}
 use mathlib.Core.Bool.{Bool, true, false, cond, _&&_}
@@ -15,6 +15,7 @@ use Rattle.schedule.specs.State.{waitingRecords, stateBroken, heldLate, copies}
 use Rattle.schedule.specs.Record.{timeOf, recordLength}
 use Rattle.schedule.specs.Schedule.{firstRecord, due, popFirst, popUnchecked, popReadyAt, onPop, withoutFirst}
 use Rattle.schedule.specs.Waiting.{WaitingCopy, waiting, putCopies, popCopies, nothing, leaves, firstDeadline}
+use Rattle.schedule.specs.declared.ReadyAnswer.{ReadyAnswer}
 use Rattle.schedule.specs.declared.ReadyAnswer.the-variants as ready
 use Rattle.schedule.proofs.Laws.{new-sound, new-times, schedule-waits, schedule-leaves, Leaves, pop-leaves, waits-count, first-time-is, count-within, pop-packet, pop-nothing, pop-idle, pop-never-refused, can-pop, pop-accepts, pop-accepted}
 use Rattle.channel.specs.Bounds.{configBroken}
@@ -26,12 +27,13 @@ use Rattle.channel.specs.declared.Rolls.{Rolls}
 use Rattle.channel.proofs.Laws.{granted-le, carried-length, counted-rises}
 use Rattle.path.specs.Rolls.{packetRolls, rollsBroken, Doubles}
 use Rattle.path.specs.Direction.{Direction, scheduleOf, Counted, Good}
-use Rattle.path.specs.Path.{newPath, leftByCarry, carry, onTake, leftByTake, takeReady, nextDeadline, deadlineOf, isEmpty, CanCarry}
+use Rattle.path.specs.Path.{newPath, leftByCarry, carry, onTake, leftByTake, takeReady, nextDeadline, deadlineOf, isEmpty, CanCarry, CanTake}
 use Rattle.path.specs.declared.NextDeadline.the-variants as deadline
 use Rattle.path.proofs.Packets.{orders-below, can-put}
 pub use Rattle.path.proofs.Packets.{rolls-left, rolls-fine, rolls-doubles}
 use Rattle.path.proofs.Answers.{nextRolls, granted, copyBytes, carriedOn, Fits, carries, by-left}
 pub use Rattle.path.proofs.Answers.{nextRolls, granted, copyBytes, countedChannel, carriedOn, Fits, spends, no-entry, fills, carries, by-answer, by-left, Why, answer-why, IsCarried, going-is, stop-going, carried-going, going-fits, fits-going, stops, stop-same, process-is, schedule-is, schedule-refuses}
+pub use Rattle.path.proofs.Orders.{RiseAlike, rise-same, rise-then, carry-orders, orders-low}
 pub use Rattle.path.proofs.Copies.{EachWaiting, TakesCopy, new-each, carry-each, take-each, take-copy, take-front, each-weaker, whole-bytes, wholeDelay, whole-granted, carries-whole}
 
 -- ---- making
@@ -70,6 +72,20 @@ pub record Keeps (d d′ : Direction) : Type 0 where
   pub config : d′ .path .channel .config ≡ d .path .channel .config
   pub records : length (d′ .records) ≡ length (d .records)
   pub places : length (d′ .places) ≡ length (d .places)
+
+-- what taking keeps: all but the copies that wait
+pub record TakeKeeps (d d′ : Direction) : Type 0 where
+  pub channel : d′ .path .channel ≡ d .path .channel
+  pub used : d′ .path .used ≡ d .path .used
+  pub orders : d′ .path .scheduler .«next_order» ≡ d .path .scheduler .«next_order»
+  pub records : length (d′ .records) ≡ length (d .records)
+  pub places : length (d′ .places) ≡ length (d .places)
+
+pub take-keeps-same : (d : Direction) → TakeKeeps d d
+take-keeps-same d = record { channel = refl; used = refl; orders = refl; records = refl; places = refl }
+
+pub take-keeps-then : {a b c : Direction} → TakeKeeps a b → TakeKeeps b c → TakeKeeps a c
+take-keeps-then p q = record { channel = q .channel ∙ p .channel; used = q .used ∙ p .used; orders = q .orders ∙ p .orders; records = q .records ∙ p .records; places = q .places ∙ p .places }
 
 -- ---- a packet that is due
 module _ (d : Direction) (rolls : List Float) (entryFree : Bool) (now : ℕ) (wire : List ℕ) where
@@ -160,6 +176,10 @@ module _ (d : Direction) (now : ℕ) (out : List ℕ) where
     unfolding takeReady
     take-leaves times = pop-leaves (scheduleOf d) now out sound times
 
+    pub taken-keeps : heldLate (waitingRecords (scheduleOf d)) ≡ false → TakeKeeps d (leftByTake (takeReady d now out))
+    unfolding takeReady
+    taken-keeps times = let s = take-leaves times in record { channel = refl; used = refl; orders = s .next ∙ add-zero (d .path .scheduler .«next_order»); records = s .records; places = s .places }
+
   module _ (rolls : List Float) (good : Good d rolls) where
     leaves-pop : Leaves (scheduleOf d) (scheduleOf (leftByTake (takeReady d now out))) 0
     leaves-pop = take-leaves (good .sound) (good .times)
@@ -185,6 +205,27 @@ module _ (d : Direction) (now : ℕ) (out : List ℕ) where
     pub pop-is : now ≤ maxTime → maxDatagram ≤ length out → takeReady d now out ≡ onTake (d .path) (popReadyAt (scheduleOf d) now out)
     unfolding takeReady
     pop-is t h = ap (onTake (d .path)) (sym (pop-accepted (scheduleOf d) now out (pop-accepts (scheduleOf d) now out (can-pop (scheduleOf d) now out (good .sound) h) (orders-below d rolls good) (le-ltb maxTime now t) (good .times))))
+
+-- a buffer for a datagram has room
+pub can-take : {d : Direction} (out : List ℕ) → stateBroken (scheduleOf d) ≡ false → length out ≡ maxDatagram → CanTake d out
+can-take out sound size = record { sound = sound; room = omega (arith, size) }
+
+-- whatever holds where nothing is due, and before a copy is taken if it holds after it, holds; `next` is what the copy of n bytes makes of s
+pub by-takes : {S : Type 0} (now : ℕ) (out : List ℕ) (next : Direction → S → ℕ → S) (R : Direction → S → Type 0)
+    → ((d : Direction) (s : S) → takeReady d now out .result .answer ≡ ready.Nothing → R d s)
+    → ((d : Direction) (s : S) (n : ℕ) → takeReady d now out .result .answer ≡ ready.Packet n → R (leftByTake (takeReady d now out)) (next d s n) → R d s)
+    → (d : Direction) (s : S) → R d s
+by-takes {S} now out next R idle taken d s = by-count (d .path .scheduler .count) d s refl
+  where
+    by-answer : (d : Direction) (s : S) → ((n : ℕ) → takeReady d now out .result .answer ≡ ready.Packet n → R (leftByTake (takeReady d now out)) (next d s n))
+        → (a : ReadyAnswer) → takeReady d now out .result .answer ≡ a → R d s
+    by-answer d s rest ready.Nothing e = idle d s e
+    by-answer d s rest (ready.Refused r) e = absurd (take-never-refused d now out r e)
+    by-answer d s rest (ready.Packet n) e = taken d s n e (rest n e)
+
+    by-count : (k : ℕ) (d : Direction) (s : S) → d .path .scheduler .count ≡ k → R d s
+    by-count zero d s h = by-answer d s (λ n e. absurd (omega (arith, h, take-count d now out n e))) (takeReady d now out .result .answer) refl
+    by-count (suc k) d s h = by-answer d s (λ n e. by-count k (leftByTake (takeReady d now out)) (next d s n) (omega (arith, h, take-count d now out n e))) (takeReady d now out .result .answer) refl
 
 -- ---- reading
 module _ (d : Direction) (sound : stateBroken (scheduleOf d) ≡ false) where

@@ -2,5 +2,6 @@ pub mod Calls
 pub mod Packets
 pub mod Answers
 pub mod Copies
+pub mod Orders
 pub mod Laws
 pub mod Examples

@@ -3,7 +3,7 @@
 use Prim.Native.Nat.{ℕ, _+_, _≤_}
 use mathlib.Core.Path.{_≡_}
 use mathlib.Core.Bool.{Bool, true, false, cond, not}
-use mathlib.Core.List.{List}
+use mathlib.Core.List.{List, []}
 use lib.ListN.{length, take, replicate}
 use lib.Dec.{ltb, eqb}
 use lib.Ieee.{Float}
@@ -14,6 +14,8 @@ use Rattle.schedule.specs.Schedule.{newSchedule, scheduleAtUnchecked, PopExit, 
 use Rattle.schedule.specs.declared.ChannelScheduler.{ChannelScheduler}
 use Rattle.schedule.specs.declared.Deliveries.{Deliveries}
 use Rattle.schedule.specs.declared.Deliveries.the-variants.{Lost, One, Two}
+use Rattle.schedule.specs.declared.ReadyAnswer.{ReadyAnswer}
+use Rattle.schedule.specs.declared.ReadyAnswer.the-variants as ready
 use Rattle.schedule.specs.declared.DeadlineAnswer.{DeadlineAnswer}
 use Rattle.schedule.specs.declared.DeadlineAnswer.the-variants as answered
 use Rattle.channel.specs.Process.{newChannelUnchecked, TransitExit, processUnchecked}
@@ -119,6 +121,20 @@ leftByTake x = direction (x .records) (x .places) (x .result .path)
 
 unfoldable pub takeReady : Direction → ℕ → List ℕ → TakeExit
 takeReady d now out = onTake (d .path) (popUnchecked (scheduleOf d) now out)
+
+-- a buffer for a datagram; whether a copy was taken, and its bytes
+abbrev pub packetBuffer : List ℕ
+packetBuffer = replicate maxDatagram 0
+
+abbrev pub isTaken : ReadyAnswer → Bool
+isTaken (ready.Packet len) = true
+isTaken ready.Nothing = false
+isTaken (ready.Refused r) = false
+
+abbrev pub takenBytes : ReadyAnswer → List ℕ → List ℕ
+takenBytes (ready.Packet len) out = take len out
+takenBytes ready.Nothing out = []
+takenBytes (ready.Refused r) out = []
 
 -- when the next copy leaves; `firstTime` refuses nothing
 unfoldable pub deadlineOf : DeadlineAnswer → NextDeadline

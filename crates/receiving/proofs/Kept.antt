@@ -124,7 +124,7 @@ module _ (rolls : List Float) (now seq : ℕ) (wire : List ℕ) (b : Inbound) wh
     pub count : submitAck rolls now seq wire b .inbound .metas .notes .count ≡ b .metas .notes .count
     pub rows : length (submitAck rolls now seq wire b .inbound .metas .rows) ≡ length (b .metas .rows)
 
-  metas-either : (P : SegMetas → Type 0) → P markedMetas → P (b .metas) → P (submitAck rolls now seq wire b .inbound .metas)
+  pub metas-either : (P : SegMetas → Type 0) → P markedMetas → P (b .metas) → P (submitAck rolls now seq wire b .inbound .metas)
   unfolding submitAck
   metas-either P h k = either (anyCopies (carry (b .reverse) rolls true now wire .result .answer))
     where

@@ -7,4 +7,6 @@ pub use Rattle.receiving.proofs.Kept.{forward-dropped, forward-silent, 
 pub use Rattle.receiving.proofs.Completion.{Completes, completes-same, completes-then, CompletedIs, received-completed, forward-completes, forward-completed-is, new-completed-is}
 -- the loop: its turns, what it keeps
 pub use Rattle.receiving.proofs.Serving.{nextTaken, nextExit, serve-idle, serve-going, serve-stops, can-hand-over, turn-good}
-pub use Rattle.receiving.proofs.Turns.{serve-turns, serve-keeps, good-can-serve, serve-good, serve-forward-good, ForwardKeeps, serve-keeps-forward, serve-each, Handed, serve-front, serve-each-reverse, serve-keeps-sizes, CountsRiseBy, serve-counts, serve-completes, serve-completed-is, serve-progress, serve-drained}
+pub use Rattle.receiving.proofs.Turns.{serve-turns, serve-keeps, good-can-serve, serve-good, serve-forward-good, serve-keeps-forward, serve-each, Handed, serve-front, serve-each-reverse, serve-keeps-sizes, CountsRiseBy, serve-counts, serve-completes, serve-completed-is, serve-progress, serve-drained}
+-- the copies and orders of the reverse line, the times of the notes
+pub use Rattle.receiving.proofs.Orders.{forward-orders, serve-orders, forward-timely, serve-timely}

@@ -12,17 +12,14 @@ use Rattle.refusal.specs.declared.Refusal.{Refusal}
 use Rattle.schedule.specs.declared.ReadyAnswer.{ReadyAnswer}
 use Rattle.schedule.specs.declared.ReadyAnswer.the-variants as ready
 use Rattle.path.specs.Direction.{Direction, direction}
-use Rattle.path.specs.Path.{isGoing, TakeExit, takeExit, leftByTake, takeReady, CanTake}
+use Rattle.path.specs.Path.{isGoing, TakeExit, takeExit, leftByTake, takeReady, packetBuffer}
 use Rattle.path.specs.declared.Stop.{Stop}
 use Rattle.path.specs.declared.Stop.the-variants as stop
 use Rattle.path.specs.declared.TakeResult.{TakeResult}
 use Rattle.path.proofs.Laws.{take-count, take-leaves, take-idle, take-never-refused, take-short}
-use Rattle.receiving.specs.Receiving.{Inbound, ForwardExit, forwardExit, onForward, ServeForwardExit, serveForwardExit, progressed, packetBuffer, serveAtMost, serveForward}
+use Rattle.receiving.specs.Receiving.{Inbound, ForwardExit, forwardExit, onForward, ServeForwardExit, serveForwardExit, progressed, serveAtMost, serveForward}
 use Rattle.receiving.specs.Good.{CanOnForward, CanServeForward}
 use Rattle.receiving.proofs.Kept.{forward-good, forward-counts}
-
-pub can-take : {forward : Direction} {b : Inbound} {rolls : List Float} {now : ℕ} (out : List ℕ) → CanServeForward forward b rolls now → length out ≡ maxDatagram → CanTake forward out
-can-take out can size = record { sound = can .sound; room = omega (arith, size) }
 
 -- ---- a turn
 -- the next copy

@@ -1,24 +1,22 @@
 -- What the loop over the forward line leaves, turn by turn.
-use Prim.Native.Nat.{ℕ, zero, suc, _+_, _≤_}
+use Prim.Native.Nat.{ℕ, _+_, _≤_}
 use mathlib.Core.Path.{_≡_, refl, sym, ap, _∙_, subst}
 use mathlib.Core.Bool.{Bool, true, false, false≢true}
 use mathlib.Core.List.{List, [], _∷_, _++_}
 use native.Mathlib.Omega.{arith}
-use native.Mathlib.Nat.{add-zero}
-use lib.ListN.{length, take}
+use lib.ListN.{take}
 use lib.Ieee.{Float}
 use Rattle.bounds.specs.Bounds.{countLimit, maxDuration}
 use Rattle.packet.specs.Format.{newPacket, made}
 use Rattle.packet.specs.declared.PacketType.the-variants as packetType
-use Rattle.schedule.specs.State.{waitingRecords, stateBroken, heldLate}
+use Rattle.schedule.specs.State.{stateBroken}
 use Rattle.schedule.specs.Waiting.{WaitingCopy, waiting, All, of-none, of-more}
-use Rattle.schedule.specs.declared.ReadyAnswer.{ReadyAnswer}
 use Rattle.schedule.specs.declared.ReadyAnswer.the-variants as ready
 use Rattle.path.specs.Direction.{Direction, scheduleOf, Good}
-use Rattle.path.specs.Path.{isGoing, leftByTake, takeReady}
+use Rattle.path.specs.Path.{isGoing, leftByTake, takeReady, packetBuffer, isTaken}
 use Rattle.path.specs.declared.Stop.the-variants as stop
-use Rattle.path.proofs.Laws.{copyBytes, EachWaiting, TakesCopy, take-count, take-never-refused, take-leaves, take-used, take-good, take-each, take-copy}
-use Rattle.receiving.specs.Receiving.{Inbound, ServeForwardExit, serveForwardExit, progressed, packetBuffer, isTaken, serveForward}
+use Rattle.path.proofs.Laws.{copyBytes, EachWaiting, TakesCopy, TakeKeeps, take-keeps-same, take-keeps-then, take-count, by-takes, taken-keeps, take-good, take-each, take-copy}
+use Rattle.receiving.specs.Receiving.{Inbound, ServeForwardExit, serveForwardExit, progressed, serveForward}
 use Rattle.receiving.specs.Good.{GoodInbound, CanServeForward}
 use Rattle.receiving.specs.declared.ReceivingSide.{ReceivingSide}
 use Rattle.receiving.proofs.Kept.{InboundKeeps, forward-counts, forward-each, forward-keeps}
@@ -29,14 +27,6 @@ use Rattle.receiving.proofs.Completion.{Completes, CompletedIs, complet
 pub record Handed (f after : Direction) : Type 0 where
   pub copies : List WaitingCopy
   pub waited : waiting (scheduleOf f) ≡ copies ++ waiting (scheduleOf after)
-
--- channel, used rolls, orders given out and lengths
-pub record ForwardKeeps (f after : Direction) : Type 0 where
-  pub channel : after .path .channel ≡ f .path .channel
-  pub used : after .path .used ≡ f .path .used
-  pub orders : after .path .scheduler .«next_order» ≡ f .path .scheduler .«next_order»
-  pub records : length (after .records) ≡ length (f .records)
-  pub places : length (after .places) ≡ length (f .places)
 
 -- a side and the side after it, where k copies waited before and j wait now
 pub record CountsRiseBy (k j : ℕ) (x after : ReceivingSide) : Type 0 where
@@ -57,10 +47,6 @@ keeps-then p q =
       reverse = record { config = q .reverse .config ∙ p .reverse .config; records = q .reverse .records ∙ p .reverse .records; places = q .reverse .places ∙ p .reverse .places };
     }
 
-take-channel : (d : Direction) (now : ℕ) (out : List ℕ) → leftByTake (takeReady d now out) .path .channel ≡ d .path .channel
-unfolding takeReady
-take-channel d now out = refl
-
 every : (cs : List WaitingCopy) → All (λ (c : WaitingCopy). Unit {0}) cs
 every [] = of-none
 every (c ∷ cs) = of-more tt (every cs)
@@ -69,33 +55,20 @@ module _ (rolls : List Float) (total now : ℕ) where
   first-taken : (f : Direction) (n : ℕ) → stateBroken (scheduleOf f) ≡ false → takeReady f now packetBuffer .result .answer ≡ ready.Packet n → TakesCopy (λ (x : List ℕ). Unit {0}) f now packetBuffer n
   first-taken f n sound e = take-copy f now packetBuffer sound (record { each = every (waiting (scheduleOf f)) }) n e
 
-  taken-keeps : (f : Direction) → stateBroken (scheduleOf f) ≡ false → heldLate (waitingRecords (scheduleOf f)) ≡ false → ForwardKeeps f (leftByTake (takeReady f now packetBuffer))
-  taken-keeps f sound times =
-      let s = take-leaves f now packetBuffer sound times in
-      record { channel = take-channel f now packetBuffer; used = take-used f now packetBuffer; orders = s .next ∙ add-zero (f .path .scheduler .«next_order»); records = s .records; places = s .places }
-
   -- whatever holds where nothing is due and where the ACK of the next copy ends the run, and before a turn if it holds after it, holds of the loop
   pub serve-turns : (R : Direction → Inbound → ServeForwardExit → Type 0)
       → ((f : Direction) (c : Inbound) → nextTaken now f .result .answer ≡ ready.Nothing → R f c (serveForwardExit f c false stop.Going))
       → ((f : Direction) (c : Inbound) (n : ℕ) (x : ServeForwardExit) → nextTaken now f .result .answer ≡ ready.Packet n → isGoing (nextExit rolls total now f c n .stop) ≡ true → R (leftByTake (nextTaken now f)) (nextExit rolls total now f c n .inbound) x → R f c (progressed x))
       → ((f : Direction) (c : Inbound) (n : ℕ) → nextTaken now f .result .answer ≡ ready.Packet n → isGoing (nextExit rolls total now f c n .stop) ≡ false → R f c (serveForwardExit (leftByTake (nextTaken now f)) (nextExit rolls total now f c n .inbound) true (nextExit rolls total now f c n .stop)))
       → (f : Direction) (c : Inbound) → R f c (serveForward rolls total now f c)
-  serve-turns R idle going stops f c = by-count (f .path .scheduler .count) f c refl
+  serve-turns R idle going stops =
+      by-takes now packetBuffer (λ f c n. nextExit rolls total now f c n .inbound) (λ f c. R f c (serveForward rolls total now f c)) (λ f c e. subst (R f c) (sym (serve-idle rolls total now f c e)) (idle f c e))
+      (λ f c n e rest. by-stop f c n e rest (isGoing (nextExit rolls total now f c n .stop)) refl)
     where
       by-stop : (f : Direction) (c : Inbound) (n : ℕ) → nextTaken now f .result .answer ≡ ready.Packet n → R (leftByTake (nextTaken now f)) (nextExit rolls total now f c n .inbound) (serveForward rolls total now (leftByTake (nextTaken now f)) (nextExit rolls total now f c n .inbound))
           → (t : Bool) → isGoing (nextExit rolls total now f c n .stop) ≡ t → R f c (serveForward rolls total now f c)
       by-stop f c n e rest true g = subst (R f c) (sym (serve-going rolls total now f c n e g)) (going f c n _ e g rest)
       by-stop f c n e rest false g = subst (R f c) (sym (serve-stops rolls total now f c n e g)) (stops f c n e g)
-
-      by-answer : (f : Direction) (c : Inbound) → ((n : ℕ) → nextTaken now f .result .answer ≡ ready.Packet n → R (leftByTake (nextTaken now f)) (nextExit rolls total now f c n .inbound) (serveForward rolls total now (leftByTake (nextTaken now f)) (nextExit rolls total now f c n .inbound)))
-          → (a : ReadyAnswer) → nextTaken now f .result .answer ≡ a → R f c (serveForward rolls total now f c)
-      by-answer f c rest ready.Nothing e = subst (R f c) (sym (serve-idle rolls total now f c e)) (idle f c e)
-      by-answer f c rest (ready.Refused r) e = absurd (take-never-refused f now packetBuffer r e)
-      by-answer f c rest (ready.Packet n) e = by-stop f c n e (rest n e) (isGoing (nextExit rolls total now f c n .stop)) refl
-
-      by-count : (k : ℕ) (f : Direction) (c : Inbound) → f .path .scheduler .count ≡ k → R f c (serveForward rolls total now f c)
-      by-count zero f c h = by-answer f c (λ n e. absurd (omega (arith, h, take-count f now packetBuffer n e))) (nextTaken now f .result .answer) refl
-      by-count (suc k) f c h = by-answer f c (λ n e. by-count k (leftByTake (nextTaken now f)) (nextExit rolls total now f c n .inbound) (omega (arith, h, take-count f now packetBuffer n e))) (nextTaken now f .result .answer) refl
 
   -- an invariant of the turns holds at the end
   pub serve-keeps : (Q : Direction → Inbound → Type 0)
@@ -113,11 +86,11 @@ module _ (rolls : List Float) (total now : ℕ) where
     serve-forward-good frolls good = serve-keeps (λ f c. Good f frolls) (λ f c n e q. take-good f now packetBuffer frolls q) f c good
 
     -- of the forward line only the waiting copies have changed
-    pub serve-keeps-forward : CanServeForward f c rolls now → ForwardKeeps f (serveForward rolls total now f c .forward)
+    pub serve-keeps-forward : CanServeForward f c rolls now → TakeKeeps f (serveForward rolls total now f c .forward)
     serve-keeps-forward =
-        serve-turns (λ f c x. CanServeForward f c rolls now → ForwardKeeps f (x .forward)) (λ f c e can. record { channel = refl; used = refl; orders = refl; records = refl; places = refl })
-        (λ f c n x e g rest can. let h = rest (turn-good rolls total now f c can n e) in let k = taken-keeps f (can .sound) (can .times) in record { channel = h .channel ∙ k .channel; used = h .used ∙ k .used; orders = h .orders ∙ k .orders; records = h .records ∙ k .records; places = h .places ∙ k .places })
-        (λ f c n e g can. taken-keeps f (can .sound) (can .times)) f c
+        serve-turns (λ f c x. CanServeForward f c rolls now → TakeKeeps f (x .forward)) (λ f c e can. take-keeps-same f)
+        (λ f c n x e g rest can. take-keeps-then (taken-keeps f now packetBuffer (can .sound) (can .times)) (rest (turn-good rolls total now f c can n e)))
+        (λ f c n e g can. taken-keeps f now packetBuffer (can .sound) (can .times)) f c
 
     -- each copy that still waits waited before
     pub serve-each : {P : List ℕ → Type 0} → CanServeForward f c rolls now → EachWaiting P f → EachWaiting P (serveForward rolls total now f c .forward)

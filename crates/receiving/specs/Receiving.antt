@@ -2,11 +2,11 @@
 -- loop over what is due on the forward line.
 use Prim.Native.Nat.{ℕ, zero, suc, _+_, _-_}
 use mathlib.Core.Bool.{Bool, true, false, cond, _||_}
-use mathlib.Core.List.{List, []}
-use lib.ListN.{take, replicate}
+use mathlib.Core.List.{List}
+use lib.ListN.{replicate}
 use lib.Dec.{ltb}
 use lib.Ieee.{Float}
-use Rattle.bounds.specs.Bounds.{headerSize, maxDatagram}
+use Rattle.bounds.specs.Bounds.{headerSize}
 use Rattle.packet.specs.Reading.{readDatagram}
 use Rattle.packet.specs.declared.PacketType.{PacketType}
 use Rattle.packet.specs.declared.PacketType.the-variants as packetType
@@ -16,12 +16,11 @@ use Rattle.receiver.specs.Receive.{ReceiveExit}
 use Rattle.receiver.specs.declared.ReceiveAnswer.{ReceiveAnswer}
 use Rattle.receiver.specs.declared.ReceiveAnswer.the-variants as receiveAnswer
 use Rattle.schedule.specs.State.{copies}
-use Rattle.schedule.specs.declared.ReadyAnswer.{ReadyAnswer}
-use Rattle.schedule.specs.declared.ReadyAnswer.the-variants as ready
 use Rattle.rows.specs.Rows.{asNumber}
 use Rattle.notes.specs.Notes.{SegMetas, markAckScheduled}
 use Rattle.path.specs.Direction.{Direction}
-use Rattle.path.specs.Path.{leftByCarry, carry, stopOf, isGoing, leftByTake, takeReady}
+use Rattle.path.specs.Path.{leftByCarry, carry, stopOf, isGoing}
+use Rattle.path.specs.Path.{leftByTake, takeReady, packetBuffer, isTaken, takenBytes}
 use Rattle.path.specs.declared.Carriage.{Carriage}
 use Rattle.path.specs.declared.Carriage.the-variants as carriage
 use Rattle.path.specs.declared.Stop.{Stop}
@@ -178,19 +177,6 @@ serveForwardExit forward b progress s =
 -- something was handed over
 abbrev pub progressed : ServeForwardExit → ServeForwardExit
 progressed x = serveForwardExit (x .forward) (x .inbound) true (x .stop)
-
-abbrev pub packetBuffer : List ℕ
-packetBuffer = replicate maxDatagram 0
-
-abbrev pub isTaken : ReadyAnswer → Bool
-isTaken (ready.Packet len) = true
-isTaken ready.Nothing = false
-isTaken (ready.Refused r) = false
-
-abbrev pub takenBytes : ReadyAnswer → List ℕ → List ℕ
-takenBytes (ready.Packet len) out = take len out
-takenBytes ready.Nothing out = []
-takenBytes (ready.Refused r) out = []
 
 -- at most n copies; the run may end at the ACK of one
 unfoldable pub serveAtMost : ℕ → List Float → ℕ → ℕ → Direction → Inbound → ServeForwardExit

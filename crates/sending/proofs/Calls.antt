@@ -148,7 +148,7 @@ module _ {t : Timing} {rolls : List Float} {size : ℕ} {file : List ℕ} {total
   abbrev pub blank : List ℕ
   blank = replicate maxDatagram 0
 
-  can-send : CanSendChunk (s .sender) chunk blank
+  pub can-send : CanSendChunk (s .sender) chunk blank
   can-send = can-send-chunk can free refl refl blank ample
 
   pub sent-next : SentOne (s .sender) chunk (windowOf (sendChunk (s .sender) chunk blank .after .sender)) (bytesSent (sendChunk (s .sender) chunk blank .answer) (sendChunk (s .sender) chunk blank .out))

@@ -32,14 +32,14 @@ use Rattle.sending.specs.Sending.{pumpState}
 use Rattle.sending.specs.Good.{CanPump}
 
 -- nothing is sent yet
-record Unused (w : ℕ) (s : SendWindow) : Type 0 where
-  size : s .«window_size» ≡ w
-  base : s .«send_base» ≡ 0
-  next : s .«next_seq_num» ≡ 0
-  sent : s .«total_sent» ≡ 0
-  again : s .retransmissions ≡ 0
+pub record Unused (w : ℕ) (s : SendWindow) : Type 0 where
+  pub size : s .«window_size» ≡ w
+  pub base : s .«send_base» ≡ 0
+  pub next : s .«next_seq_num» ≡ 0
+  pub sent : s .«total_sent» ≡ 0
+  pub again : s .retransmissions ≡ 0
 
-unused : (p : ProtocolType) (w limit : ℕ) (store : List ℕ)
+pub unused : (p : ProtocolType) (w limit : ℕ) (store : List ℕ)
     → Unused (slotCount p w) (windowOf (newSender p w limit store .sender))
 unfolding newSender fresh
 unused StopAndWait w limit store = record { size = refl; base = refl; next = refl; sent = refl; again = refl }

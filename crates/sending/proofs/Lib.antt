@@ -1,6 +1,9 @@
 pub mod Sends
 pub mod Calls
 pub mod Pumps
+pub mod Turns
 pub mod Retransmits
+pub mod Resending
+pub mod Timers
 pub mod Laws
 pub mod Fresh

@@ -51,11 +51,11 @@ module _ {t : Timing} {rolls : List Float} {size : ℕ} {file : List ℕ} {total
     pump-stopped g = pump-turn ∙ rw g
 
 -- ---- the loop
-stops : (g : Bool) → not g ≡ true → g ≡ false
+pub stops : (g : Bool) → not g ≡ true → g ≡ false
 stops true n = absurd (true≢false (sym n))
 stops false n = refl
 
-goes : (g : Bool) → not g ≡ false → g ≡ true
+pub goes : (g : Bool) → not g ≡ false → g ≡ true
 goes true n = refl
 goes false n = absurd (true≢false n)
 

@@ -1,28 +1,19 @@
 -- app/transfer.rs, `pump_sends`: what it asks of a run's state, and keeps.
 use Prim.Native.Nat.{ℕ, _+_, _-_, _≤_, _<_}
 use mathlib.Core.Path.{_≡_}
-use mathlib.Core.Bool.{true, false}
+use mathlib.Core.Bool.{false}
 use mathlib.Core.List.{List}
 use lib.Ieee.{Float}
 use lib.ListN.{length}
 use Rattle.bounds.specs.Bounds.{countLimit, maxChunks, maxDuration, maxPayload}
 use Rattle.chunks.specs.Chunks.{chunksOf}
-use Rattle.multi_timer.specs.Map.{lookup, isSome}
-use Rattle.multi_timer.specs.MultiTimer.{used}
-use Rattle.clock.specs.Clock.{ClockState, timersOf}
+pub use Rattle.clock.specs.Timers.{TimersWithin}
 use Rattle.clock.specs.declared.Timing.{Timing}
 use Rattle.clock.specs.declared.Timing.the-variants.{PerNumber}
-use Rattle.window.specs.declared.SendWindow.{SendWindow}
 use Rattle.session.specs.Sending.{windowOf}
 use Rattle.session.specs.GoodSender.{senderBroken}
 use Rattle.submission.specs.Submission.{GoodOutgoing}
 use Rattle.sending.specs.Sending.{PumpState}
-
--- each number that has a timer is outstanding
-abbrev pub TimersWithin : SendWindow → ClockState → Type 0
-TimersWithin w c =
-    (key : ℕ) → isSome (lookup key (used (timersOf c) (c .keys) (c .deadlines))) ≡ true
-    → (w .«send_base» ≤ key) × (key < w .«next_seq_num»)
 
 -- of a file of `total` chunks: no counter meets its limit, every chunk has a row for its note, every number of the
 -- window an entry for its timer

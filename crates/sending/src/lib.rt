@@ -1,7 +1,9 @@
 // What a run sends: the reference's `pump_sends`, new chunks as the window has space, and `retransmit`, a packet again.
 ghost use mathlib.Core.Path.{_≡_};
 ghost use mathlib.Core.Bool.{true, false};
+ghost use mathlib.Core.List.{map};
 ghost use Prim.Native.Nat.{_+_, _^_, _<_};
+ghost use Rattle.protocol.specs.Runs.{upFrom};
 ghost use Rattle.window.specs.State.{numbersBroken};
 ghost use Rattle.window.specs.Slots.{datagramFor};
 ghost use Rattle.chunks.specs.Chunks.{chunksOf};
@@ -14,6 +16,7 @@ ghost use Rattle.submission.specs.Submission.{outgoing};
 ghost use Rattle.sending.specs.Sending.{pumpState, pumpExit, canPump, sendOne, pumpSends};
 ghost use Rattle.sending.specs.Good.{CanPump};
 ghost use Rattle.sending.specs.Retransmit.{countedAgain, retransmitExit, retransmit, CanRetransmit};
+ghost use Rattle.sending.specs.Retransmit.{ceilingMet, exhausted, retransmitAll, CanRetransmitAll};
 use bounds::HEADER_SIZE;
 use bounds::MAX_DATAGRAM_SIZE;
 use clock::Timing;
@@ -268,4 +271,102 @@ fn counted_again(resends: Resends, premature: bool) -> Resends
     resends.retx_submitted = resends.retx_submitted + 1;
     resends.premature = resends.premature + more;
     resends
+}
+
+// Whether as many packets were sent again as a run may send.
+pub fn ceiling_met(resends: Resends, max_retransmissions: u64) -> bool
+    ensures { λ r. ⌜ r ≡ ceilingMet «max_retransmissions» resends ⌝ }
+{
+    max_retransmissions <= resends.retx_submitted
+}
+
+pub fn exhausted(resends: Resends) -> Resends
+    ensures { λ r. ⌜ r ≡ exhausted resends ⌝ }
+{
+    let mut resends = resends;
+    resends.exhausted = true;
+    resends
+}
+
+// So many outstanding numbers from `first` on, until the ceiling is met or a packet ends the run.
+pub fn retransmit_from_unchecked(
+    sender: Sender,
+    resends: Resends,
+    outbound: Outbound,
+    timing: Timing,
+    rto: u64,
+    max_retransmissions: u64,
+    now: u64,
+    first: u32,
+    count: u32,
+    store: &[u8],
+    rolls: &[f64],
+    rows: &mut [Note],
+    events: &mut [Event],
+    records: &mut [Scheduled],
+    places: &mut [u8],
+    keys: &mut [u32],
+    deadlines: &mut [u64],
+) -> RetransmitResult
+    requires { ⌜ CanRetransmitAll timing (rolls .now) rto now (senderEnd sender (store .now)) first count resends
+        (outgoing (direction (records .now) (places .now) (outbound .forward)) (segMetas (outbound .notes) (rows .now))
+        (outbound .events) (events .now) (timersExit (outbound .clock) (keys .now) (deadlines .now))) ⌝ }
+    ensures { λ r. ⌜ retransmitExit (r .resends)
+        (outgoing (direction (records .exit .now) (places .exit .now) (r .outbound .forward))
+        (segMetas (r .outbound .notes) (rows .exit .now)) (r .outbound .events) (events .exit .now)
+        (timersExit (r .outbound .clock) (keys .exit .now) (deadlines .exit .now))) (r .stop)
+        ≡ retransmitAll «max_retransmissions» timing (rolls .entry .now) rto now (oldestOutstanding sender)
+        (map (datagramFor (windowEnd (senderEnd sender (store .entry .now)))) (upFrom first count)) resends
+        (outgoing (direction (records .entry .now) (places .entry .now) (outbound .forward))
+        (segMetas (outbound .notes) (rows .entry .now)) (outbound .events) (events .entry .now)
+        (timersExit (outbound .clock) (keys .entry .now) (deadlines .entry .now))) ⌝ }
+{
+    let mut resends = resends;
+    let mut outbound = outbound;
+    let mut seq = first;
+    let mut left = count;
+    while 0 < left {
+        let met = ceiling_met(resends, max_retransmissions);
+        if met {
+            let resends = exhausted(resends);
+            return RetransmitResult {
+                resends,
+                outbound,
+                stop: Stop::Going,
+            };
+        }
+        let resent = retransmit_unchecked(
+            sender,
+            resends,
+            outbound,
+            timing,
+            rto,
+            now,
+            seq,
+            store,
+            rolls,
+            rows,
+            events,
+            records,
+            places,
+            keys,
+            deadlines,
+        );
+        let stop = resent.stop;
+        let going = path::is_going(stop);
+        if !going {
+            return resent;
+        }
+        let counted = resent.resends;
+        let after = resent.outbound;
+        resends = counted;
+        outbound = after;
+        seq = seq + 1;
+        left = left - 1;
+    }
+    RetransmitResult {
+        resends,
+        outbound,
+        stop: Stop::Going,
+    }
 }

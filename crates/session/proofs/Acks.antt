@@ -30,16 +30,16 @@ decided-as end (decision.Accept n base) v accept = refl
 decided-as end decision.NotAccepted v accept = refl
 decided-as end (decision.Refused r) v accept = refl
 
-by-state : (s : SenderState) (store raw : List ℕ) → handleAckIn s store raw ≡ byDecision (ackDecision (isSelective s) (windowIn s) store raw) (senderIn s store) (acknowledgedIn s store)
-by-state (senderState.StopAndWait s) store raw = decided-as stopAndWaitEnd _ (stopAndWait.endOf s store) (stopAndWait.acknowledged (stopAndWait.endOf s store))
-by-state (senderState.GoBackN s) store raw = decided-as goBackNEnd _ (slots.sender (s .window) store) (goBackN.acknowledged (slots.sender (s .window) store))
-by-state (senderState.SelectiveRepeat s) store raw = decided-as selectiveRepeatEnd _ (slots.sender (s .window) store) (selectiveRepeat.acknowledgeOne (slots.sender (s .window) store))
+pub ack-decided : (s : SenderState) (store raw : List ℕ) → handleAckIn s store raw ≡ byDecision (ackDecision (isSelective s) (windowIn s) store raw) (senderIn s store) (acknowledgedIn s store)
+ack-decided (senderState.StopAndWait s) store raw = decided-as stopAndWaitEnd _ (stopAndWait.endOf s store) (stopAndWait.acknowledged (stopAndWait.endOf s store))
+ack-decided (senderState.GoBackN s) store raw = decided-as goBackNEnd _ (slots.sender (s .window) store) (goBackN.acknowledged (slots.sender (s .window) store))
+ack-decided (senderState.SelectiveRepeat s) store raw = decided-as selectiveRepeatEnd _ (slots.sender (s .window) store) (selectiveRepeat.acknowledgeOne (slots.sender (s .window) store))
 
 module _ (v : SenderEnd) (raw : List ℕ) (h : SenderUnbroken v) where
   by-reading : (x : DatagramReading) → readDatagram raw ≡ x → handleAck v raw ≡ byDecision (byReading (windowOf (v .sender)) x) v (acknowledged v)
   unfolding handleAck acknowledged
   by-reading x e =
-      by-state (v .sender .state) (v .store) raw
+      ack-decided (v .sender .state) (v .store) raw
       ∙ ap (λ (d : AckDecision). byDecision d v (acknowledgedIn (v .sender .state) (v .store))) (ack-read (isSelective (v .sender .state)) (windowOf (v .sender)) (v .store) raw (h .state) (h .counts))
       ∙ ap (λ (y : DatagramReading). byDecision (byReading (windowOf (v .sender)) y) v (acknowledgedIn (v .sender .state) (v .store))) e
 

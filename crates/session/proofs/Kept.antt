@@ -1,6 +1,6 @@
 -- A session's sender is as good after a call as before it.
 use Prim.Native.Nat.{ℕ, _+_, _≤_}
-use mathlib.Core.Path.{_≡_, sym, ap, _∙_, subst}
+use mathlib.Core.Path.{_≡_, refl, sym, ap, _∙_, subst}
 use mathlib.Core.Bool.{true, false}
 use mathlib.Core.List.{List, [], _∷_, _++_, append-nil, flatten}
 use native.Mathlib.Omega.{arith}
@@ -41,6 +41,16 @@ unfolding newSender slots.fresh
 new-sender-good StopAndWait w limit store e f = record { state = fresh-good false 1 store e f; sent = omega arith; again = omega arith }
 new-sender-good GoBackN w limit store e f = record { state = fresh-good false w store e f; sent = omega arith; again = omega arith }
 new-sender-good SelectiveRepeat w limit store e f = record { state = fresh-good true w store e f; sent = omega arith; again = omega arith }
+
+pub new-sender-size : (p : ProtocolType) (w limit : ℕ) (store : List ℕ) → windowOf (newSender p w limit store .sender) .«window_size» ≡ slotCount p w
+unfolding newSender slots.fresh
+new-sender-size StopAndWait w limit store = refl
+new-sender-size GoBackN w limit store = refl
+new-sender-size SelectiveRepeat w limit store = refl
+
+pub new-sender-selective : (w limit : ℕ) (store : List ℕ) → isSelective (newSender SelectiveRepeat w limit store .sender .state) ≡ true
+unfolding newSender
+new-sender-selective w limit store = refl
 
 -- ---- sending
 one-datagram : (v : slots.Sender) (payload rest : List ℕ) → datagrams (take (headerSize + length payload) (firstDatagram v payload ++ rest)) ≡ firstDatagram v payload ∷ []

@@ -1,6 +1,7 @@
 pub mod Windows
 pub mod Sends
 pub mod Acks
+pub mod AckKeeps
 pub mod Resends
 pub mod Kept
 pub mod Receives
@@ -8,5 +9,6 @@ pub mod Replies
 pub mod KeptReceivers
 pub mod Rises
 pub mod Lengths
+pub mod Due
 pub mod EndsCalls
 pub mod Laws

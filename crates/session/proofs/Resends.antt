@@ -17,6 +17,7 @@ use Rattle.window.specs.Resending.{datagramsFrom, markFrom, sentAgain, TimeoutE
 use Rattle.window.specs.declared.SendWindow.{SendWindow}
 use Rattle.window.specs.declared.TimeoutAnswer.the-variants as timeoutAnswer
 use Rattle.window.proofs.Laws.{sound, resend-nothing, resend-some}
+use Rattle.window.proofs.Resending.{mark-one, mark-from}
 use Rattle.stop_and_wait.specs.Sender as stopAndWait
 use Rattle.stop_and_wait.specs.declared.StopAndWaitSender.{StopAndWaitSender}
 use Rattle.selective_repeat.specs.Sender as selectiveRepeat
@@ -30,7 +31,7 @@ use Rattle.session.specs.declared.SenderState.the-variants as senderStat
 use Rattle.session.specs.declared.Timeout.{Timeout}
 use Rattle.session.specs.declared.Timeout.the-variants as timeout
 use Rattle.session.specs.Sending.{SenderEnd, senderIn, stopAndWaitEnd, goBackNEnd, selectiveRepeatEnd, windowOf, windowEnd, timedOutAs, timeoutNumber, handleTimeout, Resent, resentBy, ampleBuffer, resent, resentNumbers}
-use Rattle.session.specs.GoodSender.{SenderUnbroken, Within}
+use Rattle.session.specs.GoodSender.{isSelective, SenderUnbroken, Within}
 use Rattle.session.specs.Internal.{resendCount}
 
 abbrev made : SenderEnd → List (List ℕ) → Resent
@@ -187,37 +188,71 @@ module _ (x y : SenderState) (store : List ℕ) (e : x ≡ y) where
   pub resent-in : (t : Timeout) {r : Resent} → r ≡ resent (senderIn y store) t → r ≡ resent (senderIn x store) t
   resent-in t f = f ∙ ap (λ (z : SenderState). resent (senderIn z store) t) (sym e)
 
+-- ---- what marking and counting leave as it was
+pub record SameWindow (v u : SenderEnd) : Type 0 where
+  pub size : windowOf (u .sender) .«window_size» ≡ windowOf (v .sender) .«window_size»
+  pub base : windowOf (u .sender) .«send_base» ≡ windowOf (v .sender) .«send_base»
+  pub next : windowOf (u .sender) .«next_seq_num» ≡ windowOf (v .sender) .«next_seq_num»
+  pub selective : isSelective (u .sender .state) ≡ isSelective (v .sender .state)
+  pub store : length (u .store) ≡ length (v .store)
+
+same-window : (v : SenderEnd) → SameWindow v v
+same-window v = record { size = refl; base = refl; next = refl; selective = refl; store = refl }
+
+record SameNumbers (v u : slots.Sender) : Type 0 where
+  size : u .window .«window_size» ≡ v .window .«window_size»
+  base : u .window .«send_base» ≡ v .window .«send_base»
+  next : u .window .«next_seq_num» ≡ v .window .«next_seq_num»
+
+marks-same : (v : slots.Sender) (n k : ℕ) → SameNumbers v (markFrom v n k)
+unfolding markFrom markRetransmitted
+marks-same v n zero = record { size = refl; base = refl; next = refl }
+marks-same v n (suc k) =
+    let rest = marks-same (markRetransmitted v n) (n + 1) k in
+    record { size = rest .size; base = rest .base; next = rest .next }
+
 -- ---- any of them
 pub record ResentAs (v : SenderEnd) (t : Timeout) : Type 0 where
   pub first : ℕ
   pub count : ℕ
   pub within : Within (windowOf (v .sender)) first count
   pub packets-are : resent v t .packets ≡ map (datagramFor (windowEnd (resent v t .after))) (upFrom first count)
+  pub same : SameWindow v (resent v t .after)
 
-resent-by : (v u : SenderEnd) (t : Timeout) (first count : ℕ) → Within (windowOf (v .sender)) first count → resentNumbers u first count ≡ resent v t → ResentAs v t
-resent-by v u t first count w e =
+resent-by : (v u : SenderEnd) (t : Timeout) (first count : ℕ) → SameWindow v u → Within (windowOf (v .sender)) first count → resentNumbers u first count ≡ resent v t → ResentAs v t
+resent-by v u t first count same w e =
     record {
       first = first;
       count = count;
       within = w;
+      same = subst (SameWindow v) (ap (λ (r : Resent). r .after) e) same;
       packets-are = sym (ap (λ (r : Resent). r .packets) e) ∙ ap (λ (r : Resent). map (datagramFor (windowEnd (r .after))) (upFrom first count)) e;
     }
+
+go-back-n-same : (v : slots.Sender) (n k : ℕ) → SameWindow (goBackNEnd v) (goBackNEnd (markFrom v n k))
+go-back-n-same v n k = let s = marks-same v n k in record { size = s .size; base = s .base; next = s .next; selective = refl; store = mark-from v n k .store-length }
+
+selective-same : (v : slots.Sender) (n k : ℕ) → SameWindow (selectiveRepeatEnd v) (selectiveRepeatEnd (markFrom v n k))
+selective-same v n k = let s = marks-same v n k in record { size = s .size; base = s .base; next = s .next; selective = refl; store = mark-from v n k .store-length }
+
+marked-same : (s : StopAndWaitSender) (store : List ℕ) → SameWindow (senderIn (senderState.StopAndWait s) store) (stopAndWaitEnd (stopAndWait.markedAgain (stopAndWait.endOf s store)))
+marked-same s store = record { size = refl; base = refl; next = refl; selective = refl; store = mark-one (stopAndWait.windowEnd (stopAndWait.endOf s store)) (s .«current_seq») .store-length }
 
 pub resent-as : (v : SenderEnd) (t : Timeout) → SenderUnbroken v → ResentAs v t
 resent-as v t h = by-state (v .sender .state) (v .store) h
   where
     stop-and-wait : (s : StopAndWaitSender) (store : List ℕ) → SenderUnbroken (senderIn (senderState.StopAndWait s) store) → (k : ℕ) → min (stopAndWait.retriesLeft s) (outstanding (stopAndWait.windowOf s)) ≡ k
         → ResentAs (senderIn (senderState.StopAndWait s) store) t
-    stop-and-wait s store h zero e = resent-by _ _ t _ 0 (idle-within s store h t (sym e)) (stop-and-wait-nothing s store h t (sym e) refl)
-    stop-and-wait s store h (suc k) e = resent-by _ _ t _ (suc k) (idle-within s store h t (sym e)) (stop-and-wait-resent s store h t (sym e) (λ z. omega arith) refl)
+    stop-and-wait s store h zero e = resent-by _ _ t _ 0 (same-window _) (idle-within s store h t (sym e)) (stop-and-wait-nothing s store h t (sym e) refl)
+    stop-and-wait s store h (suc k) e = resent-by _ _ t _ (suc k) (marked-same s store) (idle-within s store h t (sym e)) (stop-and-wait-resent s store h t (sym e) (λ z. omega arith) refl)
 
     selective-repeat : (u : slots.Sender) → SenderUnbroken (selectiveRepeatEnd u) → (b : Bool) → selectiveRepeat.due u (timeoutNumber (u .window) t) ≡ b → ResentAs (selectiveRepeatEnd u) t
-    selective-repeat u h true e = resent-by _ _ t _ 1 (due-number u h t refl e) (selective-repeat-resent u h t refl e refl)
+    selective-repeat u h true e = resent-by _ _ t _ 1 (selective-same u _ 1) (due-number u h t refl e) (selective-repeat-resent u h t refl e refl)
     selective-repeat u h false e =
         let o = sound true (u .window) (u .store) (h .state) .ordered in
-        resent-by _ _ t (u .window .«send_base») 0 (record { from = omega arith; below = omega arith }) (selective-repeat-nothing u h t refl (u .window .«send_base») e)
+        resent-by _ _ t (u .window .«send_base») 0 (same-window _) (record { from = omega arith; below = omega arith }) (selective-repeat-nothing u h t refl (u .window .«send_base») e)
 
     by-state : (s : SenderState) (store : List ℕ) → SenderUnbroken (senderIn s store) → ResentAs (senderIn s store) t
     by-state (senderState.StopAndWait s) store h = stop-and-wait s store h _ refl
-    by-state (senderState.GoBackN s) store h = resent-by _ _ t _ _ (count-within false (s .window) store t (h .state)) (go-back-n-resent (slots.sender (s .window) store) h t refl refl)
+    by-state (senderState.GoBackN s) store h = resent-by _ _ t _ _ (go-back-n-same (slots.sender (s .window) store) _ _) (count-within false (s .window) store t (h .state)) (go-back-n-resent (slots.sender (s .window) store) h t refl refl)
     by-state (senderState.SelectiveRepeat s) store h = selective-repeat (slots.sender (s .window) store) h _ refl

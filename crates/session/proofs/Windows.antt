@@ -8,15 +8,20 @@ use borrow.Author.Tests.{ltb-true, leb-true, lt-leb}
 use lib.ListN.{length}
 use Rattle.bounds.specs.Bounds.{headerSize, maxPayload, maxDatagram, seqNumLimit, slotSize, countLimit}
 use Rattle.refusal.specs.Clauses.{anyOf}
-use Rattle.store.specs.Slot.{slotAt, slotLength}
+use Rattle.packet.proofs.Laws.{made-length}
+use Rattle.store.specs.Slot.{slotAt, slotLength, slotPayload}
+use Rattle.store.proofs.Laws.{slot-in, slot-payload-length}
 use Rattle.window.specs.State.{numbersBroken, stateBroken, countsBroken}
-use Rattle.window.specs.Slots.{slotFor}
+use Rattle.window.specs.Slots as slots
+use Rattle.window.specs.Slots.{slotFor, packetFor, datagramFor}
 use Rattle.window.specs.Acknowledgement.{inWindow}
 use Rattle.window.specs.declared.SendWindow.{SendWindow}
 use Rattle.window.proofs.Laws.{sound, numbers, sound-numbers, numbers-not-broken, slot-low}
+use Rattle.delivery.specs.Calls.{numberOf}
+use Rattle.delivery.proofs.Laws.{made-number}
 use Rattle.session.specs.declared.Sender.{Sender}
 use Rattle.session.specs.declared.Oldest.the-variants as oldest
-use Rattle.session.specs.Sending.{SenderEnd, windowOf, canSend, hasOutstanding, oldestOutstanding}
+use Rattle.session.specs.Sending.{SenderEnd, windowOf, windowEnd, canSend, hasOutstanding, oldestOutstanding}
 use Rattle.session.specs.GoodSender.{isSelective, senderBroken, SenderUnbroken, GoodSender, CanSendChunk, Within, CanWriteDatagram}
 
 -- what the calls below the entry points ask of a state whose 9 is false
@@ -63,6 +68,20 @@ slot-within selective s store n e w =
     let few = h .few in
     let is : s .«send_base» + (n - s .«send_base») ≡ n = omega arith in
     rw is at (slot-low selective s store h (n - s .«send_base») (omega arith))
+
+-- its datagram has its number, and is no longer than a datagram may be
+pub datagram-number : (v : slots.Sender) (n : ℕ) → numberOf (datagramFor v n) ≡ n
+unfolding datagramFor
+datagram-number v n = made-number (packetFor v n) (slotPayload (slotAt (v .store) (slotFor (v .window) n)))
+
+pub datagram-short : (v : SenderEnd) (n : ℕ) → senderBroken v ≡ false → Within (windowOf (v .sender)) n 1 → length (datagramFor (windowEnd v) n) ≤ maxDatagram
+unfolding datagramFor
+datagram-short v n e w =
+    let s = sound (isSelective (v .sender .state)) (windowOf (v .sender)) (v .store) e in
+    let low = slot-within (isSelective (v .sender .state)) (windowOf (v .sender)) (v .store) n e w in
+    let size = made-length (packetFor (windowEnd v) n) (slotPayload (slotAt (v .store) (slotFor (windowOf (v .sender)) n))) in
+    let short = slot-payload-length (v .store) (slotFor (windowOf (v .sender)) n) (slot-in (v .store) n (windowOf (v .sender) .«window_size») (s .positive) (s .room)) low in
+    omega (arith, low, size, short)
 
 -- such a number's datagram, of the window w that the sender has
 pub can-write : (v : SenderEnd) (n : ℕ) (out : List ℕ) {w : SendWindow} → CanWriteDatagram v n out → w ≡ windowOf (v .sender)

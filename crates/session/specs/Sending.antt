@@ -73,6 +73,10 @@ hasOutstanding s = ltb 0 (outstanding (windowOf s))
 abbrev pub oldestOutstanding : Sender → Oldest
 oldestOutstanding s = cond (hasOutstanding s) (oldest.Number (windowOf s .«send_base»)) oldest.Nothing
 
+-- Selective Repeat: a number that is outstanding and not acknowledged
+abbrev pub isDue : SenderEnd → ℕ → Bool
+isDue v n = selectiveRepeat.due (windowEnd v) n
+
 -- making: Stop-and-Wait has one slot, whatever the window
 abbrev pub slotCount : ProtocolType → ℕ → ℕ
 slotCount protocol.StopAndWait w = 1

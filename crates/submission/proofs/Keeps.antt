@@ -12,7 +12,7 @@ use Rattle.path.specs.Rolls.{packetRolls, rollsBroken, Doubles}
 use Rattle.path.specs.Direction.{Direction, Good}
 use Rattle.path.specs.Path.{newPath, CarryExit, leftByCarry, copyFold, isGoing}
 use Rattle.path.specs.declared.Stop.the-variants.{Going}
-use Rattle.path.proofs.Laws.{granted, copyBytes, EachWaiting, carries, carry-good, carry-keeps, carry-used, carry-each}
+use Rattle.path.proofs.Laws.{RiseAlike, granted, copyBytes, EachWaiting, carries, carry-good, carry-keeps, carry-used, carry-each, carry-orders}
 use Rattle.path.proofs.Laws as path-laws
 use Rattle.channel.specs.Bounds.{configBroken}
 use Rattle.channel.specs.declared.ChannelConfig.{ChannelConfig}
@@ -76,6 +76,9 @@ module _ (timing : Timing) (rolls : List Float) (x : Submission) (wire : List �
 
   pub submit-used : (o .forward .path .used ≤ submit timing rolls x wire o .outgoing .forward .path .used) × (submit timing rolls x wire o .outgoing .forward .path .used ≤ o .forward .path .used + packetRolls)
   submit-used = subst (λ (d : Direction). (o .forward .path .used ≤ d .path .used) × (d .path .used ≤ o .forward .path .used + packetRolls)) (sym (submit-forward timing rolls x wire o)) (carry-used (o .forward) rolls (entryFree o) (x .time) wire)
+
+  pub submit-orders : RiseAlike (o .forward) (submit timing rolls x wire o .outgoing .forward)
+  submit-orders = subst (RiseAlike (o .forward)) (sym (submit-forward timing rolls x wire o)) (carry-orders (o .forward) rolls (entryFree o) (x .time) wire)
 
   module _ (e : submit timing rolls x wire o .stop ≡ Going) where
     pub going-written : submit timing rolls x wire o .outgoing .written ≡ o .written + 1

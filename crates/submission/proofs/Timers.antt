@@ -20,9 +20,11 @@ use Rattle.notes.specs.SegMeta.{SegMeta, withSending, withDropped}
 use Rattle.notes.specs.Notes.{SegMetas, sent, update, rtoAtSend}
 use Rattle.notes.proofs.Laws.{rto-noted, rto-none, sent-at, sent-count, sent-length, update-at, update-notes, again-is, dropped-is}
 use Rattle.clock.specs.Clock.{timersOf, Submission}
+use Rattle.clock.specs.Timers.{GoodTimers}
 use Rattle.clock.specs.declared.Timing.{Timing}
 use Rattle.clock.specs.declared.Timing.the-variants.{Single, PerNumber, Edition}
-use Rattle.clock.proofs.Laws.{running, submit-entries, submit-single-entries, submit-edition-entries, submit-window}
+use Rattle.clock.proofs.Laws.{running, submit-entries, submit-single-entries, submit-edition-entries, submit-window, arm-timers}
+use Rattle.session.specs.Sending.{SenderEnd, isDue}
 use Rattle.submission.specs.Submission.{Outgoing, noteBefore, noteAfter, submit, GoodOutgoing, CanSubmit}
 use Rattle.submission.proofs.Metas.{before-first, before-again, after-first, after-again}
 use Rattle.submission.proofs.Keeps.{armed}
@@ -82,3 +84,7 @@ module _ (rolls : List Float) (x : Submission) (wire : List ℕ) (o : Outgoing) 
   -- a number of the window: the timers' numbers stay in it
   pub submit-within : (timing : Timing) {low high : ℕ} → CanSubmit timing rolls x wire o → low ≤ x .seq → x .seq < high → Within low high (running (o .clock)) → Within low high (running (submit timing rolls x wire o .outgoing .clock))
   submit-within timing {low} {high} can l u w = by-outgoing timing rolls x wire o (λ (y : Outgoing). Within low high (running (y .clock))) w (λ f. submit-window timing (o .clock) (metasOf rolls x o) x (armed timing rolls x wire o can) w l u)
+
+  -- a due number: each number that has a timer is due
+  pub submit-timers : (timing : Timing) (v : SenderEnd) → CanSubmit timing rolls x wire o → (timing ≡ PerNumber → isDue v (x .seq) ≡ true) → GoodTimers timing v (o .clock) → GoodTimers timing v (submit timing rolls x wire o .outgoing .clock)
+  submit-timers timing v can due g = by-outgoing timing rolls x wire o (λ (y : Outgoing). GoodTimers timing v (y .clock)) g (λ f. arm-timers timing v (o .clock) (metasOf rolls x o) x g (armed timing rolls x wire o can) due)

@@ -3,7 +3,8 @@ use borrow.Author.Needs.{needs}
 use Rattle.notes.specs.Notes.{segMetas}
 use Rattle.path.specs.Direction.{direction}
 use Rattle.receiving.specs.Receiving.{inbound}
-use Rattle.receiving.proofs.Serving.{Left, left-start, can-take, left-idle, left-refused, left-can, left-short, left-cut, left-less, left-stops, left-next}
+use Rattle.path.proofs.Laws.{can-take}
+use Rattle.receiving.proofs.Serving.{Left, left-start, left-idle, left-refused, left-can, left-short, left-cut, left-less, left-stops, left-next}
 use Rattle.receiving.proofs.serve_forward_unchecked.Statement.{statement}
 use Rattle.receiving.proofs.serve_forward_unchecked.Tie as tie
 
@@ -20,7 +21,7 @@ slice-aggregate-take-unchecked : tie.Need-slice-aggregate-take-unchecked Inv-loo
 slice-aggregate-take-unchecked c = search needs
 
 take-unchecked-requires : tie.Need-take-unchecked-requires Inv-loop μ-loop
-take-unchecked-requires c κs = can-take _ (c .before .before .before .loop .inv .can) refl
+take-unchecked-requires c κs = can-take _ (c .before .before .before .loop .inv .can .sound) refl
 
 enum-told : tie.Need-enum-told Inv-loop μ-loop
 enum-told c = search needs

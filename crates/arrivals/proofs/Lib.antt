@@ -1,0 +1,3 @@
+pub mod Serving
+pub mod Keeps
+pub mod Laws

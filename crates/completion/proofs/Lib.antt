@@ -1,0 +1,12 @@
+pub mod Reached
+pub mod Follows
+pub mod Conclusion
+pub mod Lines
+pub mod Serving
+pub mod Acking
+pub mod Events
+pub mod Submitting
+pub mod Resending
+pub mod Runs
+pub mod Firing
+pub mod Laws

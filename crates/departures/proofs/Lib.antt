@@ -1,0 +1,4 @@
+pub mod Orders
+pub mod Sending
+pub mod Keeps
+pub mod Laws

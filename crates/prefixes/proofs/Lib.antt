@@ -1,0 +1,11 @@
+pub mod Parts
+pub mod Receiver
+pub mod Copies
+pub mod Sender
+pub mod Serving
+pub mod Sends
+pub mod Joined
+pub mod Prefixed
+pub mod NotRefused
+pub mod Calls
+pub mod Laws

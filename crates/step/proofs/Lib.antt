@@ -1,0 +1,7 @@
+pub mod Settling
+pub mod Rounds
+pub mod Good
+pub mod Returns
+pub mod Moves
+pub mod Kept
+pub mod Laws

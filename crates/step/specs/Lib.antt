@@ -1,0 +1,4 @@
+pub mod State
+pub mod Settle
+pub mod Step
+pub mod Good

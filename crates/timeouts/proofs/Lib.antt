@@ -1,0 +1,6 @@
+pub mod Single
+pub mod Fresh
+pub mod Numbers
+pub mod NumbersTurns
+pub mod SingleTimers
+pub mod Laws

@@ -1,0 +1,5 @@
+pub mod Steps
+pub mod Runs
+pub mod Starts
+pub mod Calls
+pub mod Laws

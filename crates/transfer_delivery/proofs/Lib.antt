@@ -1,0 +1,4 @@
+pub mod Steps
+pub mod Holds
+pub mod Transfer
+pub mod Laws

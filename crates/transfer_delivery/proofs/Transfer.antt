@@ -1,0 +1,150 @@
+-- Demand 3 of `run_transfer`.
+use Prim.Native.Nat.{ℕ, _+_, _*_, _≤_, _<_, _/_}
+use native.Mathlib.Omega.{arith}
+use mathlib.Core.Path.{_≡_, refl, sym, ap, _∙_, subst}
+use mathlib.Core.Bool.{Bool, true, false}
+use mathlib.Core.List.{List, [], _∷_}
+use lib.Ieee.{Float}
+use lib.ListN.{length, replicate}
+use borrow.Author.Tests.{le-ltb}
+use Rattle.bounds.specs.Bounds.{slotSize}
+use Rattle.rows.specs.Rows.{vacant}
+use Rattle.refusal.specs.Order.{verdict}
+use Rattle.refusal.specs.declared.Refusal.{Refusal}
+use Rattle.refusal.proofs.Laws.{on-accepted, on-refused}
+use Rattle.refusal.specs.declared.Verdict.{Verdict}
+use Rattle.refusal.specs.declared.Verdict.the-variants.{Accepted, Refused}
+use Rattle.protocol.specs.declared.ProtocolType.{ProtocolType}
+use Rattle.protocol.specs.declared.ProtocolType.the-variants.{StopAndWait, GoBackN, SelectiveRepeat}
+use Rattle.window.specs.State.{storeShort}
+use Rattle.octets.specs.Octets.{Octets}
+use Rattle.channel.specs.declared.ChannelConfig.{ChannelConfig}
+use Rattle.channel.proofs.NoFaults.{zero, NoFaults}
+use Rattle.path.specs.Rolls.{Doubles}
+use Rattle.chunks.specs.Chunks.{chunksOf}
+use Rattle.chunks.proofs.Laws.{count-empty, chunks-count}
+use Rattle.delivery.specs.Ends.{ReceivingRoom}
+use Rattle.clock.specs.Estimator.{Factors}
+use Rattle.session.specs.Sending.{slotCount}
+use Rattle.session.specs.Receiving.{newReceiver, base}
+use Rattle.setup.specs.Setup.{CanStart, startChecks}
+use Rattle.setup.proofs.Laws.{start-accepted}
+use Rattle.setup.specs.declared.TransferConfig.{TransferConfig}
+use Rattle.completion.proofs.Laws.{Start, chunksIn, Begun, window-fits, new-sender-slots, new-receiver-slots, runs-start, runs-delivered, runs-completed}
+use Rattle.prefixes.proofs.Laws.{prefixed-start, prefixed-written, prefixed-completed}
+use Rattle.receiving.proofs.Laws.{new-completed-is}
+use Rattle.step.specs.State.{Given, RunState, Lent}
+use Rattle.step.specs.Settle.{StepExit}
+use Rattle.transfer.specs.Start.{planFor, reverseConfig, newRun, startOf}
+use Rattle.transfer.specs.Run.{run}
+use Rattle.transfer.specs.Transfer.{outcomeOf, lentOf, RunExit, runExit, ended, runTransfer}
+use Rattle.transfer.specs.declared.Ceilings.{Ceilings}
+use Rattle.transfer.specs.declared.Outcome.{Outcome}
+use Rattle.transfer.specs.declared.RunAnswer.the-variants as answer
+use Rattle.transfer.proofs.Starts.{start-plan, start-good, sender-window, sender-store}
+use Rattle.transfer_delivery.specs.Delivered.{Delivered}
+use Rattle.transfer_delivery.proofs.Steps.{At, run-keeps}
+use Rattle.transfer_delivery.proofs.Holds.{begins, Holds, step-holds}
+
+-- ---- at the start
+no-faults : (c : ChannelConfig) → NoFaults (reverseConfig c)
+no-faults c = record { loss = zero false; duplicate = zero false; reorder = zero false; corrupt = zero false }
+
+receiving-room : (p : ProtocolType) (w : ℕ) (store : List ℕ) → (p ≡ SelectiveRepeat → w * slotSize ≤ length store) → ReceivingRoom p (slotCount p w) store
+unfolding storeShort
+receiving-room StopAndWait w store h = tt
+receiving-room GoBackN w store h = tt
+receiving-room SelectiveRepeat w store h = le-ltb _ _ (h refl)
+
+new-base : (p : ProtocolType) (w : ℕ) (store : List ℕ) → base (newReceiver p w store .receiver) ≡ 0
+unfolding newReceiver
+new-base StopAndWait w store = refl
+new-base GoBackN w store = refl
+new-base SelectiveRepeat w store = refl
+
+some-chunk : (size : ℕ) (file : List ℕ) → 0 < size → 0 < length (chunksOf size file)
+some-chunk size [] h = let e = count-empty size [] refl in omega (arith, e)
+some-chunk size (x ∷ file) h = let e = chunks-count size x file h in more (length file / size) (length (chunksOf size (x ∷ file))) e
+  where
+    more : (n m : ℕ) → m ≡ n + 1 → 0 < m
+    more n m e = omega arith
+
+module _ (k : Ceilings) (c : TransferConfig) (g : Given) (l : Lent) (h : CanStart (startOf c g l)) (store : Octets (l .senderStore)) (file : Octets (g .file)) where
+  abbrev ends : Start
+  ends = begins (c .protocol) (slotCount (c .protocol) (c .«window_size»)) (k .retries) (l .senderStore) (l .receiverStore) (l .output) (c .«chunk_size») (g .file)
+
+  begun : Begun ends
+  begun =
+      record {
+        made = record {
+          in-bounds = sender-window k c g l h;
+          window = window-fits (c .protocol) (c .«window_size»);
+          sending-room = sender-store k c g l h;
+          receiving-room = receiving-room (c .protocol) (c .«window_size») (l .receiverStore) (h .receiver-room);
+          octets = store;
+        };
+        some = let n = h .chunk-some in omega (arith, n);
+        octets = file;
+      }
+
+  start-holds : At (Holds ends (c .channel) (g .forwardRolls)) (newRun k c l)
+  unfolding newRun
+  start-holds =
+      let p = c .protocol in
+      let w = c .«window_size» in
+      let r = runs-start begun (c .channel) (reverseConfig (c .channel)) (g .forwardRolls) (l .forwardRecords) (l .reverseRecords) (l .forwardPlaces) (l .reversePlaces) (replicate (length (l .events)) vacant) (no-faults (c .channel)) in
+      let q = prefixed-start begun (c .channel) (l .forwardRecords) (l .forwardPlaces) in
+      let n = new-base p w (l .receiverStore) in
+      let m = some-chunk (c .«chunk_size») (g .file) (begun .some) in
+      record {
+        runs = rw (← new-sender-slots p w (k .retries) (l .senderStore), ← new-receiver-slots p w (l .receiverStore)) r;
+        prefixed = rw (← new-sender-slots p w (k .retries) (l .senderStore), ← new-receiver-slots p w (l .receiverStore)) q;
+        completed = new-completed-is (length (chunksIn ends)) (newReceiver p w (l .receiverStore) .receiver) (omega (arith, n, m));
+      }
+
+  module _ (forward : Doubles (g .forwardRolls)) (reverse : Doubles (g .reverseRolls)) (factors : Factors (c .rto)) where
+    abbrev last : StepExit
+    last = run (planFor k c g) g (newRun k c l)
+
+    run-holds : At (Holds ends (c .channel) (g .forwardRolls)) (last .state)
+    run-holds =
+        let plan = start-plan k c g l h in
+        run-keeps (Holds ends (c .channel) (g .forwardRolls)) (planFor k c g) g plan
+        (λ u good q. step-holds (c .protocol) (slotCount (c .protocol) (c .«window_size»)) (k .retries) (l .senderStore) (l .receiverStore) (l .output) (c .channel) (planFor k c g) g plan u good q) (newRun k c l)
+        (start-good k c g l h forward reverse factors) start-holds
+
+    run-delivered : Delivered c g l (outcomeOf last) (lentOf (last .state))
+    run-delivered =
+        let q = run-holds in
+        record {
+          first = λ flips. runs-delivered (q .runs) flips;
+          whole = λ flips done. runs-completed (last .state .arrivals .inbound) (q .runs) flips (q .completed) done;
+          prefixes = prefixed-written (q .prefixed);
+          same-length = λ done e. prefixed-completed (last .state .arrivals .inbound) (q .prefixed) (q .completed) done e;
+        }
+
+-- ---- of every call that isn't refused. Octets, Doubles and Factors say what the lent bytes and doubles are by their types.
+module _ (k : Ceilings) (c : TransferConfig) (g : Given) (l : Lent) where
+  accepted-is : verdict (startChecks (startOf c g l)) ≡ Accepted → runTransfer k c g l ≡ ended (run (planFor k c g) g (newRun k c l))
+  unfolding runTransfer
+  accepted-is a = on-accepted (λ (r : Refusal). runExit (answer.Refused r) l) (ended (run (planFor k c g) g (newRun k c l))) a
+
+  refused-is : {r : Refusal} → verdict (startChecks (startOf c g l)) ≡ Refused r → runTransfer k c g l ≡ runExit (answer.Refused r) l
+  unfolding runTransfer
+  refused-is a = on-refused (λ (r : Refusal). runExit (answer.Refused r) l) (ended (run (planFor k c g) g (newRun k c l))) a
+
+  of-outcome : (o : Outcome) (x : StepExit) → Delivered c g l (outcomeOf x) (lentOf (x .state)) → answer.Outcome (outcomeOf x) ≡ answer.Outcome o → Delivered c g l o (lentOf (x .state))
+  of-outcome o x h e = let same : outcomeOf x ≡ o = cc in subst (λ (y : Outcome). Delivered c g l y (lentOf (x .state))) same h
+
+  not-outcome : {r : Refusal} {o : Outcome} → answer.Refused r ≡ answer.Outcome o → ⊥
+  not-outcome e = let z : _≡_ {A = ℕ} 0 1 = cc in omega arith
+
+  pub transfer-delivered : Octets (l .senderStore) → Octets (g .file) → Doubles (g .forwardRolls) → Doubles (g .reverseRolls) → Factors (c .rto) → (o : Outcome) → runTransfer k c g l .answer ≡ answer.Outcome o
+      → Delivered c g l o (runTransfer k c g l .lent)
+  transfer-delivered store file forward reverse factors o = by-verdict (verdict (startChecks (startOf c g l))) refl
+    where
+      by-verdict : (v : Verdict) → verdict (startChecks (startOf c g l)) ≡ v → runTransfer k c g l .answer ≡ answer.Outcome o → Delivered c g l o (runTransfer k c g l .lent)
+      by-verdict Accepted a =
+          subst (λ (x : RunExit). x .answer ≡ answer.Outcome o → Delivered c g l o (x .lent)) (sym (accepted-is a))
+          (of-outcome o (run (planFor k c g) g (newRun k c l)) (run-delivered k c g l (start-accepted (startOf c g l) a) store file forward reverse factors))
+      by-verdict (Refused r) a = subst (λ (x : RunExit). x .answer ≡ answer.Outcome o → Delivered c g l o (x .lent)) (sym (refused-is a)) (λ e. absurd (not-outcome e))

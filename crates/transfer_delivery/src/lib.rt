@@ -1,0 +1,1 @@
+// Demand 3 of `run_transfer`: specs and proofs only.
