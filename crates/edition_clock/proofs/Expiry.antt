@@ -20,7 +20,6 @@ use Rattle.path.proofs.Laws.{going-is}
 use Rattle.events.specs.Events.{eventsOf}
 use Rattle.clock.specs.Clock.{timerOf, Submission, cancel, due}
 use Rattle.clock.specs.declared.Timing.the-variants.{Edition}
-use Rattle.clock.specs.declared.Due.the-variants as ran
 use Rattle.clock.proofs.Laws.{expiry-due, expiry-idle, not-due}
 use Rattle.session.specs.Sending.{SenderEnd, windowOf, windowEnd, hasOutstanding, oldestOutstanding, resent}
 use Rattle.session.specs.declared.Oldest.{Oldest}

@@ -4,4 +4,6 @@ pub mod Expiry
 pub mod Moments
 pub mod Steps
 pub mod Run
+pub mod Departures
+pub mod Examples
 pub mod Laws

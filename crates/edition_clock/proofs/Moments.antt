@@ -1,7 +1,7 @@
 -- What each rule keeps of a run's timer, RTO and retries, over plain states.
 use Prim.Native.Nat.{ℕ, _+_, _-_, _*_, _≤_, _<_, min}
 use native.Mathlib.Omega.{arith}
-use native.Mathlib.Nat.{mul-le-mul-right}
+use native.Mathlib.Nat.{le-trans, mul-le-mul-right}
 use mathlib.Core.Path.{_≡_, refl, sym, ap, _∙_, subst}
 use mathlib.Core.Bool.{Bool, true, false, true≢false}
 use mathlib.Core.Logic.{_⊎_, inl, inr, ⊎-elim}
@@ -70,7 +70,8 @@ moment v e c written again received duplicates = record { sender = v; estimator 
 abbrev pub timerOn : Moment → RtoTimer
 timerOn m = timerWith (m .clock) (m .estimator .«current_rto»)
 
--- `limit` is Stop-and-Wait's on its retries: each of them took a second at least, since the timer is never set for less
+-- `limit` is Stop-and-Wait's on its retries, which are packets sent again; at most one a second is, since the timer is never
+-- set for less
 pub record Kept (limit now : ℕ) (m : Moment) : Type 0 where
   pub limits : EditionLimits (m .estimator .config)
   pub low : minRto ≤ m .estimator .«current_rto»
@@ -79,7 +80,9 @@ pub record Kept (limit now : ℕ) (m : Moment) : Type 0 where
   pub not-overdue : (d : ℕ) → timerOf (m .clock) .deadline ≡ At d → now ≤ d
   pub not-far : (d : ℕ) → timerOf (m .clock) .deadline ≡ At d → d ≤ now + m .estimator .«current_rto»
   pub limit-is : LimitIs limit (m .sender .sender .state)
-  pub retries : (d : ℕ) → timerOf (m .clock) .deadline ≡ At d → retriesOf (m .sender .sender .state) * minRto ≤ d
+  pub retries : retriesOf (m .sender .sender .state) ≤ m .again
+  pub paced : m .again * minRto ≤ now
+  pub spaced : (d : ℕ) → timerOf (m .clock) .deadline ≡ At d → (m .again + 1) * minRto ≤ d
 
 -- the rules that led to it from the timer x, with what was counted on the way
 pub record Chain (now : ℕ) (from m : Moment) : Type 0 where
@@ -100,11 +103,14 @@ pub along-start : {limit now : ℕ} {m : Moment} → Kept limit now m → m .dup
 along-start {m = m} k f = record { kept = k; chain = record { packets = 0; resent = 0; acks = 0; follows = none; written = omega arith; again = omega arith; acknowledged = omega arith; fewer = f } }
 
 -- ---- numbers
-no-retries : (n m k : ℕ) → n ≡ 0 → n * m ≤ k
-no-retries n m k e = rw e (omega arith)
+no-retries : {n m : ℕ} → n ≡ 0 → n ≤ m
+no-retries e = omega arith
 
-one-retry : (r s m d now rto : ℕ) → s ≤ r + 1 → r * m ≤ d → d ≤ now → m ≤ rto → s * m ≤ now + rto
-one-retry r s m d now rto h i j k = let p = mul-le-mul-right m h in omega arith
+one-retry : {r s n m : ℕ} → s ≤ r + 1 → r ≤ n → m ≡ n + 1 → s ≤ m
+one-retry h k e = omega arith
+
+next-spaced : (n m now rto : ℕ) → n * m ≤ now → m ≤ rto → (n + 1) * m ≤ now + rto
+next-spaced n m now rto h k = omega arith
 
 doubled-low : (rto : ℕ) → minRto ≤ rto → minRto ≤ min (2 * rto) maxRto
 doubled-low rto h = omega arith
@@ -118,12 +124,12 @@ ack-again r d r₀ d₀ acks e h = omega arith
 plus-one : (a b c : ℕ) {d : ℕ} → a ≡ b + c → d ≡ a + 1 → d ≡ b + (c + 1)
 plus-one a b c e f = omega arith
 
--- fewer retries than the limit, while the time is within its bound
-pub retries-few : (r m d now limit most : ℕ) → r * m ≤ d → d ≤ now → now ≤ most → most < limit * m → r < limit
-retries-few r m d now limit most h i j k = by-test (leb limit r) refl
+-- below a limit that the time doesn't reach
+spaced-few : (r n m d now limit most : ℕ) → r ≤ n → (n + 1) * m ≤ d → d ≤ now → now ≤ most → most < limit * m → r < limit
+spaced-few r n m d now limit most f h i j k = by-test (leb limit r) refl
   where
     by-test : (b : Bool) → leb limit r ≡ b → r < limit
-    by-test true e = let p = mul-le-mul-right m (leb-true limit r e) in absurd (omega arith)
+    by-test true e = let l = leb-true limit r e in let p = mul-le-mul-right m (le-trans l f) in absurd (omega arith)
     by-test false e = leb-false limit r e
 
 -- ---- the rules
@@ -144,7 +150,9 @@ module _ {limit now : ℕ} {from m : Moment} (a : Along limit now from m) where
           not-overdue = set-not-overdue now rto s;
           not-far = set-not-far now rto s;
           limit-is = f .limit-is;
-          retries = set-least now rto s _ (no-retries (retriesOf (v .sender .state)) minRto (now + e .«current_rto») (f .retries));
+          retries = no-retries (f .retries);
+          paced = a .kept .paced;
+          spaced = set-least now rto s _ (next-spaced (m .again) minRto now rto (a .kept .paced) low);
         };
         chain = record {
           packets = h .packets;
@@ -163,7 +171,7 @@ module _ {limit now : ℕ} {from m : Moment} (a : Along limit now from m) where
       let k = a .kept in
       let h = a .chain in
       record {
-        kept = record { limits = k .limits; low = k .low; high = k .high; runs = k .runs; not-overdue = k .not-overdue; not-far = k .not-far; limit-is = k .limit-is; retries = k .retries };
+        kept = record { limits = k .limits; low = k .low; high = k .high; runs = k .runs; not-overdue = k .not-overdue; not-far = k .not-far; limit-is = k .limit-is; retries = k .retries; paced = k .paced; spaced = k .spaced };
         chain = record {
           packets = h .packets;
           resent = h .resent;
@@ -208,7 +216,9 @@ module _ {limit now : ℕ} {from m : Moment} (a : Along limit now from m) where
             not-overdue = λ d g. k .not-overdue d (sym (e .0) ∙ g);
             not-far = λ d g. k .not-far d (sym (e .0) ∙ g);
             limit-is = f .limit-is;
-            retries = λ d g. no-retries (retriesOf (v .sender .state)) minRto d (f .retries);
+            retries = no-retries (f .retries);
+            paced = k .paced;
+            spaced = λ d g. k .spaced d (sym (e .0) ∙ g);
           }
 
       set : timerOf c .deadline ≡ At (now + m .estimator .«current_rto») → Kept limit now then
@@ -222,7 +232,9 @@ module _ {limit now : ℕ} {from m : Moment} (a : Along limit now from m) where
             not-overdue = set-not-overdue now (m .estimator .«current_rto») e;
             not-far = set-not-far now (m .estimator .«current_rto») e;
             limit-is = f .limit-is;
-            retries = λ d g. no-retries (retriesOf (v .sender .state)) minRto d (f .retries);
+            retries = no-retries (f .retries);
+            paced = k .paced;
+            spaced = set-least now (m .estimator .«current_rto») e _ (next-spaced (m .again) minRto now (m .estimator .«current_rto») (k .paced) (k .low));
           }
 
   -- (5.4) to (5.6)
@@ -234,6 +246,7 @@ module _ {limit now : ℕ} {from m : Moment} (a : Along limit now from m) where
       let rto : e .«current_rto» ≡ min (2 * m .estimator .«current_rto») maxRto = ap (λ (y : RtoTimer). y .rto) t in
       let s : timerOf c .deadline ≡ At (now + min (2 * m .estimator .«current_rto») maxRto) = ap (λ (y : RtoTimer). y .deadline) t in
       let least = doubled-low (m .estimator .«current_rto») (a .kept .low) in
+      let served : (m .again + 1) * minRto ≤ now = due-at (timerOf (m .clock) .deadline) now x (λ d p q. le-trans (a .kept .spaced d p) q) in
       let most : min (2 * m .estimator .«current_rto») maxRto ≤ maxRto = omega arith in
       record {
         kept = record {
@@ -244,8 +257,9 @@ module _ {limit now : ℕ} {from m : Moment} (a : Along limit now from m) where
           not-overdue = set-not-overdue now doubled s;
           not-far = rw rto (set-not-far now doubled s);
           limit-is = i;
-          retries = set-least now doubled s _
-              (due-at (timerOf (m .clock) .deadline) now x (λ d p q. one-retry (retriesOf (m .sender .sender .state)) (retriesOf (v .sender .state)) minRto d now (min (2 * m .estimator .«current_rto») maxRto) r (a .kept .retries d p) q least));
+          retries = one-retry r (a .kept .retries) g;
+          paced = rw g served;
+          spaced = rw g (set-least now doubled s _ (next-spaced (m .again + 1) minRto now doubled served least));
         };
         chain = record {
           packets = a .chain .packets + 1;
@@ -274,7 +288,9 @@ module _ {limit now : ℕ} {from m : Moment} (a : Along limit now from m) where
           not-overdue = λ d g. absurd (at-unset (sym u ∙ g));
           not-far = λ d g. absurd (at-unset (sym u ∙ g));
           limit-is = k .limit-is;
-          retries = λ d g. absurd (at-unset (sym u ∙ g));
+          retries = k .retries;
+          paced = k .paced;
+          spaced = λ d g. absurd (at-unset (sym u ∙ g));
         };
         chain = record {
           packets = h .packets;
@@ -288,9 +304,10 @@ module _ {limit now : ℕ} {from m : Moment} (a : Along limit now from m) where
         };
       }
 
-  -- the retries are below a limit that the time doesn't reach
+  -- so the limit isn't met
   pub retries-left : (most : ℕ) → expiredAt (timerOf (m .clock) .deadline) now ≡ true → now ≤ most → most < limit * minRto → retriesOf (m .sender .sender .state) < limit
-  retries-left most x h p = due-at (timerOf (m .clock) .deadline) now x (λ d e q. retries-few (retriesOf (m .sender .sender .state)) minRto d now limit most (a .kept .retries d e) q h p)
+  retries-left most x h p =
+      due-at (timerOf (m .clock) .deadline) now x (λ d e q. spaced-few (retriesOf (m .sender .sender .state)) (m .again) minRto d now limit most (a .kept .retries) (a .kept .spaced d e) q h p)
 
 -- a later moment, not past the deadline
 pub kept-later : {limit now : ℕ} {m : Moment} → Kept limit now m → (later : ℕ) → now ≤ later → ((d : ℕ) → timerOf (m .clock) .deadline ≡ At d → later ≤ d) → Kept limit later m
@@ -304,6 +321,8 @@ kept-later {now = now} {m = m} k later h p =
       not-far = λ d e. far d now later (m .estimator .«current_rto») (k .not-far d e) h;
       limit-is = k .limit-is;
       retries = k .retries;
+      paced = le-trans (k .paced) h;
+      spaced = k .spaced;
     }
   where
     far : (d now later most : ℕ) → d ≤ now + most → now ≤ later → d ≤ later + most

@@ -34,7 +34,7 @@ use Rattle.transfer.specs.declared.Ceilings.{Ceilings}
 use Rattle.transfer.proofs.Laws.{not-over, run-over, start-plan, start-good}
 use Rattle.edition_clock.specs.Section5.{minRto}
 use Rattle.edition_clock.specs.AlongARun.{StepFollows, OnTheClock, Reached, start, next, LastStep}
-use Rattle.edition_clock.proofs.Senders.{NotSelective, new-limit}
+use Rattle.edition_clock.proofs.Senders.{NotSelective, new-limit, new-retries}
 use Rattle.edition_clock.proofs.Expiry.{EditionLimits}
 use Rattle.edition_clock.proofs.Moments.{Kept}
 use Rattle.edition_clock.proofs.Steps.{ofRun, Stepped, step-along}
@@ -110,7 +110,9 @@ module _ (k : Ceilings) (c : TransferConfig) (g : Given) (l : Lent) (h : CanStar
         not-overdue = λ d f. absurd (unset-at f);
         not-far = λ d f. absurd (unset-at f);
         limit-is = new-limit (c .protocol) (c .«window_size») (k .retries) (l .senderStore) (setup .not-selective);
-        retries = λ d f. absurd (unset-at f);
+        retries = new-retries (c .protocol) (c .«window_size») (k .retries) (l .senderStore);
+        paced = omega arith;
+        spaced = λ d f. absurd (unset-at f);
       }
 
   -- Doubles and Factors say what the doubles given are by their types; the retries that `run_transfer` allows are enough
@@ -131,7 +133,7 @@ module _ (k : Ceilings) (c : TransferConfig) (g : Given) (l : Lent) (h : CanStar
     reached (next {u = u} r go) = record { good = step-good (start-plan k c g l h) (reached r .good) go; kept = stepped u (reached r) go .kept }
 
     pub edition-run : {u : RunState} → Reached (planFor k c g) g (newRun k c l) u → OnTheClock u
-    edition-run r = let b = reached r .kept in record { low = b .low; high = b .high; runs = b .runs; not-overdue = b .not-overdue; not-far = b .not-far }
+    edition-run r = let b = reached r .kept in record { low = b .low; high = b .high; runs = b .runs; not-overdue = b .not-overdue; not-far = b .not-far; paced = b .paced }
 
     pub edition-steps : {u : RunState} → Reached (planFor k c g) g (newRun k c l) u → step (planFor k c g) g u .course ≡ course.Going → StepFollows u (step (planFor k c g) g u .state)
     edition-steps {u} r go = stepped u (reached r) go .follows

@@ -2,16 +2,14 @@
 use Prim.Native.Nat.{ℕ, _+_, _≤_, _<_, min}
 use native.Mathlib.Omega.{arith}
 use mathlib.Core.Path.{_≡_, refl, sym, ap, _∙_, subst}
-use mathlib.Core.Bool.{Bool, true, false, cond}
+use mathlib.Core.Bool.{true}
 use mathlib.Core.List.{List, [], _∷_}
-use lib.Dec.{ltb}
 use borrow.Author.Tests.{lt-ltb, ltb-true}
 use Rattle.window.specs.State.{outstanding}
 use Rattle.window.specs.Slots as slots
-use Rattle.window.specs.Slots.{hold, markRetransmitted, datagramFor}
+use Rattle.window.specs.Slots.{datagramFor}
 use Rattle.window.specs.Sending.{SendExit}
 use Rattle.window.specs.Resending.{markFrom}
-use Rattle.window.specs.declared.SendWindow.{SendWindow}
 use Rattle.stop_and_wait.specs.Sender as stopAndWait
 use Rattle.stop_and_wait.specs.declared.StopAndWaitSender.{StopAndWaitSender}
 use Rattle.session.specs.Sending.{SenderEnd, senderIn, goBackNEnd, stopAndWaitEnd, windowOf, windowEnd, hasOutstanding, newSender, sendChunkIn, sendChunk, acknowledgedIn, acknowledged, Resent, resent, resentNumbers}
@@ -45,6 +43,12 @@ unfolding newSender
 new-limit protocol.StopAndWait w limit store i = refl
 new-limit protocol.GoBackN w limit store i = tt
 new-limit protocol.SelectiveRepeat w limit store i = i
+
+pub new-retries : (p : ProtocolType) (w limit : ℕ) (store : List ℕ) → retriesOf (newSender p w limit store .sender .state) ≤ 0
+unfolding newSender
+new-retries protocol.StopAndWait w limit store = omega arith
+new-retries protocol.GoBackN w limit store = omega arith
+new-retries protocol.SelectiveRepeat w limit store = omega arith
 
 -- no retries so far
 pub record Fresh (limit : ℕ) (s : SenderState) : Type 0 where

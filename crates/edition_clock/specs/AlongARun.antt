@@ -1,5 +1,5 @@
 -- RFC 6298, section 5, and document 01, "The edition clock", along a run.
-use Prim.Native.Nat.{ℕ, _+_, _-_, _≤_}
+use Prim.Native.Nat.{ℕ, _+_, _-_, _*_, _≤_}
 use mathlib.Core.Path.{_≡_}
 use mathlib.Core.Bool.{true}
 use mathlib.Core.List.{[], _∷_, _++_}
@@ -39,14 +39,15 @@ pub record StepFollows (s u : RunState) : Type 0 where
   pub resent : u .resends .«retx_submitted» ≡ s .resends .«retx_submitted» + again
   pub acknowledged : newAcks u ≡ newAcks s + acks
 
--- Between steps: the RTO is within its limits, the timer runs while something is outstanding, and it is neither overdue
--- nor set further ahead than the RTO.
+-- Between steps: the RTO is within its limits, the timer runs while something is outstanding, it is neither overdue nor
+-- set further ahead than the RTO, and at most one packet a second was sent again.
 pub record OnTheClock (s : RunState) : Type 0 where
   pub low : minRto ≤ timerIn s .rto
   pub high : timerIn s .rto ≤ maxRto
   pub runs : hasOutstanding (s .arrivals .sender .sender) ≡ true → active (timerIn s .deadline) ≡ true
   pub not-overdue : (d : ℕ) → timerIn s .deadline ≡ At d → s .time ≤ d
   pub not-far : (d : ℕ) → timerIn s .deadline ≡ At d → d ≤ s .time + timerIn s .rto
+  pub paced : s .resends .«retx_submitted» * minRto ≤ s .time
 
 -- ---- an expiry, from s to u. (5.4): one packet more, of the earliest number outstanding, marked as sent again
 pub record EarliestAgain (s u : FireState) : Type 0 where
