@@ -1,0 +1,9 @@
+pub mod Rules
+pub mod Senders
+pub mod Expiry
+pub mod Moments
+pub mod Steps
+pub mod Run
+pub mod Departures
+pub mod Examples
+pub mod Laws

@@ -1,0 +1,2 @@
+pub mod Section5
+pub mod AlongARun
