@@ -28,7 +28,7 @@ use Rattle.step.specs.declared.Plan.{Plan}
 use Rattle.step.specs.declared.Course.the-variants as course
 use Rattle.step.proofs.Laws.{step-good}
 use Rattle.transfer.specs.Start.{timingOf, planFor, newRun, startOf}
-use Rattle.transfer.specs.Run.{isOver, runAtMost, run, stepsLeft}
+use Rattle.transfer.specs.Run.{isOver, runAtMostFor, runAtMost, runFor, run, stepsLeft}
 use Rattle.transfer.specs.Transfer.{defaultCeilings}
 use Rattle.transfer.specs.declared.Ceilings.{Ceilings}
 use Rattle.transfer.proofs.Laws.{not-over, run-over, start-plan, start-good}
@@ -45,7 +45,7 @@ reached-then go start = next start go
 reached-then go (next r more) = next (reached-then go r) more
 
 pub run-last : (p : Plan) (g : Given) (s : RunState) → LastStep p g s (run p g s)
-unfolding run runAtMost
+unfolding runFor runAtMostFor
 run-last p g s = most (suc (stepsLeft p s)) s (run-over p g s)
   where
     by-course : (n : ℕ) (s : RunState) → (b : Bool) → isOver (step p g s .course) ≡ b → isOver (cond b (step p g s) (runAtMost n p g (step p g s .state)) .course) ≡ true

@@ -18,7 +18,7 @@ use Rattle.step.specs.declared.End.{End}
 use Rattle.step.specs.declared.End.the-variants as end
 use Rattle.step.specs.declared.Course.the-variants.{Going, Over}
 use Rattle.step.proofs.Laws.{arrives, step-is, settle-cases, afterBoth, bothExit, can-arrive, arrived-good, good-fire, can-send-due, step-good}
-use Rattle.transfer.specs.Run.{isOver, runAtMost, run, stepsLeft}
+use Rattle.transfer.specs.Run.{isOver, runAtMostFor, runAtMost, runFor, run, stepsLeft}
 use Rattle.transfer.specs.Transfer.{endOf}
 use Rattle.transfer.proofs.Runs.{not-over}
 use Rattle.sizes.proofs.Sending.{SentAt, FireGoes, send-due-sized}
@@ -120,7 +120,7 @@ module _ {p : Plan} {g : Given} {s : RunState} (plan : GoodPlan p g) (good : Goo
 -- ---- the run
 module _ (p : Plan) (g : Given) (plan : GoodPlan p g) where
   most-ended : (n : ℕ) (s : RunState) → GoodRun p g s → Sized p g s → endOf (runAtMost n p g s .course) ≡ end.Ended
-  unfolding runAtMost
+  unfolding runAtMostFor
   most-ended zero s good q = refl
   most-ended (suc n) s good q = by-course (isOver (step p g s .course)) refl (λ more sized. most-ended n (step p g s .state) more sized)
     where
@@ -130,5 +130,5 @@ module _ (p : Plan) (g : Given) (plan : GoodPlan p g) where
       by-course false e more = let c = not-over (step p g s .course) e in more (step-good plan good c) (step-fine plan good q .goes c)
 
   pub run-ended : (s : RunState) → GoodRun p g s → Sized p g s → endOf (run p g s .course) ≡ end.Ended
-  unfolding run
+  unfolding runFor
   run-ended s good q = most-ended (suc (stepsLeft p s)) s good q

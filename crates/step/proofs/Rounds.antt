@@ -13,7 +13,7 @@ use Rattle.arrivals.specs.Arrivals.{ArrivalState, ArrivalExit, arrivalExit, ser
 use Rattle.departures.specs.Departures.{sendDue}
 use Rattle.step.specs.State.{Given, chunksFor, RunState, runState, fireOf, withArrivals, withFired, exhausted}
 use Rattle.step.specs.Settle.{StepExit, stepExit, over, unlessStopped, settle}
-use Rattle.step.specs.Step.{roundLess, step}
+use Rattle.step.specs.Step.{roundLess, stepFor, step}
 use Rattle.step.specs.declared.Plan.{Plan}
 use Rattle.step.specs.declared.End.the-variants as end
 use Rattle.step.specs.declared.Course.the-variants.{Going}
@@ -51,7 +51,7 @@ module _ (p : Plan) (g : Given) (s : RunState) where
   arrives = serveArrivals (p .timing) (g .reverseRolls) (p .«total_chunks») (s .time) (s .arrivals)
 
   pub step-is : step p g s ≡ cond (eqb (s .rounds) 0) (over (exhausted s) end.Ended (s .time)) (afterArriving arrives)
-  unfolding step
+  unfolding stepFor
   step-is = refl
 
   pub no-round : eqb (s .rounds) 0 ≡ true → {y : StepExit} → y ≡ over (exhausted s) end.Ended (s .time) → y ≡ step p g s

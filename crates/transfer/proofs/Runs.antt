@@ -12,7 +12,7 @@ use Rattle.step.specs.declared.Plan.{Plan}
 use Rattle.step.specs.declared.Course.{Course}
 use Rattle.step.specs.declared.Course.the-variants.{Going, Over}
 use Rattle.step.proofs.Laws.{step-good}
-use Rattle.transfer.specs.Run.{isOver, runAtMost, stepsLeft, run}
+use Rattle.transfer.specs.Run.{isOver, runAtMostFor, runAtMost, stepsLeft, runFor, run}
 use Rattle.transfer.proofs.Steps.{step-falls}
 
 pub not-over : (c : Course) → isOver c ≡ false → c ≡ Going
@@ -30,11 +30,11 @@ module _ (p : Plan) (g : Given) where
   steps-fall s e = step-falls p g s (not-over (step p g s .course) e)
 
   at-over : (n : ℕ) (s : RunState) → isOver (step p g s .course) ≡ true → runAtMost (suc n) p g s ≡ step p g s
-  unfolding runAtMost
+  unfolding runAtMostFor
   at-over n s e = ap (λ (b : Bool). cond b (step p g s) (runAtMost n p g (next s))) e
 
   at-going : (n : ℕ) (s : RunState) → isOver (step p g s .course) ≡ false → runAtMost (suc n) p g s ≡ runAtMost n p g (next s)
-  unfolding runAtMost
+  unfolding runAtMostFor
   at-going n s e = ap (λ (b : Bool). cond b (step p g s) (runAtMost n p g (next s))) e
 
   -- ---- more steps than are left change nothing
@@ -59,16 +59,16 @@ module _ (p : Plan) (g : Given) where
   ends (suc n) s l = ends-by n s (isOver (step p g s .course)) refl (λ e. ends n (next s) (fewer _ _ n (steps-fall s e) l))
 
   pub run-over : (s : RunState) → isOver (run p g s .course) ≡ true
-  unfolding run
+  unfolding runFor
   run-over s = ends (suc (stepsLeft p s)) s (omega arith)
 
   -- ---- a step of a run
   pub run-ends : (s : RunState) → isOver (step p g s .course) ≡ true → run p g s ≡ step p g s
-  unfolding run
+  unfolding runFor
   run-ends s e = at-over (stepsLeft p s) s e
 
   pub run-goes : (s : RunState) → isOver (step p g s .course) ≡ false → run p g s ≡ run p g (step p g s .state)
-  unfolding run
+  unfolding runFor
   run-goes s e =
       let l = steps-fall s e in
       at-going (stepsLeft p s) s e ∙ steps-enough (suc (stepsLeft p (next s))) (stepsLeft p s) (next s) (omega arith) (omega (arith, l))

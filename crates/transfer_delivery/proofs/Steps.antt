@@ -16,7 +16,7 @@ use Rattle.step.specs.declared.Plan.{Plan}
 use Rattle.step.specs.declared.End.the-variants as end
 use Rattle.step.specs.declared.Course.the-variants.{Going}
 use Rattle.step.proofs.Laws.{arrives, step-is, settle-cases, afterBoth, bothExit, step-good}
-use Rattle.transfer.specs.Run.{isOver, runAtMost, run, stepsLeft}
+use Rattle.transfer.specs.Run.{isOver, runAtMostFor, runAtMost, runFor, run, stepsLeft}
 use Rattle.transfer.proofs.Runs.{not-over}
 
 abbrev pub Kept : Type 1
@@ -51,7 +51,7 @@ module _ (Q : Kept) (p : Plan) (g : Given) (s : RunState) where
 -- whatever every step keeps, a run keeps
 module _ (Q : Kept) (p : Plan) (g : Given) (plan : GoodPlan p g) (step-kept : (s : RunState) → GoodRun p g s → At Q s → At Q (step p g s .state)) where
   run-most : (n : ℕ) (s : RunState) → GoodRun p g s → At Q s → At Q (runAtMost n p g s .state)
-  unfolding runAtMost
+  unfolding runAtMostFor
   run-most zero s good q = q
   run-most (suc n) s good q = by-course (isOver (step p g s .course)) refl (λ more. run-most n (step p g s .state) more (step-kept s good q))
     where
@@ -60,5 +60,5 @@ module _ (Q : Kept) (p : Plan) (g : Given) (plan : GoodPlan p g) (step-kept : (s
       by-course false e more = more (step-good plan good (not-over (step p g s .course) e))
 
   pub run-keeps : (s : RunState) → GoodRun p g s → At Q s → At Q (run p g s .state)
-  unfolding run
+  unfolding runFor
   run-keeps s good q = run-most (suc (stepsLeft p s)) s good q
