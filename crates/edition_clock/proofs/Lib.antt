@@ -6,4 +6,5 @@ pub mod Steps
 pub mod Run
 pub mod Departures
 pub mod Examples
+pub mod OneLoss
 pub mod Laws
