@@ -3,6 +3,7 @@ pub mod Senders
 pub mod Expiry
 pub mod Moments
 pub mod Steps
+pub mod Ends
 pub mod Run
 pub mod Departures
 pub mod Examples
