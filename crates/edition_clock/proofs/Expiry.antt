@@ -104,6 +104,14 @@ module _ (limit : ℕ) (rolls : List Float) (now : ℕ) (s : FireState) (below :
           ∙ ap (λ (ps : List (List ℕ)). resending limit Edition rolls now ps (fireState marked (s .estimator) (s .resends) halted)) (a .packets)
           ∙ ap (afterResending marked backed) (one-again limit rolls (backed .«current_rto») now (oldestOutstanding (marked .sender)) base packet (s .resends) halted (datagram-number (windowEnd marked) base) below)
 
+      pub expiry-resent : fires .state .resends .«retx_submitted» ≡ s .resends .«retx_submitted» + 1
+      unfolding retransmit
+      expiry-resent = ap (λ (x : FireExit). x .state .resends .«retx_submitted») expiry-is
+
+      -- (5.5)
+      pub expiry-5-5 : EditionLimits (s .estimator .config) → minRto ≤ s .estimator .«current_rto» → fires .state .estimator .«current_rto» ≡ min (2 * s .estimator .«current_rto») maxRto
+      expiry-5-5 l h = ap (λ (x : FireExit). x .state .estimator .«current_rto») expiry-is ∙ timeout-5-5 (s .estimator) l h
+
       module _ (g : isGoing (fires .stop) ≡ true) where
         carried : submit Edition rolls again packet halted .stop ≡ Going
         unfolding retransmit
@@ -123,10 +131,6 @@ module _ (limit : ℕ) (rolls : List Float) (now : ℕ) (s : FireState) (below :
         pub expiry-written : fires .state .outgoing .written ≡ s .outgoing .written + 1
         unfolding retransmit
         expiry-written = ap (λ (x : FireExit). x .state .outgoing .written) expiry-is ∙ going-written Edition rolls again packet halted carried
-
-        pub expiry-resent : fires .state .resends .«retx_submitted» ≡ s .resends .«retx_submitted» + 1
-        unfolding retransmit
-        expiry-resent = ap (λ (x : FireExit). x .state .resends .«retx_submitted») expiry-is
 
         -- (5.5), (5.6)
         pub expiry-5-6 : EditionLimits (s .estimator .config) → minRto ≤ s .estimator .«current_rto»

@@ -3,7 +3,9 @@ pub mod Senders
 pub mod Expiry
 pub mod Moments
 pub mod Steps
+pub mod Ends
 pub mod Run
 pub mod Departures
 pub mod Examples
+pub mod OneLoss
 pub mod Laws

@@ -112,7 +112,7 @@ one-retry h k e = omega arith
 next-spaced : (n m now rto : ℕ) → n * m ≤ now → m ≤ rto → (n + 1) * m ≤ now + rto
 next-spaced n m now rto h k = omega arith
 
-doubled-low : (rto : ℕ) → minRto ≤ rto → minRto ≤ min (2 * rto) maxRto
+pub doubled-low : (rto : ℕ) → minRto ≤ rto → minRto ≤ min (2 * rto) maxRto
 doubled-low rto h = omega arith
 
 ack-more : (r d r₀ d₀ acks : ℕ) → r - d ≡ r₀ - d₀ + acks → d ≤ r → r + 1 - d ≡ r₀ - d₀ + (acks + 1)
@@ -158,7 +158,7 @@ module _ {limit now : ℕ} {from m : Moment} (a : Along limit now from m) where
           packets = h .packets;
           resent = h .resent;
           acks = h .acks + 1;
-          follows = subst (λ (x : RtoTimer). Follows now (timerOn from) x (h .packets) (h .resent) (h .acks + 1)) (sym t) (acked outstanding (e .«current_rto») (h .follows));
+          follows = subst (λ (x : RtoTimer). Follows now (timerOn from) x (h .packets) (h .resent) (h .acks + 1)) (sym t) (acked outstanding (e .«current_rto») low high (h .follows));
           written = h .written;
           again = h .again;
           acknowledged = ack-more (m .received) (m .duplicates) (from .received) (from .duplicates) (h .acks) (h .acknowledged) (h .fewer);
@@ -237,6 +237,10 @@ module _ {limit now : ℕ} {from m : Moment} (a : Along limit now from m) where
             spaced = set-least now (m .estimator .«current_rto») e _ (next-spaced (m .again) minRto now (m .estimator .«current_rto») (k .paced) (k .low));
           }
 
+  -- an expiry is a second after the last at least
+  pub expiry-served : expiredAt (timerOf (m .clock) .deadline) now ≡ true → (m .again + 1) * minRto ≤ now
+  expiry-served x = due-at (timerOf (m .clock) .deadline) now x (λ d p q. le-trans (a .kept .spaced d p) q)
+
   -- (5.4) to (5.6)
   pub expired-along : (v : SenderEnd) (e : RtoEstimator) (c : ClockState) (written again : ℕ) → expiredAt (timerOf (m .clock) .deadline) now ≡ true → LimitIs limit (v .sender .state)
       → retriesOf (v .sender .state) ≤ retriesOf (m .sender .sender .state) + 1 → EditionLimits (e .config) → timerWith c (e .«current_rto») ≡ onExpiry now (timerOn m) → written ≡ m .written + 1 → again ≡ m .again + 1
@@ -246,7 +250,7 @@ module _ {limit now : ℕ} {from m : Moment} (a : Along limit now from m) where
       let rto : e .«current_rto» ≡ min (2 * m .estimator .«current_rto») maxRto = ap (λ (y : RtoTimer). y .rto) t in
       let s : timerOf c .deadline ≡ At (now + min (2 * m .estimator .«current_rto») maxRto) = ap (λ (y : RtoTimer). y .deadline) t in
       let least = doubled-low (m .estimator .«current_rto») (a .kept .low) in
-      let served : (m .again + 1) * minRto ≤ now = due-at (timerOf (m .clock) .deadline) now x (λ d p q. le-trans (a .kept .spaced d p) q) in
+      let served = expiry-served x in
       let most : min (2 * m .estimator .«current_rto») maxRto ≤ maxRto = omega arith in
       record {
         kept = record {

@@ -22,6 +22,7 @@ use Rattle.setup.specs.declared.ClockChoice.{ClockChoice}
 use Rattle.setup.specs.declared.ClockChoice.the-variants as choice
 use Rattle.setup.specs.declared.TransferConfig.{TransferConfig}
 use Rattle.step.specs.State.{Given, RunState, Lent}
+use Rattle.step.specs.Settle.{StepExit}
 use Rattle.step.specs.Step.{step}
 use Rattle.step.specs.Good.{GoodRun}
 use Rattle.step.specs.declared.Plan.{Plan}
@@ -33,11 +34,12 @@ use Rattle.transfer.specs.Transfer.{defaultCeilings}
 use Rattle.transfer.specs.declared.Ceilings.{Ceilings}
 use Rattle.transfer.proofs.Laws.{not-over, run-over, start-plan, start-good}
 use Rattle.edition_clock.specs.Section5.{minRto}
-use Rattle.edition_clock.specs.AlongARun.{StepFollows, OnTheClock, Reached, start, next, LastStep}
+use Rattle.edition_clock.specs.AlongARun.{StepFollows, WithinLimits, OnTheClock, Reached, start, next, LastStep}
 use Rattle.edition_clock.proofs.Senders.{NotSelective, new-limit, new-retries}
 use Rattle.edition_clock.proofs.Expiry.{EditionLimits}
 use Rattle.edition_clock.proofs.Moments.{Kept}
 use Rattle.edition_clock.proofs.Steps.{ofRun, Stepped, step-along}
+use Rattle.edition_clock.proofs.Ends.{step-within}
 
 -- ---- every run is steps that go on, and a last one
 reached-then : {p : Plan} {g : Given} {s u : RunState} → step p g s .course ≡ course.Going → Reached p g (step p g s .state) u → Reached p g s u
@@ -133,10 +135,17 @@ module _ (k : Ceilings) (c : TransferConfig) (g : Given) (l : Lent) (h : CanStar
     reached (next {u = u} r go) = record { good = step-good (start-plan k c g l h) (reached r .good) go; kept = stepped u (reached r) go .kept }
 
     pub edition-run : {u : RunState} → Reached (planFor k c g) g (newRun k c l) u → OnTheClock u
-    edition-run r = let b = reached r .kept in record { low = b .low; high = b .high; runs = b .runs; not-overdue = b .not-overdue; not-far = b .not-far; paced = b .paced }
+    edition-run r = let b = reached r .kept in record { limits = record { low = b .low; high = b .high; paced = b .paced }; runs = b .runs; not-overdue = b .not-overdue; not-far = b .not-far }
 
     pub edition-steps : {u : RunState} → Reached (planFor k c g) g (newRun k c l) u → step (planFor k c g) g u .course ≡ course.Going → StepFollows u (step (planFor k c g) g u .state)
     edition-steps {u} r go = stepped u (reached r) go .follows
+
+    -- at the end, however it ends
+    pub edition-end : WithinLimits (run (planFor k c g) g (newRun k c l) .state)
+    edition-end =
+        let x = run-last (planFor k c g) g (newRun k c l) in
+        let b = reached (x .reached) in
+        subst (λ (y : StepExit). WithinLimits (y .state)) (sym (x .last)) (step-within (k .retries) patient timed (start-plan k c g l h) (b .good) (b .kept))
 
 -- of `run_transfer`'s own ceilings
 pub default-patient : maxDuration < defaultCeilings .retries * minRto

@@ -82,7 +82,7 @@ ofAcks written again s = moment (s .sender) (s .estimator) (s .clock) written ag
 abbrev ofArrivals : ℕ → ℕ → ArrivalState → Moment
 ofArrivals written again s = moment (s .sender) (s .estimator) (s .clock) written again (s .received) (s .duplicates)
 
-abbrev ofFire : ℕ → ℕ → FireState → Moment
+abbrev pub ofFire : ℕ → ℕ → FireState → Moment
 ofFire received duplicates s = moment (s .sender) (s .estimator) (s .outgoing .clock) (s .outgoing .written) (s .resends .«retx_submitted») received duplicates
 
 abbrev ofPump : RtoEstimator → ℕ → ℕ → ℕ → PumpState → Moment
@@ -156,7 +156,7 @@ module _ (limit now : ℕ) (from : Moment) (rolls : List Float) (received duplic
           (subst (λ (y : FireExit). LimitIs limit (y .state .sender .sender .state)) (sym eq) (a .limit-is))
           (subst (λ (y : FireExit). retriesOf (y .state .sender .sender .state) ≤ retriesOf (s .sender .sender .state) + 1) (sym eq) (a .retries))
           (subst (λ (y : FireExit). EditionLimits (y .state .estimator .config)) (sym eq) (backed-limits (s .estimator) (k .limits)))
-          (expiry-5-6 top rolls now s c x o a going (k .limits) (k .low)) (expiry-written top rolls now s c x o a going) (expiry-resent top rolls now s c x o a going)
+          (expiry-5-6 top rolls now s c x o a going (k .limits) (k .low)) (expiry-written top rolls now s c x o a going) (expiry-resent top rolls now s c x o a)
 
       by-outstanding : ceilingMet top (s .resends) ≡ false → expiredAt (timerOf (s .outgoing .clock) .deadline) now ≡ true → (b : Bool) → hasOutstanding (s .sender .sender) ≡ b → After
       by-outstanding c x true o going = resent c x o going
@@ -218,7 +218,7 @@ module _ (limit : ℕ) (patient : maxDuration < limit * minRto) {p : Plan} {g : 
   abbrev after : RunState
   after = withArrivals (roundLess s) (arrives p g s .state)
 
-  arrived : Along limit (s .time) (ofRun s) (ofRun after)
+  pub arrived : Along limit (s .time) (ofRun s) (ofRun after)
   arrived = arrivals-along limit (s .time) (ofRun s) (s .written) (s .resends .«retx_submitted») (p .timing) edition (g .reverseRolls) (p .«total_chunks») (s .arrivals) (can-arrive good) (along-start k (good .duplicates))
 
   both : isGoing (bothExit p g s .stop) ≡ true → Along limit (s .time) (ofRun s) (ofRun (afterBoth p g s))

@@ -39,15 +39,19 @@ pub record StepFollows (s u : RunState) : Type 0 where
   pub resent : u .resends .«retx_submitted» ≡ s .resends .«retx_submitted» + again
   pub acknowledged : newAcks u ≡ newAcks s + acks
 
--- Between steps: the RTO is within its limits, the timer runs while something is outstanding, it is neither overdue nor
--- set further ahead than the RTO, and at most one packet a second was sent again.
-pub record OnTheClock (s : RunState) : Type 0 where
+-- Between steps and at the end: the RTO is within its limits, and at most one packet a second was sent again.
+pub record WithinLimits (s : RunState) : Type 0 where
   pub low : minRto ≤ timerIn s .rto
   pub high : timerIn s .rto ≤ maxRto
+  pub paced : s .resends .«retx_submitted» * minRto ≤ s .time
+
+-- Between steps: the timer runs while something is outstanding, and is neither overdue nor set further ahead than the
+-- RTO.
+pub record OnTheClock (s : RunState) : Type 0 where
+  pub limits : WithinLimits s
   pub runs : hasOutstanding (s .arrivals .sender .sender) ≡ true → active (timerIn s .deadline) ≡ true
   pub not-overdue : (d : ℕ) → timerIn s .deadline ≡ At d → s .time ≤ d
   pub not-far : (d : ℕ) → timerIn s .deadline ≡ At d → d ≤ s .time + timerIn s .rto
-  pub paced : s .resends .«retx_submitted» * minRto ≤ s .time
 
 -- ---- an expiry, from s to u. (5.4): one packet more, of the earliest number outstanding, marked as sent again
 pub record EarliestAgain (s u : FireState) : Type 0 where

@@ -1,2 +1,3 @@
 pub mod Section5
 pub mod AlongARun
+pub mod OneLoss

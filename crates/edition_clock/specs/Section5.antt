@@ -1,6 +1,6 @@
 -- RFC 6298, section 5, over what its rules speak of: the timer, which runs while it has a deadline, and the RTO. How an
 -- RTO comes of a sample is section 2's. Document 01, "The edition clock", departs from (5.2).
-use Prim.Native.Nat.{ℕ, _+_, _*_, min}
+use Prim.Native.Nat.{ℕ, _+_, _*_, _≤_, min}
 use mathlib.Core.Path.{_≡_}
 use mathlib.Core.Bool.{Bool, true, cond}
 use Rattle.timer.specs.Timer.{active, expiredAt}
@@ -29,8 +29,8 @@ started now rto = rtoTimer (At (now + rto)) rto
 abbrev pub onSent : ℕ → RtoTimer → RtoTimer
 onSent now x = cond (active (x .deadline)) x (started now (x .rto))
 
--- An ACK of new data; `rto` is the current RTO, after its sample. (5.2) turns the timer off where nothing is left
--- outstanding; document 01 restarts it there too.
+-- An ACK of new data; `rto` is the current RTO, after its sample if it gives one. (5.2) turns the timer off where
+-- nothing is left outstanding; document 01 restarts it there too.
 abbrev pub onLastAck : ℕ → ℕ → RtoTimer
 onLastAck now rto = started now rto
 
@@ -52,7 +52,7 @@ pub data Follows (now : ℕ) (x : RtoTimer) : RtoTimer → ℕ → ℕ → ℕ �
   none : Follows now x x 0 0 0
   sent : {y : RtoTimer} {packets again acks : ℕ} → Follows now x y packets again acks
       → Follows now x (onSent now y) (packets + 1) again acks
-  acked : {y : RtoTimer} {packets again acks : ℕ} (outstanding : Bool) (rto : ℕ)
+  acked : {y : RtoTimer} {packets again acks : ℕ} (outstanding : Bool) (rto : ℕ) → minRto ≤ rto → rto ≤ maxRto
       → Follows now x y packets again acks → Follows now x (onNewAck outstanding now rto) packets again (acks + 1)
   expired : {y : RtoTimer} {packets again acks : ℕ} → expiredAt (y .deadline) now ≡ true
       → Follows now x y packets again acks → Follows now x (onExpiry now y) (packets + 1) (again + 1) acks
