@@ -190,10 +190,10 @@ fn main() {
     for (name, p) in protocols {
         row(&format!("1 MiB in chunks of 1,400, {name}"), &config(p, 1 << 20, 1400), rounds, rounds);
     }
-    for (chunks, part) in [(65_536, 16), (8_192, 2)] {
+    for (chunks, part) in [(65_536, 8), (8_192, 1)] {
         row(&format!("{chunks} chunks of one byte, Selective Repeat"), &config(ProtocolType::SelectiveRepeat, chunks, 1), rounds / part, rounds / part);
         // The reference is quadratic here.
-        row(&format!("{chunks} chunks of one byte, Go-Back-N"), &config(ProtocolType::GoBackN, chunks, 1), rounds / part, 3);
+        row(&format!("{chunks} chunks of one byte, Go-Back-N"), &config(ProtocolType::GoBackN, chunks, 1), rounds / part, rounds / part / 5);
     }
     for (name, p) in protocols {
         println!("stack of a run, {name}: {} bytes", stack(&config(p, 1 << 20, 1400)));
