@@ -2,7 +2,6 @@
 include!("rand_traits.rs");
 
 pub mod rngs {
-    #[derive(Default)]
     pub struct StdRng(pub usize);
 }
 
@@ -11,6 +10,9 @@ pub fn roll(i: usize) -> f64 {
 }
 
 impl rngs::StdRng {
+    fn seeded(_: u64) -> Self {
+        rngs::StdRng(0)
+    }
     fn next(&mut self) -> f64 {
         self.0 += 1;
         roll(self.0)

@@ -1,4 +1,4 @@
-// What the reference asks of the crate `rand`. A stand-in includes this file and gives its `rngs::StdRng` a `next`.
+// What the reference asks of the crate `rand`. A stand-in includes this file and gives its `rngs::StdRng` a `seeded` and a `next`.
 pub trait Roll {
     fn of(x: f64) -> Self;
 }
@@ -24,7 +24,7 @@ pub trait SeedableRng {
 }
 
 impl SeedableRng for rngs::StdRng {
-    fn seed_from_u64(_: u64) -> Self {
-        Self::default()
+    fn seed_from_u64(seed: u64) -> Self {
+        Self::seeded(seed)
     }
 }

@@ -8,16 +8,15 @@
 //   t INITIAL MIN MAX GRANULARITY ALPHA BETA K MULTIPLIER   the RTO's setup
 //   m SENDER RECEIVER OUTPUT NOTES EVENTS RECORDS PLACES RECORDS PLACES KEYS DEADLINES   the lengths of the lent
 //     slices, forward before reverse, stores and places in bytes; making.rt has the most of each
-//   f LENGTH SEED, f BYTES   the file: so many made bytes, 65,600 at most, or these
-//   g COUNT KIND SEED, h COUNT KIND SEED   the forward rolls, and the reverse ones: 8,192 at most, by making.rt
+//   f LENGTH SEED, f BYTES   the file: so many made bytes, or these
+//   g COUNT KIND SEED, h COUNT KIND SEED   the forward rolls, and the reverse ones, made by making.rt
 //   i AT ROLL .., j AT ROLL ..   of the forward rolls, and of the reverse ones, those from AT on are these; until the
 //     next g or h
-//   r SEED                   a run on lent slices that are filled with junk before. Answers the refusal, or `ended`,
-//     `rolls spent`, `events full` or `schedule full`, whether the run is completed, and its finishing time; then, a
-//     line each and not where it is refused, the sender's fields (s), the receiver's (v), the driver's counts (d), the
-//     estimator's fields (t), the forward channel's counts and the reverse one's (c), each event (e), and the output
-//     up to the fill mark (o); and last the sums of the lent slices (l), in the order of m: CRC-32 of bytes, and of
-//     numbers the sum of printing.rt
+//   r                        a run on lent slices with each byte a5 and each number 5 before. Answers the refusal, or
+//     `ended`, `rolls spent`, `events full` or `schedule full`, whether the run is completed, and its finishing time;
+//     then, a line each and not where it is refused, the sender's fields (s), the receiver's (v), the driver's counts
+//     (d), the estimator's fields (t), the forward channel's counts and the reverse one's (c); and last the lent slices
+//     (l), in the order of m, as printing.rt prints them
 use channel::ChannelConfig;
 use libc::STDIN_FILENO;
 use making::Draws;
@@ -42,8 +41,8 @@ struct Setup {
 }
 
 fn main() {
-    let mut text = [0u8; 1048576];
-    let mut file = [0u8; 65600];
+    let mut text = [0u8; 524288];
+    let mut file = [0u8; making::FILE];
     let n = io::read_full(STDIN_FILENO, &mut text);
     replay_io::print_if_full(&text, n);
     replay(&text[..n], start(), &mut file);
@@ -92,9 +91,8 @@ fn call(f: Fields, line: &[u8], setup: Setup, file: &mut [u8]) -> Setup {
     if is_rolls(f.letter) {
         return rolls_case(f, setup);
     }
-    if replay_io::is(f, b'r', 1) {
-        let seed = replay_io::value(f, 0);
-        run_case(setup, seed, replay_io::prefix(file, setup.file));
+    if replay_io::is(f, b'r', 0) {
+        run_case(setup, replay_io::prefix(file, setup.file));
         return setup;
     }
     numbers_case(f, setup)
@@ -169,7 +167,7 @@ fn file_made(n: usize, seed: u64, before: usize, file: &mut [u8]) -> usize {
         replay_io::print_bad_line();
         return before;
     }
-    making::fill_bytes(&mut file[..n], seed);
+    making::fill_bytes(&mut file[0..n], seed);
     n
 }
 
@@ -213,8 +211,8 @@ fn new_draws(f: Fields, before: Draws) -> Draws {
     let v = f.values;
     if f.good {
         if f.count == 3 {
-            if v[0] <= 8192 {
-                return making::draws(v[0] as usize, v[1], v[2]);
+            if v[0] <= making::ROLLS as u64 {
+                return making::draws_of(v[0] as usize, v[1], v[2]);
             }
         }
     }
@@ -293,62 +291,184 @@ fn rto_of(v: [u64; 12]) -> RtoConfig {
 }
 
 // A run on new memory: as much of each array as the setup lends.
-fn run_case(setup: Setup, seed: u64, file: &[u8]) {
-    let v = setup.sizes;
+fn run_case(setup: Setup, file: &[u8]) {
     let forward = setup.forward;
     let reverse = setup.reverse;
-    let mut forward_rolls = [0.0f64; 8192];
-    let mut reverse_rolls = [0.0f64; 8192];
-    let mut sender_store = [0u8; 46336];
-    let mut receiver_store = [0u8; 46336];
-    let mut output = [0u8; 16384];
-    let mut notes = [[0u64; 7]; 320];
-    let mut events = [[0u64; 7]; 1024];
-    let mut forward_records = [[0u64; 4]; 320];
-    let mut forward_places = [0u8; 451204];
-    let mut reverse_records = [[0u64; 4]; 320];
-    let mut reverse_places = [0u8; 451204];
-    let mut keys = [0u32; 64];
-    let mut deadlines = [0u64; 64];
-    let n0 = replay_io::min(forward.count, 8192);
-    let n1 = replay_io::min(reverse.count, 8192);
-    let n2 = replay_io::min(v[0] as usize, 46336);
-    let n3 = replay_io::min(v[1] as usize, 46336);
-    let n4 = replay_io::min(v[2] as usize, 16384);
-    let n5 = replay_io::min(v[3] as usize, 320);
-    let n6 = replay_io::min(v[4] as usize, 1024);
-    let n7 = replay_io::min(v[5] as usize, 320);
-    let n8 = replay_io::min(v[6] as usize, 451204);
-    let n9 = replay_io::min(v[7] as usize, 320);
-    let n10 = replay_io::min(v[8] as usize, 451204);
-    let n11 = replay_io::min(v[9] as usize, 64);
-    let n12 = replay_io::min(v[10] as usize, 64);
-    run_sized(
+    let mut forward_rolls = [0.0f64; making::ROLLS];
+    let mut reverse_rolls = [0.0f64; making::ROLLS];
+    let nf = replay_io::min(forward.count, making::ROLLS);
+    let nr = replay_io::min(reverse.count, making::ROLLS);
+    run_on_rolls(
         setup,
-        seed,
         file,
-        &mut forward_rolls[..n0],
-        &mut reverse_rolls[..n1],
-        &mut sender_store[..n2],
-        &mut receiver_store[..n3],
-        &mut output[..n4],
-        &mut notes[..n5],
-        &mut events[..n6],
-        &mut forward_records[..n7],
-        &mut forward_places[..n8],
-        &mut reverse_records[..n9],
-        &mut reverse_places[..n10],
-        &mut keys[..n11],
-        &mut deadlines[..n12],
+        &mut forward_rolls[0..nf],
+        &mut reverse_rolls[0..nr],
     );
 }
 
-fn run_sized(
+fn run_on_rolls(setup: Setup, file: &[u8], forward_rolls: &mut [f64], reverse_rolls: &mut [f64]) {
+    let v = setup.sizes;
+    let forward = setup.forward;
+    let reverse = setup.reverse;
+    making::fill_rolls(forward_rolls, forward);
+    making::fill_rolls(reverse_rolls, reverse);
+    let mut sender_store = [0xA5u8; making::STORE];
+    let mut receiver_store = [0xA5u8; making::STORE];
+    let mut output = [0xA5u8; making::OUTPUT];
+    let ns = replay_io::min(v[0] as usize, making::STORE);
+    let nr = replay_io::min(v[1] as usize, making::STORE);
+    let no = replay_io::min(v[2] as usize, making::OUTPUT);
+    run_on_stores(
+        setup,
+        file,
+        forward_rolls,
+        reverse_rolls,
+        &mut sender_store[0..ns],
+        &mut receiver_store[0..nr],
+        &mut output[0..no],
+    );
+}
+
+fn run_on_stores(
     setup: Setup,
-    seed: u64,
     file: &[u8],
-    forward_rolls: &mut [f64],
-    reverse_rolls: &mut [f64],
+    forward_rolls: &[f64],
+    reverse_rolls: &[f64],
+    sender_store: &mut [u8],
+    receiver_store: &mut [u8],
+    output: &mut [u8],
+) {
+    let v = setup.sizes;
+    let mut notes = [[5u64; 7]; making::NOTES];
+    let mut events = [[5u64; 7]; making::EVENTS];
+    let nn = replay_io::min(v[3] as usize, making::NOTES);
+    let ne = replay_io::min(v[4] as usize, making::EVENTS);
+    run_on_rows(
+        setup,
+        file,
+        forward_rolls,
+        reverse_rolls,
+        sender_store,
+        receiver_store,
+        output,
+        &mut notes[0..nn],
+        &mut events[0..ne],
+    );
+}
+
+fn run_on_rows(
+    setup: Setup,
+    file: &[u8],
+    forward_rolls: &[f64],
+    reverse_rolls: &[f64],
+    sender_store: &mut [u8],
+    receiver_store: &mut [u8],
+    output: &mut [u8],
+    notes: &mut [[u64; 7]],
+    events: &mut [[u64; 7]],
+) {
+    let mut forward_records = [[5u64; 4]; making::RECORDS];
+    let mut forward_places = [0xA5u8; making::PLACES];
+    let mut reverse_records = [[5u64; 4]; making::RECORDS];
+    let mut reverse_places = [0xA5u8; making::PLACES];
+    run_on_lines(
+        setup,
+        file,
+        forward_rolls,
+        reverse_rolls,
+        sender_store,
+        receiver_store,
+        output,
+        notes,
+        events,
+        &mut forward_records,
+        &mut forward_places,
+        &mut reverse_records,
+        &mut reverse_places,
+    );
+}
+
+fn run_on_lines(
+    setup: Setup,
+    file: &[u8],
+    forward_rolls: &[f64],
+    reverse_rolls: &[f64],
+    sender_store: &mut [u8],
+    receiver_store: &mut [u8],
+    output: &mut [u8],
+    notes: &mut [[u64; 7]],
+    events: &mut [[u64; 7]],
+    forward_records: &mut [[u64; 4]],
+    forward_places: &mut [u8],
+    reverse_records: &mut [[u64; 4]],
+    reverse_places: &mut [u8],
+) {
+    let v = setup.sizes;
+    let n0 = replay_io::min(v[5] as usize, forward_records.len());
+    let n1 = replay_io::min(v[6] as usize, forward_places.len());
+    let n2 = replay_io::min(v[7] as usize, reverse_records.len());
+    let n3 = replay_io::min(v[8] as usize, reverse_places.len());
+    run_on_sized(
+        setup,
+        file,
+        forward_rolls,
+        reverse_rolls,
+        sender_store,
+        receiver_store,
+        output,
+        notes,
+        events,
+        &mut forward_records[0..n0],
+        &mut forward_places[0..n1],
+        &mut reverse_records[0..n2],
+        &mut reverse_places[0..n3],
+    );
+}
+
+fn run_on_sized(
+    setup: Setup,
+    file: &[u8],
+    forward_rolls: &[f64],
+    reverse_rolls: &[f64],
+    sender_store: &mut [u8],
+    receiver_store: &mut [u8],
+    output: &mut [u8],
+    notes: &mut [[u64; 7]],
+    events: &mut [[u64; 7]],
+    forward_records: &mut [[u64; 4]],
+    forward_places: &mut [u8],
+    reverse_records: &mut [[u64; 4]],
+    reverse_places: &mut [u8],
+) {
+    let v = setup.sizes;
+    let mut keys = [5u32; making::TIMERS];
+    let mut deadlines = [5u64; making::TIMERS];
+    let nk = replay_io::min(v[9] as usize, making::TIMERS);
+    let nd = replay_io::min(v[10] as usize, making::TIMERS);
+    run_on_all(
+        setup,
+        file,
+        forward_rolls,
+        reverse_rolls,
+        sender_store,
+        receiver_store,
+        output,
+        notes,
+        events,
+        forward_records,
+        forward_places,
+        reverse_records,
+        reverse_places,
+        &mut keys[0..nk],
+        &mut deadlines[0..nd],
+    );
+}
+
+fn run_on_all(
+    setup: Setup,
+    file: &[u8],
+    forward_rolls: &[f64],
+    reverse_rolls: &[f64],
     sender_store: &mut [u8],
     receiver_store: &mut [u8],
     output: &mut [u8],
@@ -361,21 +481,6 @@ fn run_sized(
     keys: &mut [u32],
     deadlines: &mut [u64],
 ) {
-    let forward = setup.forward;
-    let reverse = setup.reverse;
-    making::fill_rolls(forward_rolls, forward);
-    making::fill_rolls(reverse_rolls, reverse);
-    making::fill_bytes(sender_store, making::other(seed, 0));
-    making::fill_bytes(receiver_store, making::other(seed, 1));
-    making::fill_bytes(output, making::other(seed, 2));
-    making::fill_sevens(notes, making::other(seed, 3));
-    making::fill_sevens(events, making::other(seed, 4));
-    making::fill_fours(forward_records, making::other(seed, 5));
-    making::fill_bytes(forward_places, making::other(seed, 6));
-    making::fill_fours(reverse_records, making::other(seed, 7));
-    making::fill_bytes(reverse_places, making::other(seed, 8));
-    making::fill_keys(keys, making::other(seed, 9));
-    making::fill_numbers(deadlines, making::other(seed, 10));
     let answer = transfer::run_transfer(
         config_of(setup),
         file,
@@ -393,17 +498,18 @@ fn run_sized(
         keys,
         deadlines,
     );
-    printing::print_answer(answer, output, events);
-    replay_io::print(b"\nl");
-    replay_io::print_crc32(sender_store);
-    replay_io::print_crc32(receiver_store);
-    replay_io::print_crc32(output);
-    printing::print_sevens(notes);
-    printing::print_sevens(events);
-    printing::print_fours(forward_records);
-    replay_io::print_crc32(forward_places);
-    printing::print_fours(reverse_records);
-    replay_io::print_crc32(reverse_places);
-    printing::print_keys(keys);
-    printing::print_numbers(deadlines);
+    printing::print_answer(answer);
+    printing::print_lent(
+        sender_store,
+        receiver_store,
+        output,
+        notes,
+        events,
+        forward_records,
+        forward_places,
+        reverse_records,
+        reverse_places,
+        keys,
+        deadlines,
+    );
 }
