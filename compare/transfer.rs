@@ -1,6 +1,7 @@
 // Compares whole runs with the reference's `run_transfer`, and what is added to it with a model of document 01 (transfer_model.rs).
 // usage: transfer --sample DIR [SEED]               writes DIR/stdin (cases) and DIR/stdout (the answers) for crates/transfer_replay
 //        transfer --list DIR SEED                   the same with random cases only, as many as `rt try` takes
+//        transfer --long DIR                        runs of 65,536 chunks, for a replay whose crate transfer_cases lends as much as LONG
 //        transfer --bulk PROGRAM KIND RUNS [SEED]   random runs, answered by the replay's PROGRAM; KIND is one of source, ends, edition, start
 //          with STEPS and ROUNDS in the environment: for a PROGRAM whose crate transfer has these bounds instead of the reference's; with PATCHED
 //          too where the reference has them as well
@@ -29,7 +30,7 @@ use reference::timing::RtoEstimator;
 use std::io::{Read, Write};
 use std::time::Duration;
 
-// ---- what crates/transfer_replay makes of its lines: src/making.rt and src/printing.rt
+// ---- what crates/transfer_cases makes of the lines: src/making.rt and src/printing.rt
 
 // The most of the lent slices.
 const MOST: [usize; 11] = [46336, 46336, 16384, 320, 1024, 320, 451204, 320, 451204, 64, 64];
@@ -211,7 +212,7 @@ fn channel_numbers(s: &ChannelStats) -> [u64; 6] {
     [s.packets_seen, s.lost, s.corrupted, s.duplicated, s.reordered, s.copies_delivered]
 }
 
-// A lent slice as crates/transfer_replay prints it: *N after what stands N times in a row.
+// A lent slice as crates/transfer_cases prints it: *N after what stands N times in a row.
 fn lent<T: Copy + PartialEq>(xs: impl Iterator<Item = T>, text: impl Fn(T) -> String) -> String {
     let mut line = "\nl".to_string();
     let mut xs = xs.peekable();
@@ -1110,6 +1111,28 @@ fn list(dir: &str, seed: u64) {
     cases.save(dir);
 }
 
+// Packets of a long run: its chunks, and those that may be sent again. For crates/transfer_cases: NOTES 65,536, OUTPUT 65,536, EVENTS LONG, ROLLS 16 * LONG.
+const LONG: usize = 65_536 + 4_000;
+
+fn long(dir: &str) {
+    let mut cases = Cases::new("transfer", 0);
+    let mut before: [String; 7] = Default::default();
+    let mut seen = Seen::default();
+    for (protocol, edition) in EACH {
+        let mut c = example(protocol, edition, 32, b"");
+        c.file = File::Made(65_536, 1);
+        (c.sizes[2], c.sizes[3], c.sizes[4]) = (65_536, 65_536, LONG);
+        c.s.ceiling = 4_000;
+        // a timeout of the edition clock costs seconds
+        c.s.chances = if edition { [0.0, 0.01, 0.0, 0.0] } else { [0.0005, 0.01, 0.0, 0.0005] };
+        (c.forward, c.reverse) = (Draws::new(8 * LONG, 0, 1), Draws::new(16 * LONG, 0, 2));
+        put(&c, &mut before, &mut cases, &mut seen);
+    }
+    assert!(seen.completed == 5 && seen.ends[0] == 5);
+    print_seen("long", &seen);
+    cases.save(dir);
+}
+
 // Lines of another form, and numbers past what the replay has.
 fn bad_lines(cases: &mut Cases) {
     let own = ["p 3 0 1 1 1 1", "p 0 2 1 1 1 1", "p 0 0 1 1 1", "c 0 0 0 0 0 0", "t 0 0 0 0 0 0 0", "m 46337 0 0 0 0 0 0 0 0 0 0", "m 0 0 0 0 0 0 0 0 0 0 65", "m 0", "f 65601 1", "f 1", "g 8193 0 0", "h 1 0", "i 1", "j", "r 1"];
@@ -1125,7 +1148,8 @@ fn main() {
     match arg(1) {
         Some("--sample") => sample(&args[2], number(3, 13)),
         Some("--list") => list(&args[2], number(3, 1)),
+        Some("--long") => long(&args[2]),
         Some("--bulk") => bulk(&args[2], &args[3], number(4, 2000), number(5, 1)),
-        _ => panic!("usage: transfer --sample DIR [SEED] | transfer --list DIR SEED | transfer --bulk PROGRAM KIND RUNS [SEED]"),
+        _ => panic!("usage: transfer --sample DIR [SEED] | transfer --list DIR SEED | transfer --long DIR | transfer --bulk PROGRAM KIND RUNS [SEED]"),
     }
 }

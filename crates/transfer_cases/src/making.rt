@@ -1,24 +1,11 @@
 // What the lines of the replay make: rolls and a file. compare/transfer.rs makes the same.
-
-// The most of what a run is given and lent: bytes of the file, rolls of each direction, bytes of each store and of the
-// output, rows, records and bytes of places of each direction, timer entries.
-pub const FILE: usize = 65600;
-
-pub const ROLLS: usize = 8192;
-
-pub const STORE: usize = 46336;
-
-pub const OUTPUT: usize = 16384;
-
-pub const NOTES: usize = 320;
-
-pub const EVENTS: usize = 1024;
-
-pub const RECORDS: usize = 320;
-
-pub const PLACES: usize = 451204;
-
-pub const TIMERS: usize = 64;
+use super::EVENTS;
+use super::NOTES;
+use super::OUTPUT;
+use super::PLACES;
+use super::RECORDS;
+use super::STORE;
+use super::TIMERS;
 
 // Rolls: how many, by which rule, from which seed; and literals, the first of which says where they go.
 pub struct Draws {

@@ -1,7 +1,7 @@
 use Prim.Native.Nat.{_-_, _≤_}
 use borrow.Author.Needs.{needs}
-use Rattle.transfer_replay.proofs.making.sizes_fit.Statement.{statement}
-use Rattle.transfer_replay.proofs.making.sizes_fit.Tie as tie
+use Rattle.transfer_cases.proofs.making.sizes_fit.Statement.{statement}
+use Rattle.transfer_cases.proofs.making.sizes_fit.Tie as tie
 
 abbrev Inv-loop : tie.InvT-loop
 Inv-loop v i₀ i = i ≤ 11

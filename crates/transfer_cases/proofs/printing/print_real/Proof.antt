@@ -5,8 +5,8 @@ use lib.Dec.{T}
 use lib.Ieee.{Float, nan, inf, fin, le, lt, eq, isNan, ofBits}
 use denote.Floats.{passes}
 use borrow.Author.Needs.{needs}
-use Rattle.transfer_replay.proofs.printing.print_real.Statement.{statement}
-use Rattle.transfer_replay.proofs.printing.print_real.Tie as tie
+use Rattle.transfer_cases.proofs.printing.print_real.Statement.{statement}
+use Rattle.transfer_cases.proofs.printing.print_real.Tie as tie
 
 no-nan : (x : Float) → T (le (fin false 0 (pos 0)) x) → T (not (isNan x))
 unfolding le lt eq isNan

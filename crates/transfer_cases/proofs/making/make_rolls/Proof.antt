@@ -3,8 +3,8 @@ use mathlib.Core.Path.{_≡_}
 use native.Mathlib.Omega.{arith}
 use lib.ListN.{length, length-set}
 use borrow.Author.Needs.{needs}
-use Rattle.transfer_replay.proofs.making.make_rolls.Statement.{statement}
-use Rattle.transfer_replay.proofs.making.make_rolls.Tie as tie
+use Rattle.transfer_cases.proofs.making.make_rolls.Statement.{statement}
+use Rattle.transfer_cases.proofs.making.make_rolls.Tie as tie
 
 abbrev Inv-loop : tie.InvT-loop
 Inv-loop rolls₀ kind seed x₀ i₀ rolls x i = (length rolls ≡ length rolls₀) × (i ≤ length rolls)

@@ -1,14 +1,14 @@
 use Prim.Native.Nat.{_-_, _≤_}
 use lib.ListN.{length}
 use borrow.Author.Needs.{needs}
-use Rattle.transfer_replay.proofs.printing.print_numbers.Statement.{statement}
-use Rattle.transfer_replay.proofs.printing.print_numbers.Tie as tie
+use Rattle.transfer_cases.proofs.printing.print_octets.Statement.{statement}
+use Rattle.transfer_cases.proofs.printing.print_octets.Tie as tie
 
 abbrev Inv-loop : tie.InvT-loop
-Inv-loop numbers r₀ i₀ r i = i ≤ length numbers
+Inv-loop octets r₀ i₀ r i = i ≤ length octets
 
 abbrev μ-loop : tie.MeasureT-loop
-μ-loop numbers r₀ i₀ r i = length numbers - i
+μ-loop octets r₀ i₀ r i = length octets - i
 
 begun-requires : tie.Need-begun-requires Inv-loop μ-loop
 begun-requires c κs = search needs
@@ -16,11 +16,11 @@ begun-requires c κs = search needs
 loop-holds : tie.Need-loop-holds Inv-loop μ-loop
 loop-holds c = search needs
 
-mul-followed : tie.Need-mul-followed Inv-loop μ-loop
-mul-followed c = search needs
+shared-slice-read-octet-value : tie.Need-shared-slice-read-octet-value Inv-loop μ-loop
+shared-slice-read-octet-value c = search needs
 
-shared-slice-read-followed : tie.Need-shared-slice-read-followed Inv-loop μ-loop
-shared-slice-read-followed c = search needs
+octet-value-requires : tie.Need-octet-value-requires Inv-loop μ-loop
+octet-value-requires c κs = search needs
 
 followed-requires : tie.Need-followed-requires Inv-loop μ-loop
 followed-requires c κs = search needs
@@ -40,16 +40,16 @@ print-repeat-requires c κs = search needs
 returns : tie.Need-returns Inv-loop μ-loop
 returns c = search needs
 
-pub print-numbers-spec : {M : Type 1} → statement M
-print-numbers-spec =
+pub print-octets-spec : {M : Type 1} → statement M
+print-octets-spec =
     tie.close
     (tie.spec
     Inv-loop
     μ-loop
     begun-requires
     loop-holds
-    mul-followed
-    shared-slice-read-followed
+    shared-slice-read-octet-value
+    octet-value-requires
     followed-requires
     add-i
     loop-less

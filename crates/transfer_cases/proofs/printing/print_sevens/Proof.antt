@@ -1,8 +1,8 @@
 use Prim.Native.Nat.{_-_, _≤_}
 use lib.ListN.{length}
 use borrow.Author.Needs.{needs}
-use Rattle.transfer_replay.proofs.printing.print_sevens.Statement.{statement}
-use Rattle.transfer_replay.proofs.printing.print_sevens.Tie as tie
+use Rattle.transfer_cases.proofs.printing.print_sevens.Statement.{statement}
+use Rattle.transfer_cases.proofs.printing.print_sevens.Tie as tie
 
 abbrev Inv-loop : tie.InvT-loop
 Inv-loop rows r₀ i₀ r i = i ≤ length rows

@@ -3,8 +3,8 @@ use mathlib.Core.Path.{_≡_}
 use native.Mathlib.Omega.{arith}
 use lib.ListN.{length, length-set}
 use borrow.Author.Needs.{needs}
-use Rattle.transfer_replay.proofs.making.fill_bytes.Statement.{statement}
-use Rattle.transfer_replay.proofs.making.fill_bytes.Tie as tie
+use Rattle.transfer_cases.proofs.making.fill_bytes.Statement.{statement}
+use Rattle.transfer_cases.proofs.making.fill_bytes.Tie as tie
 
 abbrev Inv-loop : tie.InvT-loop
 Inv-loop bytes₀ seed x₀ i₀ bytes x i = (length bytes ≡ length bytes₀) × (i ≤ length bytes)

@@ -3,8 +3,8 @@ use mathlib.Core.Path.{_≡_}
 use native.Mathlib.Omega.{arith}
 use lib.ListN.{length, length-set}
 use borrow.Author.Needs.{needs}
-use Rattle.transfer_replay.proofs.making.put_literals.Statement.{statement}
-use Rattle.transfer_replay.proofs.making.put_literals.Tie as tie
+use Rattle.transfer_cases.proofs.making.put_literals.Statement.{statement}
+use Rattle.transfer_cases.proofs.making.put_literals.Tie as tie
 
 abbrev Inv-loop : tie.InvT-loop
 Inv-loop rolls₀ literals literal at₀ i₀ rolls at i = (length rolls ≡ length rolls₀) × (i ≤ 12)
