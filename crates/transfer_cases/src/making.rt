@@ -1,4 +1,11 @@
-// What the lines of the replay make: rolls, a file, junk in the lent slices. compare/transfer.rs makes the same.
+// What the lines of the replay make: rolls and a file. compare/transfer.rs makes the same.
+use super::EVENTS;
+use super::NOTES;
+use super::OUTPUT;
+use super::PLACES;
+use super::RECORDS;
+use super::STORE;
+use super::TIMERS;
 
 // Rolls: how many, by which rule, from which seed; and literals, the first of which says where they go.
 pub struct Draws {
@@ -9,7 +16,7 @@ pub struct Draws {
     pub literals: usize,
 }
 
-pub fn draws(count: usize, kind: u64, seed: u64) -> Draws {
+pub fn draws_of(count: usize, kind: u64, seed: u64) -> Draws {
     Draws {
         count,
         kind,
@@ -20,30 +27,30 @@ pub fn draws(count: usize, kind: u64, seed: u64) -> Draws {
 }
 
 pub fn no_draws() -> Draws {
-    draws(0, 0, 0)
+    draws_of(0, 0, 0)
 }
 
-// The most of the lent slices, in the order of the line m.
-fn capacity(i: usize) -> u64 {
+// How much a line m may lend at most, in its order.
+fn capacity(i: usize) -> usize {
     match i {
-        0 => 46336,
-        1 => 46336,
-        2 => 16384,
-        3 => 320,
-        4 => 1024,
-        5 => 320,
-        6 => 451204,
-        7 => 320,
-        8 => 451204,
-        9 => 64,
-        _ => 64,
+        0 => STORE,
+        1 => STORE,
+        2 => OUTPUT,
+        3 => NOTES,
+        4 => EVENTS,
+        5 => RECORDS,
+        6 => PLACES,
+        7 => RECORDS,
+        8 => PLACES,
+        9 => TIMERS,
+        _ => TIMERS,
     }
 }
 
 pub fn sizes_fit(v: [u64; 12]) -> bool {
     let mut i: usize = 0;
     while i < 11 {
-        if capacity(i) < v[i] {
+        if (capacity(i) as u64) < v[i] {
             return false;
         }
         i += 1;
@@ -51,18 +58,14 @@ pub fn sizes_fit(v: [u64; 12]) -> bool {
     true
 }
 
-// A seed for slice i, never 0.
-pub fn other(seed: u64, i: u64) -> u64 {
-    started(std::num::wrapping_add_u64(seed, i))
-}
-
+// Never 0.
 fn started(seed: u64) -> u64 {
     let x = std::num::wrapping_add_u64(seed, 0x9E37_79B9_7F4A_7C15);
     if x == 0 { 1 } else { x }
 }
 
 // Marsaglia's xorshift, 13, 7, 17: the next of 2^64 - 1 numbers.
-pub fn shifted(x: u64) -> u64 {
+fn shifted(x: u64) -> u64 {
     let a = x ^ (x << 13);
     let b = a ^ (a >> 7);
     b ^ (b << 17)
@@ -129,47 +132,6 @@ pub fn fill_bytes(bytes: &mut [u8], seed: u64) {
     while i < bytes.len() {
         x = shifted(x);
         bytes[i] = (x % 256) as u8;
-        i += 1;
-    }
-}
-
-pub fn fill_keys(keys: &mut [u32], seed: u64) {
-    let mut x = started(seed);
-    let mut i: usize = 0;
-    while i < keys.len() {
-        x = shifted(x);
-        keys[i] = replay_io::low(x);
-        i += 1;
-    }
-}
-
-pub fn fill_numbers(numbers: &mut [u64], seed: u64) {
-    let mut x = started(seed);
-    let mut i: usize = 0;
-    while i < numbers.len() {
-        x = shifted(x);
-        numbers[i] = x;
-        i += 1;
-    }
-}
-
-// Each number of a row is the same.
-pub fn fill_sevens(rows: &mut [[u64; 7]], seed: u64) {
-    let mut x = started(seed);
-    let mut i: usize = 0;
-    while i < rows.len() {
-        x = shifted(x);
-        rows[i] = [x, x, x, x, x, x, x];
-        i += 1;
-    }
-}
-
-pub fn fill_fours(rows: &mut [[u64; 4]], seed: u64) {
-    let mut x = started(seed);
-    let mut i: usize = 0;
-    while i < rows.len() {
-        x = shifted(x);
-        rows[i] = [x, x, x, x];
         i += 1;
     }
 }

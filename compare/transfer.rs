@@ -1,5 +1,7 @@
 // Compares whole runs with the reference's `run_transfer`, and what is added to it with a model of document 01 (transfer_model.rs).
-// usage: transfer --sample DIR [SEED]            writes DIR/stdin (cases) and DIR/stdout (the answers) for crates/transfer_replay
+// usage: transfer --sample DIR [SEED]               writes DIR/stdin (cases) and DIR/stdout (the answers) for crates/transfer_replay
+//        transfer --list DIR SEED                   the same with random cases only, as many as `rt try` takes
+//        transfer --long DIR                        runs of 65,536 chunks, for a replay whose crate transfer_cases lends as much as LONG
 //        transfer --bulk PROGRAM KIND RUNS [SEED]   random runs, answered by the replay's PROGRAM; KIND is one of source, ends, edition, start
 //          with STEPS and ROUNDS in the environment: for a PROGRAM whose crate transfer has these bounds instead of the reference's; with PATCHED
 //          too where the reference has them as well
@@ -17,7 +19,7 @@ mod cases;
 #[path = "transfer_model.rs"]
 mod model;
 
-use cases::{given, numbers, shown, Cases, BAD_LINES};
+use cases::{given, numbers, Cases, BAD_LINES};
 use generator::{fail, Gen};
 use model::{run, Ceilings, End, Memory, Outcome, Protocol, Setup, CEILINGS, DAY, EDITION_FACTORS, EDITION_TIMES, PLACE, SLOT};
 use reference::app::transfer::{run_transfer, TransferConfig, TransferOutput};
@@ -28,7 +30,7 @@ use reference::timing::RtoEstimator;
 use std::io::{Read, Write};
 use std::time::Duration;
 
-// ---- what crates/transfer_replay makes of its lines: src/making.rt and src/printing.rt
+// ---- what crates/transfer_cases makes of the lines: src/making.rt and src/printing.rt
 
 // The most of the lent slices.
 const MOST: [usize; 11] = [46336, 46336, 16384, 320, 1024, 320, 451204, 320, 451204, 64, 64];
@@ -143,30 +145,24 @@ struct Case {
     file: File,
     forward: Draws,
     reverse: Draws,
-    junk: u64,
 }
 
 impl Case {
     fn memory(&self) -> Memory {
         let [sender, receiver, output, notes, events, fr, fp, rr, rp, keys, deadlines] = self.sizes;
-        let seed = |i: u64| self.junk.wrapping_add(i).wrapping_add(0x9E37_79B9_7F4A_7C15).max(1);
-        let bytes = |i: u64, n: usize| Xorshift::bytes(seed(i), n);
-        let numbers = |i: u64, n: usize| {
-            let mut x = Xorshift::new(seed(i));
-            (0..n).map(|_| x.next()).collect::<Vec<u64>>()
-        };
+        let bytes = |n: usize| vec![0xA5; n];
         Memory {
-            sender: bytes(0, sender),
-            receiver: bytes(1, receiver),
-            output: bytes(2, output),
-            notes: numbers(3, notes).iter().map(|&x| [x; 7]).collect(),
-            events: numbers(4, events).iter().map(|&x| [x; 7]).collect(),
-            forward_records: numbers(5, fr).iter().map(|&x| [x; 4]).collect(),
-            forward_places: bytes(6, fp),
-            reverse_records: numbers(7, rr).iter().map(|&x| [x; 4]).collect(),
-            reverse_places: bytes(8, rp),
-            keys: numbers(9, keys).iter().map(|&x| x as u32).collect(),
-            deadlines: numbers(10, deadlines),
+            sender: bytes(sender),
+            receiver: bytes(receiver),
+            output: bytes(output),
+            notes: vec![[5; 7]; notes],
+            events: vec![[5; 7]; events],
+            forward_records: vec![[5; 4]; fr],
+            forward_places: bytes(fp),
+            reverse_records: vec![[5; 4]; rr],
+            reverse_places: bytes(rp),
+            keys: vec![5; keys],
+            deadlines: vec![5; deadlines],
         }
     }
     // The lines p, c, t, m, f, g with i, h with j.
@@ -187,7 +183,7 @@ impl Case {
         ]
     }
     fn input(&self) -> String {
-        self.lines().join("\n") + &format!("\nr {}\n", self.junk)
+        self.lines().join("\n") + "\nr\n"
     }
 }
 
@@ -216,19 +212,29 @@ fn channel_numbers(s: &ChannelStats) -> [u64; 6] {
     [s.packets_seen, s.lost, s.corrupted, s.duplicated, s.reordered, s.copies_delivered]
 }
 
-fn crc_table() -> &'static [u32; 256] {
-    static TABLE: std::sync::OnceLock<[u32; 256]> = std::sync::OnceLock::new();
-    TABLE.get_or_init(|| std::array::from_fn(|i| (0..8).fold(i as u32, |c, _| if c & 1 == 1 { c >> 1 ^ 0xEDB8_8320 } else { c >> 1 })))
+// A lent slice as crates/transfer_cases prints it: *N after what stands N times in a row.
+fn lent<T: Copy + PartialEq>(xs: impl Iterator<Item = T>, text: impl Fn(T) -> String) -> String {
+    let mut line = "\nl".to_string();
+    let mut xs = xs.peekable();
+    while let Some(x) = xs.next() {
+        let mut count = 1;
+        while xs.next_if(|&y| y == x).is_some() {
+            count += 1;
+        }
+        line += &format!(" {}", text(x));
+        if count > 1 {
+            line += &format!("*{count}");
+        }
+    }
+    line
 }
 
-// cases::crc, by a table.
-fn crc(bytes: &[u8]) -> String {
-    let t = crc_table();
-    format!(" crc32 {:08x}", !bytes.iter().fold(!0u32, |c, &b| c >> 8 ^ t[(c as u8 ^ b) as usize]))
+fn octets(bytes: &[u8]) -> String {
+    lent(bytes.iter().copied(), |b| format!("{b:02x}"))
 }
 
-fn sum(xs: impl Iterator<Item = u64>) -> String {
-    format!(" {:016x}", xs.fold(1u64, |sum, x| shifted(sum.wrapping_add(x))))
+fn rows<const N: usize>(rows: &[[u64; N]]) -> String {
+    lent(rows.iter().flatten().copied(), |n| n.to_string())
 }
 
 fn answer(r: &Result<Outcome, u64>, m: &Memory) -> String {
@@ -236,18 +242,17 @@ fn answer(r: &Result<Outcome, u64>, m: &Memory) -> String {
         Err(number) => format!(" refused {number}"),
         Ok(o) => outcome_text(o),
     };
-    text += "\nl";
-    text += &crc(&m.sender);
-    text += &crc(&m.receiver);
-    text += &crc(&m.output);
-    text += &sum(m.notes.iter().flatten().copied());
-    text += &sum(m.events.iter().flatten().copied());
-    text += &sum(m.forward_records.iter().flatten().copied());
-    text += &crc(&m.forward_places);
-    text += &sum(m.reverse_records.iter().flatten().copied());
-    text += &crc(&m.reverse_places);
-    text += &sum(m.keys.iter().map(|&k| k as u64));
-    text += &sum(m.deadlines.iter().copied());
+    text += &octets(&m.sender);
+    text += &octets(&m.receiver);
+    text += &octets(&m.output);
+    text += &rows(&m.notes);
+    text += &rows(&m.events);
+    text += &rows(&m.forward_records);
+    text += &octets(&m.forward_places);
+    text += &rows(&m.reverse_records);
+    text += &octets(&m.reverse_places);
+    text += &lent(m.keys.iter().copied(), |n| n.to_string());
+    text += &lent(m.deadlines.iter().copied(), |n| n.to_string());
     text
 }
 
@@ -260,10 +265,7 @@ fn outcome_text(o: &Outcome) -> String {
     for c in &o.channels {
         text += &format!("\nc{}", numbers(&channel_numbers(c)));
     }
-    for e in &o.events {
-        text += &format!("\ne{}", numbers(e));
-    }
-    text + "\no" + &shown(&o.delivered)
+    text
 }
 
 // ---- the reference, unchanged
@@ -412,6 +414,8 @@ struct Seen {
     premature: u64,
     at_limit: u64,
     exhausted: u64,
+    // lost, corrupted, duplicated, reordered
+    faults: [u64; 4],
 }
 
 fn answered(c: &Case, ceilings: Ceilings, seen: &mut Seen) -> String {
@@ -433,7 +437,11 @@ fn answered(c: &Case, ceilings: Ceilings, seen: &mut Seen) -> String {
             seen.completed_early += (o.completed && o.end != End::Ended) as u64;
             let chunks = o.receiver[(c.s.protocol == Protocol::SelectiveRepeat) as usize];
             seen.damaged += (o.delivered.len() as u64 != (chunks * c.s.chunk).min(file.len() as u64)) as u64;
-            seen.packets += o.channels[0].packets_seen;
+            let [packets, faults @ .., _] = channel_numbers(&o.channels[0]);
+            seen.packets += packets;
+            for (sum, n) in seen.faults.iter_mut().zip(faults) {
+                *sum += n;
+            }
             seen.resent += o.driver[0];
             seen.premature += o.driver[1];
             seen.at_limit += (o.finished_at == c.s.limit) as u64;
@@ -607,7 +615,7 @@ fn case(g: &mut Gen, edition: bool) -> Case {
         keys,
         keys,
     ];
-    let mut c = Case { sizes, file, forward: draws(g, 8 * packets), reverse: draws(g, 16 * packets), junk: g.next(), s };
+    let mut c = Case { sizes, file, forward: draws(g, 8 * packets), reverse: draws(g, 16 * packets), s };
     if unseen {
         // in one packet the byte 7 and its bit that is 1
         c.forward.at = 8 * g.below(packets as u64) as usize;
@@ -761,7 +769,7 @@ fn bulk(program: &str, kind: &str, runs: u64, seed: u64) {
     let mut seen = Seen::default();
     while seen.runs < runs {
         let (mut input, mut want, mut cases) = (String::new(), String::new(), vec![]);
-        while input.len() < 900_000 && seen.runs < runs {
+        while input.len() < 500_000 && seen.runs < runs {
             let c = random_case(&mut g, kind);
             let text = c.input();
             want += &set_up(&text);
@@ -815,7 +823,7 @@ fn example(protocol: Protocol, edition: bool, window: u64, file: &[u8]) -> Case 
     let n = file.len().max(1);
     let sizes = [slots * SLOT, slots * SLOT, n, n, 250, 64, 64 * PLACE, 64, 64 * PLACE, 32, 32];
     let zero = Draws::new(2000, 2, 0);
-    Case { s, sizes, file: File::Bytes(file.to_vec()), forward: zero.clone(), reverse: zero, junk: 1 }
+    Case { s, sizes, file: File::Bytes(file.to_vec()), forward: zero.clone(), reverse: zero }
 }
 
 // The first datagram lost, all others whole.
@@ -891,6 +899,52 @@ fn examples() -> Vec<(Case, &'static str)> {
     zero.s.times = [0, 0, 0, 1_000_000];
     zero.s.ceiling = 5;
     list.push((zero, " ended 0 0\n"));
+    list
+}
+
+const EACH: [(Protocol, bool); 5] =
+    [(Protocol::StopAndWait, false), (Protocol::GoBackN, false), (Protocol::SelectiveRepeat, false), (Protocol::StopAndWait, true), (Protocol::GoBackN, true)];
+
+// The added ends of both directions, in every protocol on both clocks.
+fn ends() -> Vec<(Case, &'static str)> {
+    let mut list = vec![];
+    for (protocol, edition) in EACH {
+        let mut add = |change: &dyn Fn(&mut Case), start| {
+            let mut c = small(protocol, edition);
+            change(&mut c);
+            list.push((c, start));
+        };
+        // one less than are under way at once
+        let few = (protocol != Protocol::StopAndWait) as usize;
+        add(&|_| (), " ended 1 ");
+        add(&|c| c.s.delays = [0, 0, 0], " ended 1 0\n");
+        add(&|c| c.forward.count = 15, " rolls spent 0 ");
+        add(&|c| c.reverse.count = 15, " rolls spent 0 ");
+        add(&|c| c.sizes[4] = 1, " events full 0 ");
+        add(&|c| c.sizes[5] = few, " schedule full 0 ");
+        add(&|c| c.sizes[6] = few * PLACE + PLACE - 1, " schedule full 0 ");
+        add(&|c| c.sizes[7] = few, " schedule full 0 ");
+        add(&|c| c.sizes[8] = few * PLACE + PLACE - 1, " schedule full 0 ");
+        add(&|c| (c.s.chances[1], c.sizes[5]) = (1.0, 1), " schedule full 0 0\n");
+    }
+    list
+}
+
+// The first packet lost, duplicated, held back, damaged in its payload, or damaged unseen in its length (K4), in every protocol on both clocks; J1's jitter.
+fn faults() -> Vec<(Case, &'static str)> {
+    let j1 = 6_004_799_503_160_661.0 / 9007199254740992.0;
+    let damaged = |byte: f64, bit: f64| (3, [byte / 12.0, bit / 8.0]);
+    let mut list = vec![];
+    for (protocol, edition) in EACH {
+        for (chance, [byte, bit]) in [(0, [0.0; 2]), (1, [0.0; 2]), (2, [0.0; 2]), damaged(10.5, 3.5), damaged(7.5, 1.5)] {
+            let mut c = example(protocol, edition, 2, &[0xFF, 0xFD, 0xFF, 0xFD, 0x41]);
+            (c.s.chunk, c.s.chances, c.s.delays) = (2, [0.5; 4], [7, 5, 2]);
+            let mut rolls = vec![0.75, 0.75, 0.75, 0.75, byte, bit, j1, 0.25];
+            rolls[chance] = 0.25;
+            c.forward = Draws { literal: rolls, ..Draws::new(800, 2, 0.75f64.to_bits()) };
+            list.push((c, " ended 1 "));
+        }
+    }
     list
 }
 
@@ -1011,7 +1065,7 @@ fn put(c: &Case, before: &mut [String; 7], cases: &mut Cases, seen: &mut Seen) {
         }
     }
     *before = lines;
-    cases.case(format!("r {}", c.junk), answered(c, CEILINGS, seen));
+    cases.case("r".to_string(), answered(c, CEILINGS, seen));
 }
 
 // How the answer starts, by the number of the refusal; empty for none.
@@ -1022,13 +1076,15 @@ fn sample(dir: &str, seed: u64) {
     let mut cases = Cases::new("transfer", seed);
     let mut before: [String; 7] = Default::default();
     let mut seen = Seen::default();
-    let mut directed = examples();
+    let mut directed: Vec<_> = examples().into_iter().chain(ends()).chain(faults()).collect();
     directed.extend(starts().into_iter().chain(bounds()).map(|(c, number)| (c, REFUSED[number as usize])));
     for (c, start) in directed {
         let text = answered(&c, CEILINGS, &mut Seen::default());
         assert!(text.starts_with(start) && (!start.is_empty() || !text.starts_with(" refused")), "{}\n{text}", c.input());
         put(&c, &mut before, &mut cases, &mut seen);
     }
+    let Seen { damaged, premature, at_limit, exhausted, faults, .. } = seen;
+    assert!(faults.iter().chain(&[damaged, premature, at_limit, exhausted]).all(|&n| n > 0));
     for (kind, count) in [("source", 30), ("ends", 60), ("edition", 40), ("start", 20)] {
         for _ in 0..count {
             let c = sample_case(&mut g, kind);
@@ -1041,9 +1097,45 @@ fn sample(dir: &str, seed: u64) {
     cases.save(dir);
 }
 
+fn list(dir: &str, seed: u64) {
+    let mut g = Gen(seed);
+    let mut cases = Cases::new("transfer", seed);
+    let mut before: [String; 7] = Default::default();
+    let mut seen = Seen::default();
+    while !cases.is_full() {
+        for kind in ["source", "ends", "edition", "start"] {
+            put(&random_case(&mut g, kind), &mut before, &mut cases, &mut seen);
+        }
+    }
+    print_seen("list", &seen);
+    cases.save(dir);
+}
+
+// Packets of a long run: its chunks, and those that may be sent again. For crates/transfer_cases: NOTES 65,536, OUTPUT 65,536, EVENTS LONG, ROLLS 16 * LONG.
+const LONG: usize = 65_536 + 4_000;
+
+fn long(dir: &str) {
+    let mut cases = Cases::new("transfer", 0);
+    let mut before: [String; 7] = Default::default();
+    let mut seen = Seen::default();
+    for (protocol, edition) in EACH {
+        let mut c = example(protocol, edition, 32, b"");
+        c.file = File::Made(65_536, 1);
+        (c.sizes[2], c.sizes[3], c.sizes[4]) = (65_536, 65_536, LONG);
+        c.s.ceiling = 4_000;
+        // a timeout of the edition clock costs seconds
+        c.s.chances = if edition { [0.0, 0.01, 0.0, 0.0] } else { [0.0005, 0.01, 0.0, 0.0005] };
+        (c.forward, c.reverse) = (Draws::new(8 * LONG, 0, 1), Draws::new(16 * LONG, 0, 2));
+        put(&c, &mut before, &mut cases, &mut seen);
+    }
+    assert!(seen.completed == 5 && seen.ends[0] == 5);
+    print_seen("long", &seen);
+    cases.save(dir);
+}
+
 // Lines of another form, and numbers past what the replay has.
 fn bad_lines(cases: &mut Cases) {
-    let own = ["p 3 0 1 1 1 1", "p 0 2 1 1 1 1", "p 0 0 1 1 1", "c 0 0 0 0 0 0", "t 0 0 0 0 0 0 0", "m 46337 0 0 0 0 0 0 0 0 0 0", "m 0 0 0 0 0 0 0 0 0 0 65", "m 0", "f 65601 1", "f 1", "g 8193 0 0", "h 1 0", "i 1", "j", "r", "r 1 2"];
+    let own = ["p 3 0 1 1 1 1", "p 0 2 1 1 1 1", "p 0 0 1 1 1", "c 0 0 0 0 0 0", "t 0 0 0 0 0 0 0", "m 46337 0 0 0 0 0 0 0 0 0 0", "m 0 0 0 0 0 0 0 0 0 0 65", "m 0", "f 65601 1", "f 1", "g 8193 0 0", "h 1 0", "i 1", "j", "r 1"];
     for line in BAD_LINES.iter().chain(&own) {
         cases.case(line.to_string(), " bad line".to_string());
     }
@@ -1055,7 +1147,9 @@ fn main() {
     let number = |i: usize, default: u64| arg(i).map_or(default, |s| s.parse().expect("a number"));
     match arg(1) {
         Some("--sample") => sample(&args[2], number(3, 13)),
+        Some("--list") => list(&args[2], number(3, 1)),
+        Some("--long") => long(&args[2]),
         Some("--bulk") => bulk(&args[2], &args[3], number(4, 2000), number(5, 1)),
-        _ => panic!("usage: transfer --sample DIR [SEED] | transfer --bulk PROGRAM KIND RUNS [SEED]"),
+        _ => panic!("usage: transfer --sample DIR [SEED] | transfer --list DIR SEED | transfer --long DIR | transfer --bulk PROGRAM KIND RUNS [SEED]"),
     }
 }

@@ -1,5 +1,4 @@
-// The answer of a run, and sums of lent slices of numbers.
-use super::making::shifted;
+// The answer of a run, and the lent slices.
 use channel::ChannelStats;
 use go_back_n::GoBackNReceiver;
 use libc::STDOUT_FILENO;
@@ -12,22 +11,22 @@ use session::Receiver;
 use session::ReceiverState;
 use session::Sender;
 use session::SenderState;
+use step::End;
 use stop_and_wait::StopAndWaitReceiver;
 use stop_and_wait::StopAndWaitSender;
 use transfer::DriverCounts;
-use transfer::End;
 use transfer::Outcome;
 use transfer::RunAnswer;
 use window::SendWindow;
 
-pub fn print_answer(a: RunAnswer, output: &[u8], events: &[[u64; 7]]) {
+pub fn print_answer(a: RunAnswer) {
     match a {
-        RunAnswer::Outcome(o) => print_outcome(o, output, events),
+        RunAnswer::Outcome(o) => print_outcome(o),
         RunAnswer::Refused(r) => replay_io::print_refusal(r),
     }
 }
 
-fn print_outcome(o: Outcome, output: &[u8], events: &[[u64; 7]]) {
+fn print_outcome(o: Outcome) {
     let end = o.end;
     let sender = o.sender;
     let receiver = o.receiver;
@@ -44,9 +43,6 @@ fn print_outcome(o: Outcome, output: &[u8], events: &[[u64; 7]]) {
     print_estimator(estimator);
     print_channel(forward);
     print_channel(reverse);
-    print_events(events, driver.events);
-    replay_io::print(b"\no");
-    replay_io::print_bytes(replay_io::prefix(output, receiver.filled()));
 }
 
 fn print_end(end: End) {
@@ -210,81 +206,151 @@ fn print_channel(s: ChannelStats) {
     replay_io::print_number(s.copies_delivered);
 }
 
-fn print_events(events: &[[u64; 7]], used: usize) {
-    let n = replay_io::min(used, events.len());
-    let mut i: usize = 0;
-    while i < n {
-        print_event(events[i]);
-        i += 1;
+// What stands in a row: a number, how often so far, and whether it is an octet.
+struct Repeat {
+    value: u64,
+    count: u64,
+    octet: bool,
+}
+
+// The start of a line.
+fn begun(octet: bool) -> Repeat {
+    replay_io::print(b"\nl");
+    Repeat {
+        value: 0,
+        count: 0,
+        octet,
     }
 }
 
-fn print_event(row: [u64; 7]) {
-    replay_io::print(b"\ne");
-    replay_io::print_number(row[0]);
-    replay_io::print_number(row[1]);
-    replay_io::print_number(row[2]);
-    replay_io::print_number(row[3]);
-    replay_io::print_number(row[4]);
-    replay_io::print_number(row[5]);
-    replay_io::print_number(row[6]);
+// With n after it; prints what stood before another number.
+fn followed(r: Repeat, n: u64) -> Repeat {
+    if r.value == n {
+        return repeated(r);
+    }
+    print_repeat(r);
+    Repeat {
+        value: n,
+        count: 1,
+        octet: r.octet,
+    }
 }
 
-// A sum of numbers: from 1 on, each is added and what comes of it shifted.
-fn summed(sum: u64, n: u64) -> u64 {
-    shifted(std::num::wrapping_add_u64(sum, n))
+fn repeated(r: Repeat) -> Repeat {
+    let mut next = r;
+    next.count = std::num::wrapping_add_u64(r.count, 1);
+    next
 }
 
-fn print_sum(sum: u64) {
+fn print_repeat(r: Repeat) {
+    if r.count == 0 {
+        return;
+    }
     replay_io::print(b" ");
-    io::print_hex(STDOUT_FILENO, sum, 16);
+    print_value(r.value, r.octet);
+    if 1 < r.count {
+        replay_io::print(b"*");
+        io::print_decimal(STDOUT_FILENO, r.count);
+    }
 }
 
-pub fn print_numbers(numbers: &[u64]) {
-    let mut sum: u64 = 1;
+fn print_value(value: u64, octet: bool) {
+    if octet {
+        io::print_hex(STDOUT_FILENO, value, 2);
+    } else {
+        io::print_decimal(STDOUT_FILENO, value);
+    }
+}
+
+fn print_octets(octets: &[u8]) {
+    let mut r = begun(true);
+    let mut i: usize = 0;
+    while i < octets.len() {
+        r = followed(r, octet_value(octets[i]));
+        i += 1;
+    }
+    print_repeat(r);
+}
+
+fn octet_value(b: u8) -> u64 {
+    b as u64
+}
+
+fn print_numbers(numbers: &[u64]) {
+    let mut r = begun(false);
     let mut i: usize = 0;
     while i < numbers.len() {
-        sum = summed(sum, numbers[i]);
+        r = followed(r, numbers[i]);
         i += 1;
     }
-    print_sum(sum);
+    print_repeat(r);
 }
 
-pub fn print_keys(keys: &[u32]) {
-    let mut sum: u64 = 1;
+fn print_keys(keys: &[u32]) {
+    let mut r = begun(false);
     let mut i: usize = 0;
     while i < keys.len() {
-        sum = summed(sum, wide(keys[i]));
+        r = followed(r, wide(keys[i]));
         i += 1;
     }
-    print_sum(sum);
+    print_repeat(r);
 }
 
-pub fn print_sevens(rows: &[[u64; 7]]) {
-    let mut sum: u64 = 1;
+fn print_sevens(rows: &[[u64; 7]]) {
+    let mut r = begun(false);
     let mut i: usize = 0;
     while i < rows.len() {
-        sum = summed_seven(sum, rows[i]);
+        r = followed_by_seven(r, rows[i]);
         i += 1;
     }
-    print_sum(sum);
+    print_repeat(r);
 }
 
-fn summed_seven(sum: u64, row: [u64; 7]) -> u64 {
-    let first = summed_four(sum, [row[0], row[1], row[2], row[3]]);
-    summed(summed(summed(first, row[4]), row[5]), row[6])
+fn followed_by_seven(r: Repeat, row: [u64; 7]) -> Repeat {
+    let first = followed_by_four(r, [row[0], row[1], row[2], row[3]]);
+    followed(followed(followed(first, row[4]), row[5]), row[6])
 }
 
-pub fn print_fours(rows: &[[u64; 4]]) {
-    let mut sum: u64 = 1;
+fn print_fours(rows: &[[u64; 4]]) {
+    let mut r = begun(false);
     let mut i: usize = 0;
     while i < rows.len() {
-        sum = summed_four(sum, rows[i]);
+        r = followed_by_four(r, rows[i]);
         i += 1;
     }
-    print_sum(sum);
+    print_repeat(r);
 }
 
-fn summed_four(sum: u64, row: [u64; 4]) -> u64 {
-    summed(summed(summed(summed(sum, row[0]), row[1]), row[2]), row[3])
+fn followed_by_four(r: Repeat, row: [u64; 4]) -> Repeat {
+    followed(
+        followed(followed(followed(r, row[0]), row[1]), row[2]),
+        row[3],
+    )
+}
+
+// The lent slices, a line each: octets in hexadecimal, numbers in decimal, *N after one that stands N times in a row.
+pub fn print_lent(
+    sender_store: &[u8],
+    receiver_store: &[u8],
+    output: &[u8],
+    notes: &[[u64; 7]],
+    events: &[[u64; 7]],
+    forward_records: &[[u64; 4]],
+    forward_places: &[u8],
+    reverse_records: &[[u64; 4]],
+    reverse_places: &[u8],
+    keys: &[u32],
+    deadlines: &[u64],
+) {
+    print_octets(sender_store);
+    print_octets(receiver_store);
+    print_octets(output);
+    print_sevens(notes);
+    print_sevens(events);
+    print_fours(forward_records);
+    print_octets(forward_places);
+    print_fours(reverse_records);
+    print_octets(reverse_places);
+    print_keys(keys);
+    print_numbers(deadlines);
 }

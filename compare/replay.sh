@@ -1,0 +1,27 @@
+# For compare/replays and compare/run: a replay program, compiled but not proved, on cases that the running Rust makes. Sets `room`.
+# shellcheck shell=bash
+
+# A repository for `rt try` in which the layer's replay has other cases, and the maker of cases, built without the exports: it calls none of them.
+prepare() { # OUT LAYER
+  local crate
+  bash compare/build.sh "$1" "compare/$2.rs" -C relro-level=off -C link-args=-Wl,--unresolved-symbols=ignore-all,-z,lazy
+  room=$1/$2.try
+  rm -rf "$room"
+  mkdir -p "$room/crates/$2_replay"
+  ln -s "$PWD/crates.txt" "$room"
+  for crate in crates/*; do
+    [ "$crate" = "crates/$2_replay" ] || ln -s "$PWD/$crate" "$room/crates"
+  done
+  ln -s "$PWD/crates/$2_replay/src" "$room/crates/$2_replay"
+}
+
+# Makes a list of cases by the MODE of compare/LAYER.rs, --sample or --list, and compares the replay's answers with the list's.
+compare_list() { # OUT LAYER MODE SEED
+  "$1/$2" "$3" "$room/crates/$2_replay" "$4" >"$room/made"
+  # The interpreter gives up on long lists: the three compiled programs decide.
+  (cd "$room" && rt try "$2_replay") >"$room/log" 2>&1 || true
+  [ "$(grep -c '^ok: the native program' "$room/log")" -eq 3 ] && return
+  cat "$room/log"
+  echo "$2_replay differs from the Rust on the cases of seed $4" >&2
+  return 1
+}
