@@ -1,0 +1,3 @@
+pub mod Ends
+pub mod AnyChunks
+pub mod Finish
