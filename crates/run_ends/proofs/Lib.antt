@@ -7,4 +7,5 @@ pub mod Steps
 pub mod Transfer
 pub mod Start
 pub mod Finish
+pub mod Examples
 pub mod Laws

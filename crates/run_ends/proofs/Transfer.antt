@@ -44,6 +44,7 @@ use Rattle.transfer.specs.declared.RunAnswer.the-variants as answer
 use Rattle.transfer.proofs.Laws.{start-plan, start-good}
 use Rattle.run_ends.specs.Ends.{Line, forwardLine, reverseLine, rollsUsed, rollsSpent, waitingCount, scheduleLeft, scheduleFull, Stopped, AllCarried, LastNotCarried, EndWhy, EndsSo, IsOutcome}
 use Rattle.run_ends.specs.Ends.EndWhy.{carried, forward-stopped, reverse-stopped}
+use Rattle.run_ends.proofs.Unique.{end-unique}
 use Rattle.run_ends.proofs.Waiting.{tidy-count}
 use Rattle.run_ends.proofs.Lines.{seen, notCarried, StoppedAt, LineAt, line-due, line-new}
 use Rattle.run_ends.proofs.Steps.{stopFor, LinesAt, Going-on, EndsAt, run-ends-at}
@@ -156,3 +157,8 @@ module _ (k : Ceilings) (c : TransferConfig) (g : Given) (l : Lent) where
   transfer-ends forward reverse factors =
       by-outcome (λ o m. EndsSo c g o m)
       (λ h. so c g k (run (planFor k c g) g (newRun k c l)) (run-ends-at (c .channel) (reverseConfig (c .channel)) (planFor k c g) g (start-plan k c g l h) (newRun k c l) (start-good k c g l h forward reverse factors) (start-on k c g l)))
+
+  -- and so in no other way: where the answer and the slices say why a run ended so, it ended so
+  pub transfer-ends-only : Doubles (g .forwardRolls) → Doubles (g .reverseRolls) → Factors (c .rto) → (o : Outcome) → runTransfer k c g l .answer ≡ answer.Outcome o → (e : End)
+      → EndWhy e (forwardLine c g o (runTransfer k c g l .lent)) (reverseLine c g o (runTransfer k c g l .lent)) → o .end ≡ e
+  transfer-ends-only forward reverse factors o i e w = end-unique (transfer-ends forward reverse factors o i .why) w
