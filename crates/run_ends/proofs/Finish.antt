@@ -36,10 +36,13 @@ use Rattle.step.specs.declared.Course.the-variants.{Going, Over}
 use Rattle.step.proofs.Laws.{arrives, step-is, afterBoth, bothExit}
 use Rattle.transfer.specs.Start.{planFor, newRun, startOf}
 use Rattle.transfer.specs.Run.{isOver, runAtMost, run, stepsLeft}
-use Rattle.transfer.specs.Transfer.{endOf, finishedAt}
+use Rattle.transfer.specs.Transfer.{endOf, finishedAt, runTransfer}
 use Rattle.transfer.specs.declared.Ceilings.{Ceilings}
+use Rattle.transfer.specs.declared.Outcome.{Outcome}
+use Rattle.transfer.specs.declared.RunAnswer.the-variants as answer
 use Rattle.transfer.proofs.Laws.{not-over, run-over}
-use Rattle.run_ends.specs.Finish.{sideOf, deliveredBy, stateAfter, CompletedIn, Finishes}
+use Rattle.run_ends.specs.Finish.{sideOf, deliveredBy, stateAfter, CompletedIn, Finishes, FinishedSo}
+use Rattle.run_ends.proofs.Transfer.{by-outcome}
 
 -- ---- what a step from s leaves: the time is not earlier and within the limit
 record StepsTo (p : Plan) (s : RunState) (sides : ReceivingSide → Type 0) (x : StepExit) : Type 0 where
@@ -236,3 +239,6 @@ transfer-finishes k c g l h =
     let n = new-base (c .protocol) (c .«window_size») (l .receiverStore) in
     let m = some-chunk (c .«chunk_size») (g .file) (let z = h .chunk-some in omega (arith, z)) in
     run-finishes (planFor k c g) g (newRun k c l) (omega arith) (new-completed-is (length (chunksOf (c .«chunk_size») (g .file))) (newReceiver (c .protocol) (c .«window_size») (l .receiverStore) .receiver) (omega (arith, n, m))) refl
+
+pub outcome-finishes : (k : Ceilings) (c : TransferConfig) (g : Given) (l : Lent) (o : Outcome) → runTransfer k c g l .answer ≡ answer.Outcome o → FinishedSo k c g l o
+outcome-finishes k c g l = by-outcome k c g l (λ (o : Outcome) (m : Lent). FinishedSo k c g l o) (λ h. let f = transfer-finishes k c g l h in record { in-time = f .in-time; completed = f .completed })

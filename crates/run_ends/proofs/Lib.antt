@@ -7,5 +7,6 @@ pub mod Steps
 pub mod Transfer
 pub mod Start
 pub mod Finish
+pub mod Ended
 pub mod Examples
 pub mod Laws

@@ -6,12 +6,16 @@ use mathlib.Core.Bool.{true, false}
 use mathlib.Core.Logic.{_⊎_}
 use Rattle.session.specs.Receiving.{base}
 use Rattle.receiving.specs.declared.ReceivingSide.{ReceivingSide}
-use Rattle.step.specs.State.{Given, RunState}
+use Rattle.setup.specs.declared.TransferConfig.{TransferConfig}
+use Rattle.step.specs.State.{Given, RunState, Lent}
 use Rattle.step.specs.Settle.{StepExit}
 use Rattle.step.specs.Step.{step}
 use Rattle.step.specs.declared.Plan.{Plan}
 use Rattle.step.specs.declared.End.the-variants.{Ended}
+use Rattle.transfer.specs.Start.{planFor, newRun}
 use Rattle.transfer.specs.Transfer.{endOf, finishedAt}
+use Rattle.transfer.specs.declared.Ceilings.{Ceilings}
+use Rattle.transfer.specs.declared.Outcome.{Outcome}
 
 abbrev pub sideOf : RunState → ReceivingSide
 sideOf s = s .arrivals .inbound .side
@@ -39,3 +43,8 @@ pub record Finishes (p : Plan) (g : Given) (s : RunState) (x : StepExit) : Type 
       → finishedAt (x .course) ≡ x .state .time
   pub ended : sideOf (x .state) .completed ≡ false → endOf (x .course) ≡ Ended
       → (finishedAt (x .course) ≡ x .state .time) ⊎ (finishedAt (x .course) ≡ p .«max_virtual_time»)
+
+-- of a call that wasn't refused
+pub record FinishedSo (k : Ceilings) (c : TransferConfig) (g : Given) (l : Lent) (o : Outcome) : Type 0 where
+  pub in-time : o .«finished_at» ≤ c .«max_virtual_time»
+  pub completed : o .completed ≡ true → CompletedIn (planFor k c g) g (newRun k c l) (o .«finished_at»)
