@@ -1,7 +1,7 @@
 -- Why a run ended as the source's does.
-use Prim.Native.Nat.{ℕ, zero, suc, _+_, _-_, _≤_, _<_}
+use Prim.Native.Nat.{ℕ, zero, suc, _-_, _≤_}
 use native.Mathlib.Omega.{arith}
-use mathlib.Core.Path.{_≡_, refl, sym, ap, _∙_, subst}
+use mathlib.Core.Path.{_≡_, refl, sym, _∙_, subst}
 use mathlib.Core.Bool.{Bool, true, false, cond, true≢false, false≢true, _&&_, _||_, and-eq-true-iff}
 use mathlib.Core.List.{List, [], _∷_}
 use lib.Dec.{eqb, leb, ltb}
@@ -32,12 +32,11 @@ use Rattle.timeouts.specs.Timeouts.{FireState, FireExit, withClock, stopped, ti
 use Rattle.timeouts.proofs.Laws.{timed-out-by, numbers-none, numbers-exhausted, numbers-going, numbers-stopped, timers-by}
 use Rattle.departures.specs.Departures.{pumpOf, pumped, goesOn, sendDue}
 use Rattle.step.specs.State.{Given, chunksFor, RunState, Lent, withArrivals, fireOf, exhausted, at}
-use Rattle.step.specs.Settle.{StepExit, stepExit, over, unlessStopped, moved, moveTo, settle}
+use Rattle.step.specs.Settle.{StepExit, stepExit, over, unlessStopped, moveTo, settle}
 use Rattle.step.specs.Step.{roundLess, step}
 use Rattle.step.specs.declared.Plan.{Plan}
 use Rattle.step.specs.declared.End.{End}
 use Rattle.step.specs.declared.End.the-variants as end
-use Rattle.step.specs.declared.Course.{Course}
 use Rattle.step.specs.declared.Course.the-variants.{Going, Over}
 use Rattle.step.proofs.Laws.{arrives, step-is, afterBoth, bothExit}
 use Rattle.setup.specs.declared.TransferConfig.{TransferConfig}

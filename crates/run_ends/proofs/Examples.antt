@@ -1,24 +1,28 @@
 -- Runs computed from the definitions: each end, two of them on either line, and the order of the tests.
-use Prim.Native.Nat.{ℕ, _*_}
+use Prim.Native.Nat.{ℕ, _*_, _^_, _<_}
+use native.Mathlib.Omega.{arith}
 use mathlib.Core.Path.{_≡_, refl}
 use mathlib.Core.Bool.{Bool, true, false}
 use mathlib.Core.List.{List, [], _∷_, map}
-use lib.ListN.{take, replicate}
-use lib.Ieee.{lt, le, mul, ofInt, toUnsigned}
+use lib.ListN.{take, replicate, length-replicate, getD-replicate}
+use lib.Ieee.{nan, fits, lt, le, mul, ofInt, toUnsigned}
 use Rattle.bounds.specs.Bounds.{slotSize, placeSize}
 use Rattle.refusal.specs.Refusal.{ascii}
 use Rattle.protocol.specs.declared.ProtocolType.the-variants.{StopAndWait}
 use Rattle.rtt.specs.Rtt.{zero64, one64, eighth64, quarter64, four64}
-use Rattle.path.specs.Rolls.{packetRolls}
+use Rattle.path.specs.Rolls.{packetRolls, Doubles}
+use Rattle.clock.specs.Estimator.{Factors}
 use Rattle.session.specs.Receiving.{filled}
 use Rattle.setup.specs.declared.TransferConfig.{TransferConfig}
 use Rattle.setup.specs.declared.ClockChoice.the-variants.{Source}
-use Rattle.step.specs.State.{given, Lent, lent}
+use Rattle.step.specs.State.{Given, given, Lent, lent}
 use Rattle.transfer.specs.Transfer.{RunExit, runTransfer}
 use Rattle.transfer.specs.declared.Ceilings.{Ceilings}
+use Rattle.transfer.specs.declared.Outcome.{Outcome}
 use Rattle.transfer.specs.declared.RunAnswer.{RunAnswer}
 use Rattle.transfer.specs.declared.RunAnswer.the-variants as answer
-use Rattle.run_ends.specs.Ends.{wordOf}
+use Rattle.run_ends.specs.Ends.{wordOf, EndsSo}
+use Rattle.run_ends.proofs.Transfer.{transfer-ends}
 use Rattle.acks.specs.Acks as acks
 use Rattle.acks.specs.Reverse as acksReverse
 use Rattle.arrivals.specs.Arrivals as arrivals
@@ -97,8 +101,11 @@ memory x =
     lent (replicate slotSize 0) [] (0 ∷ []) (replicate 7 0 ∷ []) (replicate (x .events) (replicate 7 0)) (replicate (x .copies) (replicate 4 0)) (replicate (x .copies * placeSize) 0)
     (replicate (x .replies) (replicate 4 0)) (replicate (x .replies * placeSize) 0) [] []
 
+abbrev offered : Case → Given
+offered x = given (65 ∷ []) (replicate (x .forward * packetRolls) zero64) (replicate (x .reverse * packetRolls) zero64)
+
 abbrev called : Case → RunExit
-called x = runTransfer ceilings config (given (65 ∷ []) (replicate (x .forward * packetRolls) zero64) (replicate (x .reverse * packetRolls) zero64)) (memory x)
+called x = runTransfer ceilings config (offered x) (memory x)
 
 -- the end, completed, the finishing time, what was written
 record Row : Type 0 where
@@ -129,3 +136,15 @@ ends-table : map (λ x. rowOf (called x)) (case 1 1 1 1 1 ∷ case 0 1 1 1 1 ∷
     ∷ []
 unfolding acks.onAccepted acks.onAck acksReverse.serveAtMost arrivals.serveArrivals channelBounds.configBroken channelFaults.carriedBytes channelFaults.deliveriesOf channelFaults.isCorrupted channelFaults.isDuplicated channelFaults.isLost channelFaults.isReordered channelProcess.processUnchecked checksum.checksum checksum.onesAdd checksum.onesSum checksum.words chunks.chunksOf chunks.pieces clock.armAfterSubmit clock.armOldest clock.due clock.newClock clock.nextDeadline clock.rearmAfterAck departures.sendDue multiTimer.newUnchecked notes.expiry notes.newNotes notes.sent notes.setDropped packetFormat.checksumOf packetFormat.datagram packetFormat.headerBytes packetFormat.matches packetReading.headerOf packetReading.payloadOf packetReading.payloadPart packetReading.readChecks packetReading.readDatagram path.carry path.deadlineOf path.newPath path.takeReady pathRolls.rollsAt pathRolls.rollsBroken receiverReceive.receive receiverReply.ackAfter receiverReply.applied receiverReply.roomMissing receiverState.countsBroken receiverState.stateBroken receiving.absorb receiving.onForward receiving.received receiving.serveAtMost receiving.submitAck refusalClauses.anyOf refusalOrder.decide refusalOrder.firstOf refusalOrder.numbered refusalOrder.orElse refusalOrder.order refusalOrder.verdict rto.configInBounds rto.fresh scheduleRecord.freeFrom scheduleRecord.inserted scheduleRecord.placeIn schedule.popUnchecked schedule.putCopy schedule.scheduleAtUnchecked schedule.withoutFirst sending.pumpMost sending.sendOne sessionReceiving.handlePacket sessionReceiving.newReceiver sessionSending.handleAck sessionSending.newSender sessionSending.sendChunk setup.clockBroken setup.roomMissing setup.setupBroken setup.stateBroken stepSettle.nextDeadline stepSettle.senderIdle stepSettle.settle step.step stopAndWait.dataDecision stopAndWait.decision storeSlot.putSlot storeSlot.slotAt storeSlot.slotBytes storeSound.anyBelow storeSound.senderSlotBroken storeSound.senderSlotsBroken submission.noteAfter submission.noteBefore submission.submit timeouts.fireTimers timer.cancelledUnchecked timer.newTimer timer.startedAtUnchecked transferRun.run transferRun.runAtMost transferStart.newRun transfer.runTransfer windowAcknowledgement.ackDecision windowAcknowledgement.byDecision windowSending.sendChecks windowSending.sendChunk windowSlots.fresh windowSlots.hold windowState.countsBroken windowState.numbersBroken windowState.stateBroken windowState.storeShort windowState.windowBroken lt le mul ofInt toUnsigned
 ends-table = refl
+
+-- ---- what `transfer-ends` asks is met
+doubles : (n : ℕ) → n * 8 < 2 ^ 63 → Doubles (replicate n zero64)
+unfolding fits
+doubles n h = record { each = λ i l. rw (getD-replicate n i zero64 nan (rw (length-replicate n zero64) at l)) tt; size = rw (length-replicate n zero64) h }
+
+factors : Factors (config .rto)
+unfolding fits
+factors = record { alpha = tt; beta = tt; k = tt; multiplier = tt }
+
+ends-so : (x : Case) → x .forward < 100 → x .reverse < 100 → (o : Outcome) → called x .answer ≡ answer.Outcome o → EndsSo config (offered x) o (called x .lent)
+ends-so x f r o e = transfer-ends ceilings config (offered x) (memory x) (doubles (x .forward * packetRolls) (omega arith)) (doubles (x .reverse * packetRolls) (omega arith)) factors o e

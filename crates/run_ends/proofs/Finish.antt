@@ -31,8 +31,7 @@ use Rattle.step.specs.Step.{roundLess, step}
 use Rattle.step.specs.declared.Plan.{Plan}
 use Rattle.step.specs.declared.End.{End}
 use Rattle.step.specs.declared.End.the-variants as end
-use Rattle.step.specs.declared.Course.{Course}
-use Rattle.step.specs.declared.Course.the-variants.{Going, Over}
+use Rattle.step.specs.declared.Course.the-variants.{Going}
 use Rattle.step.proofs.Laws.{arrives, step-is, afterBoth, bothExit}
 use Rattle.transfer.specs.Start.{planFor, newRun, startOf}
 use Rattle.transfer.specs.Run.{isOver, runAtMost, run, stepsLeft}
@@ -40,7 +39,7 @@ use Rattle.transfer.specs.Transfer.{endOf, finishedAt, runTransfer}
 use Rattle.transfer.specs.declared.Ceilings.{Ceilings}
 use Rattle.transfer.specs.declared.Outcome.{Outcome}
 use Rattle.transfer.specs.declared.RunAnswer.the-variants as answer
-use Rattle.transfer.proofs.Laws.{not-over, run-over}
+use Rattle.transfer.proofs.Laws.{run-over}
 use Rattle.run_ends.specs.Finish.{sideOf, deliveredBy, stateAfter, CompletedIn, Finishes, FinishedSo}
 use Rattle.run_ends.proofs.Transfer.{by-outcome}
 

@@ -1,8 +1,8 @@
 -- What is due on both lines: what came of each ACK that was due on the reverse line; the forward line only gives copies out.
-use Prim.Native.Nat.{ℕ, _+_, _<_}
+use Prim.Native.Nat.{ℕ, _<_}
 use native.Mathlib.Omega.{arith}
-use mathlib.Core.Path.{_≡_, refl, sym, ap, _∙_, subst}
-use mathlib.Core.Bool.{Bool, true, false}
+use mathlib.Core.Path.{sym, subst}
+use mathlib.Core.Bool.{Bool, true}
 use mathlib.Core.List.{List, []}
 use lib.Ieee.{Float}
 use lib.ListN.{length, take}
@@ -16,12 +16,11 @@ use Rattle.path.specs.declared.Stop.{Stop}
 use Rattle.path.specs.declared.Stop.the-variants as stop
 use Rattle.clock.specs.declared.Timing.{Timing}
 use Rattle.acks.specs.Acks.{AckState}
-use Rattle.acks.specs.Reverse.{serveReverse}
 use Rattle.acks.proofs.Laws.{serve-reverse-invariant}
 use Rattle.receiving.specs.Receiving.{Inbound, ForwardExit, submitAck, received, onForward, ServeForwardExit, serveForward}
-use Rattle.receiving.proofs.Laws.{data-received, forward-either, nextTaken, nextExit, serve-turns, serve-keeps}
+use Rattle.receiving.proofs.Laws.{data-received, forward-either, nextTaken, serve-turns, serve-keeps}
 use Rattle.arrivals.specs.Arrivals.{ArrivalState, ArrivalExit, acksOf, serveArrivals, CanServeArrivals}
-use Rattle.arrivals.proofs.Laws.{between, replied, either-exit}
+use Rattle.arrivals.proofs.Laws.{between, either-exit}
 use Rattle.run_ends.proofs.Lines.{LineAt, line-due, line-going, line-more, line-taken}
 
 ack-some : (n : ℕ) → 0 < length (made (newPacket n packetType.Ack) [])

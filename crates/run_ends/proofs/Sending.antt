@@ -1,7 +1,7 @@
 -- The timers and the window: what came of each packet that was due on the forward line.
 use Prim.Native.Nat.{ℕ, _+_, _<_}
 use native.Mathlib.Omega.{arith}
-use mathlib.Core.Path.{_≡_, refl, sym, ap, _∙_, subst}
+use mathlib.Core.Path.{_≡_, refl, sym, ap, subst}
 use mathlib.Core.Bool.{Bool, true, false, cond, not, and-eq-true-iff}
 use mathlib.Core.List.{List, [], _∷_}
 use lib.Ieee.{Float}
@@ -35,8 +35,8 @@ use Rattle.sending.specs.Sending.{PumpState, PumpExit, nextNumber, canPump, sen
 use Rattle.sending.specs.Good.{CanPump}
 use Rattle.sending.specs.Retransmit.{RetransmitExit, retransmit, ceilingMet, exhausted, retransmitAll}
 use Rattle.sending.specs.declared.Resends.{Resends}
-use Rattle.sending.proofs.Laws.{chunk, given, written, sent-next, next-grows, pump-turns, packetsFrom, retransmit-counts, by-numbers}
-use Rattle.timeouts.specs.Timeouts.{FireState, FireExit, withResends, withClock, stopped, timedOut, timeoutOf, fireNumber, fireNumbers, expired, fireTimers}
+use Rattle.sending.proofs.Laws.{chunk, given, written, sent-next, pump-turns, packetsFrom, by-numbers}
+use Rattle.timeouts.specs.Timeouts.{FireState, FireExit, withClock, stopped, timedOut, timeoutOf, fireNumber, fireNumbers, expired, fireTimers}
 use Rattle.timeouts.specs.Good.{GoodFire}
 use Rattle.timeouts.proofs.Laws.{timed-out-by, sender-unbroken, stopped-good, cancelled-good, fire-number-good, numbers-none, numbers-exhausted, numbers-going, numbers-stopped, timers-by}
 use Rattle.departures.specs.Departures.{pumpOf, pumped, goesOn, sendDue, CanSendDue}

@@ -1,12 +1,11 @@
 -- Runs that end before their first packet.
-use Prim.Native.Nat.{ℕ, zero, suc, _+_, _-_, _*_, _≤_}
+use Prim.Native.Nat.{ℕ, zero, suc, _-_}
 use native.Mathlib.Omega.{arith}
 use mathlib.Core.Path.{_≡_, refl, sym, ap, _∙_, subst}
 use mathlib.Core.Bool.{Bool, true, false, cond, not, _&&_, _||_}
 use mathlib.Core.List.{List, []}
 use lib.Dec.{eqb}
 use lib.Ieee.{Float}
-use lib.ListN.{length}
 use borrow.Author.Tests.{le-leb, lt-leb}
 use Rattle.protocol.specs.declared.ProtocolType.{ProtocolType}
 use Rattle.protocol.specs.declared.ProtocolType.the-variants.{StopAndWait, GoBackN, SelectiveRepeat}
@@ -17,25 +16,25 @@ use Rattle.multi_timer.specs.MultiTimer.{newUnchecked}
 use Rattle.path.specs.Direction.{Direction}
 use Rattle.path.specs.Path.{newPath, isGoing, deadlineOf}
 use Rattle.path.specs.declared.Stop.the-variants as stop
-use Rattle.clock.specs.Clock.{ClockState, newClock, due}
+use Rattle.clock.specs.Clock.{newClock, due}
 use Rattle.clock.specs.Clock as clock
 use Rattle.clock.specs.declared.Timing.{Timing}
 use Rattle.clock.specs.declared.Timing.the-variants as timing
 use Rattle.clock.specs.declared.Due.the-variants as ran
-use Rattle.session.specs.Sending.{windowOf, hasOutstanding}
+use Rattle.session.specs.Sending.{hasOutstanding}
 use Rattle.session.specs.Receiving.{newReceiver, filled}
 use Rattle.acks.specs.Acks.{AckState}
 use Rattle.acks.specs.Reverse.{ServeExit, serveExit, serveReverse}
 use Rattle.acks.specs.Reverse as acks
-use Rattle.receiving.specs.Receiving.{Inbound, ServeForwardExit, serveForwardExit, serveForward, newSide}
+use Rattle.receiving.specs.Receiving.{Inbound, ServeForwardExit, serveForwardExit, serveForward}
 use Rattle.receiving.specs.Receiving as receiving
 use Rattle.arrivals.specs.Arrivals.{ArrivalState, ArrivalExit, arrivalExit, acksOf, withForward, reverseServed, serveArrivals}
 use Rattle.sending.specs.Sending.{PumpState, PumpExit, pumpExit, nextNumber, pumpMost, pumpSends}
 use Rattle.sending.specs.Retransmit.{ceilingMet, exhausted}
 use Rattle.sending.proofs.Laws.{unused}
-use Rattle.timeouts.specs.Timeouts.{FireState, FireExit, fireExit, withResends, fireTimers}
+use Rattle.timeouts.specs.Timeouts.{FireState, FireExit, fireExit, withResends}
 use Rattle.timeouts.proofs.Laws.{timers-met, timers-due}
-use Rattle.departures.specs.Departures.{pumpOf, withPumped, pumped, goesOn, sendDue}
+use Rattle.departures.specs.Departures.{pumpOf, pumped, goesOn, sendDue}
 use Rattle.setup.specs.Setup.{CanStart}
 use Rattle.setup.specs.declared.TransferConfig.{TransferConfig}
 use Rattle.step.specs.State.{Given, chunksFor, RunState, Lent, fireOf, withArrivals, withFired}
@@ -45,9 +44,9 @@ use Rattle.step.specs.Step.{roundLess, step}
 use Rattle.step.specs.declared.Plan.{Plan}
 use Rattle.step.specs.declared.End.the-variants.{Ended}
 use Rattle.step.specs.declared.Course.the-variants.{Going}
-use Rattle.transfer.specs.Start.{planOf, planFor, newRun, startOf, timingOf}
+use Rattle.transfer.specs.Start.{planOf, planFor, newRun, startOf}
 use Rattle.transfer.specs.Run.{isOver, runAtMost, run, stepsLeft}
-use Rattle.transfer.specs.Transfer.{outcomeOf, lentOf, RunExit, ended, runTransfer}
+use Rattle.transfer.specs.Transfer.{outcomeOf, lentOf, ended, runTransfer}
 use Rattle.transfer.specs.declared.Ceilings.{Ceilings}
 use Rattle.run_ends.specs.AnyChunks.{stepOf, runAtMostOf, runOf, endedAtStart, NothingSent}
 use Rattle.run_ends.proofs.Transfer.{accepted-is}

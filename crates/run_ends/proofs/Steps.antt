@@ -5,27 +5,26 @@ use mathlib.Core.Bool.{Bool, true, false, cond, _||_}
 use mathlib.Core.Logic.{_⊎_, inl, inr}
 use lib.Dec.{eqb}
 use Rattle.channel.specs.declared.ChannelConfig.{ChannelConfig}
-use Rattle.path.specs.Path.{isGoing}
 use Rattle.path.specs.declared.Stop.{Stop}
 use Rattle.path.specs.declared.Stop.the-variants as stop
 use Rattle.session.specs.Sending.{windowOf}
 use Rattle.submission.specs.Submission.{entryFree}
 use Rattle.arrivals.proofs.Laws.{arrivals-keep}
-use Rattle.step.specs.State.{Given, RunState, outgoingOf, fireOf, withArrivals, exhausted, at}
-use Rattle.step.specs.Settle.{StepExit, stepExit, over, unlessStopped, settle}
+use Rattle.step.specs.State.{Given, RunState, outgoingOf, withArrivals, exhausted, at}
+use Rattle.step.specs.Settle.{StepExit, unlessStopped, settle}
 use Rattle.step.specs.Step.{roundLess, step}
 use Rattle.step.specs.Good.{GoodPlan, GoodRun}
 use Rattle.step.specs.declared.Plan.{Plan}
 use Rattle.step.specs.declared.End.{End}
 use Rattle.step.specs.declared.End.the-variants as end
 use Rattle.step.specs.declared.Course.{Course}
-use Rattle.step.specs.declared.Course.the-variants.{Going, Over}
+use Rattle.step.specs.declared.Course.the-variants.{Going}
 use Rattle.step.proofs.Laws.{arrives, step-is, settle-cases, afterBoth, bothExit, can-arrive, arrived-good, good-fire, can-send-due, step-good}
 use Rattle.transfer.specs.Run.{isOver, runAtMost, run, stepsLeft}
 use Rattle.transfer.specs.Transfer.{endOf}
 use Rattle.transfer.proofs.Laws.{not-over}
 use Rattle.run_ends.proofs.Lines.{LineAt, line-due}
-use Rattle.run_ends.proofs.Sending.{ForwardAt, packetsDue, send-due-at}
+use Rattle.run_ends.proofs.Sending.{ForwardAt, send-due-at}
 use Rattle.run_ends.proofs.Receiving.{ReverseAt, arrivals-at}
 
 -- what came of the last packet, by the run's end

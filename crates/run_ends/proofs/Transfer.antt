@@ -1,8 +1,8 @@
 -- How every run of `run_transfer` ends.
-use Prim.Native.Nat.{ℕ, _+_, _-_, _*_}
+use Prim.Native.Nat.{ℕ, _+_, _-_}
 use native.Mathlib.Omega.{arith}
 use mathlib.Core.Path.{_≡_, refl, sym, ap, _∙_, subst}
-use mathlib.Core.Bool.{Bool, true, false, true≢false, _||_}
+use mathlib.Core.Bool.{Bool, true, _||_}
 use mathlib.Core.Logic.{_⊎_, inl, inr, ⊎-elim}
 use mathlib.Core.List.{List}
 use lib.Dec.{ltb}
@@ -14,8 +14,7 @@ use Rattle.refusal.specs.declared.Verdict.{Verdict}
 use Rattle.refusal.specs.declared.Verdict.the-variants.{Accepted, Refused}
 use Rattle.refusal.proofs.Laws.{on-accepted, on-refused}
 use Rattle.schedule.specs.Record.{freePlaces}
-use Rattle.schedule.specs.State.{schedule, placeCount, copies, lacksRoom}
-use Rattle.schedule.specs.Schedule.{scheduler}
+use Rattle.schedule.specs.State.{placeCount, copies, lacksRoom}
 use Rattle.channel.specs.Faults.{deliveriesOf}
 use Rattle.channel.specs.declared.ChannelConfig.{ChannelConfig}
 use Rattle.path.specs.Rolls.{packetRolls, rollsAt, Doubles}
@@ -26,7 +25,6 @@ use Rattle.path.specs.declared.Stop.{Stop}
 use Rattle.path.specs.declared.Stop.the-variants as stop
 use Rattle.path.proofs.Laws.{granted}
 use Rattle.clock.specs.Estimator.{Factors}
-use Rattle.session.specs.Sending.{windowOf, newSender}
 use Rattle.sending.proofs.Laws.{unused}
 use Rattle.setup.specs.Setup.{CanStart, startChecks}
 use Rattle.setup.proofs.Laws.{start-accepted, start-accepts}
@@ -42,11 +40,11 @@ use Rattle.transfer.specs.declared.Ceilings.{Ceilings}
 use Rattle.transfer.specs.declared.Outcome.{Outcome}
 use Rattle.transfer.specs.declared.RunAnswer.the-variants as answer
 use Rattle.transfer.proofs.Laws.{start-plan, start-good}
-use Rattle.run_ends.specs.Ends.{Line, forwardLine, reverseLine, rollsUsed, rollsSpent, waitingCount, scheduleLeft, scheduleFull, Stopped, AllCarried, LastNotCarried, EndWhy, EndsSo, IsOutcome}
+use Rattle.run_ends.specs.Ends.{Line, forwardLine, reverseLine, rollsSpent, scheduleLeft, scheduleFull, Stopped, AllCarried, LastNotCarried, EndWhy, EndsSo, IsOutcome}
 use Rattle.run_ends.specs.Ends.EndWhy.{carried, forward-stopped, reverse-stopped}
 use Rattle.run_ends.proofs.Unique.{end-unique}
 use Rattle.run_ends.proofs.Waiting.{tidy-count}
-use Rattle.run_ends.proofs.Lines.{seen, notCarried, StoppedAt, LineAt, line-due, line-new}
+use Rattle.run_ends.proofs.Lines.{seen, notCarried, LineAt, line-due, line-new}
 use Rattle.run_ends.proofs.Steps.{stopFor, LinesAt, Going-on, EndsAt, run-ends-at}
 
 -- ---- a line as its answer and slices show it

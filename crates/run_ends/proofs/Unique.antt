@@ -1,11 +1,10 @@
 -- A run's answer and slices allow one end only.
-use Prim.Native.Nat.{ℕ, _+_}
 use native.Mathlib.Omega.{arith}
 use mathlib.Core.Path.{_≡_, refl, sym, _∙_}
 use mathlib.Core.Bool.{Bool, true, false, true≢false}
 use Rattle.step.specs.declared.End.{End}
 use Rattle.step.specs.declared.End.the-variants.{Ended, RollsSpent, EventsFull, ScheduleFull}
-use Rattle.run_ends.specs.Ends.{Line, rollsSpent, scheduleFull, Stopped, AllCarried, LastNotCarried, EndWhy}
+use Rattle.run_ends.specs.Ends.{Line, Stopped, AllCarried, LastNotCarried, EndWhy}
 use Rattle.run_ends.specs.Ends.EndWhy.{carried, forward-stopped, reverse-stopped}
 
 contrary : {A : Type 0} {b : Bool} → b ≡ true → b ≡ false → A

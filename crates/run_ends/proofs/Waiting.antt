@@ -5,14 +5,13 @@ use mathlib.Core.Path.{_≡_, refl, sym, ap, _∙_, subst}
 use mathlib.Core.Bool.{Bool, true, false, cond, _&&_}
 use mathlib.Core.List.{List, [], _∷_, _++_}
 use lib.Dec.{ltb, leb}
-use lib.Ieee.{Float}
 use lib.ListN.{length, take, drop, replicate, length-take, length-drop, take-append-drop}
 use lib.Seq.{take-at, drop-at, drop-drop}
 use borrow.Author.Tests.{ltb-true, lt-ltb}
 use Rattle.rows.specs.Rows.{asNumber}
 use Rattle.schedule.specs.Record.{recordLength, record4, vacant, after, inserted, lowestFree, timeOf}
 use Rattle.schedule.specs.State.{Schedule, placeCount, waitingRecords, leavesAt}
-use Rattle.schedule.specs.Schedule.{newSchedule, putCopy, scheduleAtUnchecked, withoutFirst, firstRecord, due, popFirst, onPop, popUnchecked, PopExit, leftByPop}
+use Rattle.schedule.specs.Schedule.{newSchedule, putCopy, scheduleAtUnchecked, withoutFirst, firstRecord, popFirst, onPop, popUnchecked, leftByPop}
 use Rattle.schedule.specs.declared.Deliveries.{Deliveries}
 use Rattle.schedule.specs.declared.Deliveries.the-variants.{Lost, One, Two}
 use Rattle.schedule.specs.declared.ReadyAnswer.the-variants as ready
