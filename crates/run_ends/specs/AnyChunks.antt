@@ -1,5 +1,5 @@
--- app/transfer.rs, `run_transfer`, of any list of chunks. Document 01 speaks of an empty one; the chunks of a file are
--- never so, its bytes being none too.
+-- app/transfer.rs, `run_transfer`, of any list of chunks. Document 01 speaks of an empty one; a file's chunks are never
+-- that, not even an empty file's.
 use Prim.Native.Nat.{ℕ, zero, suc}
 use mathlib.Core.Path.{_≡_}
 use mathlib.Core.Bool.{false, cond, _||_}
