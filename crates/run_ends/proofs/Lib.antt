@@ -1,0 +1,12 @@
+pub mod Unique
+pub mod Waiting
+pub mod Lines
+pub mod Sending
+pub mod Receiving
+pub mod Steps
+pub mod Transfer
+pub mod Start
+pub mod Finish
+pub mod Ended
+pub mod Examples
+pub mod Laws

@@ -1,0 +1,4 @@
+pub mod Ends
+pub mod AnyChunks
+pub mod Finish
+pub mod Ended

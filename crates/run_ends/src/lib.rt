@@ -1,0 +1,1 @@
+// How a run of `run_transfer` ends, and why: specs and proofs only.
