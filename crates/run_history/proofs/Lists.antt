@@ -1,0 +1,64 @@
+-- Lists of a run's calls and of the packets on its lines: one more.
+use Prim.Native.Nat.{ℕ, _+_, _*_}
+use mathlib.Core.Path.{_≡_, refl, sym, ap, _∙_}
+use mathlib.Core.Bool.{Bool, true, false, cond}
+use mathlib.Core.List.{List, [], _∷_, _++_, map, map-append, append-nil, append-assoc}
+use native.Mathlib.Omega.{arith}
+use lib.Ieee.{Float}
+use lib.ListN.{length}
+use Rattle.channel.specs.History as channel
+use Rattle.channel.specs.declared.ChannelConfig.{ChannelConfig}
+use Rattle.events.specs.Events.{ForwardEvent}
+use Rattle.path.specs.Rolls.{packetRolls, rollsAt}
+use Rattle.path.specs.Path.{packetBuffer}
+use Rattle.run_history.specs.Calls.{Call, Ends, after, afterCalls, collect, total, Submission}
+use Rattle.run_history.specs.Lines.{filter, packetsFrom, eventFor, eventsFrom}
+
+-- ---- calls
+pub after-more : (e : Ends) (cs : List Call) (c : Call) → afterCalls e (cs ++ c ∷ []) ≡ after (afterCalls e cs) c
+unfolding afterCalls
+after-more e [] c = refl
+after-more e (d ∷ cs) c = after-more (after e d) cs c
+
+pub collect-more : {A : Type 0} (f : Ends → Call → List A) (e : Ends) (cs : List Call) (c : Call) → collect f e (cs ++ c ∷ []) ≡ collect f e cs ++ f (afterCalls e cs) c
+unfolding collect afterCalls
+collect-more f e [] c = append-nil (f e c)
+collect-more {A} f e (d ∷ cs) c = ap (λ (l : List A). f e d ++ l) (collect-more f (after e d) cs c) ∙ sym (append-assoc (f e d) (collect f (after e d) cs) (f (afterCalls (after e d) cs) c))
+
+pub total-more : (f : Ends → Call → ℕ) (e : Ends) (cs : List Call) (c : Call) → total f e (cs ++ c ∷ []) ≡ total f e cs + f (afterCalls e cs) c
+unfolding total afterCalls
+total-more f e [] c = omega arith
+total-more f e (d ∷ cs) c = let h = total-more f (after e d) cs c in sum (f e d) (total f (after e d) cs) (f (afterCalls (after e d) cs) c) _ h
+  where
+    sum : (a b x y : ℕ) → y ≡ b + x → a + y ≡ (a + b) + x
+    sum a b x y h = omega arith
+
+-- ---- packets
+pub filter-more : {A : Type 0} (test : A → Bool) (xs : List A) (x : A) → filter test (xs ++ x ∷ []) ≡ filter test xs ++ cond (test x) (x ∷ []) []
+unfolding filter
+filter-more test [] x = refl
+filter-more {A} test (y ∷ xs) x = either (test y) (filter-more test xs x)
+  where
+    either : (b : Bool) → filter test (xs ++ x ∷ []) ≡ filter test xs ++ cond (test x) (x ∷ []) [] → cond b (y ∷ filter test (xs ++ x ∷ [])) (filter test (xs ++ x ∷ [])) ≡ cond b (y ∷ filter test xs) (filter test xs) ++ cond (test x) (x ∷ []) []
+    either true rest = ap (λ (l : List A). y ∷ l) rest
+    either false rest = rest
+
+-- a packet with the rolls at `at`
+abbrev pub packetAt : List Float → ℕ → List ℕ → channel.Call
+packetAt rolls at wire = record { packet = wire; rolls = rollsAt rolls at; out = packetBuffer }
+
+pub packets-more : (rolls : List Float) (at : ℕ) (before : List channel.Call) (wires : List (List ℕ)) (wire : List ℕ)
+    → packetsFrom rolls at before (wires ++ wire ∷ []) ≡ packetAt rolls (at + length wires * packetRolls) wire ∷ packetsFrom rolls at before wires
+unfolding packetsFrom
+packets-more rolls at before [] wire = ap (λ (n : ℕ). packetAt rolls n wire ∷ before) (omega arith)
+packets-more rolls at before (w ∷ wires) wire =
+    packets-more rolls (at + packetRolls) (packetAt rolls at w ∷ before) wires wire
+    ∙ ap (λ (n : ℕ). packetAt rolls n wire ∷ packetsFrom rolls (at + packetRolls) (packetAt rolls at w ∷ before) wires) (omega arith)
+
+pub events-more : (c : ChannelConfig) (rolls : List Float) (at : ℕ) (xs : List Submission) (x : Submission)
+    → eventsFrom c rolls at (xs ++ x ∷ []) ≡ eventsFrom c rolls at xs ++ eventFor c (rollsAt rolls (at + length xs * packetRolls)) x ∷ []
+unfolding eventsFrom
+events-more c rolls at [] x = ap (λ (n : ℕ). eventFor c (rollsAt rolls n) x ∷ []) (omega arith)
+events-more c rolls at (y ∷ xs) x =
+    ap (λ (l : List ForwardEvent). eventFor c (rollsAt rolls at) y ∷ l)
+    (events-more c rolls (at + packetRolls) xs x ∙ ap (λ (n : ℕ). eventsFrom c rolls (at + packetRolls) xs ++ eventFor c (rollsAt rolls n) x ∷ []) (omega arith))

@@ -1,0 +1,122 @@
+-- What the reverse line hands over: each copy is a call, and a sample that an accepted ACK gives another.
+use Prim.Native.Nat.{ℕ, _+_, _-_, _≤_}
+use mathlib.Core.Path.{_≡_, refl, sym, ap, _∙_, subst}
+use mathlib.Core.Bool.{Bool, true, false, cond, not, _&&_}
+use mathlib.Core.List.{List, [], _∷_, _++_}
+use lib.ListN.{take}
+use native.Mathlib.Nat.{le-trans}
+use native.Mathlib.Omega.{arith}
+use Rattle.packet.specs.Reading.{readDatagram}
+use Rattle.rto.specs.History as rto
+use Rattle.rto.specs.Rto.{updateRtt, updateRttUnchecked, countsFull}
+use Rattle.rto.specs.declared.RtoEstimator.{RtoEstimator}
+use Rattle.rto.specs.declared.UpdateResult.{UpdateResult}
+use Rattle.rto.proofs.Laws.{update-accepted}
+use Rattle.notes.specs.Notes.{takeSample}
+use Rattle.notes.specs.declared.Sample.{Sample}
+use Rattle.notes.specs.declared.Sample.the-variants.{Rtt, Nothing}
+use Rattle.notes.proofs.Laws.{sample-within}
+use Rattle.clock.specs.Clock.{bySample, sampleRtt}
+use Rattle.clock.specs.declared.Timing.{Timing}
+use Rattle.clock.proofs.Laws.{can-sample}
+use Rattle.path.specs.Direction.{Direction}
+use Rattle.path.specs.Path.{leftByTake, takeReady}
+use Rattle.schedule.specs.declared.ReadyAnswer.the-variants as ready
+use Rattle.events.specs.Events.{ForwardEvent}
+use Rattle.session.specs.Sending.{SenderEnd, handleAck}
+use Rattle.receiving.specs.Receiving.{Inbound, inbound}
+use Rattle.acks.specs.Acks.{AckState, ackState, ackNumber, sampleSeq, onAccepted, counted, duplicate, isAccepted, byNumber, onAck}
+use Rattle.acks.specs.Good.{GoodAcks, CanOnAck}
+use Rattle.acks.specs.Reverse.{serveReverse, CanServeReverse}
+use Rattle.acks.specs.declared.AckNumber.{AckNumber}
+use Rattle.acks.specs.declared.AckNumber.the-variants as ack
+use Rattle.acks.proofs.Laws.{nextTaken, nextState, can-hand-over, turn-good, serve-reverse-invariant}
+use Rattle.run_history.specs.Calls.{return, sample, isNumber, one}
+use Rattle.run_history.proofs.Tells.{Origin, Moment, moment, Sent, Replied, Told, Makes, told-more, none-sent, none-replied, no-more}
+
+module _ (b : Origin) (f : Direction) (i : Inbound) (again : ℕ) (events : List ForwardEvent) where
+  -- the receiving side as it was, with the reverse line
+  abbrev pub returnMoment : Direction → AckState → Moment
+  returnMoment d s = moment f (inbound (i .side) (i .store) (i .output) (s .metas) d) (s .sender) (s .estimator) (s .received) (s .duplicates) again events
+
+  abbrev pub Returns : Direction → AckState → Type 0
+  Returns d s = Told b (returnMoment d s)
+
+  module _ (timing : Timing) (now : ℕ) (raw : List ℕ) (d : Direction) (s : AckState) where
+    -- no valid ACK
+    dropped : ackNumber (readDatagram raw) ≡ ack.Nothing → Makes b (return raw) (returnMoment d s) (returnMoment d s)
+    dropped h =
+        record {
+          ends-are = rw h;
+          sending = none-sent b (returnMoment d s);
+          replying = none-replied b (returnMoment d s);
+          estimator-is = refl;
+          datas-are = no-more _;
+          acks-are = rw h (no-more (s .received));
+          duplicates-are = rw h (no-more (s .duplicates));
+        }
+
+    -- a valid ACK, accepted or not: the count of duplicates becomes k
+    abbrev answered : ℕ → AckState
+    answered k = ackState (handleAck (s .sender) raw .after) (s .estimator) (s .clock) (s .metas) (s .received + 1) k
+
+    acknowledged : (n : ℕ) → ackNumber (readDatagram raw) ≡ ack.Number n → (k : ℕ) → s .duplicates + one (not (isAccepted (handleAck (s .sender) raw .answer))) ≡ k → Makes b (return raw) (returnMoment d s) (returnMoment d (answered k))
+    acknowledged n h k e =
+        record {
+          ends-are = rw h;
+          sending = none-sent b (returnMoment d s);
+          replying = none-replied b (returnMoment d s);
+          estimator-is = refl;
+          datas-are = no-more _;
+          acks-are = rw h;
+          duplicates-are = rw h e;
+        }
+
+    module _ (can : CanOnAck s now) where
+      update-is : (l : ℕ) (re : Bool) → l ≤ now → rto.step (s .estimator) (rto.sample l re) ≡ updateRttUnchecked (s .estimator) l re
+      unfolding rto.step
+      update-is l re h =
+          let g = can .good .estimator in
+          let counts = can-sample (s .estimator) (s .received) g (s .metas) now (can .good .notes) (can .few) .counts in
+          ap (λ (x : UpdateResult). x .estimator) (update-accepted (s .estimator) l re (record { state = g .state; times = g .times }) counts (le-trans h (can .good .notes .within)))
+
+      accepted-told : (n seq : ℕ) → Returns d (answered (s .duplicates)) → Returns d (onAccepted timing now n seq (counted s (handleAck (s .sender) raw .after)))
+      unfolding onAccepted sampleRtt
+      accepted-told n seq q = by-sample (takeSample (s .metas) seq now .sample) refl
+        where
+          by-sample : (x : Sample) → takeSample (s .metas) seq now .sample ≡ x → Told b (moment f (inbound (i .side) (i .store) (i .output) (s .metas) d) (handleAck (s .sender) raw .after) (bySample (s .estimator) x) (s .received + 1) (s .duplicates) again events)
+          by-sample Nothing e = q
+          by-sample (Rtt l re) e =
+              told-more {c = sample l re} {next = moment f (inbound (i .side) (i .store) (i .output) (s .metas) d) (handleAck (s .sender) raw .after) (updateRttUnchecked (s .estimator) l re) (s .received + 1) (s .duplicates) again events} q
+              (record {
+                ends-are = refl;
+                sending = none-sent b (returnMoment d (answered (s .duplicates)));
+                replying = none-replied b (returnMoment d (answered (s .duplicates)));
+                estimator-is = update-is l re (sample-within (s .metas) seq now l re e);
+                datas-are = no-more _;
+                acks-are = no-more _;
+                duplicates-are = no-more _;
+              })
+
+      pub return-told : Returns d s → Returns d (onAck timing now raw s)
+      unfolding onAck
+      return-told q = by-number (ackNumber (readDatagram raw)) refl
+        where
+          by-accepted : (n : ℕ) → ackNumber (readDatagram raw) ≡ ack.Number n → (t : Bool) → isAccepted (handleAck (s .sender) raw .answer) ≡ t
+              → Returns d (cond t (onAccepted timing now n (sampleSeq (s .sender .sender .state) n) (counted s (handleAck (s .sender) raw .after))) (duplicate (counted s (handleAck (s .sender) raw .after))))
+          by-accepted n h true a = accepted-told n (sampleSeq (s .sender .sender .state) n) (told-more q (acknowledged n h (s .duplicates) (ap (λ (x : Bool). s .duplicates + one (not x)) a ∙ no-more (s .duplicates))))
+          by-accepted n h false a = told-more q (acknowledged n h (s .duplicates + 1) (ap (λ (x : Bool). s .duplicates + one (not x)) a))
+
+          by-number : (x : AckNumber) → ackNumber (readDatagram raw) ≡ x → Returns d (byNumber x timing now raw s)
+          by-number ack.Nothing h = told-more q (dropped h)
+          by-number (ack.Number n) h = by-accepted n h (isAccepted (handleAck (s .sender) raw .answer)) refl
+
+  -- taking a copy changes nothing that the calls make
+  taken : (now : ℕ) (d : Direction) (s : AckState) → Returns d s → Returns (leftByTake (nextTaken now d)) s
+  unfolding takeReady
+  taken now d s q = q
+
+  pub returns-told : (timing : Timing) (now : ℕ) (d : Direction) (s : AckState) → CanServeReverse d s now → Returns d s → Returns (serveReverse timing now d s .reverse) (serveReverse timing now d s .state)
+  returns-told timing now d s can q =
+      serve-reverse-invariant timing now (λ (d : Direction) (s : AckState). CanServeReverse d s now × Returns d s)
+      (λ d s n e h. (turn-good timing now d s (h .0) n e, taken now d (nextState timing now d s n) (return-told timing now (take n (nextTaken now d .out)) d s (can-hand-over timing now d s (h .0) n e) (h .1)))) d s (can, q) .1
