@@ -1,13 +1,15 @@
 -- What the forward line hands over: each copy is a call.
 use Prim.Native.Nat.{ℕ, _+_}
 use mathlib.Core.Path.{_≡_, refl, sym, ap, _∙_, subst}
-use mathlib.Core.Bool.{Bool, true, false, cond}
+use mathlib.Core.Bool.{Bool, true, false, cond, _||_, true≢false}
 use mathlib.Core.List.{List, [], _∷_, _++_}
 use lib.Ieee.{Float}
 use lib.ListN.{take}
+use lib.Dec.{ltb}
 use Rattle.packet.specs.Format.{newPacket, made}
 use Rattle.packet.specs.Reading.{readDatagram}
 use Rattle.packet.specs.declared.PacketType.the-variants as packetType
+use Rattle.receiver.specs.Reply.{isRefused}
 use Rattle.receiver.specs.declared.ReceiveAnswer.{ReceiveAnswer}
 use Rattle.receiver.specs.declared.ReceiveAnswer.the-variants as receiveAnswer
 use Rattle.schedule.specs.declared.ReadyAnswer.the-variants as ready
@@ -17,52 +19,73 @@ use Rattle.path.specs.Path.{isGoing, leftByTake, takeReady, packetBuffer, leftB
 use Rattle.path.specs.declared.Stop.the-variants as stop
 use Rattle.events.specs.Events.{ForwardEvent}
 use Rattle.session.specs.Sending.{SenderEnd}
-use Rattle.session.specs.Receiving.{ReceiverEnd, receiverEnd}
+use Rattle.session.specs.Receiving.{ReceiverEnd, receiverEnd, base}
 use Rattle.session.specs.declared.Receiver.{Receiver}
-use Rattle.receiving.specs.Receiving.{Inbound, ForwardExit, isData, handled, received, onForward, submitAck, serveForward}
-use Rattle.receiving.proofs.Laws.{Received, data-received, ack-submitted, forward-dropped, forward-silent, forward-refused, forward-acknowledged, nextTaken, nextExit, serve-keeps}
+use Rattle.receiving.specs.Receiving.{Inbound, ForwardExit, isData, gbnDuplicate, newDuplicates, delivered, absorb, completedAt, handled, received, onForward, submitAck, ServeForwardExit, serveForward}
+use Rattle.receiving.specs.declared.ReceivingSide.{ReceivingSide}
+use Rattle.receiving.proofs.Laws.{Received, data-received, ack-submitted, forward-dropped, forward-silent, forward-refused, forward-acknowledged, nextTaken, nextExit, serve-turns}
 use Rattle.run_history.specs.Calls.{Ends, ends, arrival, Submission, Reply, reply, repliedBy}
 use Rattle.run_history.proofs.Columns.{LineAfter, Sending, Replying, carry-replying}
-use Rattle.run_history.proofs.Tells.{Origin, Moment, moment, Sent, Replied, Told, Makes, told-more, none-sent, none-replied, no-more}
+use Rattle.run_history.proofs.Tells.{Origin, Moment, moment, Told, Makes, Goes, still-told, by-call, none-sent, none-replied, no-more}
 
-module _ (b : Origin) (v : SenderEnd) (e : RtoEstimator) (acks duplicates again : ℕ) (events : List ForwardEvent) where
+absorbed-duplicates : (total now : ℕ) (x : ReceivingSide) → absorb total now x .«duplicate_data» ≡ x .«duplicate_data»
+unfolding absorb
+absorbed-duplicates total now x = either (x .completed || ltb (base (x .receiver)) total)
+  where
+    either : (b : Bool) → cond b x (completedAt x now) .«duplicate_data» ≡ x .«duplicate_data»
+    either true = refl
+    either false = refl
+
+module _ (b : Origin) (v : SenderEnd) (e : RtoEstimator) (acks duplicates again written : ℕ) (rows : List (List ℕ)) where
   -- the moment as the loop sees it
-  abbrev pub Arrives : Direction → Inbound → Type 0
-  Arrives f i = Told b (moment f i v e acks duplicates again events)
+  abbrev pub arriveMoment : Direction → Inbound → Moment
+  arriveMoment f i = moment f i v e acks duplicates again written rows
 
-  module _ (total now : ℕ) (raw : List ℕ) (f : Direction) (i : Inbound) where
+  abbrev pub Arrives : Direction → Inbound → Type 0
+  Arrives f i = Told b (arriveMoment f i)
+
+  module _ (total now : ℕ) (raw : List ℕ) (f : Direction) (i : Inbound) (accepts : isData (readDatagram raw) ≡ true → isRefused (handled raw i .answer) ≡ false) where
     abbrev now-at : Moment
-    now-at = moment f i v e acks duplicates again events
+    now-at = arriveMoment f i
 
     abbrev then-at : Inbound → Moment
-    then-at x = moment f x v e acks duplicates again events
+    then-at x = arriveMoment f x
 
     -- what can't be read or is no Data
     dropped : isData (readDatagram raw) ≡ false → Makes b (arrival raw true) now-at now-at
     dropped h =
         record {
+          not-refused = accepts;
           ends-are = rw h;
           sending = none-sent b now-at;
           replying = λ xs s. rw h (none-replied b now-at xs s);
           estimator-is = refl;
           datas-are = rw h (no-more (i .side .«data_received»));
+          repeats-are = rw h (no-more (i .side .«duplicate_data»));
           acks-are = no-more acks;
           duplicates-are = no-more duplicates;
         }
 
-    delivered : Received total now raw i → ends v (handled raw i .receiver) (handled raw i .output) ≡ then-at (received total now raw i) .ends
-    delivered d = rw (d .receiver, d .store, d .output)
+    after-data : Received total now raw i → ends v (handled raw i .receiver) (handled raw i .output) ≡ then-at (received total now raw i) .ends
+    after-data d = rw (d .receiver, d .store, d .output)
+
+    repeats : isData (readDatagram raw) ≡ true
+        → i .side .«duplicate_data» + cond (isData (readDatagram raw)) (newDuplicates (i .side .receiver) (gbnDuplicate (i .side .receiver) (readDatagram raw)) (handled raw i .receiver .receiver)) 0 ≡ received total now raw i .side .«duplicate_data»
+    unfolding received
+    repeats h = rw h (sym (absorbed-duplicates total now (delivered (i .side) (gbnDuplicate (i .side .receiver) (readDatagram raw)) (handled raw i .receiver .receiver))))
 
     -- Data without an answer
     silent : isData (readDatagram raw) ≡ true → reply (handled raw i .answer) true ≡ [] → Makes b (arrival raw true) now-at (then-at (received total now raw i))
     silent h none =
         let d = data-received total now raw i in
         record {
-          ends-are = rw h (delivered d);
+          not-refused = accepts;
+          ends-are = rw h (after-data d);
           sending = none-sent b now-at;
           replying = λ xs s. rw (h, none, d .reverse, d .acks) (none-replied b now-at xs s);
           estimator-is = refl;
           datas-are = rw h (sym (d .datas));
+          repeats-are = repeats h;
           acks-are = no-more acks;
           duplicates-are = no-more duplicates;
         }
@@ -75,34 +98,46 @@ module _ (b : Origin) (v : SenderEnd) (e : RtoEstimator) (acks duplicates again 
     acked h n a going g =
         let d = data-received total now raw i in
         record {
-          ends-are = rw h (delivered d);
+          not-refused = accepts;
+          ends-are = rw h (after-data d);
           sending = none-sent b now-at;
           replying = λ xs s. rw (h, a) (carry-replying {xs = xs} now (made (newPacket n packetType.Ack) []) (received total now raw i .reverse) (rw (d .acks, d .reverse) s) going g);
           estimator-is = refl;
           datas-are = rw h (sym (d .datas));
+          repeats-are = repeats h;
           acks-are = no-more acks;
           duplicates-are = no-more duplicates;
         }
 
-    pub arrival-told : Arrives f i → Arrives f (onForward (b .reverseRolls) total now raw i .inbound)
+    pub arrival-told : Arrives f i → Goes b (then-at (onForward (b .reverseRolls) total now raw i .inbound)) (isGoing (onForward (b .reverseRolls) total now raw i .stop))
     arrival-told q = by-reading (isData (readDatagram raw)) refl
       where
         After : ForwardExit → Type 0
-        After x = Arrives f (x .inbound)
+        After x = Goes b (then-at (x .inbound)) (isGoing (x .stop))
 
         by-answer : isData (readDatagram raw) ≡ true → (a : ReceiveAnswer) → handled raw i .answer ≡ a → After (onForward (b .reverseRolls) total now raw i)
-        by-answer h receiveAnswer.Silent a = subst After (sym (forward-silent (b .reverseRolls) total now raw i h a)) (told-more q (silent h (ap (λ (x : ReceiveAnswer). reply x true) a)))
-        by-answer h (receiveAnswer.Refused r) a = subst After (sym (forward-refused (b .reverseRolls) total now raw i r h a)) (told-more q (silent h (ap (λ (x : ReceiveAnswer). reply x true) a)))
-        by-answer h (receiveAnswer.Ack n) a = subst After (sym (forward-acknowledged (b .reverseRolls) total now raw i n h a)) (told-more q (acked h n a _ refl))
+        by-answer h receiveAnswer.Silent a = subst After (sym (forward-silent (b .reverseRolls) total now raw i h a)) (by-call q (silent h (ap (λ (x : ReceiveAnswer). reply x true) a)) (λ g. refl))
+        by-answer h (receiveAnswer.Refused r) a = subst After (sym (forward-refused (b .reverseRolls) total now raw i r h a)) (by-call q (silent h (ap (λ (x : ReceiveAnswer). reply x true) a)) (λ g. refl))
+        by-answer h (receiveAnswer.Ack n) a = subst After (sym (forward-acknowledged (b .reverseRolls) total now raw i n h a)) (by-call q (acked h n a _ refl) (λ g. g))
 
         by-reading : (t : Bool) → isData (readDatagram raw) ≡ t → After (onForward (b .reverseRolls) total now raw i)
         by-reading true h = by-answer h (handled raw i .answer) refl
-        by-reading false h = subst After (sym (forward-dropped (b .reverseRolls) total now raw i h)) (told-more q (dropped h))
+        by-reading false h = subst After (sym (forward-dropped (b .reverseRolls) total now raw i h)) (by-call q (dropped h) (λ g. refl))
 
   -- taking a copy changes nothing that the calls make
-  taken : (now : ℕ) (f : Direction) (i : Inbound) → Arrives f i → Arrives (leftByTake (nextTaken now f)) i
+  taken : (now : ℕ) (f : Direction) (i : Inbound) (going : Bool) → Goes b (arriveMoment f i) going → Goes b (arriveMoment (leftByTake (nextTaken now f)) i) going
   unfolding takeReady
-  taken now f i q = q
+  taken now f i going q = q
 
-  pub arrivals-told : (total now : ℕ) (f : Direction) (i : Inbound) → Arrives f i → Arrives (serveForward (b .reverseRolls) total now f i .forward) (serveForward (b .reverseRolls) total now f i .inbound)
-  arrivals-told total now = serve-keeps (b .reverseRolls) total now Arrives (λ f i n e q. taken now f (nextExit (b .reverseRolls) total now f i n .inbound) (arrival-told total now (take n (nextTaken now f .out)) f i q))
+  -- I: what the turns keep, and by which no Data is refused
+  pub arrivals-told : (total now : ℕ) (I : Direction → Inbound → Type 0)
+      → ((f : Direction) (i : Inbound) (n : ℕ) → nextTaken now f .result .answer ≡ ready.Packet n → I f i → I (leftByTake (nextTaken now f)) (nextExit (b .reverseRolls) total now f i n .inbound))
+      → ((f : Direction) (i : Inbound) (n : ℕ) → nextTaken now f .result .answer ≡ ready.Packet n → I f i → isData (readDatagram (take n (nextTaken now f .out))) ≡ true → isRefused (handled (take n (nextTaken now f .out)) i .answer) ≡ false)
+      → (f : Direction) (i : Inbound) → I f i → Arrives f i → Goes b (arriveMoment (serveForward (b .reverseRolls) total now f i .forward) (serveForward (b .reverseRolls) total now f i .inbound)) (isGoing (serveForward (b .reverseRolls) total now f i .stop))
+  arrivals-told total now I keeps accepts =
+      serve-turns (b .reverseRolls) total now (λ (f : Direction) (i : Inbound) (x : ServeForwardExit). I f i → Arrives f i → Goes b (arriveMoment (x .forward) (x .inbound)) (isGoing (x .stop))) (λ f i e k q. still-told q)
+      (λ f i n x e g rest k q. rest (keeps f i n e k) (turn f i n e k q .0 g)) (λ f i n e g k q. turn f i n e k q)
+    where
+      turn : (f : Direction) (i : Inbound) (n : ℕ) → nextTaken now f .result .answer ≡ ready.Packet n → I f i → Arrives f i
+          → Goes b (arriveMoment (leftByTake (nextTaken now f)) (nextExit (b .reverseRolls) total now f i n .inbound)) (isGoing (nextExit (b .reverseRolls) total now f i n .stop))
+      turn f i n e k q = taken now f (nextExit (b .reverseRolls) total now f i n .inbound) (isGoing (nextExit (b .reverseRolls) total now f i n .stop)) (arrival-told total now (take n (nextTaken now f .out)) f i (accepts f i n e k) q)

@@ -21,7 +21,7 @@ use Rattle.events.specs.Events.{ForwardEvent, forwardEvent, eventsOf}
 use Rattle.clock.specs.Clock as clock
 use Rattle.clock.specs.declared.Timing.{Timing}
 use Rattle.submission.specs.Submission.{Outgoing, submit}
-use Rattle.submission.proofs.Laws.{eventMade, submit-going, submit-stopped, going-events, stopped-events}
+use Rattle.submission.proofs.Laws.{eventMade, submit-going, submit-stopped, going-written, going-events, stopped-events}
 use Rattle.run_history.specs.Calls.{Submission, submission, Reply, one}
 use Rattle.run_history.specs.Lines.{filter, count, carriedOf, forwardWires, reverseWires, packets, packetsFrom, eventFor, eventsFrom}
 use Rattle.run_history.proofs.Lists.{filter-more, packetAt, packets-more, events-more}
@@ -73,8 +73,9 @@ module _ {c : ChannelConfig} {rolls : List Float} {wires : List (List ℕ)} (d :
       ∙ ap (λ (n : ℕ). eventFor c (rollsAt rolls n) (submission (x .seq) (x .retransmission) wire carried)) (from-zero _ _ (q .used-is))
 
 -- ---- the forward line with its events and the count of what was sent again
-pub record Sending (c : ChannelConfig) (rolls : List Float) (xs : List Submission) (again : ℕ) (l : Line) (events : List ForwardEvent) : Type 0 where
+pub record Sending (c : ChannelConfig) (rolls : List Float) (xs : List Submission) (again written : ℕ) (l : Line) (events : List ForwardEvent) : Type 0 where
   pub again-are : count (λ (x : Submission). x .again) xs ≡ again
+  pub written-are : length (carriedOf xs) ≡ written
   pub line : LineAfter c rolls (forwardWires xs) l
   pub events-are : eventsFrom c rolls 0 (carriedOf xs) ≡ events
 
@@ -85,7 +86,7 @@ counted {A} test xs x n h = ap length (filter-more test xs x) ∙ length-append 
     either true = refl
     either false = refl
 
-module _ (t : Timing) {c : ChannelConfig} {rolls : List Float} {xs : List Submission} {again : ℕ} (x : clock.Submission) (wire : List ℕ) (o : Outgoing) (q : Sending c rolls xs again (lineOf (o .forward)) (eventsIn o)) where
+module _ (t : Timing) {c : ChannelConfig} {rolls : List Float} {xs : List Submission} {again : ℕ} (x : clock.Submission) (wire : List ℕ) (o : Outgoing) (q : Sending c rolls xs again (o .written) (lineOf (o .forward)) (eventsIn o)) where
   abbrev this : Bool → Submission
   this carried = submission (x .seq) (x .retransmission) wire carried
 
@@ -103,11 +104,12 @@ module _ (t : Timing) {c : ChannelConfig} {rolls : List Float} {xs : List Submis
   same-length = length-map (carriedOf xs) (λ (y : Submission). y .wire)
 
   pub submit-sending : {more : ℕ} → again + one (x .retransmission) ≡ more → (b : Bool) → isGoing (submit t rolls x wire o .stop) ≡ b
-      → Sending c rolls (xs ++ this b ∷ []) more (lineOf (submit t rolls x wire o .outgoing .forward)) (eventsIn (submit t rolls x wire o .outgoing))
+      → Sending c rolls (xs ++ this b ∷ []) more (submit t rolls x wire o .outgoing .written) (lineOf (submit t rolls x wire o .outgoing .forward)) (eventsIn (submit t rolls x wire o .outgoing))
   submit-sending k true g =
       let on : submit t rolls x wire o .stop ≡ Going = going-is _ g in
       record {
         again-are = counted (λ (y : Submission). y .again) xs (this true) again (q .again-are) ∙ k;
+        written-are = ap length carried-of ∙ length-append (carriedOf xs) (this true ∷ []) ∙ ap (λ (n : ℕ). n + 1) (q .written-are) ∙ sym (going-written t rolls x wire o on);
         line = subst (LineAfter c rolls (forwardWires (xs ++ this true ∷ []))) (ap (λ (y : Outgoing). lineOf (y .forward)) (sym (submit-going t rolls x wire o on)))
             (subst (λ (l : List (List ℕ)). LineAfter c rolls l (lineOf (carriedOn (o .forward) rolls (x .time) wire))) (sym wires-carried) (line-carried (o .forward) (q .line) (x .time) wire));
         events-are =
@@ -120,6 +122,7 @@ module _ (t : Timing) {c : ChannelConfig} {rolls : List Float} {xs : List Submis
   submit-sending k false g =
       record {
         again-are = counted (λ (y : Submission). y .again) xs (this false) again (q .again-are) ∙ k;
+        written-are = ap length stopped-of ∙ q .written-are ∙ ap (λ (y : Outgoing). y .written) (sym (submit-stopped t rolls x wire o g));
         line = subst (LineAfter c rolls (forwardWires (xs ++ this false ∷ []))) (ap (λ (y : Outgoing). lineOf (y .forward)) (sym (submit-stopped t rolls x wire o g)))
             (subst (λ (l : List (List ℕ)). LineAfter c rolls l (lineOf (o .forward))) (ap (map (λ (y : Submission). y .wire)) (sym stopped-of)) (q .line));
         events-are = ap (eventsFrom c rolls 0) stopped-of ∙ q .events-are ∙ sym (stopped-events t rolls x wire o g);

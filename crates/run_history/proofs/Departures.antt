@@ -1,11 +1,11 @@
 -- What is sent: each chunk is a call, and each timeout with what becomes of its datagrams.
 use Prim.Native.Nat.{ℕ, _+_, _≤_, _<_}
 use mathlib.Core.Path.{_≡_, refl, sym, ap, _∙_, subst}
-use mathlib.Core.Bool.{Bool, true, false, cond}
+use mathlib.Core.Bool.{Bool, true, false, cond, not, _&&_, true≢false}
 use mathlib.Core.List.{List, [], _∷_, _++_, append-nil, append-assoc, foldl}
 use native.Mathlib.Omega.{arith}
 use lib.Ieee.{Float}
-use lib.ListN.{length, getD}
+use lib.ListN.{length, getD, replicate}
 use Rattle.bounds.specs.Bounds.{countLimit}
 use Rattle.channel.specs.declared.ChannelConfig.{ChannelConfig}
 use Rattle.chunks.specs.Chunks.{chunksOf}
@@ -22,36 +22,40 @@ use Rattle.clock.specs.Estimator.{GoodEstimator}
 use Rattle.clock.specs.declared.Timing.{Timing}
 use Rattle.clock.specs.declared.Timing.the-variants.{PerNumber}
 use Rattle.clock.proofs.Laws.{can-back-off}
-use Rattle.session.specs.Sending.{SenderEnd, sendChunk, resent, oldestOutstanding}
-use Rattle.delivery.specs.Ends.{bytesSent}
+use Rattle.session.specs.Sending.{SenderEnd, isDue, sendChunk, resent, oldestOutstanding}
+use Rattle.delivery.specs.Ends.{bytesSent, isSendRefused}
+use Rattle.session.specs.GoodSender.{SenderUnbroken}
+use Rattle.departures.specs.Departures.{goesOn}
+use Rattle.prefixes.proofs.Laws.{send-not-refused, timeout-not-refused}
 use Rattle.session.specs.declared.Oldest.{Oldest}
 use Rattle.session.specs.declared.Timeout.{Timeout}
 use Rattle.session.specs.declared.Timeout.the-variants as timeout
 use Rattle.submission.specs.Submission.{Outgoing, submit}
 use Rattle.receiving.specs.Receiving.{Inbound}
-use Rattle.sending.specs.Sending.{PumpState, pumpSends, canPump, nextNumber, sendOne}
+use Rattle.sending.specs.Sending.{PumpState, PumpExit, pumpSends, canPump, nextNumber, sendOne}
 use Rattle.sending.specs.Good.{CanPump}
 use Rattle.sending.specs.Retransmit.{RetransmitExit, retransmitExit, retransmit, exhausted, retransmitAll, ceilingMet}
 use Rattle.sending.specs.declared.Resends.{Resends}
-use Rattle.sending.proofs.Laws.{pump-keeps, all-none, all-by}
-use Rattle.timeouts.specs.Timeouts.{FireState, fireState, FireExit, withClock, withResends, timedOut, timeoutOf, stopped, fireNumber, expired, fireTimers}
+use Rattle.sending.proofs.Laws.{pump-turns, can-send, retransmit-counts, all-none, all-by}
+use Rattle.timeouts.specs.Timeouts.{FireState, fireState, FireExit, withClock, withResends, timedOut, timeoutOf, stopped, fireNumber, fireNumbers, expired, fireTimers}
 use Rattle.timeouts.specs.Good.{GoodFire}
-use Rattle.timeouts.proofs.Laws.{timed-out-by, timers-by, numbers-keep, stopped-good, cancelled-good}
+use Rattle.timeouts.proofs.Laws.{sender-unbroken, timed-out-by, timers-by, cancelled, fire-due, fire-not-due, fire-number-good, numbers-none, numbers-exhausted, numbers-going, numbers-stopped, stopped-good, cancelled-good}
 use Rattle.run_history.specs.Calls.{Call, chunk, timeout as timesOut, Submission, submission, resubmissions, backOff}
 use Rattle.run_history.proofs.Columns.{eventsIn, lineOf, Sending, submit-sending}
-use Rattle.run_history.proofs.Tells.{Origin, Moment, moment, Sent, Told, Makes, told-more, none-sent, none-replied, no-more}
+use Rattle.run_history.proofs.Tells.{Origin, Moment, moment, Told, Goes, still-told, by-call, none-sent, none-replied, no-more}
 
 -- ---- datagrams again, until the ceiling is met or the run ends
 module _ (c : ChannelConfig) (rolls : List Float) (limit : ℕ) (t : Timing) (rto now : ℕ) (oldest : Oldest) where
   abbrev Sends : List Submission → Resends → Outgoing → Type 0
-  Sends xs r o = Sending c rolls xs (r .«retx_submitted») (lineOf (o .forward)) (eventsIn o)
+  Sends xs r o = Sending c rolls xs (r .«retx_submitted») (o .written) (lineOf (o .forward)) (eventsIn o)
 
   record Resubmits (wires : List (List ℕ)) (r : Resends) (o : Outgoing) (y : RetransmitExit) : Type 0 where
     carried : List Bool
     sending : (xs : List Submission) → Sends xs r o → Sends (xs ++ resubmissions carried wires) (y .resends) (y .outgoing)
+    whole : isGoing (y .stop) ≡ true → y .resends .exhausted ≡ false → carried ≡ replicate (length wires) true
 
-  none-again : (wires : List (List ℕ)) (r : Resends) (o : Outgoing) (y : RetransmitExit) → ((xs : List Submission) → Sends xs r o → Sends xs (y .resends) (y .outgoing)) → Resubmits wires r o y
-  none-again wires r o y f = record { carried = []; sending = λ xs s. subst (λ (l : List Submission). Sends l (y .resends) (y .outgoing)) (sym (append-nil xs)) (f xs s) }
+  none-again : (wires : List (List ℕ)) (r : Resends) (o : Outgoing) (y : RetransmitExit) → ((xs : List Submission) → Sends xs r o → Sends xs (y .resends) (y .outgoing)) → (isGoing (y .stop) ≡ true → y .resends .exhausted ≡ false → [] ≡ replicate (length wires) true) → Resubmits wires r o y
+  none-again wires r o y f w = record { whole = w; carried = []; sending = λ xs s. subst (λ (l : List Submission). Sends l (y .resends) (y .outgoing)) (sym (append-nil xs)) (f xs s) }
 
   one-again : (wire : List ℕ) (r : Resends) (o : Outgoing) (b : Bool) → isGoing (retransmit t rolls rto now oldest (numberOf wire) wire r o .stop) ≡ b → (xs : List Submission) → Sends xs r o
       → Sends (xs ++ submission (numberOf wire) true wire b ∷ []) (retransmit t rolls rto now oldest (numberOf wire) wire r o .resends) (retransmit t rolls rto now oldest (numberOf wire) wire r o .outgoing)
@@ -65,13 +69,15 @@ module _ (c : ChannelConfig) (rolls : List Float) (limit : ℕ) (t : Timing) (rt
   more-again wire wires r o y g rest =
       record {
         carried = true ∷ rest .carried;
+        whole = λ h x. ap (λ (l : List Bool). true ∷ l) (rest .whole h x);
         sending = λ xs s. subst (λ (l : List Submission). Sends l (y .resends) (y .outgoing)) (append-assoc xs (submission (numberOf wire) true wire true ∷ []) (resubmissions (rest .carried) wires)) (rest .sending _ (one-again wire r o true g xs s));
       }
 
   resubmits : (wires : List (List ℕ)) (r : Resends) (o : Outgoing) → Resubmits wires r o (retransmitAll limit t rolls rto now oldest wires r o)
-  resubmits [] r o = subst (Resubmits [] r o) (sym (all-none limit t rolls rto now oldest r o)) (none-again [] r o _ (λ xs s. s))
+  resubmits [] r o = subst (Resubmits [] r o) (sym (all-none limit t rolls rto now oldest r o)) (none-again [] r o _ (λ xs s. s) (λ g x. refl))
   resubmits (wire ∷ wires) r o =
-      all-by limit t rolls rto now oldest wire wires r o (Resubmits (wire ∷ wires) r o) refl (none-again (wire ∷ wires) r o _ (λ xs s. s)) (λ g. record { carried = false ∷ []; sending = one-again wire r o false g })
+      all-by limit t rolls rto now oldest wire wires r o (Resubmits (wire ∷ wires) r o) refl (none-again (wire ∷ wires) r o _ (λ xs s. s) (λ g x. absurd (true≢false x)))
+      (λ g. record { carried = false ∷ []; sending = one-again wire r o false g; whole = λ h x. absurd (true≢false (sym h ∙ g)) })
       (λ g. more-again wire wires r o _ g (resubmits wires (again wire r o .resends) (again wire r o .outgoing)))
 
 back-off-once : (wires : List (List ℕ)) → 0 < length wires → backOff wires ≡ rto.timeout ∷ []
@@ -85,73 +91,132 @@ backed-off e good counts = ap (λ (x : TimeoutResult). x .estimator) (timeout-ac
 module _ (b : Origin) (i : Inbound) (acks duplicates : ℕ) where
   -- the moment as the sending side sees it
   abbrev pub sendMoment : SenderEnd → RtoEstimator → ℕ → Outgoing → Moment
-  sendMoment v e again o = moment (o .forward) i v e acks duplicates again (eventsIn o)
+  sendMoment v e again o = moment (o .forward) i v e acks duplicates again (o .written) (o .events)
 
-  abbrev pub Fires : FireState → Type 0
-  Fires s = Told b (sendMoment (s .sender) (s .estimator) (s .resends .«retx_submitted») (s .outgoing))
+  abbrev pub fireMoment : FireState → Moment
+  fireMoment s = sendMoment (s .sender) (s .estimator) (s .resends .«retx_submitted») (s .outgoing)
 
-  abbrev pub Pumps : RtoEstimator → ℕ → PumpState → Type 0
-  Pumps e again w = Told b (sendMoment (w .sender) e again (w .outgoing))
+  abbrev pub pumpMoment : RtoEstimator → ℕ → PumpState → Moment
+  pumpMoment e again w = sendMoment (w .sender) e again (w .outgoing)
 
   -- ---- a chunk
-  sent-told : (t : Timing) (chunks : List (List ℕ)) (rto now : ℕ) (e : RtoEstimator) (again : ℕ) (w : PumpState) → Pumps e again w → Pumps e again (sendOne t (b .forwardRolls) chunks rto now w .state)
+  sent-told : (t : Timing) (chunks : List (List ℕ)) (rto now : ℕ) (e : RtoEstimator) (again : ℕ) (w : PumpState) → isSendRefused (sendChunk (w .sender) (getD chunks (nextNumber w) []) packetBuffer .answer) ≡ false → Told b (pumpMoment e again w)
+      → Goes b (pumpMoment e again (sendOne t (b .forwardRolls) chunks rto now w .state)) (isGoing (sendOne t (b .forwardRolls) chunks rto now w .stop))
   unfolding sendOne
-  sent-told t chunks rto now e again w q =
+  sent-told t chunks rto now e again w accepts q =
       let x = sendChunk (w .sender) (getD chunks (nextNumber w) []) packetBuffer in
       let given : clock.Submission = record { time = now; seq = nextNumber w; rto = rto; retransmission = false; oldest = oldestOutstanding (x .after .sender) } in
-      told-more {c = chunk (getD chunks (nextNumber w) []) (isGoing (sendOne t (b .forwardRolls) chunks rto now w .stop))} q
+      by-call {c = chunk (getD chunks (nextNumber w) []) (isGoing (sendOne t (b .forwardRolls) chunks rto now w .stop))} q
       (record {
+        not-refused = accepts;
         ends-are = refl;
         sending = λ xs s. submit-sending t given (bytesSent (x .answer) (x .out)) (w .outgoing) s (no-more again) _ refl;
-        replying = none-replied b (sendMoment (w .sender) e again (w .outgoing));
+        replying = none-replied b (pumpMoment e again w);
         estimator-is = refl;
         datas-are = no-more _;
+        repeats-are = no-more _;
         acks-are = no-more _;
         duplicates-are = no-more _;
       })
+      (λ g. g)
 
-  pub pumps-told : {t : Timing} {size : ℕ} {file : List ℕ} {total rto now : ℕ} (e : RtoEstimator) (again : ℕ) (w : PumpState) → CanPump t (b .forwardRolls) size file total rto now w → Pumps e again w
-      → Pumps e again (pumpSends t (b .forwardRolls) (chunksOf size file) rto now w .state)
-  pumps-told {t} {size} {file} {total} {rto} {now} e again = pump-keeps (Pumps e again) (λ w can free q. sent-told t (chunksOf size file) rto now e again w q)
+  pub pumps-told : {t : Timing} {size : ℕ} {file : List ℕ} {total rto now : ℕ} (e : RtoEstimator) (again : ℕ) (w : PumpState) → CanPump t (b .forwardRolls) size file total rto now w → Told b (pumpMoment e again w)
+      → Goes b (pumpMoment e again (pumpSends t (b .forwardRolls) (chunksOf size file) rto now w .state)) (isGoing (pumpSends t (b .forwardRolls) (chunksOf size file) rto now w .stop))
+  pumps-told {t} {size} {file} {total} {rto} {now} e again =
+      pump-turns (λ (w : PumpState) (x : PumpExit). Told b (pumpMoment e again w) → Goes b (pumpMoment e again (x .state)) (isGoing (x .stop))) (λ w can none q. still-told q)
+      (λ w x can free g rest q. rest (sent w can free q .0 g)) (λ w can free g q. sent w can free q)
+    where
+      sent : (w : PumpState) (can : CanPump t (b .forwardRolls) size file total rto now w) (free : canPump total (w .sender .sender) ≡ true) → Told b (pumpMoment e again w)
+          → Goes b (pumpMoment e again (sendOne t (b .forwardRolls) (chunksOf size file) rto now w .state)) (isGoing (sendOne t (b .forwardRolls) (chunksOf size file) rto now w .stop))
+      sent w can free q = sent-told t (chunksOf size file) rto now e again w (send-not-refused (w .sender) _ _ (can-send can free)) q
 
-  -- ---- a timeout
+  -- ---- a timeout: told where no datagram is left behind
+  abbrev pub Fired : FireExit → Type 0
+  Fired x = Goes b (fireMoment (x .state)) (goesOn x)
+
+  goes-both : (x y : Bool) → (x && not y) ≡ true → (x ≡ true) × (y ≡ false)
+  goes-both true false e = (refl, refl)
+  goes-both true true e = absurd (true≢false (sym e))
+  goes-both false y e = absurd (true≢false (sym e))
+
   module _ (limit now : ℕ) where
-    timed-out-told : (t : Timing) (of : Timeout) (s : FireState) → Good (s .estimator) → countsFull (s .estimator .stats) ≡ false → Fires s → Fires (timedOut limit t (b .forwardRolls) now of s .state)
-    timed-out-told t of s good counts q =
-        timed-out-by limit t (b .forwardRolls) now of s (λ (x : FireExit). Fires (x .state))
+    timed-out-told : (t : Timing) (of : Timeout) (s : FireState) → SenderUnbroken (s .sender) → Good (s .estimator) → countsFull (s .estimator .stats) ≡ false → Told b (fireMoment s) → Fired (timedOut limit t (b .forwardRolls) now of s)
+    timed-out-told t of s unbroken good counts q =
+        timed-out-by limit t (b .forwardRolls) now of s Fired
         (λ none.
-        told-more {c = timesOut of []} q
+        by-call {c = timesOut of []} q
         (record {
+          not-refused = timeout-not-refused (s .sender) of unbroken;
           ends-are = refl;
-          sending = none-sent b (sendMoment (s .sender) (s .estimator) (s .resends .«retx_submitted») (s .outgoing));
-          replying = none-replied b (sendMoment (s .sender) (s .estimator) (s .resends .«retx_submitted») (s .outgoing));
+          sending = none-sent b (fireMoment s);
+          replying = none-replied b (fireMoment s);
           estimator-is = rw none;
           datas-are = no-more _;
+          repeats-are = no-more _;
           acks-are = no-more _;
           duplicates-are = no-more _;
-        }))
+        })
+        (λ g. ap (λ (l : List (List ℕ)). replicate (length l) true) (sym none)))
         (λ some.
         let again = resubmits (b .forward) (b .forwardRolls) limit t (onTimeoutUnchecked (s .estimator) .«current_rto») now (oldestOutstanding (resent (s .sender) of .after .sender)) (resent (s .sender) of .packets) (s .resends) (s .outgoing) in
-        told-more {c = timesOut of (again .carried)} q
+        by-call {c = timesOut of (again .carried)} q
         (record {
+          not-refused = timeout-not-refused (s .sender) of unbroken;
           ends-are = refl;
           sending = again .sending;
-          replying = none-replied b (sendMoment (s .sender) (s .estimator) (s .resends .«retx_submitted») (s .outgoing));
+          replying = none-replied b (fireMoment s);
           estimator-is = ap (foldl rto.step (s .estimator)) (back-off-once (resent (s .sender) of .packets) some) ∙ backed-off (s .estimator) good counts;
           datas-are = no-more _;
+          repeats-are = no-more _;
           acks-are = no-more _;
           duplicates-are = no-more _;
-        }))
+        })
+        (λ g. let h = goes-both _ _ g in again .whole (h .0) (h .1)))
 
     -- ---- all timers that have run out
     module _ {samples : ℕ} (few : samples < countLimit) where
-      good-told : {t : Timing} (of : Timeout) {s : FireState} → GoodFire t (b .forwardRolls) samples now s → Fires s → Fires (timedOut limit t (b .forwardRolls) now of s .state)
+      good-told : {t : Timing} (of : Timeout) {s : FireState} → GoodFire t (b .forwardRolls) samples now s → Told b (fireMoment s) → Fired (timedOut limit t (b .forwardRolls) now of s)
       good-told {t} of {s} g q =
           let e = g .estimator in
-          timed-out-told t of s (record { state = e .state; times = e .times }) (can-back-off (s .estimator) samples e few .0) q
+          timed-out-told t of s (sender-unbroken g) (record { state = e .state; times = e .times }) (can-back-off (s .estimator) samples e few .0) q
 
-      pub fires-told : {t : Timing} {s : FireState} → GoodFire t (b .forwardRolls) samples now s → Fires s → Fires (fireTimers limit t (b .forwardRolls) now s .state)
+      number-told : (n : ℕ) (s : FireState) → GoodFire PerNumber (b .forwardRolls) samples now s → Told b (fireMoment s) → Fired (fireNumber limit (b .forwardRolls) now n s)
       unfolding fireNumber
-      fires-told {t} {s} g q =
-          timers-by limit t (b .forwardRolls) now s (λ (x : FireExit). Fires (x .state)) (λ c. q) (λ c. q) q (λ other. good-told (timeoutOf t) (stopped-good g) q)
-          (λ e. numbers-keep limit (b .forwardRolls) samples now Fires (λ n x h c p. good-told (timeout.Number n) (cancelled-good h n) p) (λ x p. p) (expired (s .outgoing .clock) now) s (subst (λ (u : Timing). GoodFire u (b .forwardRolls) samples now s) e g) q)
+      number-told n s g q = good-told (timeout.Number n) (cancelled-good g n) q
+
+      -- the ceiling was not met before a number, so it is not met by it
+      number-left : (n : ℕ) (s : FireState) → GoodFire PerNumber (b .forwardRolls) samples now s → ceilingMet limit (s .resends) ≡ false → fireNumber limit (b .forwardRolls) now n s .state .resends .exhausted ≡ s .resends .exhausted
+      number-left n s g c = by-due (isDue (s .sender) n) refl
+        where
+          by-due : (d : Bool) → isDue (s .sender) n ≡ d → fireNumber limit (b .forwardRolls) now n s .state .resends .exhausted ≡ s .resends .exhausted
+          by-due true d =
+              ap (λ (x : FireExit). x .state .resends .exhausted) (fire-due limit (b .forwardRolls) now n s (sender-unbroken g) (g .selective refl) d c)
+              ∙ ap (λ (r : Resends). r .exhausted) (retransmit-counts PerNumber (b .forwardRolls) _ now _ n _ (s .resends) (cancelled s n .outgoing))
+          by-due false d = ap (λ (x : FireExit). x .state .resends .exhausted) (fire-not-due limit (b .forwardRolls) now n s (sender-unbroken g) (g .selective refl) d)
+
+      numbers-told : (ns : List ℕ) (s : FireState) → GoodFire PerNumber (b .forwardRolls) samples now s → s .resends .exhausted ≡ false → Told b (fireMoment s) → Fired (fireNumbers limit (b .forwardRolls) now ns s)
+      numbers-told [] s g left q = subst Fired (sym (numbers-none limit (b .forwardRolls) now s)) (still-told q)
+      numbers-told (n ∷ ns) s g left q =
+          by-ceiling (ceilingMet limit (s .resends)) refl
+          (λ c e. numbers-told ns (fireNumber limit (b .forwardRolls) now n s .state) (fire-number-good g limit n c e) (number-left n s g c ∙ left) (number-told n s g q .0 (both _ _ e (number-left n s g c ∙ left))))
+        where
+          both : (x y : Bool) → x ≡ true → y ≡ false → (x && not y) ≡ true
+          both true false e f = refl
+          both true true e f = absurd (true≢false f)
+          both false y e f = absurd (true≢false (sym e))
+
+          Rest : Type 0
+          Rest = ceilingMet limit (s .resends) ≡ false → isGoing (fireNumber limit (b .forwardRolls) now n s .stop) ≡ true → Fired (fireNumbers limit (b .forwardRolls) now ns (fireNumber limit (b .forwardRolls) now n s .state))
+
+          by-stop : ceilingMet limit (s .resends) ≡ false → (x : Bool) → isGoing (fireNumber limit (b .forwardRolls) now n s .stop) ≡ x → Rest → Fired (fireNumbers limit (b .forwardRolls) now (n ∷ ns) s)
+          by-stop c true e rest = subst Fired (sym (numbers-going limit (b .forwardRolls) now n ns s c e)) (rest c e)
+          by-stop c false e rest = subst Fired (sym (numbers-stopped limit (b .forwardRolls) now n ns s c e)) (number-told n s g q)
+
+          by-ceiling : (x : Bool) → ceilingMet limit (s .resends) ≡ x → Rest → Fired (fireNumbers limit (b .forwardRolls) now (n ∷ ns) s)
+          by-ceiling true c rest = subst Fired (sym (numbers-exhausted limit (b .forwardRolls) now n ns s c)) (still-told q)
+          by-ceiling false c rest = by-stop c (isGoing (fireNumber limit (b .forwardRolls) now n s .stop)) refl rest
+
+      pub fires-told : {t : Timing} {s : FireState} → GoodFire t (b .forwardRolls) samples now s → s .resends .exhausted ≡ false → Told b (fireMoment s) → Fired (fireTimers limit t (b .forwardRolls) now s)
+      fires-told {t} {s} g left q =
+          timers-by limit t (b .forwardRolls) now s Fired (λ c. still-told q) (λ c. still-told q) (still-told q) (λ other. good-told (timeoutOf t) (stopped-good g) q)
+          (λ e. numbers-told (expired (s .outgoing .clock) now) s (subst (λ (u : Timing). GoodFire u (b .forwardRolls) samples now s) e g) left q)

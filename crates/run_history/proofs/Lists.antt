@@ -2,7 +2,7 @@
 use Prim.Native.Nat.{ℕ, _+_, _*_}
 use mathlib.Core.Path.{_≡_, refl, sym, ap, _∙_}
 use mathlib.Core.Bool.{Bool, true, false, cond}
-use mathlib.Core.List.{List, [], _∷_, _++_, map, map-append, append-nil, append-assoc}
+use mathlib.Core.List.{List, [], _∷_, _++_, map, map-append, append-nil, append-assoc, dropLast}
 use native.Mathlib.Omega.{arith}
 use lib.Ieee.{Float}
 use lib.ListN.{length}
@@ -12,6 +12,7 @@ use Rattle.events.specs.Events.{ForwardEvent}
 use Rattle.path.specs.Rolls.{packetRolls, rollsAt}
 use Rattle.path.specs.Path.{packetBuffer}
 use Rattle.run_history.specs.Calls.{Call, Ends, after, afterCalls, collect, total, Submission}
+use Rattle.run_history.specs.Answered.{Each}
 use Rattle.run_history.specs.Lines.{filter, packetsFrom, eventFor, eventsFrom}
 
 -- ---- calls
@@ -32,6 +33,22 @@ total-more f e (d ∷ cs) c = let h = total-more f (after e d) cs c in sum (f e 
   where
     sum : (a b x y : ℕ) → y ≡ b + x → a + y ≡ (a + b) + x
     sum a b x y h = omega arith
+
+-- ---- each call
+pub each-more : (P : Ends → Call → Type 0) (e : Ends) (cs : List Call) (c : Call) → Each P e cs → P (afterCalls e cs) c → Each P e (cs ++ c ∷ [])
+unfolding afterCalls
+each-more P e [] c h p = (p, tt)
+each-more P e (d ∷ cs) c h p = (h .0, each-more P (after e d) cs c (h .1) p)
+
+pub each-first : (P : Ends → Call → Type 0) (e : Ends) (cs : List Call) → Each P e cs → Each P e (dropLast cs)
+each-first P e [] h = tt
+each-first P e (c ∷ []) h = tt
+each-first P e (c ∷ d ∷ cs) h = (h .0, each-first P (after e c) (d ∷ cs) (h .1))
+
+pub drop-last-more : (cs : List Call) (c : Call) → dropLast (cs ++ c ∷ []) ≡ cs
+drop-last-more [] c = refl
+drop-last-more (d ∷ []) c = refl
+drop-last-more (d ∷ e ∷ cs) c = ap (λ (l : List Call). d ∷ l) (drop-last-more (e ∷ cs) c)
 
 -- ---- packets
 pub filter-more : {A : Type 0} (test : A → Bool) (xs : List A) (x : A) → filter test (xs ++ x ∷ []) ≡ filter test xs ++ cond (test x) (x ∷ []) []

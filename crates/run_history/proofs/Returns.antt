@@ -1,7 +1,7 @@
 -- What the reverse line hands over: each copy is a call, and a sample that an accepted ACK gives another.
 use Prim.Native.Nat.{ℕ, _+_, _-_, _≤_}
 use mathlib.Core.Path.{_≡_, refl, sym, ap, _∙_, subst}
-use mathlib.Core.Bool.{Bool, true, false, cond, not, _&&_}
+use mathlib.Core.Bool.{Bool, true, false, cond, not, _&&_, true≢false}
 use mathlib.Core.List.{List, [], _∷_, _++_}
 use lib.ListN.{take}
 use native.Mathlib.Nat.{le-trans}
@@ -22,22 +22,24 @@ use Rattle.clock.proofs.Laws.{can-sample}
 use Rattle.path.specs.Direction.{Direction}
 use Rattle.path.specs.Path.{leftByTake, takeReady}
 use Rattle.schedule.specs.declared.ReadyAnswer.the-variants as ready
-use Rattle.events.specs.Events.{ForwardEvent}
-use Rattle.session.specs.Sending.{SenderEnd, handleAck}
+use Rattle.window.specs.Acknowledgement.{inWindow, AckExit}
+use Rattle.delivery.specs.Ends.{isHandled}
+use Rattle.session.specs.Sending.{SenderEnd, windowOf, handleAck, handleAckUnchecked, ackAnswerOf}
+use Rattle.session.specs.GoodSender.{SenderUnbroken}
 use Rattle.receiving.specs.Receiving.{Inbound, inbound}
 use Rattle.acks.specs.Acks.{AckState, ackState, ackNumber, sampleSeq, onAccepted, counted, duplicate, isAccepted, byNumber, onAck}
 use Rattle.acks.specs.Good.{GoodAcks, CanOnAck}
 use Rattle.acks.specs.Reverse.{serveReverse, CanServeReverse}
 use Rattle.acks.specs.declared.AckNumber.{AckNumber}
 use Rattle.acks.specs.declared.AckNumber.the-variants as ack
-use Rattle.acks.proofs.Laws.{nextTaken, nextState, can-hand-over, turn-good, serve-reverse-invariant}
+use Rattle.acks.proofs.Laws.{acked, nextTaken, nextState, can-hand-over, turn-good, serve-reverse-invariant}
 use Rattle.run_history.specs.Calls.{return, sample, isNumber, one}
 use Rattle.run_history.proofs.Tells.{Origin, Moment, moment, Sent, Replied, Told, Makes, told-more, none-sent, none-replied, no-more}
 
-module _ (b : Origin) (f : Direction) (i : Inbound) (again : ℕ) (events : List ForwardEvent) where
+module _ (b : Origin) (f : Direction) (i : Inbound) (again written : ℕ) (rows : List (List ℕ)) where
   -- the receiving side as it was, with the reverse line
   abbrev pub returnMoment : Direction → AckState → Moment
-  returnMoment d s = moment f (inbound (i .side) (i .store) (i .output) (s .metas) d) (s .sender) (s .estimator) (s .received) (s .duplicates) again events
+  returnMoment d s = moment f (inbound (i .side) (i .store) (i .output) (s .metas) d) (s .sender) (s .estimator) (s .received) (s .duplicates) again written rows
 
   abbrev pub Returns : Direction → AckState → Type 0
   Returns d s = Told b (returnMoment d s)
@@ -47,11 +49,13 @@ module _ (b : Origin) (f : Direction) (i : Inbound) (again : ℕ) (events : List
     dropped : ackNumber (readDatagram raw) ≡ ack.Nothing → Makes b (return raw) (returnMoment d s) (returnMoment d s)
     dropped h =
         record {
+          not-refused = λ t. absurd (true≢false (sym t ∙ ap isNumber h));
           ends-are = rw h;
           sending = none-sent b (returnMoment d s);
           replying = none-replied b (returnMoment d s);
           estimator-is = refl;
           datas-are = no-more _;
+          repeats-are = no-more _;
           acks-are = rw h (no-more (s .received));
           duplicates-are = rw h (no-more (s .duplicates));
         }
@@ -60,14 +64,24 @@ module _ (b : Origin) (f : Direction) (i : Inbound) (again : ℕ) (events : List
     abbrev answered : ℕ → AckState
     answered k = ackState (handleAck (s .sender) raw .after) (s .estimator) (s .clock) (s .metas) (s .received + 1) k
 
-    acknowledged : (n : ℕ) → ackNumber (readDatagram raw) ≡ ack.Number n → (k : ℕ) → s .duplicates + one (not (isAccepted (handleAck (s .sender) raw .answer))) ≡ k → Makes b (return raw) (returnMoment d s) (returnMoment d (answered k))
-    acknowledged n h k e =
+    handled : SenderUnbroken (s .sender) → (n : ℕ) → ackNumber (readDatagram raw) ≡ ack.Number n → isHandled (handleAck (s .sender) raw .answer) ≡ true
+    unfolding handleAckUnchecked
+    handled u n h = ap (λ (x : AckExit SenderEnd). isHandled (x .answer)) (acked (s .sender) raw u n h) ∙ either (inWindow (windowOf (s .sender .sender)) n)
+      where
+        either : (t : Bool) → isHandled (ackAnswerOf t) ≡ true
+        either true = refl
+        either false = refl
+
+    acknowledged : SenderUnbroken (s .sender) → (n : ℕ) → ackNumber (readDatagram raw) ≡ ack.Number n → (k : ℕ) → s .duplicates + one (not (isAccepted (handleAck (s .sender) raw .answer))) ≡ k → Makes b (return raw) (returnMoment d s) (returnMoment d (answered k))
+    acknowledged u n h k e =
         record {
+          not-refused = λ t. handled u n h;
           ends-are = rw h;
           sending = none-sent b (returnMoment d s);
           replying = none-replied b (returnMoment d s);
           estimator-is = refl;
           datas-are = no-more _;
+          repeats-are = no-more _;
           acks-are = rw h;
           duplicates-are = rw h e;
         }
@@ -84,19 +98,22 @@ module _ (b : Origin) (f : Direction) (i : Inbound) (again : ℕ) (events : List
       unfolding onAccepted sampleRtt
       accepted-told n seq q = by-sample (takeSample (s .metas) seq now .sample) refl
         where
-          by-sample : (x : Sample) → takeSample (s .metas) seq now .sample ≡ x → Told b (moment f (inbound (i .side) (i .store) (i .output) (s .metas) d) (handleAck (s .sender) raw .after) (bySample (s .estimator) x) (s .received + 1) (s .duplicates) again events)
+          by-sample : (x : Sample) → takeSample (s .metas) seq now .sample ≡ x → Told b (moment f (inbound (i .side) (i .store) (i .output) (s .metas) d) (handleAck (s .sender) raw .after) (bySample (s .estimator) x) (s .received + 1) (s .duplicates) again written rows)
           by-sample Nothing e = q
           by-sample (Rtt l re) e =
-              told-more {c = sample l re} {next = moment f (inbound (i .side) (i .store) (i .output) (s .metas) d) (handleAck (s .sender) raw .after) (updateRttUnchecked (s .estimator) l re) (s .received + 1) (s .duplicates) again events} q
+              told-more {c = sample l re} {next = moment f (inbound (i .side) (i .store) (i .output) (s .metas) d) (handleAck (s .sender) raw .after) (updateRttUnchecked (s .estimator) l re) (s .received + 1) (s .duplicates) again written rows} q
               (record {
+                not-refused = tt;
                 ends-are = refl;
                 sending = none-sent b (returnMoment d (answered (s .duplicates)));
                 replying = none-replied b (returnMoment d (answered (s .duplicates)));
                 estimator-is = update-is l re (sample-within (s .metas) seq now l re e);
                 datas-are = no-more _;
+                repeats-are = no-more _;
                 acks-are = no-more _;
                 duplicates-are = no-more _;
               })
+              tt
 
       pub return-told : Returns d s → Returns d (onAck timing now raw s)
       unfolding onAck
@@ -104,11 +121,11 @@ module _ (b : Origin) (f : Direction) (i : Inbound) (again : ℕ) (events : List
         where
           by-accepted : (n : ℕ) → ackNumber (readDatagram raw) ≡ ack.Number n → (t : Bool) → isAccepted (handleAck (s .sender) raw .answer) ≡ t
               → Returns d (cond t (onAccepted timing now n (sampleSeq (s .sender .sender .state) n) (counted s (handleAck (s .sender) raw .after))) (duplicate (counted s (handleAck (s .sender) raw .after))))
-          by-accepted n h true a = accepted-told n (sampleSeq (s .sender .sender .state) n) (told-more q (acknowledged n h (s .duplicates) (ap (λ (x : Bool). s .duplicates + one (not x)) a ∙ no-more (s .duplicates))))
-          by-accepted n h false a = told-more q (acknowledged n h (s .duplicates + 1) (ap (λ (x : Bool). s .duplicates + one (not x)) a))
+          by-accepted n h true a = accepted-told n (sampleSeq (s .sender .sender .state) n) (told-more q (acknowledged (can .good .sender) n h (s .duplicates) (ap (λ (x : Bool). s .duplicates + one (not x)) a ∙ no-more (s .duplicates))) tt)
+          by-accepted n h false a = told-more q (acknowledged (can .good .sender) n h (s .duplicates + 1) (ap (λ (x : Bool). s .duplicates + one (not x)) a)) tt
 
           by-number : (x : AckNumber) → ackNumber (readDatagram raw) ≡ x → Returns d (byNumber x timing now raw s)
-          by-number ack.Nothing h = told-more q (dropped h)
+          by-number ack.Nothing h = told-more q (dropped h) tt
           by-number (ack.Number n) h = by-accepted n h (isAccepted (handleAck (s .sender) raw .answer)) refl
 
   -- taking a copy changes nothing that the calls make

@@ -2,7 +2,7 @@
 use Prim.Native.Nat.{ℕ, _+_}
 use mathlib.Core.Path.{_≡_, refl, sym, ap, _∙_, subst}
 use mathlib.Core.Bool.{Bool, true, false}
-use mathlib.Core.List.{List, [], _∷_, _++_, append-nil, foldl, foldl-append}
+use mathlib.Core.List.{List, [], _∷_, _++_, append-nil, dropLast, foldl, foldl-append}
 use native.Mathlib.Omega.{arith}
 use lib.Ieee.{Float}
 use Rattle.channel.specs.declared.ChannelConfig.{ChannelConfig}
@@ -11,12 +11,13 @@ use Rattle.rto.specs.Rto.{fresh}
 use Rattle.rto.specs.declared.RtoConfig.{RtoConfig}
 use Rattle.rto.specs.declared.RtoEstimator.{RtoEstimator}
 use Rattle.path.specs.Direction.{Direction}
-use Rattle.events.specs.Events.{ForwardEvent}
+use Rattle.events.specs.Events.{ForwardEvent, eventsOf}
 use Rattle.session.specs.Sending.{SenderEnd}
 use Rattle.session.specs.Receiving.{receiverEnd}
 use Rattle.receiving.specs.Receiving.{Inbound}
-use Rattle.run_history.specs.Calls.{Call, Ends, ends, after, afterCalls, collect, total, Submission, submittedBy, Reply, repliedBy, estimatedBy, dataIn, acksIn, duplicateAcksIn}
-use Rattle.run_history.proofs.Lists.{after-more, collect-more, total-more}
+use Rattle.run_history.specs.Calls.{Call, Ends, ends, after, afterCalls, collect, total, Submission, submittedBy, Reply, repliedBy, estimatedBy, dataIn, duplicateDataIn, acksIn, duplicateAcksIn}
+use Rattle.run_history.specs.Answered.{Each, NotRefused, Whole}
+use Rattle.run_history.proofs.Lists.{after-more, collect-more, total-more, each-more, each-first, drop-last-more}
 use Rattle.run_history.proofs.Columns.{Line, lineOf, Sending, Replying}
 
 -- what a run starts with
@@ -38,11 +39,13 @@ pub record Moment : Type 0 where
   pub replies : ℕ
   pub acks : ℕ
   pub duplicates : ℕ
+  pub repeats : ℕ
   pub again : ℕ
+  pub written : ℕ
   pub events : List ForwardEvent
 
-abbrev pub moment : Direction → Inbound → SenderEnd → RtoEstimator → ℕ → ℕ → ℕ → List ForwardEvent → Moment
-moment forward b v e acks duplicates again events = record {
+abbrev pub moment : Direction → Inbound → SenderEnd → RtoEstimator → ℕ → ℕ → ℕ → ℕ → List (List ℕ) → Moment
+moment forward b v e acks duplicates again written rows = record {
   ends = ends v (receiverEnd (b .side .receiver) (b .store)) (b .output);
   forward = lineOf forward;
   reverse = lineOf (b .reverse);
@@ -51,12 +54,14 @@ moment forward b v e acks duplicates again events = record {
   replies = b .side .«ack_sent»;
   acks = acks;
   duplicates = duplicates;
+  repeats = b .side .«duplicate_data»;
   again = again;
-  events = events;
+  written = written;
+  events = eventsOf written rows;
 }
 
 abbrev pub Sent : Origin → List Submission → Moment → Type 0
-Sent b xs m = Sending (b .forward) (b .forwardRolls) xs (m .again) (m .forward) (m .events)
+Sent b xs m = Sending (b .forward) (b .forwardRolls) xs (m .again) (m .written) (m .forward) (m .events)
 
 abbrev pub Replied : Origin → List Reply → Moment → Type 0
 Replied b xs m = Replying (b .reverse) (b .reverseRolls) xs (m .replies) (m .reverse)
@@ -67,20 +72,35 @@ pub record Tells (b : Origin) (cs : List Call) (m : Moment) : Type 0 where
   pub replying : Replied b (collect repliedBy (b .start) cs) m
   pub estimator-is : rto.afterCalls (b .rto) (collect estimatedBy (b .start) cs) ≡ m .estimator
   pub datas-are : total dataIn (b .start) cs ≡ m .datas
+  pub repeats-are : total duplicateDataIn (b .start) cs ≡ m .repeats
   pub acks-are : total acksIn (b .start) cs ≡ m .acks
   pub duplicates-are : total duplicateAcksIn (b .start) cs ≡ m .duplicates
 
+-- while the run goes on, and where it may have ended at the last call
 pub record Told (b : Origin) (m : Moment) : Type 0 where
   pub calls : List Call
   pub tells : Tells b calls m
+  pub not-refused : Each NotRefused (b .start) calls
+  pub whole : Each Whole (b .start) calls
+
+pub record Over (b : Origin) (m : Moment) : Type 0 where
+  pub calls : List Call
+  pub tells : Tells b calls m
+  pub not-refused : Each NotRefused (b .start) calls
+  pub whole : Each Whole (b .start) (dropLast calls)
+
+pub told-over : {b : Origin} {m : Moment} → Told b m → Over b m
+told-over {b} q = record { calls = q .calls; tells = q .tells; not-refused = q .not-refused; whole = each-first Whole (b .start) (q .calls) (q .whole) }
 
 -- what one call makes of a moment
 pub record Makes (b : Origin) (c : Call) (m next : Moment) : Type 0 where
+  pub not-refused : NotRefused (m .ends) c
   pub ends-are : after (m .ends) c ≡ next .ends
   pub sending : (xs : List Submission) → Sent b xs m → Sent b (xs ++ submittedBy (m .ends) c) next
   pub replying : (xs : List Reply) → Replied b xs m → Replied b (xs ++ repliedBy (m .ends) c) next
   pub estimator-is : foldl rto.step (m .estimator) (estimatedBy (m .ends) c) ≡ next .estimator
   pub datas-are : m .datas + dataIn (m .ends) c ≡ next .datas
+  pub repeats-are : m .repeats + duplicateDataIn (m .ends) c ≡ next .repeats
   pub acks-are : m .acks + acksIn (m .ends) c ≡ next .acks
   pub duplicates-are : m .duplicates + duplicateAcksIn (m .ends) c ≡ next .duplicates
 
@@ -97,24 +117,31 @@ module _ {b : Origin} {c : Call} {m next : Moment} (q : Told b m) (h : Makes b c
   summed : (f : Ends → Call → ℕ) {n k : ℕ} → total f (b .start) cs ≡ n → n + f (m .ends) c ≡ k → total f (b .start) (cs ++ c ∷ []) ≡ k
   summed f {n} p e = total-more f (b .start) cs c ∙ ap (λ (x : ℕ). total f (b .start) cs + x) (at-ends (λ (u : Ends). f u c)) ∙ ap (λ (x : ℕ). x + f (m .ends) c) p ∙ e
 
-  pub told-more : Told b next
+  tells-more : Tells b (cs ++ c ∷ []) next
   unfolding rto.afterCalls
-  told-more =
+  tells-more =
       let t = q .tells in
       record {
-        calls = cs ++ c ∷ [];
-        tells = record {
-          ends-are = after-more (b .start) cs c ∙ at-ends (λ (e : Ends). after e c) ∙ h .ends-are;
-          sending = subst (λ (xs : List Submission). Sent b xs next) (sym (collected submittedBy)) (h .sending _ (t .sending));
-          replying = subst (λ (xs : List Reply). Replied b xs next) (sym (collected repliedBy)) (h .replying _ (t .replying));
-          estimator-is =
-              ap (foldl rto.step (fresh (b .rto))) (collected estimatedBy) ∙ foldl-append rto.step (fresh (b .rto)) (collect estimatedBy (b .start) cs) (estimatedBy (m .ends) c)
-              ∙ ap (λ (e : RtoEstimator). foldl rto.step e (estimatedBy (m .ends) c)) (t .estimator-is) ∙ h .estimator-is;
-          datas-are = summed dataIn (t .datas-are) (h .datas-are);
-          acks-are = summed acksIn (t .acks-are) (h .acks-are);
-          duplicates-are = summed duplicateAcksIn (t .duplicates-are) (h .duplicates-are);
-        };
+        ends-are = after-more (b .start) cs c ∙ at-ends (λ (e : Ends). after e c) ∙ h .ends-are;
+        sending = subst (λ (xs : List Submission). Sent b xs next) (sym (collected submittedBy)) (h .sending _ (t .sending));
+        replying = subst (λ (xs : List Reply). Replied b xs next) (sym (collected repliedBy)) (h .replying _ (t .replying));
+        estimator-is =
+            ap (foldl rto.step (fresh (b .rto))) (collected estimatedBy) ∙ foldl-append rto.step (fresh (b .rto)) (collect estimatedBy (b .start) cs) (estimatedBy (m .ends) c)
+            ∙ ap (λ (e : RtoEstimator). foldl rto.step e (estimatedBy (m .ends) c)) (t .estimator-is) ∙ h .estimator-is;
+        datas-are = summed dataIn (t .datas-are) (h .datas-are);
+        repeats-are = summed duplicateDataIn (t .repeats-are) (h .repeats-are);
+        acks-are = summed acksIn (t .acks-are) (h .acks-are);
+        duplicates-are = summed duplicateAcksIn (t .duplicates-are) (h .duplicates-are);
       }
+
+  refused-none : Each NotRefused (b .start) (cs ++ c ∷ [])
+  refused-none = each-more NotRefused (b .start) cs c (q .not-refused) (subst (λ (e : Ends). NotRefused e c) (sym (q .tells .ends-are)) (h .not-refused))
+
+  pub told-more : Whole (m .ends) c → Told b next
+  told-more w = record { calls = cs ++ c ∷ []; tells = tells-more; not-refused = refused-none; whole = each-more Whole (b .start) cs c (q .whole) (subst (λ (e : Ends). Whole e c) (sym (q .tells .ends-are)) w) }
+
+  pub over-more : Over b next
+  over-more = record { calls = cs ++ c ∷ []; tells = tells-more; not-refused = refused-none; whole = subst (Each Whole (b .start)) (sym (drop-last-more cs c)) (q .whole) }
 
 -- a call that hands nothing to a line
 pub none-sent : (b : Origin) (m : Moment) (xs : List Submission) → Sent b xs m → Sent b (xs ++ []) m
@@ -125,3 +152,13 @@ none-replied b m xs s = subst (λ (l : List Reply). Replied b l m) (sym (append-
 
 pub no-more : (n : ℕ) → n + 0 ≡ n
 no-more n = omega arith
+
+-- after a part of a step: told where the run goes on, over where it may not
+abbrev pub Goes : Origin → Moment → Bool → Type 0
+Goes b m going = (going ≡ true → Told b m) × Over b m
+
+pub still-told : {b : Origin} {m : Moment} {going : Bool} → Told b m → Goes b m going
+still-told q = (λ g. q, told-over q)
+
+pub by-call : {b : Origin} {c : Call} {m next : Moment} {going : Bool} → Told b m → Makes b c m next → (going ≡ true → Whole (m .ends) c) → Goes b next going
+by-call q h w = (λ g. told-more q h (w g), over-more q h)

@@ -1,9 +1,19 @@
 -- The answer of `run_transfer` from the history of its calls.
-use Prim.Native.Nat.{ℕ}
+use Prim.Native.Nat.{ℕ, _*_, _≤_, _<_}
 use mathlib.Core.Path.{_≡_, refl, sym, ap, _∙_, subst}
 use mathlib.Core.List.{List, [], _∷_}
 use native.Mathlib.Omega.{arith}
 use lib.ListN.{length, replicate}
+use borrow.Author.Tests.{le-ltb}
+use Rattle.bounds.specs.Bounds.{slotSize}
+use Rattle.octets.specs.Octets.{Octets}
+use Rattle.protocol.specs.declared.ProtocolType.{ProtocolType}
+use Rattle.protocol.specs.declared.ProtocolType.the-variants.{StopAndWait, GoBackN, SelectiveRepeat}
+use Rattle.window.specs.State.{storeShort}
+use Rattle.delivery.specs.Ends.{ReceivingRoom}
+use Rattle.session.specs.Sending.{slotCount}
+use Rattle.completion.proofs.Laws.{Start, Begun, window-fits, new-sender-slots, new-receiver-slots}
+use Rattle.prefixes.proofs.Laws.{prefixed-start}
 use Rattle.rows.specs.Rows.{vacant}
 use Rattle.refusal.specs.Order.{verdict}
 use Rattle.refusal.specs.declared.Refusal.{Refusal}
@@ -29,12 +39,18 @@ use Rattle.transfer.specs.Transfer.{outcomeOf, lentOf, RunExit, runExit, ended,
 use Rattle.transfer.specs.declared.Ceilings.{Ceilings}
 use Rattle.transfer.specs.declared.Outcome.{Outcome}
 use Rattle.transfer.specs.declared.RunAnswer.the-variants as answer
-use Rattle.transfer.proofs.Laws.{start-plan, start-good}
+use Rattle.transfer.proofs.Starts.{start-plan, start-good, sender-window, sender-store}
 use Rattle.run_history.specs.Calls.{afterCalls, collect, total}
 use Rattle.run_history.specs.Lines.{filter, packetsFrom, eventsFrom}
 use Rattle.run_history.specs.History.{startEnds, History}
-use Rattle.run_history.proofs.Tells.{Origin, Told}
-use Rattle.run_history.proofs.Steps.{momentAt, run-told}
+use Rattle.run_history.proofs.Tells.{Origin, Told, Over as Ended}
+use Rattle.run_history.proofs.Steps.{momentAt, Goes-on, run-told}
+
+receiving-room : (p : ProtocolType) (w : ℕ) (store : List ℕ) → (p ≡ SelectiveRepeat → w * slotSize ≤ length store) → ReceivingRoom p (slotCount p w) store
+unfolding storeShort
+receiving-room StopAndWait w store h = tt
+receiving-room GoBackN w store h = tt
+receiving-room SelectiveRepeat w store h = le-ltb _ _ (h refl)
 
 module _ (k : Ceilings) (c : TransferConfig) (g : Given) (l : Lent) where
   abbrev origin : Origin
@@ -48,38 +64,85 @@ module _ (k : Ceilings) (c : TransferConfig) (g : Given) (l : Lent) where
         calls = [];
         tells = record {
           ends-are = refl;
-          sending = record { again-are = refl; line = record { used-is = refl; channel-is = refl }; events-are = sym (events-none (replicate (length (l .events)) vacant)) };
+          sending = record { again-are = refl; written-are = refl; line = record { used-is = refl; channel-is = refl }; events-are = sym (events-none (replicate (length (l .events)) vacant)) };
           replying = record { acks-are = refl; line = record { used-is = refl; channel-is = refl } };
           estimator-is = refl;
           datas-are = refl;
+          repeats-are = refl;
           acks-are = refl;
           duplicates-are = refl;
         };
+        not-refused = tt;
+        whole = tt;
       }
 
   abbrev last : StepExit
   last = run (planFor k c g) g (newRun k c l)
 
-  module _ (h : CanStart (startOf c g l)) (forward : Doubles (g .forwardRolls)) (reverse : Doubles (g .reverseRolls)) (factors : Factors (c .rto)) where
-    last-told : Told origin (momentAt (last .state))
-    last-told = run-told origin (planFor k c g) (g .file) (start-plan k c g l h) (newRun k c l) (start-good k c g l h forward reverse factors) start-told
+  module _ (h : CanStart (startOf c g l)) (store : Octets (l .senderStore)) (file : Octets (g .file)) where
+    abbrev begins : Start
+    begins = record {
+      protocol = c .protocol;
+      window = slotCount (c .protocol) (c .«window_size»);
+      limit = k .retries;
+      sending = l .senderStore;
+      receiving = l .receiverStore;
+      output = l .output;
+      size = c .«chunk_size»;
+      file = g .file;
+    }
 
-    last-history : History k c g l (outcomeOf last) (lentOf (last .state))
-    last-history =
-        let t = last-told .tells in
+    begun : Begun begins
+    begun =
         record {
-          calls = last-told .calls;
-          ends-are = t .ends-are;
-          again-are = t .sending .again-are;
-          data-are = t .datas-are;
-          replies-are = t .replying .acks-are;
-          acks-are = t .acks-are;
-          duplicate-acks-are = t .duplicates-are;
-          events-are = t .sending .events-are;
-          forward-is = ap (λ (x : Channel). x .stats) (sym (t .sending .line .channel-is));
-          reverse-is = ap (λ (x : Channel). x .stats) (sym (t .replying .line .channel-is));
-          estimator-is = t .estimator-is;
+          made = record {
+            in-bounds = sender-window k c g l h;
+            window = window-fits (c .protocol) (c .«window_size»);
+            sending-room = sender-store k c g l h;
+            receiving-room = receiving-room (c .protocol) (c .«window_size») (l .receiverStore) (h .receiver-room);
+            octets = store;
+          };
+          some = let n = h .chunk-some in omega (arith, n);
+          octets = file;
         }
+
+    start-goes : Goes-on origin (planFor k c g) (g .file) (start-plan k c g l h) (c .protocol) (slotCount (c .protocol) (c .«window_size»)) (k .retries) (l .senderStore) (l .receiverStore) (l .output) (h .output-room) (newRun k c l)
+    unfolding newRun
+    start-goes =
+        record {
+          told = start-told;
+          prefixed = rw (← new-sender-slots (c .protocol) (c .«window_size») (k .retries) (l .senderStore), ← new-receiver-slots (c .protocol) (c .«window_size») (l .receiverStore)) (prefixed-start begun (c .channel) (l .forwardRecords) (l .forwardPlaces));
+          left = refl;
+        }
+
+    module _ (forward : Doubles (g .forwardRolls)) (reverse : Doubles (g .reverseRolls)) (factors : Factors (c .rto)) where
+      last-told : Ended origin (momentAt (last .state))
+      last-told =
+          run-told origin (planFor k c g) (g .file) (start-plan k c g l h) (c .protocol) (slotCount (c .protocol) (c .«window_size»)) (k .retries) (l .senderStore) (l .receiverStore) (l .output) (h .output-room) (newRun k c l)
+          (start-good k c g l h forward reverse factors) start-goes
+
+      last-history : History k c g l (outcomeOf last) (lentOf (last .state))
+      last-history =
+          let t = last-told .tells in
+          record {
+            calls = last-told .calls;
+            tell = record {
+              ends-are = t .ends-are;
+              none-refused = last-told .not-refused;
+              all-carried = last-told .whole;
+              forward-is = ap (λ (x : Channel). x .stats) (sym (t .sending .line .channel-is));
+              reverse-is = ap (λ (x : Channel). x .stats) (sym (t .replying .line .channel-is));
+              estimator-is = t .estimator-is;
+              again-are = t .sending .again-are;
+              data-are = t .datas-are;
+              duplicate-data-are = t .repeats-are;
+              replies-are = t .replying .acks-are;
+              acks-are = t .acks-are;
+              duplicate-acks-are = t .duplicates-are;
+              carried-are = t .sending .written-are;
+              events-are = t .sending .events-are;
+            };
+          }
 
   accepted-is : verdict (startChecks (startOf c g l)) ≡ Accepted → runTransfer k c g l ≡ ended last
   unfolding runTransfer
@@ -95,11 +158,11 @@ module _ (k : Ceilings) (c : TransferConfig) (g : Given) (l : Lent) where
   not-outcome : {r : Refusal} {o : Outcome} → answer.Refused r ≡ answer.Outcome o → ⊥
   not-outcome e = let z : _≡_ {A = ℕ} 0 1 = cc in omega arith
 
-  -- of every call that isn't refused. Doubles and Factors say what the doubles are by their types.
-  pub transfer-history : Doubles (g .forwardRolls) → Doubles (g .reverseRolls) → Factors (c .rto) → (o : Outcome) → runTransfer k c g l .answer ≡ answer.Outcome o → History k c g l o (runTransfer k c g l .lent)
-  transfer-history forward reverse factors o = by-verdict (verdict (startChecks (startOf c g l))) refl
+  -- of every call that isn't refused. Octets, Doubles and Factors say what the lent bytes and doubles are by their types.
+  pub transfer-history : Octets (l .senderStore) → Octets (g .file) → Doubles (g .forwardRolls) → Doubles (g .reverseRolls) → Factors (c .rto) → (o : Outcome) → runTransfer k c g l .answer ≡ answer.Outcome o → History k c g l o (runTransfer k c g l .lent)
+  transfer-history store file forward reverse factors o = by-verdict (verdict (startChecks (startOf c g l))) refl
     where
       by-verdict : (v : Verdict) → verdict (startChecks (startOf c g l)) ≡ v → runTransfer k c g l .answer ≡ answer.Outcome o → History k c g l o (runTransfer k c g l .lent)
       by-verdict Accepted a =
-          subst (λ (x : RunExit). x .answer ≡ answer.Outcome o → History k c g l o (x .lent)) (sym (accepted-is a)) (of-outcome o last (last-history (start-accepted (startOf c g l) a) forward reverse factors))
+          subst (λ (x : RunExit). x .answer ≡ answer.Outcome o → History k c g l o (x .lent)) (sym (accepted-is a)) (of-outcome o last (last-history (start-accepted (startOf c g l) a) store file forward reverse factors))
       by-verdict (Refused r) a = subst (λ (x : RunExit). x .answer ≡ answer.Outcome o → History k c g l o (x .lent)) (sym (refused-is a)) (λ e. absurd (not-outcome e))

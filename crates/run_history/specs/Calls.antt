@@ -1,5 +1,5 @@
--- Document 01, "Links that would ruin a book" (tallies from the history of calls): the calls of a run, oldest first, and
--- what they make of both ends and hand to the lines. Nothing here looks at a run's state.
+-- Document 01, "Links that would ruin a book" (tallies from the history of calls): the calls of a run, oldest first,
+-- and what they make of both ends and hand to the lines. Nothing here looks at a run's state.
 use Prim.Native.Nat.{ℕ, _+_}
 use mathlib.Core.Bool.{Bool, true, false, cond, not, _&&_}
 use mathlib.Core.List.{List, [], _∷_, _++_}
@@ -17,7 +17,7 @@ use Rattle.rto.specs.History as rto
 use Rattle.session.specs.Sending.{SenderEnd, windowOf, sendChunk, handleAck, resent}
 use Rattle.session.specs.Receiving.{ReceiverEnd, handlePacket}
 use Rattle.session.specs.declared.Timeout.{Timeout}
-use Rattle.receiving.specs.Receiving.{isData, ackBuffer}
+use Rattle.receiving.specs.Receiving.{isData, gbnDuplicate, newDuplicates, ackBuffer}
 use Rattle.acks.specs.Acks.{ackNumber, isAccepted}
 use Rattle.acks.specs.declared.AckNumber.{AckNumber}
 use Rattle.acks.specs.declared.AckNumber.the-variants as ack
@@ -83,7 +83,7 @@ unfoldable pub total : (Ends → Call → ℕ) → Ends → List Call → ℕ
 total f e [] = 0
 total f e (c ∷ cs) = f e c + total f (after e c) cs
 
--- ---- what is handed to the forward line: a datagram of a number, for the first time or again; whether it was carried
+-- ---- what is handed to the forward line: a datagram of a number, first or again; whether it was carried
 pub record Submission : Type 0 where
   pub seq : ℕ
   pub again : Bool
@@ -137,7 +137,7 @@ estimatedBy e (arrival raw carried) = []
 estimatedBy e (return raw) = []
 estimatedBy e (sample d again) = rto.sample d again ∷ []
 
--- ---- counts: copies that read as Data, copies that read as valid ACKs, and those of them that the sender didn't accept
+-- ---- counts: copies that read as Data, copies that read as valid ACKs, those of them that the sender didn't accept
 abbrev pub one : Bool → ℕ
 one true = 1
 one false = 0
@@ -148,6 +148,17 @@ dataIn e (timeout t carried) = 0
 dataIn e (arrival raw carried) = one (readsAsData raw)
 dataIn e (return raw) = 0
 dataIn e (sample d again) = 0
+
+-- of Data, what the receiver's own count of duplicates rises by, and for Go-Back-N, which has none, what comes late
+abbrev pub duplicateDataIn : Ends → Call → ℕ
+duplicateDataIn e (chunk payload carried) = 0
+duplicateDataIn e (timeout t carried) = 0
+duplicateDataIn e (arrival raw carried) =
+    let before = e .receiver .receiver in
+    let later = receivedBy e raw .receiver .receiver in
+    cond (readsAsData raw) (newDuplicates before (gbnDuplicate before (readDatagram raw)) later) 0
+duplicateDataIn e (return raw) = 0
+duplicateDataIn e (sample d again) = 0
 
 abbrev pub acksIn : Ends → Call → ℕ
 acksIn e (chunk payload carried) = 0

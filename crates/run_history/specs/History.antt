@@ -1,7 +1,6 @@
 -- Document 01, "Links that would ruin a book" (demand 2): the answer of `run_transfer` from the history of its calls.
-use Prim.Native.Nat.{ℕ}
 use mathlib.Core.Path.{_≡_}
-use mathlib.Core.List.{List}
+use mathlib.Core.List.{List, dropLast}
 use lib.ListN.{length}
 use Rattle.channel.specs.History as channel
 use Rattle.rto.specs.History as rto
@@ -14,8 +13,9 @@ use Rattle.transfer.specs.Start.{reverseConfig}
 use Rattle.transfer.specs.declared.Ceilings.{Ceilings}
 use Rattle.transfer.specs.declared.Outcome.{Outcome}
 use Rattle.run_history.specs.Calls.{Call, Ends, ends, afterCalls, collect, total, submittedBy, repliedBy}
-use Rattle.run_history.specs.Calls.{estimatedBy, dataIn, acksIn, duplicateAcksIn}
+use Rattle.run_history.specs.Calls.{estimatedBy, dataIn, duplicateDataIn, acksIn, duplicateAcksIn}
 use Rattle.run_history.specs.Lines.{count, carriedOf, forwardWires, reverseWires, packets, eventsFrom}
+use Rattle.run_history.specs.Answered.{Each, NotRefused, Whole}
 
 -- both ends as made, and at the end of a run
 abbrev pub startEnds : Ceilings → TransferConfig → Lent → Ends
@@ -26,25 +26,32 @@ startEnds k c l =
 abbrev pub endsAt : Outcome → Lent → Ends
 endsAt o l = ends (senderEnd (o .sender) (l .senderStore)) (receiverEnd (o .receiver) (l .receiverStore)) (l .output)
 
--- The calls lead from the ends as made to those of the answer, the packets that they hand to the lines to the channels'
--- counters, the estimator's calls to its estimator; each count of the driver is the number of calls or packets that it
--- counts; the events are those of the packets carried forward, in order.
-pub record History (k : Ceilings) (c : TransferConfig) (g : Given) (before : Lent) (o : Outcome) (l : Lent) : Type 0 where
-  pub calls : List Call
-  pub ends-are : afterCalls (startEnds k c before) calls ≡ endsAt o l
-  pub again-are : count (λ x. x .again) (collect submittedBy (startEnds k c before) calls)
-      ≡ o .driver .«retx_submitted»
-  pub data-are : total dataIn (startEnds k c before) calls ≡ o .driver .«data_received»
-  pub replies-are : length (collect repliedBy (startEnds k c before) calls) ≡ o .driver .«ack_sent»
-  pub acks-are : total acksIn (startEnds k c before) calls ≡ o .driver .«ack_received»
-  pub duplicate-acks-are : total duplicateAcksIn (startEnds k c before) calls ≡ o .driver .«duplicate_acks»
-  pub events-are : eventsFrom (c .channel) (g .forwardRolls) 0
-      (carriedOf (collect submittedBy (startEnds k c before) calls))
-      ≡ eventsOf (o .driver .events) (l .events)
-  pub forward-is : channel.tallies (c .channel)
-      (packets (g .forwardRolls) (forwardWires (collect submittedBy (startEnds k c before) calls)))
+-- Calls from the ends e tell an answer and what it leaves in lent memory:
+pub record Tell (c : TransferConfig) (g : Given) (e : Ends) (cs : List Call) (o : Outcome) (l : Lent) : Type 0 where
+  -- they lead to both ends, with their stores and the output; none is refused; all but the last are carried whole
+  pub ends-are : afterCalls e cs ≡ endsAt o l
+  pub none-refused : Each NotRefused e cs
+  pub all-carried : Each Whole e (dropLast cs)
+  -- what was handed to the lines leads to the channels' counters, the estimator's calls to the estimator
+  pub forward-is : channel.tallies (c .channel) (packets (g .forwardRolls) (forwardWires (collect submittedBy e cs)))
       ≡ o .forward
   pub reverse-is : channel.tallies (reverseConfig (c .channel))
-      (packets (g .reverseRolls) (reverseWires (collect repliedBy (startEnds k c before) calls)))
-      ≡ o .reverse
-  pub estimator-is : rto.afterCalls (c .rto) (collect estimatedBy (startEnds k c before) calls) ≡ o .estimator
+      (packets (g .reverseRolls) (reverseWires (collect repliedBy e cs))) ≡ o .reverse
+  pub estimator-is : rto.afterCalls (c .rto) (collect estimatedBy e cs) ≡ o .estimator
+  -- each count of the driver is how many there were
+  pub again-are : count (λ x. x .again) (collect submittedBy e cs) ≡ o .driver .«retx_submitted»
+  pub data-are : total dataIn e cs ≡ o .driver .«data_received»
+  pub duplicate-data-are : total duplicateDataIn e cs ≡ o .driver .«duplicate_data»
+  pub replies-are : length (collect repliedBy e cs) ≡ o .driver .«ack_sent»
+  pub acks-are : total acksIn e cs ≡ o .driver .«ack_received»
+  pub duplicate-acks-are : total duplicateAcksIn e cs ≡ o .driver .«duplicate_acks»
+  -- the events are those of the packets carried forward, in order
+  pub carried-are : length (carriedOf (collect submittedBy e cs)) ≡ o .driver .events
+  pub events-are : eventsFrom (c .channel) (g .forwardRolls) 0 (carriedOf (collect submittedBy e cs))
+      ≡ eventsOf (o .driver .events) (l .events)
+
+-- there are such calls from the ends as made
+pub record History (k : Ceilings) (c : TransferConfig) (g : Given) (before : Lent) (o : Outcome) (l : Lent)
+    : Type 0 where
+  pub calls : List Call
+  pub tell : Tell c g (startEnds k c before) calls o l

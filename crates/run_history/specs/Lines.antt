@@ -1,5 +1,5 @@
--- Document 01, `channel/mod.rs` and `app/transfer.rs`: what a line makes of the packets handed to it. Each packet that it
--- carried took the next eight rolls of its direction.
+-- Document 01, `channel/mod.rs` and `app/transfer.rs`: what a line makes of the packets handed to it. Each packet that
+-- it carried took the next eight rolls of its direction.
 use Prim.Native.Nat.{ℕ, _+_}
 use mathlib.Core.Bool.{Bool, cond}
 use mathlib.Core.List.{List, [], _∷_, map}
@@ -35,14 +35,14 @@ reverseWires xs = map (λ (x : Reply). x .wire) (filter (λ x. x .carried) xs)
 unfoldable pub packetsFrom : List Float → ℕ → List channel.Call → List (List ℕ) → List channel.Call
 packetsFrom rolls at before [] = before
 packetsFrom rolls at before (wire ∷ wires) =
-    packetsFrom rolls (at + packetRolls) (record { packet = wire; rolls = rollsAt rolls at; out = packetBuffer } ∷ before)
-    wires
+    let x : channel.Call = record { packet = wire; rolls = rollsAt rolls at; out = packetBuffer } in
+    packetsFrom rolls (at + packetRolls) (x ∷ before) wires
 
 abbrev pub packets : List Float → List (List ℕ) → List channel.Call
 packets rolls wires = packetsFrom rolls 0 [] wires
 
--- the event of a packet: its number, first or again, and of each copy that its rolls grant the delay and the fold of the
--- bytes that arrive
+-- the event of a packet: its number, first or again, and of each copy that its rolls grant the delay and the fold of
+-- the bytes that arrive
 abbrev pub eventFor : ChannelConfig → Rolls → Submission → ForwardEvent
 eventFor c r x =
     let ds = deliveriesOf c r in
