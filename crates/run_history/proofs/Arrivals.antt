@@ -26,7 +26,7 @@ use Rattle.receiving.specs.declared.ReceivingSide.{ReceivingSide}
 use Rattle.receiving.proofs.Laws.{Received, data-received, ack-submitted, forward-dropped, forward-silent, forward-refused, forward-acknowledged, nextTaken, nextExit, serve-turns}
 use Rattle.run_history.specs.Calls.{Ends, ends, arrival, Submission, Reply, reply, repliedBy}
 use Rattle.run_history.proofs.Columns.{LineAfter, Sending, Replying, carry-replying}
-use Rattle.run_history.proofs.Tells.{Origin, Moment, moment, Told, Makes, Goes, still-told, by-call, none-sent, none-replied, no-more}
+use Rattle.run_history.proofs.Tells.{Origin, Moment, moment, Told, Makes, Goes, still-told, by-call, same-chunked, none-sent, none-replied, no-more}
 
 absorbed-duplicates : (total now : ℕ) (x : ReceivingSide) → absorb total now x .«duplicate_data» ≡ x .«duplicate_data»
 unfolding absorb
@@ -57,6 +57,7 @@ module _ (b : Origin) (v : SenderEnd) (e : RtoEstimator) (acks duplicates again 
         record {
           not-refused = accepts;
           ends-are = rw h;
+          chunks-are = same-chunked b now-at;
           sending = none-sent b now-at;
           replying = λ xs s. rw h (none-replied b now-at xs s);
           estimator-is = refl;
@@ -81,6 +82,7 @@ module _ (b : Origin) (v : SenderEnd) (e : RtoEstimator) (acks duplicates again 
         record {
           not-refused = accepts;
           ends-are = rw h (after-data d);
+          chunks-are = same-chunked b now-at;
           sending = none-sent b now-at;
           replying = λ xs s. rw (h, none, d .reverse, d .acks) (none-replied b now-at xs s);
           estimator-is = refl;
@@ -100,6 +102,7 @@ module _ (b : Origin) (v : SenderEnd) (e : RtoEstimator) (acks duplicates again 
         record {
           not-refused = accepts;
           ends-are = rw h (after-data d);
+          chunks-are = same-chunked b now-at;
           sending = none-sent b now-at;
           replying = λ xs s. rw (h, a) (carry-replying {xs = xs} now (made (newPacket n packetType.Ack) []) (received total now raw i .reverse) (rw (d .acks, d .reverse) s) going g);
           estimator-is = refl;

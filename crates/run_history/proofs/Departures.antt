@@ -5,7 +5,9 @@ use mathlib.Core.Bool.{Bool, true, false, cond, not, _&&_, true≢false}
 use mathlib.Core.List.{List, [], _∷_, _++_, append-nil, append-assoc, foldl}
 use native.Mathlib.Omega.{arith}
 use lib.Ieee.{Float}
-use lib.ListN.{length, getD, replicate}
+use native.Mathlib.Numerals.{add-one}
+use lib.ListN.{length, getD, take, replicate}
+use lib.Seq.{take-suc}
 use Rattle.bounds.specs.Bounds.{countLimit}
 use Rattle.channel.specs.declared.ChannelConfig.{ChannelConfig}
 use Rattle.chunks.specs.Chunks.{chunksOf}
@@ -22,7 +24,8 @@ use Rattle.clock.specs.Estimator.{GoodEstimator}
 use Rattle.clock.specs.declared.Timing.{Timing}
 use Rattle.clock.specs.declared.Timing.the-variants.{PerNumber}
 use Rattle.clock.proofs.Laws.{can-back-off}
-use Rattle.session.specs.Sending.{SenderEnd, isDue, sendChunk, resent, oldestOutstanding}
+use Rattle.session.proofs.Laws.{resent-as}
+use Rattle.session.specs.Sending.{SenderEnd, windowOf, isDue, sendChunk, resent, oldestOutstanding}
 use Rattle.delivery.specs.Ends.{bytesSent, isSendRefused}
 use Rattle.session.specs.GoodSender.{SenderUnbroken}
 use Rattle.departures.specs.Departures.{goesOn}
@@ -36,13 +39,13 @@ use Rattle.sending.specs.Sending.{PumpState, PumpExit, pumpSends, canPump, next
 use Rattle.sending.specs.Good.{CanPump}
 use Rattle.sending.specs.Retransmit.{RetransmitExit, retransmitExit, retransmit, exhausted, retransmitAll, ceilingMet}
 use Rattle.sending.specs.declared.Resends.{Resends}
-use Rattle.sending.proofs.Laws.{pump-turns, can-send, retransmit-counts, all-none, all-by}
+use Rattle.sending.proofs.Laws.{number-left, sent-next, pump-turns, can-send, retransmit-counts, all-none, all-by}
 use Rattle.timeouts.specs.Timeouts.{FireState, fireState, FireExit, withClock, withResends, timedOut, timeoutOf, stopped, fireNumber, fireNumbers, expired, fireTimers}
 use Rattle.timeouts.specs.Good.{GoodFire}
 use Rattle.timeouts.proofs.Laws.{sender-unbroken, timed-out-by, timers-by, cancelled, fire-due, fire-not-due, fire-number-good, numbers-none, numbers-exhausted, numbers-going, numbers-stopped, stopped-good, cancelled-good}
 use Rattle.run_history.specs.Calls.{Call, chunk, timeout as timesOut, Submission, submission, resubmissions, backOff}
 use Rattle.run_history.proofs.Columns.{eventsIn, lineOf, Sending, submit-sending}
-use Rattle.run_history.proofs.Tells.{Origin, Moment, moment, Told, Goes, still-told, by-call, none-sent, none-replied, no-more}
+use Rattle.run_history.proofs.Tells.{Origin, Moment, moment, Told, Goes, still-told, by-call, none-chunked, none-sent, none-replied, no-more}
 
 -- ---- datagrams again, until the ceiling is met or the run ends
 module _ (c : ChannelConfig) (rolls : List Float) (limit : ℕ) (t : Timing) (rto now : ℕ) (oldest : Oldest) where
@@ -88,6 +91,10 @@ backed-off : (e : RtoEstimator) → Good e → countsFull (e .stats) ≡ false �
 unfolding rto.step
 backed-off e good counts = ap (λ (x : TimeoutResult). x .estimator) (timeout-accepted e good counts)
 
+one-chunked : (b : Origin) (chunks : List (List ℕ)) → b .chunks ≡ chunks → (n : ℕ) → n < length chunks → (k : ℕ) → k ≡ n + 1 → (xs : List (List ℕ)) → xs ≡ take n (b .chunks) → xs ++ getD chunks n [] ∷ [] ≡ take k (b .chunks)
+one-chunked b chunks same n within k grows xs h =
+    ap (λ (l : List (List ℕ)). l ++ getD chunks n [] ∷ []) (h ∙ ap (take n) same) ∙ sym (take-suc chunks n [] within) ∙ ap (λ (j : ℕ). take j chunks) (sym (grows ∙ add-one n)) ∙ ap (take k) (sym same)
+
 module _ (b : Origin) (i : Inbound) (acks duplicates : ℕ) where
   -- the moment as the sending side sees it
   abbrev pub sendMoment : SenderEnd → RtoEstimator → ℕ → Outgoing → Moment
@@ -100,16 +107,18 @@ module _ (b : Origin) (i : Inbound) (acks duplicates : ℕ) where
   pumpMoment e again w = sendMoment (w .sender) e again (w .outgoing)
 
   -- ---- a chunk
-  sent-told : (t : Timing) (chunks : List (List ℕ)) (rto now : ℕ) (e : RtoEstimator) (again : ℕ) (w : PumpState) → isSendRefused (sendChunk (w .sender) (getD chunks (nextNumber w) []) packetBuffer .answer) ≡ false → Told b (pumpMoment e again w)
+  sent-told : (t : Timing) (chunks : List (List ℕ)) (rto now : ℕ) (e : RtoEstimator) (again : ℕ) (w : PumpState) → isSendRefused (sendChunk (w .sender) (getD chunks (nextNumber w) []) packetBuffer .answer) ≡ false
+      → windowOf (sendChunk (w .sender) (getD chunks (nextNumber w) []) packetBuffer .after .sender) .«next_seq_num» ≡ nextNumber w + 1 → b .chunks ≡ chunks → nextNumber w < length chunks → Told b (pumpMoment e again w)
       → Goes b (pumpMoment e again (sendOne t (b .forwardRolls) chunks rto now w .state)) (isGoing (sendOne t (b .forwardRolls) chunks rto now w .stop))
   unfolding sendOne
-  sent-told t chunks rto now e again w accepts q =
+  sent-told t chunks rto now e again w accepts grows same within q =
       let x = sendChunk (w .sender) (getD chunks (nextNumber w) []) packetBuffer in
       let given : clock.Submission = record { time = now; seq = nextNumber w; rto = rto; retransmission = false; oldest = oldestOutstanding (x .after .sender) } in
       by-call {c = chunk (getD chunks (nextNumber w) []) (isGoing (sendOne t (b .forwardRolls) chunks rto now w .stop))} q
       (record {
         not-refused = accepts;
         ends-are = refl;
+        chunks-are = λ xs h. one-chunked b chunks same (nextNumber w) within (windowOf (x .after .sender) .«next_seq_num») grows xs h;
         sending = λ xs s. submit-sending t given (bytesSent (x .answer) (x .out)) (w .outgoing) s (no-more again) _ refl;
         replying = none-replied b (pumpMoment e again w);
         estimator-is = refl;
@@ -120,15 +129,15 @@ module _ (b : Origin) (i : Inbound) (acks duplicates : ℕ) where
       })
       (λ g. g)
 
-  pub pumps-told : {t : Timing} {size : ℕ} {file : List ℕ} {total rto now : ℕ} (e : RtoEstimator) (again : ℕ) (w : PumpState) → CanPump t (b .forwardRolls) size file total rto now w → Told b (pumpMoment e again w)
+  pub pumps-told : {t : Timing} {size : ℕ} {file : List ℕ} {total rto now : ℕ} → b .chunks ≡ chunksOf size file → (e : RtoEstimator) (again : ℕ) (w : PumpState) → CanPump t (b .forwardRolls) size file total rto now w → Told b (pumpMoment e again w)
       → Goes b (pumpMoment e again (pumpSends t (b .forwardRolls) (chunksOf size file) rto now w .state)) (isGoing (pumpSends t (b .forwardRolls) (chunksOf size file) rto now w .stop))
-  pumps-told {t} {size} {file} {total} {rto} {now} e again =
+  pumps-told {t} {size} {file} {total} {rto} {now} same e again =
       pump-turns (λ (w : PumpState) (x : PumpExit). Told b (pumpMoment e again w) → Goes b (pumpMoment e again (x .state)) (isGoing (x .stop))) (λ w can none q. still-told q)
       (λ w x can free g rest q. rest (sent w can free q .0 g)) (λ w can free g q. sent w can free q)
     where
       sent : (w : PumpState) (can : CanPump t (b .forwardRolls) size file total rto now w) (free : canPump total (w .sender .sender) ≡ true) → Told b (pumpMoment e again w)
           → Goes b (pumpMoment e again (sendOne t (b .forwardRolls) (chunksOf size file) rto now w .state)) (isGoing (sendOne t (b .forwardRolls) (chunksOf size file) rto now w .stop))
-      sent w can free q = sent-told t (chunksOf size file) rto now e again w (send-not-refused (w .sender) _ _ (can-send can free)) q
+      sent w can free q = sent-told t (chunksOf size file) rto now e again w (send-not-refused (w .sender) _ _ (can-send can free)) (sent-next can free .next) same (subst (λ (k : ℕ). nextNumber w < k) (can .whole) (number-left can free)) q
 
   -- ---- a timeout: told where no datagram is left behind
   abbrev pub Fired : FireExit → Type 0
@@ -148,6 +157,7 @@ module _ (b : Origin) (i : Inbound) (acks duplicates : ℕ) where
         (record {
           not-refused = timeout-not-refused (s .sender) of unbroken;
           ends-are = refl;
+          chunks-are = none-chunked b (resent-as (s .sender) of unbroken .same .next);
           sending = none-sent b (fireMoment s);
           replying = none-replied b (fireMoment s);
           estimator-is = rw none;
@@ -163,6 +173,7 @@ module _ (b : Origin) (i : Inbound) (acks duplicates : ℕ) where
         (record {
           not-refused = timeout-not-refused (s .sender) of unbroken;
           ends-are = refl;
+          chunks-are = none-chunked b (resent-as (s .sender) of unbroken .same .next);
           sending = again .sending;
           replying = none-replied b (fireMoment s);
           estimator-is = ap (foldl rto.step (s .estimator)) (back-off-once (resent (s .sender) of .packets) some) ∙ backed-off (s .estimator) good counts;
@@ -185,8 +196,8 @@ module _ (b : Origin) (i : Inbound) (acks duplicates : ℕ) where
       number-told n s g q = good-told (timeout.Number n) (cancelled-good g n) q
 
       -- the ceiling was not met before a number, so it is not met by it
-      number-left : (n : ℕ) (s : FireState) → GoodFire PerNumber (b .forwardRolls) samples now s → ceilingMet limit (s .resends) ≡ false → fireNumber limit (b .forwardRolls) now n s .state .resends .exhausted ≡ s .resends .exhausted
-      number-left n s g c = by-due (isDue (s .sender) n) refl
+      ceiling-left : (n : ℕ) (s : FireState) → GoodFire PerNumber (b .forwardRolls) samples now s → ceilingMet limit (s .resends) ≡ false → fireNumber limit (b .forwardRolls) now n s .state .resends .exhausted ≡ s .resends .exhausted
+      ceiling-left n s g c = by-due (isDue (s .sender) n) refl
         where
           by-due : (d : Bool) → isDue (s .sender) n ≡ d → fireNumber limit (b .forwardRolls) now n s .state .resends .exhausted ≡ s .resends .exhausted
           by-due true d =
@@ -198,7 +209,7 @@ module _ (b : Origin) (i : Inbound) (acks duplicates : ℕ) where
       numbers-told [] s g left q = subst Fired (sym (numbers-none limit (b .forwardRolls) now s)) (still-told q)
       numbers-told (n ∷ ns) s g left q =
           by-ceiling (ceilingMet limit (s .resends)) refl
-          (λ c e. numbers-told ns (fireNumber limit (b .forwardRolls) now n s .state) (fire-number-good g limit n c e) (number-left n s g c ∙ left) (number-told n s g q .0 (both _ _ e (number-left n s g c ∙ left))))
+          (λ c e. numbers-told ns (fireNumber limit (b .forwardRolls) now n s .state) (fire-number-good g limit n c e) (ceiling-left n s g c ∙ left) (number-told n s g q .0 (both _ _ e (ceiling-left n s g c ∙ left))))
         where
           both : (x y : Bool) → x ≡ true → y ≡ false → (x && not y) ≡ true
           both true false e f = refl

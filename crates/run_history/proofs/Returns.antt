@@ -26,6 +26,7 @@ use Rattle.window.specs.Acknowledgement.{inWindow, AckExit}
 use Rattle.delivery.specs.Ends.{isHandled}
 use Rattle.session.specs.Sending.{SenderEnd, windowOf, handleAck, handleAckUnchecked, ackAnswerOf}
 use Rattle.session.specs.GoodSender.{SenderUnbroken}
+use Rattle.session.proofs.Laws.{ack-keeps-sender}
 use Rattle.receiving.specs.Receiving.{Inbound, inbound}
 use Rattle.acks.specs.Acks.{AckState, ackState, ackNumber, sampleSeq, onAccepted, counted, duplicate, isAccepted, byNumber, onAck}
 use Rattle.acks.specs.Good.{GoodAcks, CanOnAck}
@@ -34,7 +35,7 @@ use Rattle.acks.specs.declared.AckNumber.{AckNumber}
 use Rattle.acks.specs.declared.AckNumber.the-variants as ack
 use Rattle.acks.proofs.Laws.{acked, nextTaken, nextState, can-hand-over, turn-good, serve-reverse-invariant}
 use Rattle.run_history.specs.Calls.{return, sample, isNumber, one}
-use Rattle.run_history.proofs.Tells.{Origin, Moment, moment, Sent, Replied, Told, Makes, told-more, none-sent, none-replied, no-more}
+use Rattle.run_history.proofs.Tells.{Origin, Moment, moment, Sent, Replied, Told, Makes, told-more, none-chunked, same-chunked, none-sent, none-replied, no-more}
 
 module _ (b : Origin) (f : Direction) (i : Inbound) (again written : ℕ) (rows : List (List ℕ)) where
   -- the receiving side as it was, with the reverse line
@@ -51,6 +52,7 @@ module _ (b : Origin) (f : Direction) (i : Inbound) (again written : ℕ) (rows 
         record {
           not-refused = λ t. absurd (true≢false (sym t ∙ ap isNumber h));
           ends-are = rw h;
+          chunks-are = same-chunked b (returnMoment d s);
           sending = none-sent b (returnMoment d s);
           replying = none-replied b (returnMoment d s);
           estimator-is = refl;
@@ -77,6 +79,7 @@ module _ (b : Origin) (f : Direction) (i : Inbound) (again written : ℕ) (rows 
         record {
           not-refused = λ t. handled u n h;
           ends-are = rw h;
+          chunks-are = none-chunked b (ack-keeps-sender (s .sender) raw .next);
           sending = none-sent b (returnMoment d s);
           replying = none-replied b (returnMoment d s);
           estimator-is = refl;
@@ -105,6 +108,7 @@ module _ (b : Origin) (f : Direction) (i : Inbound) (again written : ℕ) (rows 
               (record {
                 not-refused = tt;
                 ends-are = refl;
+                chunks-are = same-chunked b (returnMoment d (answered (s .duplicates)));
                 sending = none-sent b (returnMoment d (answered (s .duplicates)));
                 replying = none-replied b (returnMoment d (answered (s .duplicates)));
                 estimator-is = update-is l re (sample-within (s .metas) seq now l re e);

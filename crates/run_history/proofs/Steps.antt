@@ -118,7 +118,7 @@ module _ (Q E : RunState → Type 0) (p : Plan) (g : Given) (plan : GoodPlan p g
   run-keeps s good q = run-most (suc (stepsLeft p s)) s good q
 
 -- ---- a step's calls
-module _ (b : Origin) (p : Plan) (file : List ℕ) (plan : GoodPlan p (record { file = file; forwardRolls = b .forwardRolls; reverseRolls = b .reverseRolls })) (y : ProtocolType) (w tries : ℕ) (sending receiving output : List ℕ) (room : length file ≤ length output) where
+module _ (b : Origin) (p : Plan) (file : List ℕ) (plan : GoodPlan p (record { file = file; forwardRolls = b .forwardRolls; reverseRolls = b .reverseRolls })) (y : ProtocolType) (w tries : ℕ) (sending receiving output : List ℕ) (room : length file ≤ length output) (same : b .chunks ≡ chunksOf (p .«chunk_size») file) where
   abbrev g : Given
   g = record { file = file; forwardRolls = b .forwardRolls; reverseRolls = b .reverseRolls }
 
@@ -194,7 +194,7 @@ module _ (b : Origin) (p : Plan) (file : List ℕ) (plan : GoodPlan p (record { 
         by-test : (t : Bool) → goesOn timers ≡ t → Sent timers → Sent (sends t)
         by-test true e x =
             let on = can-pump (p .«max_retransmissions») can e in
-            let u = pumps-told b (a .inbound) (a .received) (a .duplicates) (timers .state .estimator) (timers .state .resends .«retx_submitted») (pumpOf (timers .state)) on (x .0 .0 e) in
+            let u = pumps-told b (a .inbound) (a .received) (a .duplicates) same (timers .state .estimator) (timers .state .resends .«retx_submitted») (pumpOf (timers .state)) on (x .0 .0 e) in
             (((λ k. u .0 (both (isGoing (sends true .stop)) (timers .state .resends .exhausted) k .0)), u .1), prefixed-pumped begins (endOf (a .inbound)) (a .inbound .output) on (x .1))
         by-test false e x = x
 

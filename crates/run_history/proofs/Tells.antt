@@ -5,6 +5,7 @@ use mathlib.Core.Bool.{Bool, true, false}
 use mathlib.Core.List.{List, [], _∷_, _++_, append-nil, dropLast, foldl, foldl-append}
 use native.Mathlib.Omega.{arith}
 use lib.Ieee.{Float}
+use lib.ListN.{take}
 use Rattle.channel.specs.declared.ChannelConfig.{ChannelConfig}
 use Rattle.rto.specs.History as rto
 use Rattle.rto.specs.Rto.{fresh}
@@ -15,7 +16,7 @@ use Rattle.events.specs.Events.{ForwardEvent, eventsOf}
 use Rattle.session.specs.Sending.{SenderEnd}
 use Rattle.session.specs.Receiving.{receiverEnd}
 use Rattle.receiving.specs.Receiving.{Inbound}
-use Rattle.run_history.specs.Calls.{Call, Ends, ends, after, afterCalls, collect, total, Submission, submittedBy, Reply, repliedBy, estimatedBy, dataIn, duplicateDataIn, acksIn, duplicateAcksIn}
+use Rattle.run_history.specs.Calls.{Call, Ends, ends, after, afterCalls, collect, total, chunkBy, nextNumber, Submission, submittedBy, Reply, repliedBy, estimatedBy, dataIn, duplicateDataIn, acksIn, duplicateAcksIn}
 use Rattle.run_history.specs.Answered.{Each, NotRefused, Whole}
 use Rattle.run_history.proofs.Lists.{after-more, collect-more, total-more, each-more, each-first, drop-last-more}
 use Rattle.run_history.proofs.Columns.{Line, lineOf, Sending, Replying}
@@ -28,6 +29,7 @@ pub record Origin : Type 0 where
   pub forwardRolls : List Float
   pub reverseRolls : List Float
   pub rto : RtoConfig
+  pub chunks : List (List ℕ)
 
 -- what the calls of a run have made so far
 pub record Moment : Type 0 where
@@ -66,8 +68,13 @@ Sent b xs m = Sending (b .forward) (b .forwardRolls) xs (m .again) (m .written) 
 abbrev pub Replied : Origin → List Reply → Moment → Type 0
 Replied b xs m = Replying (b .reverse) (b .reverseRolls) xs (m .replies) (m .reverse)
 
+-- the chunks sent are the first ones
+abbrev pub Chunked : Origin → List (List ℕ) → Moment → Type 0
+Chunked b xs m = xs ≡ take (nextNumber (m .ends)) (b .chunks)
+
 pub record Tells (b : Origin) (cs : List Call) (m : Moment) : Type 0 where
   pub ends-are : afterCalls (b .start) cs ≡ m .ends
+  pub chunks-are : Chunked b (collect chunkBy (b .start) cs) m
   pub sending : Sent b (collect submittedBy (b .start) cs) m
   pub replying : Replied b (collect repliedBy (b .start) cs) m
   pub estimator-is : rto.afterCalls (b .rto) (collect estimatedBy (b .start) cs) ≡ m .estimator
@@ -96,6 +103,7 @@ told-over {b} q = record { calls = q .calls; tells = q .tells; not-refused = q .
 pub record Makes (b : Origin) (c : Call) (m next : Moment) : Type 0 where
   pub not-refused : NotRefused (m .ends) c
   pub ends-are : after (m .ends) c ≡ next .ends
+  pub chunks-are : (xs : List (List ℕ)) → Chunked b xs m → Chunked b (xs ++ chunkBy (m .ends) c) next
   pub sending : (xs : List Submission) → Sent b xs m → Sent b (xs ++ submittedBy (m .ends) c) next
   pub replying : (xs : List Reply) → Replied b xs m → Replied b (xs ++ repliedBy (m .ends) c) next
   pub estimator-is : foldl rto.step (m .estimator) (estimatedBy (m .ends) c) ≡ next .estimator
@@ -123,6 +131,7 @@ module _ {b : Origin} {c : Call} {m next : Moment} (q : Told b m) (h : Makes b c
       let t = q .tells in
       record {
         ends-are = after-more (b .start) cs c ∙ at-ends (λ (e : Ends). after e c) ∙ h .ends-are;
+        chunks-are = subst (λ (xs : List (List ℕ)). Chunked b xs next) (sym (collected chunkBy)) (h .chunks-are _ (t .chunks-are));
         sending = subst (λ (xs : List Submission). Sent b xs next) (sym (collected submittedBy)) (h .sending _ (t .sending));
         replying = subst (λ (xs : List Reply). Replied b xs next) (sym (collected repliedBy)) (h .replying _ (t .replying));
         estimator-is =
@@ -149,6 +158,13 @@ none-sent b m xs s = subst (λ (l : List Submission). Sent b l m) (sym (append-n
 
 pub none-replied : (b : Origin) (m : Moment) (xs : List Reply) → Replied b xs m → Replied b (xs ++ []) m
 none-replied b m xs s = subst (λ (l : List Reply). Replied b l m) (sym (append-nil xs)) s
+
+-- a call that sends no chunk
+pub none-chunked : (b : Origin) {n k : ℕ} → k ≡ n → (xs : List (List ℕ)) → xs ≡ take n (b .chunks) → xs ++ [] ≡ take k (b .chunks)
+none-chunked b e xs h = append-nil xs ∙ h ∙ ap (λ (n : ℕ). take n (b .chunks)) (sym e)
+
+pub same-chunked : (b : Origin) (m : Moment) (xs : List (List ℕ)) → Chunked b xs m → Chunked b (xs ++ []) m
+same-chunked b m xs h = append-nil xs ∙ h
 
 pub no-more : (n : ℕ) → n + 0 ≡ n
 no-more n = omega arith

@@ -3,7 +3,7 @@ use Prim.Native.Nat.{ℕ, _*_, _≤_, _<_}
 use mathlib.Core.Path.{_≡_, refl, sym, ap, _∙_, subst}
 use mathlib.Core.List.{List, [], _∷_}
 use native.Mathlib.Omega.{arith}
-use lib.ListN.{length, replicate}
+use lib.ListN.{length, take, replicate}
 use borrow.Author.Tests.{le-ltb}
 use Rattle.bounds.specs.Bounds.{slotSize}
 use Rattle.octets.specs.Octets.{Octets}
@@ -13,6 +13,8 @@ use Rattle.window.specs.State.{storeShort}
 use Rattle.delivery.specs.Ends.{ReceivingRoom}
 use Rattle.session.specs.Sending.{slotCount}
 use Rattle.completion.proofs.Laws.{Start, Begun, window-fits, new-sender-slots, new-receiver-slots}
+use Rattle.chunks.specs.Chunks.{chunksOf}
+use Rattle.sending.proofs.Laws.{unused}
 use Rattle.prefixes.proofs.Laws.{prefixed-start}
 use Rattle.rows.specs.Rows.{vacant}
 use Rattle.refusal.specs.Order.{verdict}
@@ -54,7 +56,7 @@ receiving-room SelectiveRepeat w store h = le-ltb _ _ (h refl)
 
 module _ (k : Ceilings) (c : TransferConfig) (g : Given) (l : Lent) where
   abbrev origin : Origin
-  origin = record { start = startEnds k c l; forward = c .channel; reverse = reverseConfig (c .channel); forwardRolls = g .forwardRolls; reverseRolls = g .reverseRolls; rto = c .rto }
+  origin = record { start = startEnds k c l; forward = c .channel; reverse = reverseConfig (c .channel); forwardRolls = g .forwardRolls; reverseRolls = g .reverseRolls; rto = c .rto; chunks = chunksOf (c .«chunk_size») (g .file) }
 
   -- no calls
   start-told : Told origin (momentAt (newRun k c l))
@@ -64,6 +66,7 @@ module _ (k : Ceilings) (c : TransferConfig) (g : Given) (l : Lent) where
         calls = [];
         tells = record {
           ends-are = refl;
+          chunks-are = ap (λ (n : ℕ). take n (chunksOf (c .«chunk_size») (g .file))) (sym (unused (c .protocol) (c .«window_size») (k .retries) (l .senderStore) .next));
           sending = record { again-are = refl; written-are = refl; line = record { used-is = refl; channel-is = refl }; events-are = sym (events-none (replicate (length (l .events)) vacant)) };
           replying = record { acks-are = refl; line = record { used-is = refl; channel-is = refl } };
           estimator-is = refl;
@@ -106,7 +109,7 @@ module _ (k : Ceilings) (c : TransferConfig) (g : Given) (l : Lent) where
           octets = file;
         }
 
-    start-goes : Goes-on origin (planFor k c g) (g .file) (start-plan k c g l h) (c .protocol) (slotCount (c .protocol) (c .«window_size»)) (k .retries) (l .senderStore) (l .receiverStore) (l .output) (h .output-room) (newRun k c l)
+    start-goes : Goes-on origin (planFor k c g) (g .file) (start-plan k c g l h) (c .protocol) (slotCount (c .protocol) (c .«window_size»)) (k .retries) (l .senderStore) (l .receiverStore) (l .output) (h .output-room) refl (newRun k c l)
     unfolding newRun
     start-goes =
         record {
@@ -118,7 +121,7 @@ module _ (k : Ceilings) (c : TransferConfig) (g : Given) (l : Lent) where
     module _ (forward : Doubles (g .forwardRolls)) (reverse : Doubles (g .reverseRolls)) (factors : Factors (c .rto)) where
       last-told : Ended origin (momentAt (last .state))
       last-told =
-          run-told origin (planFor k c g) (g .file) (start-plan k c g l h) (c .protocol) (slotCount (c .protocol) (c .«window_size»)) (k .retries) (l .senderStore) (l .receiverStore) (l .output) (h .output-room) (newRun k c l)
+          run-told origin (planFor k c g) (g .file) (start-plan k c g l h) (c .protocol) (slotCount (c .protocol) (c .«window_size»)) (k .retries) (l .senderStore) (l .receiverStore) (l .output) (h .output-room) refl (newRun k c l)
           (start-good k c g l h forward reverse factors) start-goes
 
       last-history : History k c g l (outcomeOf last) (lentOf (last .state))
@@ -130,6 +133,7 @@ module _ (k : Ceilings) (c : TransferConfig) (g : Given) (l : Lent) where
               ends-are = t .ends-are;
               none-refused = last-told .not-refused;
               all-carried = last-told .whole;
+              chunks-are = t .chunks-are;
               forward-is = ap (λ (x : Channel). x .stats) (sym (t .sending .line .channel-is));
               reverse-is = ap (λ (x : Channel). x .stats) (sym (t .replying .line .channel-is));
               estimator-is = t .estimator-is;

@@ -83,6 +83,17 @@ unfoldable pub total : (Ends → Call → ℕ) → Ends → List Call → ℕ
 total f e [] = 0
 total f e (c ∷ cs) = f e c + total f (after e c) cs
 
+-- ---- the chunks that were sent
+abbrev pub chunkBy : Ends → Call → List (List ℕ)
+chunkBy e (chunk payload carried) = payload ∷ []
+chunkBy e (timeout t carried) = []
+chunkBy e (arrival raw carried) = []
+chunkBy e (return raw) = []
+chunkBy e (sample d again) = []
+
+abbrev pub nextNumber : Ends → ℕ
+nextNumber e = windowOf (e .sender .sender) .«next_seq_num»
+
 -- ---- what is handed to the forward line: a datagram of a number, first or again; whether it was carried
 pub record Submission : Type 0 where
   pub seq : ℕ
@@ -102,7 +113,7 @@ resubmissions (b ∷ carried) (wire ∷ wires) = submission (numberOf wire) true
 abbrev pub submittedBy : Ends → Call → List Submission
 submittedBy e (chunk payload carried) =
     let x = sentBy e payload in
-    submission (windowOf (e .sender .sender) .«next_seq_num») false (bytesSent (x .answer) (x .out)) carried ∷ []
+    submission (nextNumber e) false (bytesSent (x .answer) (x .out)) carried ∷ []
 submittedBy e (timeout t carried) = resubmissions carried (resent (e .sender) t .packets)
 submittedBy e (arrival raw carried) = []
 submittedBy e (return raw) = []

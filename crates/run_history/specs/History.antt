@@ -1,18 +1,19 @@
 -- Document 01, "Links that would ruin a book" (demand 2): the answer of `run_transfer` from the history of its calls.
 use mathlib.Core.Path.{_≡_}
 use mathlib.Core.List.{List, dropLast}
-use lib.ListN.{length}
+use lib.ListN.{length, take}
 use Rattle.channel.specs.History as channel
 use Rattle.rto.specs.History as rto
 use Rattle.events.specs.Events.{eventsOf}
-use Rattle.session.specs.Sending.{senderEnd, newSender}
+use Rattle.chunks.specs.Chunks.{chunksOf}
+use Rattle.session.specs.Sending.{senderEnd, windowOf, newSender}
 use Rattle.session.specs.Receiving.{receiverEnd, newReceiver}
 use Rattle.setup.specs.declared.TransferConfig.{TransferConfig}
 use Rattle.step.specs.State.{Given, Lent}
 use Rattle.transfer.specs.Start.{reverseConfig}
 use Rattle.transfer.specs.declared.Ceilings.{Ceilings}
 use Rattle.transfer.specs.declared.Outcome.{Outcome}
-use Rattle.run_history.specs.Calls.{Call, Ends, ends, afterCalls, collect, total, submittedBy, repliedBy}
+use Rattle.run_history.specs.Calls.{Call, Ends, ends, afterCalls, collect, total, chunkBy, submittedBy, repliedBy}
 use Rattle.run_history.specs.Calls.{estimatedBy, dataIn, duplicateDataIn, acksIn, duplicateAcksIn}
 use Rattle.run_history.specs.Lines.{count, carriedOf, forwardWires, reverseWires, packets, eventsFrom}
 use Rattle.run_history.specs.Answered.{Each, NotRefused, Whole}
@@ -32,6 +33,9 @@ pub record Tell (c : TransferConfig) (g : Given) (e : Ends) (cs : List Call) (o 
   pub ends-are : afterCalls e cs ≡ endsAt o l
   pub none-refused : Each NotRefused e cs
   pub all-carried : Each Whole e (dropLast cs)
+  -- the chunks sent are the file's first
+  pub chunks-are : collect chunkBy e cs
+      ≡ take (windowOf (o .sender) .«next_seq_num») (chunksOf (c .«chunk_size») (g .file))
   -- what was handed to the lines leads to the channels' counters, the estimator's calls to the estimator
   pub forward-is : channel.tallies (c .channel) (packets (g .forwardRolls) (forwardWires (collect submittedBy e cs)))
       ≡ o .forward
