@@ -133,9 +133,9 @@ pub record Replying (c : ChannelConfig) (rolls : List Float) (xs : List Reply) (
   pub acks-are : length xs ≡ acks
   pub line : LineAfter c rolls (reverseWires xs) l
 
-module _ {c : ChannelConfig} {rolls : List Float} {xs : List Reply} {acks : ℕ} (now : ℕ) (wire : List ℕ) (d : Direction) (q : Replying c rolls xs acks (lineOf d)) where
+module _ {c : ChannelConfig} {rolls : List Float} {xs : List Reply} {acks : ℕ} (now number sent : ℕ) (cumulative : Bool) (wire : List ℕ) (d : Direction) (q : Replying c rolls xs acks (lineOf d)) where
   abbrev ack : Bool → Reply
-  ack carried = record { wire = wire; carried = carried }
+  ack carried = record { number = number; cumulative = cumulative; sent = sent; wire = wire; carried = carried }
 
   reply-carried : reverseWires (xs ++ ack true ∷ []) ≡ reverseWires xs ++ wire ∷ []
   reply-carried = ap (map (λ (y : Reply). y .wire)) (filter-more (λ (y : Reply). y .carried) xs (ack true)) ∙ map-append (λ (y : Reply). y .wire) (filter (λ (y : Reply). y .carried) xs) (ack true ∷ [])

@@ -13,6 +13,7 @@ use Rattle.path.specs.Rolls.{packetRolls, rollsAt}
 use Rattle.path.specs.Path.{packetBuffer}
 use Rattle.run_history.specs.Calls.{Call, Ends, after, afterCalls, collect, total, Submission}
 use Rattle.run_history.specs.Answered.{Each}
+use Rattle.run_history.specs.Premature.{isPrematureAfter, prematureBy, prematureIn}
 use Rattle.run_history.specs.Lines.{filter, packetsFrom, eventFor, eventsFrom}
 
 -- ---- calls
@@ -30,6 +31,19 @@ pub total-more : (f : Ends → Call → ℕ) (e : Ends) (cs : List Call) (c : Ca
 unfolding total afterCalls
 total-more f e [] c = omega arith
 total-more f e (d ∷ cs) c = let h = total-more f (after e d) cs c in sum (f e d) (total f (after e d) cs) (f (afterCalls (after e d) cs) c) _ h
+  where
+    sum : (a b x y : ℕ) → y ≡ b + x → a + y ≡ (a + b) + x
+    sum a b x y h = omega arith
+
+pub premature-more : (c : ChannelConfig) (rolls : List Float) (e : Ends) (before cs : List Call) (d : Call)
+    → prematureIn c rolls e before (cs ++ d ∷ []) ≡ prematureIn c rolls e before cs + prematureBy (isPrematureAfter c rolls e (before ++ cs)) (afterCalls e (before ++ cs)) d
+unfolding prematureIn
+premature-more c rolls e before [] d = none _ ∙ ap (λ (l : List Call). 0 + prematureBy (isPrematureAfter c rolls e l) (afterCalls e l) d) (sym (append-nil before))
+  where
+    none : (n : ℕ) → n + 0 ≡ 0 + n
+    none n = omega arith
+premature-more c rolls e before (x ∷ cs) d =
+    sum _ _ _ _ (premature-more c rolls e (before ++ x ∷ []) cs d ∙ ap (λ (l : List Call). prematureIn c rolls e (before ++ x ∷ []) cs + prematureBy (isPrematureAfter c rolls e l) (afterCalls e l) d) (append-assoc before (x ∷ []) cs))
   where
     sum : (a b x y : ℕ) → y ≡ b + x → a + y ≡ (a + b) + x
     sum a b x y h = omega arith

@@ -35,9 +35,13 @@ use Rattle.acks.specs.declared.AckNumber.{AckNumber}
 use Rattle.acks.specs.declared.AckNumber.the-variants as ack
 use Rattle.acks.proofs.Laws.{acked, nextTaken, nextState, can-hand-over, turn-good, serve-reverse-invariant}
 use Rattle.run_history.specs.Calls.{return, sample, isNumber, one}
-use Rattle.run_history.proofs.Tells.{Origin, Moment, moment, Sent, Replied, Told, Makes, told-more, none-chunked, same-chunked, none-sent, none-replied, no-more}
+use Rattle.sending.specs.declared.Resends.{Resends}
+use Rattle.run_history.specs.Calls.{Reply}
+use Rattle.run_history.specs.Premature.{any, isFirstGranted, covers}
+use Rattle.run_history.proofs.Noted.{Noted, noted-sampled}
+use Rattle.run_history.proofs.Tells.{Origin, Moment, moment, Sent, Replied, Told, Makes, told-more, told-noted, Notes, same-noted, withMetas, none-chunked, same-chunked, none-sent, none-replied, no-more}
 
-module _ (b : Origin) (f : Direction) (i : Inbound) (again written : ℕ) (rows : List (List ℕ)) where
+module _ (b : Origin) (f : Direction) (i : Inbound) (again : Resends) (written : ℕ) (rows : List (List ℕ)) where
   -- the receiving side as it was, with the reverse line
   abbrev pub returnMoment : Direction → AckState → Moment
   returnMoment d s = moment f (inbound (i .side) (i .store) (i .output) (s .metas) d) (s .sender) (s .estimator) (s .received) (s .duplicates) again written rows
@@ -58,6 +62,7 @@ module _ (b : Origin) (f : Direction) (i : Inbound) (again written : ℕ) (rows 
           estimator-is = refl;
           datas-are = no-more _;
           repeats-are = no-more _;
+          premature-are = λ test k. no-more _;
           acks-are = rw h (no-more (s .received));
           duplicates-are = rw h (no-more (s .duplicates));
         }
@@ -85,9 +90,14 @@ module _ (b : Origin) (f : Direction) (i : Inbound) (again written : ℕ) (rows 
           estimator-is = refl;
           datas-are = no-more _;
           repeats-are = no-more _;
+          premature-are = λ test k. no-more _;
           acks-are = rw h;
           duplicates-are = rw h e;
         }
+
+    ack-noted : (k : ℕ) (xs : List Reply) → Notes xs (returnMoment d s) → Notes (xs ++ []) (returnMoment d (answered k))
+    ack-noted k xs q =
+        subst (λ (n : ℕ). Noted (λ (j : ℕ). any (isFirstGranted j) (returnMoment d s .events)) (λ (j : ℕ). any (covers j) (xs ++ [])) n (s .metas)) (sym (ack-keeps-sender (s .sender) raw .next)) (same-noted (returnMoment d s) xs q)
 
     module _ (can : CanOnAck s now) where
       update-is : (l : ℕ) (re : Bool) → l ≤ now → rto.step (s .estimator) (rto.sample l re) ≡ updateRttUnchecked (s .estimator) l re
@@ -99,25 +109,29 @@ module _ (b : Origin) (f : Direction) (i : Inbound) (again written : ℕ) (rows 
 
       accepted-told : (n seq : ℕ) → Returns d (answered (s .duplicates)) → Returns d (onAccepted timing now n seq (counted s (handleAck (s .sender) raw .after)))
       unfolding onAccepted sampleRtt
-      accepted-told n seq q = by-sample (takeSample (s .metas) seq now .sample) refl
+      accepted-told n seq q = by-sample (takeSample (s .metas) seq now .sample) refl (told-noted q (takeSample (s .metas) seq now .metas) (λ xs k. noted-sampled k seq now))
         where
-          by-sample : (x : Sample) → takeSample (s .metas) seq now .sample ≡ x → Told b (moment f (inbound (i .side) (i .store) (i .output) (s .metas) d) (handleAck (s .sender) raw .after) (bySample (s .estimator) x) (s .received + 1) (s .duplicates) again written rows)
-          by-sample Nothing e = q
-          by-sample (Rtt l re) e =
-              told-more {c = sample l re} {next = moment f (inbound (i .side) (i .store) (i .output) (s .metas) d) (handleAck (s .sender) raw .after) (updateRttUnchecked (s .estimator) l re) (s .received + 1) (s .duplicates) again written rows} q
+          then-at : RtoEstimator → Moment
+          then-at e = moment f (inbound (i .side) (i .store) (i .output) (takeSample (s .metas) seq now .metas) d) (handleAck (s .sender) raw .after) e (s .received + 1) (s .duplicates) again written rows
+
+          by-sample : (x : Sample) → takeSample (s .metas) seq now .sample ≡ x → Told b (then-at (s .estimator)) → Told b (then-at (bySample (s .estimator) x))
+          by-sample Nothing e k = k
+          by-sample (Rtt l re) e k =
+              told-more {c = sample l re} {next = then-at (updateRttUnchecked (s .estimator) l re)} k
               (record {
                 not-refused = tt;
                 ends-are = refl;
-                chunks-are = same-chunked b (returnMoment d (answered (s .duplicates)));
-                sending = none-sent b (returnMoment d (answered (s .duplicates)));
-                replying = none-replied b (returnMoment d (answered (s .duplicates)));
+                chunks-are = same-chunked b (then-at (s .estimator));
+                sending = none-sent b (then-at (s .estimator));
+                replying = none-replied b (then-at (s .estimator));
                 estimator-is = update-is l re (sample-within (s .metas) seq now l re e);
                 datas-are = no-more _;
                 repeats-are = no-more _;
+                premature-are = λ test h. no-more _;
                 acks-are = no-more _;
                 duplicates-are = no-more _;
               })
-              tt
+              tt (same-noted (then-at (s .estimator)))
 
       pub return-told : Returns d s → Returns d (onAck timing now raw s)
       unfolding onAck
@@ -125,11 +139,11 @@ module _ (b : Origin) (f : Direction) (i : Inbound) (again written : ℕ) (rows 
         where
           by-accepted : (n : ℕ) → ackNumber (readDatagram raw) ≡ ack.Number n → (t : Bool) → isAccepted (handleAck (s .sender) raw .answer) ≡ t
               → Returns d (cond t (onAccepted timing now n (sampleSeq (s .sender .sender .state) n) (counted s (handleAck (s .sender) raw .after))) (duplicate (counted s (handleAck (s .sender) raw .after))))
-          by-accepted n h true a = accepted-told n (sampleSeq (s .sender .sender .state) n) (told-more q (acknowledged (can .good .sender) n h (s .duplicates) (ap (λ (x : Bool). s .duplicates + one (not x)) a ∙ no-more (s .duplicates))) tt)
-          by-accepted n h false a = told-more q (acknowledged (can .good .sender) n h (s .duplicates + 1) (ap (λ (x : Bool). s .duplicates + one (not x)) a)) tt
+          by-accepted n h true a = accepted-told n (sampleSeq (s .sender .sender .state) n) (told-more q (acknowledged (can .good .sender) n h (s .duplicates) (ap (λ (x : Bool). s .duplicates + one (not x)) a ∙ no-more (s .duplicates))) tt (ack-noted (s .duplicates)))
+          by-accepted n h false a = told-more q (acknowledged (can .good .sender) n h (s .duplicates + 1) (ap (λ (x : Bool). s .duplicates + one (not x)) a)) tt (ack-noted (s .duplicates + 1))
 
           by-number : (x : AckNumber) → ackNumber (readDatagram raw) ≡ x → Returns d (byNumber x timing now raw s)
-          by-number ack.Nothing h = told-more q (dropped h) tt
+          by-number ack.Nothing h = told-more q (dropped h) tt (same-noted (returnMoment d s))
           by-number (ack.Number n) h = by-accepted n h (isAccepted (handleAck (s .sender) raw .answer)) refl
 
   -- taking a copy changes nothing that the calls make

@@ -24,7 +24,8 @@ use Rattle.session.specs.Sending.{hasOutstanding}
 use Rattle.session.specs.declared.Timeout.the-variants as timeout
 use Rattle.receiving.specs.Receiving.{Inbound}
 use Rattle.receiving.specs.Good.{CanServeForward}
-use Rattle.receiving.proofs.Laws.{turn-good}
+use Rattle.channel.proofs.Laws.{NoFaults}
+use Rattle.receiving.proofs.Laws.{can-hand-over, turn-good}
 use Rattle.sending.specs.Sending.{pumpSends}
 use Rattle.timeouts.specs.Timeouts.{FireState, FireExit, timeoutOf}
 use Rattle.timeouts.specs.Good.{GoodFire}
@@ -55,7 +56,7 @@ use Rattle.run_history.proofs.Departures.{fireMoment, Fired, fires-told
 abbrev pub momentAt : RunState → Moment
 momentAt s =
     let a = s .arrivals in
-    moment (a .forward) (a .inbound) (a .sender) (a .estimator) (a .received) (a .duplicates) (s .resends .«retx_submitted») (s .written) (s .events)
+    moment (a .forward) (a .inbound) (a .sender) (a .estimator) (a .received) (a .duplicates) (s .resends) (s .written) (s .events)
 
 both : (x y : Bool) → (x && not y) ≡ true → (x ≡ true) × (y ≡ false)
 both true false e = (refl, refl)
@@ -118,7 +119,7 @@ module _ (Q E : RunState → Type 0) (p : Plan) (g : Given) (plan : GoodPlan p g
   run-keeps s good q = run-most (suc (stepsLeft p s)) s good q
 
 -- ---- a step's calls
-module _ (b : Origin) (p : Plan) (file : List ℕ) (plan : GoodPlan p (record { file = file; forwardRolls = b .forwardRolls; reverseRolls = b .reverseRolls })) (y : ProtocolType) (w tries : ℕ) (sending receiving output : List ℕ) (room : length file ≤ length output) (same : b .chunks ≡ chunksOf (p .«chunk_size») file) where
+module _ (b : Origin) (p : Plan) (file : List ℕ) (plan : GoodPlan p (record { file = file; forwardRolls = b .forwardRolls; reverseRolls = b .reverseRolls })) (y : ProtocolType) (w tries : ℕ) (sending receiving output : List ℕ) (room : length file ≤ length output) (same : b .chunks ≡ chunksOf (p .«chunk_size») file) (none : NoFaults (b .reverse)) where
   abbrev g : Given
   g = record { file = file; forwardRolls = b .forwardRolls; reverseRolls = b .reverseRolls }
 
@@ -150,9 +151,10 @@ module _ (b : Origin) (p : Plan) (file : List ℕ) (plan : GoodPlan p (record { 
     -- ---- what is due on both lines
     forward-told : Goes b (momentAt (withArrivals (roundLess s) middle)) (isGoing (served (b .reverseRolls) (p .«total_chunks») (s .time) (s .arrivals) .stop))
     forward-told =
-        arrivals-told b (s .arrivals .sender) (s .arrivals .estimator) (s .arrivals .received) (s .arrivals .duplicates) (s .resends .«retx_submitted») (s .written) (s .events) (p .«total_chunks») (s .time)
+        arrivals-told b (s .arrivals .sender) (s .arrivals .estimator) (s .arrivals .received) (s .arrivals .duplicates) (s .resends) (s .written) (s .events) none (p .«total_chunks») (s .time)
         (λ (f : Direction) (i : Inbound). CanServeForward f i (b .reverseRolls) (s .time) × Prefixed begins (s .arrivals .sender) (endOf i) (i .output) f)
         (λ f i n e k. (turn-good (b .reverseRolls) (p .«total_chunks») (s .time) f i (k .0) n e, prefixed-turn (b .reverseRolls) (p .«total_chunks») (s .time) n (k .0) e (k .1)))
+        (λ f i n e k. can-hand-over (b .reverseRolls) (p .«total_chunks») (s .time) f i (k .0) n e)
         (λ f i n e k t. turn-not-refused (b .reverseRolls) (p .«total_chunks») (s .time) (k .1) room few (k .0) n e t) (s .arrivals .forward) (s .arrivals .inbound) (can .forward, q .prefixed) (q .told)
 
     forward-prefixed : PrefixedAt middle
@@ -162,7 +164,7 @@ module _ (b : Origin) (p : Plan) (file : List ℕ) (plan : GoodPlan p (record { 
     arrived-told =
         either-exit (p .timing) (b .reverseRolls) (p .«total_chunks») (s .time) (s .arrivals) can (λ (x : ArrivalExit). Goes b (momentAt (withArrivals (roundLess s) (x .state))) (isGoing (x .stop)) × PrefixedAt (x .state)) (λ e. (forward-told, forward-prefixed))
         (λ e.
-        let told = returns-told b (middle .forward) (middle .inbound) (s .resends .«retx_submitted») (s .written) (s .events) (p .timing) (s .time) (middle .inbound .reverse) (acksOf middle) (can-serve-reverse (b .reverseRolls) (p .«total_chunks») (s .time) (s .arrivals) can) (forward-told .0 e) in
+        let told = returns-told b (middle .forward) (middle .inbound) (s .resends) (s .written) (s .events) (p .timing) (s .time) (middle .inbound .reverse) (acksOf middle) (can-serve-reverse (b .reverseRolls) (p .«total_chunks») (s .time) (s .arrivals) can) (forward-told .0 e) in
         (((λ on. told), told-over told), prefixed-acked (p .timing) (s .time) (middle .inbound .reverse) (acksOf middle) forward-prefixed))
 
   -- ---- what the timers and the window send
@@ -194,7 +196,7 @@ module _ (b : Origin) (p : Plan) (file : List ℕ) (plan : GoodPlan p (record { 
         by-test : (t : Bool) → goesOn timers ≡ t → Sent timers → Sent (sends t)
         by-test true e x =
             let on = can-pump (p .«max_retransmissions») can e in
-            let u = pumps-told b (a .inbound) (a .received) (a .duplicates) same (timers .state .estimator) (timers .state .resends .«retx_submitted») (pumpOf (timers .state)) on (x .0 .0 e) in
+            let u = pumps-told b (a .inbound) (a .received) (a .duplicates) same (timers .state .estimator) (timers .state .resends) (pumpOf (timers .state)) on (x .0 .0 e) in
             (((λ k. u .0 (both (isGoing (sends true .stop)) (timers .state .resends .exhausted) k .0)), u .1), prefixed-pumped begins (endOf (a .inbound)) (a .inbound .output) on (x .1))
         by-test false e x = x
 

@@ -1,7 +1,7 @@
 -- A list of calls tells a run at a moment, and with one call more the run after it.
 use Prim.Native.Nat.{ℕ, _+_}
 use mathlib.Core.Path.{_≡_, refl, sym, ap, _∙_, subst}
-use mathlib.Core.Bool.{Bool, true, false}
+use mathlib.Core.Bool.{Bool, true, false, _&&_}
 use mathlib.Core.List.{List, [], _∷_, _++_, append-nil, dropLast, foldl, foldl-append}
 use native.Mathlib.Omega.{arith}
 use lib.Ieee.{Float}
@@ -17,8 +17,12 @@ use Rattle.session.specs.Sending.{SenderEnd}
 use Rattle.session.specs.Receiving.{receiverEnd}
 use Rattle.receiving.specs.Receiving.{Inbound}
 use Rattle.run_history.specs.Calls.{Call, Ends, ends, after, afterCalls, collect, total, chunkBy, nextNumber, Submission, submittedBy, Reply, repliedBy, estimatedBy, dataIn, duplicateDataIn, acksIn, duplicateAcksIn}
+use Rattle.notes.specs.Notes.{SegMetas, isPremature}
+use Rattle.sending.specs.declared.Resends.{Resends}
 use Rattle.run_history.specs.Answered.{Each, NotRefused, Whole}
-use Rattle.run_history.proofs.Lists.{after-more, collect-more, total-more, each-more, each-first, drop-last-more}
+use Rattle.run_history.specs.Premature.{any, isFirstGranted, covers, isPrematureAfter, prematureBy, prematureIn}
+use Rattle.run_history.proofs.Noted.{Noted, premature-is}
+use Rattle.run_history.proofs.Lists.{after-more, collect-more, total-more, premature-more, each-more, each-first, drop-last-more}
 use Rattle.run_history.proofs.Columns.{Line, lineOf, Sending, Replying}
 
 -- what a run starts with
@@ -42,11 +46,13 @@ pub record Moment : Type 0 where
   pub acks : ℕ
   pub duplicates : ℕ
   pub repeats : ℕ
+  pub metas : SegMetas
   pub again : ℕ
+  pub premature : ℕ
   pub written : ℕ
   pub events : List ForwardEvent
 
-abbrev pub moment : Direction → Inbound → SenderEnd → RtoEstimator → ℕ → ℕ → ℕ → ℕ → List (List ℕ) → Moment
+abbrev pub moment : Direction → Inbound → SenderEnd → RtoEstimator → ℕ → ℕ → Resends → ℕ → List (List ℕ) → Moment
 moment forward b v e acks duplicates again written rows = record {
   ends = ends v (receiverEnd (b .side .receiver) (b .store)) (b .output);
   forward = lineOf forward;
@@ -57,7 +63,9 @@ moment forward b v e acks duplicates again written rows = record {
   acks = acks;
   duplicates = duplicates;
   repeats = b .side .«duplicate_data»;
-  again = again;
+  metas = b .metas;
+  again = again .«retx_submitted»;
+  premature = again .premature;
   written = written;
   events = eventsOf written rows;
 }
@@ -80,8 +88,13 @@ pub record Tells (b : Origin) (cs : List Call) (m : Moment) : Type 0 where
   pub estimator-is : rto.afterCalls (b .rto) (collect estimatedBy (b .start) cs) ≡ m .estimator
   pub datas-are : total dataIn (b .start) cs ≡ m .datas
   pub repeats-are : total duplicateDataIn (b .start) cs ≡ m .repeats
+  pub premature-are : prematureIn (b .forward) (b .forwardRolls) (b .start) [] cs ≡ m .premature
   pub acks-are : total acksIn (b .start) cs ≡ m .acks
   pub duplicates-are : total duplicateAcksIn (b .start) cs ≡ m .duplicates
+
+-- the notes by the events and the replies
+abbrev pub Notes : List Reply → Moment → Type 0
+Notes xs m = Noted (λ (n : ℕ). any (isFirstGranted n) (m .events)) (λ (n : ℕ). any (covers n) xs) (nextNumber (m .ends)) (m .metas)
 
 -- while the run goes on, and where it may have ended at the last call
 pub record Told (b : Origin) (m : Moment) : Type 0 where
@@ -89,6 +102,7 @@ pub record Told (b : Origin) (m : Moment) : Type 0 where
   pub tells : Tells b calls m
   pub not-refused : Each NotRefused (b .start) calls
   pub whole : Each Whole (b .start) calls
+  pub noted : Notes (collect repliedBy (b .start) calls) m
 
 pub record Over (b : Origin) (m : Moment) : Type 0 where
   pub calls : List Call
@@ -109,6 +123,7 @@ pub record Makes (b : Origin) (c : Call) (m next : Moment) : Type 0 where
   pub estimator-is : foldl rto.step (m .estimator) (estimatedBy (m .ends) c) ≡ next .estimator
   pub datas-are : m .datas + dataIn (m .ends) c ≡ next .datas
   pub repeats-are : m .repeats + duplicateDataIn (m .ends) c ≡ next .repeats
+  pub premature-are : (test : ℕ → Bool) → ((n : ℕ) → test n ≡ isPremature (m .metas) n) → m .premature + prematureBy test (m .ends) c ≡ next .premature
   pub acks-are : m .acks + acksIn (m .ends) c ≡ next .acks
   pub duplicates-are : m .duplicates + duplicateAcksIn (m .ends) c ≡ next .duplicates
 
@@ -125,6 +140,12 @@ module _ {b : Origin} {c : Call} {m next : Moment} (q : Told b m) (h : Makes b c
   summed : (f : Ends → Call → ℕ) {n k : ℕ} → total f (b .start) cs ≡ n → n + f (m .ends) c ≡ k → total f (b .start) (cs ++ c ∷ []) ≡ k
   summed f {n} p e = total-more f (b .start) cs c ∙ ap (λ (x : ℕ). total f (b .start) cs + x) (at-ends (λ (u : Ends). f u c)) ∙ ap (λ (x : ℕ). x + f (m .ends) c) p ∙ e
 
+  abbrev test : ℕ → Bool
+  test = isPrematureAfter (b .forward) (b .forwardRolls) (b .start) cs
+
+  test-is : (n : ℕ) → test n ≡ isPremature (m .metas) n
+  test-is n = ap (λ (l : List ForwardEvent). any (isFirstGranted n) l && any (covers n) (collect repliedBy (b .start) cs)) (q .tells .sending .events-are) ∙ premature-is (q .noted) n
+
   tells-more : Tells b (cs ++ c ∷ []) next
   unfolding rto.afterCalls
   tells-more =
@@ -137,6 +158,7 @@ module _ {b : Origin} {c : Call} {m next : Moment} (q : Told b m) (h : Makes b c
         estimator-is =
             ap (foldl rto.step (fresh (b .rto))) (collected estimatedBy) ∙ foldl-append rto.step (fresh (b .rto)) (collect estimatedBy (b .start) cs) (estimatedBy (m .ends) c)
             ∙ ap (λ (e : RtoEstimator). foldl rto.step e (estimatedBy (m .ends) c)) (t .estimator-is) ∙ h .estimator-is;
+        premature-are = premature-more (b .forward) (b .forwardRolls) (b .start) [] cs c ∙ ap (λ (n : ℕ). n + prematureBy test (afterCalls (b .start) cs) c) (t .premature-are) ∙ ap (λ (e : Ends). m .premature + prematureBy test e c) (t .ends-are) ∙ h .premature-are test test-is;
         datas-are = summed dataIn (t .datas-are) (h .datas-are);
         repeats-are = summed duplicateDataIn (t .repeats-are) (h .repeats-are);
         acks-are = summed acksIn (t .acks-are) (h .acks-are);
@@ -146,8 +168,8 @@ module _ {b : Origin} {c : Call} {m next : Moment} (q : Told b m) (h : Makes b c
   refused-none : Each NotRefused (b .start) (cs ++ c ∷ [])
   refused-none = each-more NotRefused (b .start) cs c (q .not-refused) (subst (λ (e : Ends). NotRefused e c) (sym (q .tells .ends-are)) (h .not-refused))
 
-  pub told-more : Whole (m .ends) c → Told b next
-  told-more w = record { calls = cs ++ c ∷ []; tells = tells-more; not-refused = refused-none; whole = each-more Whole (b .start) cs c (q .whole) (subst (λ (e : Ends). Whole e c) (sym (q .tells .ends-are)) w) }
+  pub told-more : Whole (m .ends) c → ((xs : List Reply) → Notes xs m → Notes (xs ++ repliedBy (m .ends) c) next) → Told b next
+  told-more w k = record { calls = cs ++ c ∷ []; tells = tells-more; not-refused = refused-none; noted = subst (λ (xs : List Reply). Notes xs next) (sym (collected repliedBy)) (k _ (q .noted)); whole = each-more Whole (b .start) cs c (q .whole) (subst (λ (e : Ends). Whole e c) (sym (q .tells .ends-are)) w) }
 
   pub over-more : Over b next
   over-more = record { calls = cs ++ c ∷ []; tells = tells-more; not-refused = refused-none; whole = subst (Each Whole (b .start)) (sym (drop-last-more cs c)) (q .whole) }
@@ -176,5 +198,50 @@ Goes b m going = (going ≡ true → Told b m) × Over b m
 pub still-told : {b : Origin} {m : Moment} {going : Bool} → Told b m → Goes b m going
 still-told q = (λ g. q, told-over q)
 
-pub by-call : {b : Origin} {c : Call} {m next : Moment} {going : Bool} → Told b m → Makes b c m next → (going ≡ true → Whole (m .ends) c) → Goes b next going
-by-call q h w = (λ g. told-more q h (w g), over-more q h)
+pub by-call : {b : Origin} {c : Call} {m next : Moment} {going : Bool} → Told b m → Makes b c m next → (going ≡ true → Whole (m .ends) c) → (going ≡ true → (xs : List Reply) → Notes xs m → Notes (xs ++ repliedBy (m .ends) c) next) → Goes b next going
+by-call q h w k = (λ g. told-more q h (w g) (k g), over-more q h)
+
+-- a call that is answered with no ACK, and notes nothing
+pub same-noted : (m : Moment) (xs : List Reply) → Notes xs m → Notes (xs ++ []) m
+same-noted m xs q = subst (λ (l : List Reply). Notes l m) (sym (append-nil xs)) q
+
+-- other notes
+abbrev pub withMetas : Moment → SegMetas → Moment
+withMetas m x = record {
+  ends = m .ends;
+  forward = m .forward;
+  reverse = m .reverse;
+  estimator = m .estimator;
+  datas = m .datas;
+  replies = m .replies;
+  acks = m .acks;
+  duplicates = m .duplicates;
+  repeats = m .repeats;
+  metas = x;
+  again = m .again;
+  premature = m .premature;
+  written = m .written;
+  events = m .events;
+}
+
+pub told-noted : {b : Origin} {m : Moment} → Told b m → (x : SegMetas) → ((xs : List Reply) → Notes xs m → Notes xs (withMetas m x)) → Told b (withMetas m x)
+told-noted q x k =
+    let t = q .tells in
+    record {
+      calls = q .calls;
+      tells = record {
+        ends-are = t .ends-are;
+        chunks-are = t .chunks-are;
+        sending = t .sending;
+        replying = t .replying;
+        estimator-is = t .estimator-is;
+        datas-are = t .datas-are;
+        repeats-are = t .repeats-are;
+        premature-are = t .premature-are;
+        acks-are = t .acks-are;
+        duplicates-are = t .duplicates-are;
+      };
+      not-refused = q .not-refused;
+      whole = q .whole;
+      noted = k _ (q .noted);
+    }

@@ -24,6 +24,12 @@ use Rattle.refusal.specs.declared.Verdict.the-variants.{Accepted, Refused}
 use Rattle.refusal.proofs.Laws.{on-accepted, on-refused}
 use Rattle.channel.specs.History as channel
 use Rattle.channel.specs.declared.Channel.{Channel}
+use Rattle.channel.specs.declared.ChannelConfig.{ChannelConfig}
+use Rattle.channel.proofs.Laws.{zero, NoFaults}
+use mathlib.Core.Bool.{false}
+use Rattle.notes.specs.Notes.{newNotes}
+use Rattle.run_history.specs.Premature.{any, isFirstGranted, prematureIn}
+use Rattle.run_history.proofs.Noted.{Noted, noted-as, noted-none}
 use Rattle.rto.specs.History as rto
 use Rattle.path.specs.Rolls.{Doubles}
 use Rattle.path.specs.Path.{newPath}
@@ -48,6 +54,9 @@ use Rattle.run_history.specs.History.{startEnds, History}
 use Rattle.run_history.proofs.Tells.{Origin, Told, Over as Ended}
 use Rattle.run_history.proofs.Steps.{momentAt, Goes-on, run-told}
 
+no-faults : (c : ChannelConfig) → NoFaults (reverseConfig c)
+no-faults c = record { loss = zero false; duplicate = zero false; reorder = zero false; corrupt = zero false }
+
 receiving-room : (p : ProtocolType) (w : ℕ) (store : List ℕ) → (p ≡ SelectiveRepeat → w * slotSize ≤ length store) → ReceivingRoom p (slotCount p w) store
 unfolding storeShort
 receiving-room StopAndWait w store h = tt
@@ -60,7 +69,7 @@ module _ (k : Ceilings) (c : TransferConfig) (g : Given) (l : Lent) where
 
   -- no calls
   start-told : Told origin (momentAt (newRun k c l))
-  unfolding newRun newPath afterCalls collect total filter packetsFrom eventsFrom channel.filter rto.afterCalls
+  unfolding newRun newPath afterCalls collect total filter packetsFrom eventsFrom channel.filter rto.afterCalls any prematureIn
   start-told =
       record {
         calls = [];
@@ -72,11 +81,14 @@ module _ (k : Ceilings) (c : TransferConfig) (g : Given) (l : Lent) where
           estimator-is = refl;
           datas-are = refl;
           repeats-are = refl;
+          premature-are = refl;
           acks-are = refl;
           duplicates-are = refl;
         };
         not-refused = tt;
         whole = tt;
+        noted = subst (λ (n : ℕ). Noted (λ (j : ℕ). any (isFirstGranted j) (eventsOf 0 (replicate (length (l .events)) vacant))) (λ (j : ℕ). false) n (newNotes (l .rows))) (sym (unused (c .protocol) (c .«window_size») (k .retries) (l .senderStore) .next))
+            (noted-as (noted-none (l .rows)) (λ n. ap (any (isFirstGranted n)) (events-none (replicate (length (l .events)) vacant))) (λ n. refl));
       }
 
   abbrev last : StepExit
@@ -109,7 +121,7 @@ module _ (k : Ceilings) (c : TransferConfig) (g : Given) (l : Lent) where
           octets = file;
         }
 
-    start-goes : Goes-on origin (planFor k c g) (g .file) (start-plan k c g l h) (c .protocol) (slotCount (c .protocol) (c .«window_size»)) (k .retries) (l .senderStore) (l .receiverStore) (l .output) (h .output-room) refl (newRun k c l)
+    start-goes : Goes-on origin (planFor k c g) (g .file) (start-plan k c g l h) (c .protocol) (slotCount (c .protocol) (c .«window_size»)) (k .retries) (l .senderStore) (l .receiverStore) (l .output) (h .output-room) refl (no-faults (c .channel)) (newRun k c l)
     unfolding newRun
     start-goes =
         record {
@@ -121,7 +133,7 @@ module _ (k : Ceilings) (c : TransferConfig) (g : Given) (l : Lent) where
     module _ (forward : Doubles (g .forwardRolls)) (reverse : Doubles (g .reverseRolls)) (factors : Factors (c .rto)) where
       last-told : Ended origin (momentAt (last .state))
       last-told =
-          run-told origin (planFor k c g) (g .file) (start-plan k c g l h) (c .protocol) (slotCount (c .protocol) (c .«window_size»)) (k .retries) (l .senderStore) (l .receiverStore) (l .output) (h .output-room) refl (newRun k c l)
+          run-told origin (planFor k c g) (g .file) (start-plan k c g l h) (c .protocol) (slotCount (c .protocol) (c .«window_size»)) (k .retries) (l .senderStore) (l .receiverStore) (l .output) (h .output-room) refl (no-faults (c .channel)) (newRun k c l)
           (start-good k c g l h forward reverse factors) start-goes
 
       last-history : History k c g l (outcomeOf last) (lentOf (last .state))
@@ -137,13 +149,7 @@ module _ (k : Ceilings) (c : TransferConfig) (g : Given) (l : Lent) where
               forward-is = ap (λ (x : Channel). x .stats) (sym (t .sending .line .channel-is));
               reverse-is = ap (λ (x : Channel). x .stats) (sym (t .replying .line .channel-is));
               estimator-is = t .estimator-is;
-              again-are = t .sending .again-are;
-              data-are = t .datas-are;
-              duplicate-data-are = t .repeats-are;
-              replies-are = t .replying .acks-are;
-              acks-are = t .acks-are;
-              duplicate-acks-are = t .duplicates-are;
-              carried-are = t .sending .written-are;
+              counts-are = rw (t .sending .again-are, t .premature-are, t .datas-are, t .replying .acks-are, t .acks-are, t .repeats-are, t .duplicates-are, t .sending .written-are);
               events-are = t .sending .events-are;
             };
           }

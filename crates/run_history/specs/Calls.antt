@@ -15,7 +15,7 @@ use Rattle.delivery.specs.Ends.{bytesSent}
 use Rattle.path.specs.Path.{packetBuffer}
 use Rattle.rto.specs.History as rto
 use Rattle.session.specs.Sending.{SenderEnd, windowOf, sendChunk, handleAck, resent}
-use Rattle.session.specs.Receiving.{ReceiverEnd, handlePacket}
+use Rattle.session.specs.Receiving.{ReceiverEnd, isCumulative, handlePacket}
 use Rattle.session.specs.declared.Timeout.{Timeout}
 use Rattle.receiving.specs.Receiving.{isData, gbnDuplicate, newDuplicates, ackBuffer}
 use Rattle.acks.specs.Acks.{ackNumber, isAccepted}
@@ -119,20 +119,34 @@ submittedBy e (arrival raw carried) = []
 submittedBy e (return raw) = []
 submittedBy e (sample d again) = []
 
--- ---- what is handed to the reverse line: the ACKs that the receiver answers with
+-- ---- what is handed to the reverse line: the ACKs that the receiver answers with, of which number, whether it
+-- acknowledges those before it too, and how many numbers had been sent
 pub record Reply : Type 0 where
+  pub number : ℕ
+  pub cumulative : Bool
+  pub sent : ℕ
   pub wire : List ℕ
   pub carried : Bool
 
-abbrev pub reply : ReceiveAnswer → Bool → List Reply
-reply (receiveAnswer.Ack n) carried = record { wire = made (newPacket n packetType.Ack) []; carried = carried } ∷ []
-reply receiveAnswer.Silent carried = []
-reply (receiveAnswer.Refused r) carried = []
+abbrev pub reply : ReceiveAnswer → Bool → ℕ → Bool → List Reply
+reply (receiveAnswer.Ack n) cumulative sent carried =
+    record {
+      number = n;
+      cumulative = cumulative;
+      sent = sent;
+      wire = made (newPacket n packetType.Ack) [];
+      carried = carried;
+    }
+    ∷ []
+reply receiveAnswer.Silent cumulative sent carried = []
+reply (receiveAnswer.Refused r) cumulative sent carried = []
 
 abbrev pub repliedBy : Ends → Call → List Reply
 repliedBy e (chunk payload carried) = []
 repliedBy e (timeout t carried) = []
-repliedBy e (arrival raw carried) = cond (readsAsData raw) (reply (receivedBy e raw .answer) carried) []
+repliedBy e (arrival raw carried) =
+    let x = receivedBy e raw in
+    cond (readsAsData raw) (reply (x .answer) (isCumulative (x .receiver .receiver)) (nextNumber e) carried) []
 repliedBy e (return raw) = []
 repliedBy e (sample d again) = []
 

@@ -1,6 +1,6 @@
 -- Document 01, "Links that would ruin a book" (demand 2): the answer of `run_transfer` from the history of its calls.
 use mathlib.Core.Path.{_≡_}
-use mathlib.Core.List.{List, dropLast}
+use mathlib.Core.List.{List, [], dropLast}
 use lib.ListN.{length, take}
 use Rattle.channel.specs.History as channel
 use Rattle.rto.specs.History as rto
@@ -12,11 +12,14 @@ use Rattle.setup.specs.declared.TransferConfig.{TransferConfig}
 use Rattle.step.specs.State.{Given, Lent}
 use Rattle.transfer.specs.Start.{reverseConfig}
 use Rattle.transfer.specs.declared.Ceilings.{Ceilings}
+use Rattle.transfer.specs.declared.DriverCounts.{DriverCounts}
 use Rattle.transfer.specs.declared.Outcome.{Outcome}
-use Rattle.run_history.specs.Calls.{Call, Ends, ends, afterCalls, collect, total, chunkBy, submittedBy, repliedBy}
+use Rattle.run_history.specs.Calls.{Call, Ends, ends, afterCalls, collect, total, chunkBy}
+use Rattle.run_history.specs.Calls.{Submission, submittedBy, repliedBy}
 use Rattle.run_history.specs.Calls.{estimatedBy, dataIn, duplicateDataIn, acksIn, duplicateAcksIn}
 use Rattle.run_history.specs.Lines.{count, carriedOf, forwardWires, reverseWires, packets, eventsFrom}
 use Rattle.run_history.specs.Answered.{Each, NotRefused, Whole}
+use Rattle.run_history.specs.Premature.{prematureIn}
 
 -- both ends as made, and at the end of a run
 abbrev pub startEnds : Ceilings → TransferConfig → Lent → Ends
@@ -26,6 +29,19 @@ startEnds k c l =
 
 abbrev pub endsAt : Outcome → Lent → Ends
 endsAt o l = ends (senderEnd (o .sender) (l .senderStore)) (receiverEnd (o .receiver) (l .receiverStore)) (l .output)
+
+-- the driver's counts that calls from the ends e give
+abbrev pub countsFrom : TransferConfig → Given → Ends → List Call → DriverCounts
+countsFrom c g e cs = record {
+  «retx_submitted» = count (λ (x : Submission). x .again) (collect submittedBy e cs);
+  premature = prematureIn (c .channel) (g .forwardRolls) e [] cs;
+  «data_received» = total dataIn e cs;
+  «ack_sent» = length (collect repliedBy e cs);
+  «ack_received» = total acksIn e cs;
+  «duplicate_data» = total duplicateDataIn e cs;
+  «duplicate_acks» = total duplicateAcksIn e cs;
+  events = length (carriedOf (collect submittedBy e cs));
+}
 
 -- Calls from the ends e tell an answer and what it leaves in lent memory:
 pub record Tell (c : TransferConfig) (g : Given) (e : Ends) (cs : List Call) (o : Outcome) (l : Lent) : Type 0 where
@@ -42,15 +58,8 @@ pub record Tell (c : TransferConfig) (g : Given) (e : Ends) (cs : List Call) (o 
   pub reverse-is : channel.tallies (reverseConfig (c .channel))
       (packets (g .reverseRolls) (reverseWires (collect repliedBy e cs))) ≡ o .reverse
   pub estimator-is : rto.afterCalls (c .rto) (collect estimatedBy e cs) ≡ o .estimator
-  -- each count of the driver is how many there were
-  pub again-are : count (λ x. x .again) (collect submittedBy e cs) ≡ o .driver .«retx_submitted»
-  pub data-are : total dataIn e cs ≡ o .driver .«data_received»
-  pub duplicate-data-are : total duplicateDataIn e cs ≡ o .driver .«duplicate_data»
-  pub replies-are : length (collect repliedBy e cs) ≡ o .driver .«ack_sent»
-  pub acks-are : total acksIn e cs ≡ o .driver .«ack_received»
-  pub duplicate-acks-are : total duplicateAcksIn e cs ≡ o .driver .«duplicate_acks»
-  -- the events are those of the packets carried forward, in order
-  pub carried-are : length (carriedOf (collect submittedBy e cs)) ≡ o .driver .events
+  -- the driver's counts are those of the list, the events those of the packets carried forward, in order
+  pub counts-are : countsFrom c g e cs ≡ o .driver
   pub events-are : eventsFrom (c .channel) (g .forwardRolls) 0 (carriedOf (collect submittedBy e cs))
       ≡ eventsOf (o .driver .events) (l .events)
 
