@@ -1,0 +1,10 @@
+pub mod Lists
+pub mod Columns
+pub mod Noted
+pub mod Tells
+pub mod Arrivals
+pub mod Returns
+pub mod Departures
+pub mod Steps
+pub mod Transfer
+pub mod Laws

@@ -1,0 +1,247 @@
+-- A list of calls tells a run at a moment, and with one call more the run after it.
+use Prim.Native.Nat.{ℕ, _+_}
+use mathlib.Core.Path.{_≡_, refl, sym, ap, _∙_, subst}
+use mathlib.Core.Bool.{Bool, true, false, _&&_}
+use mathlib.Core.List.{List, [], _∷_, _++_, append-nil, dropLast, foldl, foldl-append}
+use native.Mathlib.Omega.{arith}
+use lib.Ieee.{Float}
+use lib.ListN.{take}
+use Rattle.channel.specs.declared.ChannelConfig.{ChannelConfig}
+use Rattle.rto.specs.History as rto
+use Rattle.rto.specs.Rto.{fresh}
+use Rattle.rto.specs.declared.RtoConfig.{RtoConfig}
+use Rattle.rto.specs.declared.RtoEstimator.{RtoEstimator}
+use Rattle.path.specs.Direction.{Direction}
+use Rattle.events.specs.Events.{ForwardEvent, eventsOf}
+use Rattle.session.specs.Sending.{SenderEnd}
+use Rattle.session.specs.Receiving.{receiverEnd}
+use Rattle.receiving.specs.Receiving.{Inbound}
+use Rattle.run_history.specs.Calls.{Call, Ends, ends, after, afterCalls, collect, total, chunkBy, nextNumber, Submission, submittedBy, Reply, repliedBy, estimatedBy, dataIn, duplicateDataIn, acksIn, duplicateAcksIn}
+use Rattle.notes.specs.Notes.{SegMetas, isPremature}
+use Rattle.sending.specs.declared.Resends.{Resends}
+use Rattle.run_history.specs.Answered.{Each, NotRefused, Whole}
+use Rattle.run_history.specs.Premature.{any, isFirstGranted, covers, isPrematureAfter, prematureBy, prematureIn}
+use Rattle.run_history.proofs.Noted.{Noted, premature-is}
+use Rattle.run_history.proofs.Lists.{after-more, collect-more, total-more, premature-more, each-more, each-first, drop-last-more}
+use Rattle.run_history.proofs.Columns.{Line, lineOf, Sending, Replying}
+
+-- what a run starts with
+pub record Origin : Type 0 where
+  pub start : Ends
+  pub forward : ChannelConfig
+  pub reverse : ChannelConfig
+  pub forwardRolls : List Float
+  pub reverseRolls : List Float
+  pub rto : RtoConfig
+  pub chunks : List (List ℕ)
+
+-- what the calls of a run have made so far
+pub record Moment : Type 0 where
+  pub ends : Ends
+  pub forward : Line
+  pub reverse : Line
+  pub estimator : RtoEstimator
+  pub datas : ℕ
+  pub replies : ℕ
+  pub acks : ℕ
+  pub duplicates : ℕ
+  pub repeats : ℕ
+  pub metas : SegMetas
+  pub again : ℕ
+  pub premature : ℕ
+  pub written : ℕ
+  pub events : List ForwardEvent
+
+abbrev pub moment : Direction → Inbound → SenderEnd → RtoEstimator → ℕ → ℕ → Resends → ℕ → List (List ℕ) → Moment
+moment forward b v e acks duplicates again written rows = record {
+  ends = ends v (receiverEnd (b .side .receiver) (b .store)) (b .output);
+  forward = lineOf forward;
+  reverse = lineOf (b .reverse);
+  estimator = e;
+  datas = b .side .«data_received»;
+  replies = b .side .«ack_sent»;
+  acks = acks;
+  duplicates = duplicates;
+  repeats = b .side .«duplicate_data»;
+  metas = b .metas;
+  again = again .«retx_submitted»;
+  premature = again .premature;
+  written = written;
+  events = eventsOf written rows;
+}
+
+abbrev pub Sent : Origin → List Submission → Moment → Type 0
+Sent b xs m = Sending (b .forward) (b .forwardRolls) xs (m .again) (m .written) (m .forward) (m .events)
+
+abbrev pub Replied : Origin → List Reply → Moment → Type 0
+Replied b xs m = Replying (b .reverse) (b .reverseRolls) xs (m .replies) (m .reverse)
+
+-- the chunks sent are the first ones
+abbrev pub Chunked : Origin → List (List ℕ) → Moment → Type 0
+Chunked b xs m = xs ≡ take (nextNumber (m .ends)) (b .chunks)
+
+pub record Tells (b : Origin) (cs : List Call) (m : Moment) : Type 0 where
+  pub ends-are : afterCalls (b .start) cs ≡ m .ends
+  pub chunks-are : Chunked b (collect chunkBy (b .start) cs) m
+  pub sending : Sent b (collect submittedBy (b .start) cs) m
+  pub replying : Replied b (collect repliedBy (b .start) cs) m
+  pub estimator-is : rto.afterCalls (b .rto) (collect estimatedBy (b .start) cs) ≡ m .estimator
+  pub datas-are : total dataIn (b .start) cs ≡ m .datas
+  pub repeats-are : total duplicateDataIn (b .start) cs ≡ m .repeats
+  pub premature-are : prematureIn (b .forward) (b .forwardRolls) (b .start) [] cs ≡ m .premature
+  pub acks-are : total acksIn (b .start) cs ≡ m .acks
+  pub duplicates-are : total duplicateAcksIn (b .start) cs ≡ m .duplicates
+
+-- the notes by the events and the replies
+abbrev pub Notes : List Reply → Moment → Type 0
+Notes xs m = Noted (λ (n : ℕ). any (isFirstGranted n) (m .events)) (λ (n : ℕ). any (covers n) xs) (nextNumber (m .ends)) (m .metas)
+
+-- while the run goes on, and where it may have ended at the last call
+pub record Told (b : Origin) (m : Moment) : Type 0 where
+  pub calls : List Call
+  pub tells : Tells b calls m
+  pub not-refused : Each NotRefused (b .start) calls
+  pub whole : Each Whole (b .start) calls
+  pub noted : Notes (collect repliedBy (b .start) calls) m
+
+pub record Over (b : Origin) (m : Moment) : Type 0 where
+  pub calls : List Call
+  pub tells : Tells b calls m
+  pub not-refused : Each NotRefused (b .start) calls
+  pub whole : Each Whole (b .start) (dropLast calls)
+
+pub told-over : {b : Origin} {m : Moment} → Told b m → Over b m
+told-over {b} q = record { calls = q .calls; tells = q .tells; not-refused = q .not-refused; whole = each-first Whole (b .start) (q .calls) (q .whole) }
+
+-- what one call makes of a moment
+pub record Makes (b : Origin) (c : Call) (m next : Moment) : Type 0 where
+  pub not-refused : NotRefused (m .ends) c
+  pub ends-are : after (m .ends) c ≡ next .ends
+  pub chunks-are : (xs : List (List ℕ)) → Chunked b xs m → Chunked b (xs ++ chunkBy (m .ends) c) next
+  pub sending : (xs : List Submission) → Sent b xs m → Sent b (xs ++ submittedBy (m .ends) c) next
+  pub replying : (xs : List Reply) → Replied b xs m → Replied b (xs ++ repliedBy (m .ends) c) next
+  pub estimator-is : foldl rto.step (m .estimator) (estimatedBy (m .ends) c) ≡ next .estimator
+  pub datas-are : m .datas + dataIn (m .ends) c ≡ next .datas
+  pub repeats-are : m .repeats + duplicateDataIn (m .ends) c ≡ next .repeats
+  pub premature-are : (test : ℕ → Bool) → ((n : ℕ) → test n ≡ isPremature (m .metas) n) → m .premature + prematureBy test (m .ends) c ≡ next .premature
+  pub acks-are : m .acks + acksIn (m .ends) c ≡ next .acks
+  pub duplicates-are : m .duplicates + duplicateAcksIn (m .ends) c ≡ next .duplicates
+
+module _ {b : Origin} {c : Call} {m next : Moment} (q : Told b m) (h : Makes b c m next) where
+  abbrev cs : List Call
+  cs = q .calls
+
+  at-ends : {A : Type 0} (f : Ends → A) → f (afterCalls (b .start) cs) ≡ f (m .ends)
+  at-ends f = ap f (q .tells .ends-are)
+
+  collected : {A : Type 0} (f : Ends → Call → List A) → collect f (b .start) (cs ++ c ∷ []) ≡ collect f (b .start) cs ++ f (m .ends) c
+  collected {A} f = collect-more f (b .start) cs c ∙ ap (λ (l : List A). collect f (b .start) cs ++ l) (at-ends (λ (e : Ends). f e c))
+
+  summed : (f : Ends → Call → ℕ) {n k : ℕ} → total f (b .start) cs ≡ n → n + f (m .ends) c ≡ k → total f (b .start) (cs ++ c ∷ []) ≡ k
+  summed f {n} p e = total-more f (b .start) cs c ∙ ap (λ (x : ℕ). total f (b .start) cs + x) (at-ends (λ (u : Ends). f u c)) ∙ ap (λ (x : ℕ). x + f (m .ends) c) p ∙ e
+
+  abbrev test : ℕ → Bool
+  test = isPrematureAfter (b .forward) (b .forwardRolls) (b .start) cs
+
+  test-is : (n : ℕ) → test n ≡ isPremature (m .metas) n
+  test-is n = ap (λ (l : List ForwardEvent). any (isFirstGranted n) l && any (covers n) (collect repliedBy (b .start) cs)) (q .tells .sending .events-are) ∙ premature-is (q .noted) n
+
+  tells-more : Tells b (cs ++ c ∷ []) next
+  unfolding rto.afterCalls
+  tells-more =
+      let t = q .tells in
+      record {
+        ends-are = after-more (b .start) cs c ∙ at-ends (λ (e : Ends). after e c) ∙ h .ends-are;
+        chunks-are = subst (λ (xs : List (List ℕ)). Chunked b xs next) (sym (collected chunkBy)) (h .chunks-are _ (t .chunks-are));
+        sending = subst (λ (xs : List Submission). Sent b xs next) (sym (collected submittedBy)) (h .sending _ (t .sending));
+        replying = subst (λ (xs : List Reply). Replied b xs next) (sym (collected repliedBy)) (h .replying _ (t .replying));
+        estimator-is =
+            ap (foldl rto.step (fresh (b .rto))) (collected estimatedBy) ∙ foldl-append rto.step (fresh (b .rto)) (collect estimatedBy (b .start) cs) (estimatedBy (m .ends) c)
+            ∙ ap (λ (e : RtoEstimator). foldl rto.step e (estimatedBy (m .ends) c)) (t .estimator-is) ∙ h .estimator-is;
+        premature-are = premature-more (b .forward) (b .forwardRolls) (b .start) [] cs c ∙ ap (λ (n : ℕ). n + prematureBy test (afterCalls (b .start) cs) c) (t .premature-are) ∙ ap (λ (e : Ends). m .premature + prematureBy test e c) (t .ends-are) ∙ h .premature-are test test-is;
+        datas-are = summed dataIn (t .datas-are) (h .datas-are);
+        repeats-are = summed duplicateDataIn (t .repeats-are) (h .repeats-are);
+        acks-are = summed acksIn (t .acks-are) (h .acks-are);
+        duplicates-are = summed duplicateAcksIn (t .duplicates-are) (h .duplicates-are);
+      }
+
+  refused-none : Each NotRefused (b .start) (cs ++ c ∷ [])
+  refused-none = each-more NotRefused (b .start) cs c (q .not-refused) (subst (λ (e : Ends). NotRefused e c) (sym (q .tells .ends-are)) (h .not-refused))
+
+  pub told-more : Whole (m .ends) c → ((xs : List Reply) → Notes xs m → Notes (xs ++ repliedBy (m .ends) c) next) → Told b next
+  told-more w k = record { calls = cs ++ c ∷ []; tells = tells-more; not-refused = refused-none; noted = subst (λ (xs : List Reply). Notes xs next) (sym (collected repliedBy)) (k _ (q .noted)); whole = each-more Whole (b .start) cs c (q .whole) (subst (λ (e : Ends). Whole e c) (sym (q .tells .ends-are)) w) }
+
+  pub over-more : Over b next
+  over-more = record { calls = cs ++ c ∷ []; tells = tells-more; not-refused = refused-none; whole = subst (Each Whole (b .start)) (sym (drop-last-more cs c)) (q .whole) }
+
+-- a call that hands nothing to a line
+pub none-sent : (b : Origin) (m : Moment) (xs : List Submission) → Sent b xs m → Sent b (xs ++ []) m
+none-sent b m xs s = subst (λ (l : List Submission). Sent b l m) (sym (append-nil xs)) s
+
+pub none-replied : (b : Origin) (m : Moment) (xs : List Reply) → Replied b xs m → Replied b (xs ++ []) m
+none-replied b m xs s = subst (λ (l : List Reply). Replied b l m) (sym (append-nil xs)) s
+
+-- a call that sends no chunk
+pub none-chunked : (b : Origin) {n k : ℕ} → k ≡ n → (xs : List (List ℕ)) → xs ≡ take n (b .chunks) → xs ++ [] ≡ take k (b .chunks)
+none-chunked b e xs h = append-nil xs ∙ h ∙ ap (λ (n : ℕ). take n (b .chunks)) (sym e)
+
+pub same-chunked : (b : Origin) (m : Moment) (xs : List (List ℕ)) → Chunked b xs m → Chunked b (xs ++ []) m
+same-chunked b m xs h = append-nil xs ∙ h
+
+pub no-more : (n : ℕ) → n + 0 ≡ n
+no-more n = omega arith
+
+-- after a part of a step: told where the run goes on, over where it may not
+abbrev pub Goes : Origin → Moment → Bool → Type 0
+Goes b m going = (going ≡ true → Told b m) × Over b m
+
+pub still-told : {b : Origin} {m : Moment} {going : Bool} → Told b m → Goes b m going
+still-told q = (λ g. q, told-over q)
+
+pub by-call : {b : Origin} {c : Call} {m next : Moment} {going : Bool} → Told b m → Makes b c m next → (going ≡ true → Whole (m .ends) c) → (going ≡ true → (xs : List Reply) → Notes xs m → Notes (xs ++ repliedBy (m .ends) c) next) → Goes b next going
+by-call q h w k = (λ g. told-more q h (w g) (k g), over-more q h)
+
+-- a call that is answered with no ACK, and notes nothing
+pub same-noted : (m : Moment) (xs : List Reply) → Notes xs m → Notes (xs ++ []) m
+same-noted m xs q = subst (λ (l : List Reply). Notes l m) (sym (append-nil xs)) q
+
+-- other notes
+abbrev pub withMetas : Moment → SegMetas → Moment
+withMetas m x = record {
+  ends = m .ends;
+  forward = m .forward;
+  reverse = m .reverse;
+  estimator = m .estimator;
+  datas = m .datas;
+  replies = m .replies;
+  acks = m .acks;
+  duplicates = m .duplicates;
+  repeats = m .repeats;
+  metas = x;
+  again = m .again;
+  premature = m .premature;
+  written = m .written;
+  events = m .events;
+}
+
+pub told-noted : {b : Origin} {m : Moment} → Told b m → (x : SegMetas) → ((xs : List Reply) → Notes xs m → Notes xs (withMetas m x)) → Told b (withMetas m x)
+told-noted q x k =
+    let t = q .tells in
+    record {
+      calls = q .calls;
+      tells = record {
+        ends-are = t .ends-are;
+        chunks-are = t .chunks-are;
+        sending = t .sending;
+        replying = t .replying;
+        estimator-is = t .estimator-is;
+        datas-are = t .datas-are;
+        repeats-are = t .repeats-are;
+        premature-are = t .premature-are;
+        acks-are = t .acks-are;
+        duplicates-are = t .duplicates-are;
+      };
+      not-refused = q .not-refused;
+      whole = q .whole;
+      noted = k _ (q .noted);
+    }

@@ -1,0 +1,33 @@
+-- Document 01, "Turned away" and the ends of a run: none of a run's calls is refused, and only its last may leave a
+-- datagram that was not carried.
+use mathlib.Core.Path.{_≡_}
+use mathlib.Core.Bool.{Bool, true, false}
+use mathlib.Core.List.{List, [], _∷_}
+use lib.ListN.{length, replicate}
+use Rattle.receiver.specs.Reply.{isRefused}
+use Rattle.delivery.specs.Ends.{isSendRefused, isTimeoutRefused, isHandled}
+use Rattle.session.specs.Sending.{handleAck, handleTimeout, resent, ampleBuffer}
+use Rattle.run_history.specs.Calls.{Call, chunk, timeout, arrival, return, sample, Ends, after}
+use Rattle.run_history.specs.Calls.{readsAsData, readsAsAck, sentBy, receivedBy}
+
+-- a property of each call and the ends before it
+abbrev pub Each : (Ends → Call → Type 0) → Ends → List Call → Type 0
+Each P e [] = Unit {0}
+Each P e (c ∷ cs) = P e c × Each P (after e c) cs
+
+-- neither the sender nor the receiver refuses it
+abbrev pub NotRefused : Ends → Call → Type 0
+NotRefused e (chunk payload carried) = isSendRefused (sentBy e payload .answer) ≡ false
+NotRefused e (timeout t carried) =
+    isTimeoutRefused (handleTimeout (e .sender) t (ampleBuffer (e .sender .sender)) .answer) ≡ false
+NotRefused e (arrival raw carried) = readsAsData raw ≡ true → isRefused (receivedBy e raw .answer) ≡ false
+NotRefused e (return raw) = readsAsAck raw ≡ true → isHandled (handleAck (e .sender) raw .answer) ≡ true
+NotRefused e (sample d again) = Unit {0}
+
+-- all that it wrote was handed to its line and carried
+abbrev pub Whole : Ends → Call → Type 0
+Whole e (chunk payload carried) = carried ≡ true
+Whole e (timeout t carried) = carried ≡ replicate (length (resent (e .sender) t .packets)) true
+Whole e (arrival raw carried) = carried ≡ true
+Whole e (return raw) = Unit {0}
+Whole e (sample d again) = Unit {0}

@@ -1,0 +1,5 @@
+pub mod Calls
+pub mod Lines
+pub mod Answered
+pub mod Premature
+pub mod History
