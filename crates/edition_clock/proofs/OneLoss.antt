@@ -120,7 +120,7 @@ module _ (clock : ClockChoice) where
       }
 
 both : Computes choice.Edition 15 3015000000 × Computes choice.Source 9 1005000000
-unfolding config file memory stepsFrom goesOn notes.expiry notes.isPremature notes.markAckScheduled notes.markedBelow notes.newNotes notes.sent notes.sentAgain notes.setDropped notes.takeSample refusalClauses.anyOf refusalOrder.decide refusalOrder.firstOf refusalOrder.numbered refusalOrder.orElse refusalOrder.order refusalOrder.verdict octetsFold.foldBytes octetsFold.sum timer.cancelledUnchecked timer.newTimer timer.startedAtUnchecked multiTimer.newUnchecked rto.configInBounds rto.countsFull rto.fresh rto.noStats rto.onTimeoutUnchecked rto.rejectSample rto.stateBroken rto.timedOut checksumRfc1071.checksum checksumRfc1071.onesAdd checksumRfc1071.onesSum checksumRfc1071.words packetFormat.checksumOf packetFormat.datagram packetFormat.headerBytes packetFormat.matches packetReading.headerOf packetReading.payloadOf packetReading.payloadPart packetReading.readChecks packetReading.readDatagram storeSlot.putSlot storeSlot.slotAt storeSlot.slotBytes storeSlot.slotPayload storeSound.anyBelow storeSound.receiverSlotBroken storeSound.receiverSlotsBroken storeSound.senderSlotBroken storeSound.senderSlotsBroken windowAcknowledgement.ackDecision windowAcknowledgement.byDecision windowResending.datagramsFrom windowResending.markFrom windowResending.resend windowSending.sendChecks windowSending.sendChunk windowSlots.datagramFor windowSlots.emptyFrom windowSlots.fresh windowSlots.hold windowSlots.markRetransmitted windowSlots.release windowState.countsBroken windowState.numbersBroken windowState.stateBroken windowState.storeShort windowState.windowBroken receiverReceive.receive receiverReply.ackAfter receiverReply.applied receiverReply.roomMissing receiverState.countsBroken receiverState.stateBroken goBackNReceiver.dataDecision goBackNReceiver.decision deliveryCalls.datagrams sessionReceiving.handlePacket sessionReceiving.newReceiver sessionSending.acknowledged sessionSending.handleAck sessionSending.handleTimeout sessionSending.newSender sessionSending.resent sessionSending.sendChunk clock.armAfterSubmit clock.armOldest clock.cancel clock.due clock.newClock clock.nextDeadline clock.rearmAfterAck clock.sampleRtt clockEditionClock.onAck clockEditionClock.onSend scheduleRecord.freeFrom scheduleRecord.inserted scheduleRecord.placeIn schedule.popUnchecked schedule.putCopy schedule.scheduleAtUnchecked schedule.withoutFirst scheduleState.stateBroken events.rowOf channelBounds.configBroken channelFaults.carriedBytes channelFaults.deliveriesOf channelFaults.isCorrupted channelFaults.isDuplicated channelFaults.isLost channelFaults.isReordered channelProcess.countedStats channelProcess.processUnchecked path.carry path.copyFold path.deadlineOf path.newPath path.takeReady pathRolls.rollsAt pathRolls.rollsBroken submission.noteAfter submission.noteBefore submission.submit chunks.chunksOf chunks.pieces sendingRetransmit.retransmit sendingRetransmit.retransmitAll sending.pumpMost sending.sendOne timeouts.fireTimers timeouts.timedOut receiving.absorb receiving.onForward receiving.received receiving.serveAtMost receiving.submitAck acks.onAccepted acks.onAck acksReverse.serveAtMost arrivals.serveArrivals departures.sendDue stepSettle.nextDeadline stepSettle.senderIdle stepSettle.settle step.step setup.clockBroken setup.roomMissing setup.setupBroken setup.stateBroken transferStart.newRun ieee.lt ieee.le ieee.eq ieee.mul ieee.ofInt ieee.toUnsigned
+unfolding config file memory stepsFrom goesOn notes.expiry notes.isPremature notes.markAckScheduled notes.markedBelow notes.newNotes notes.sent notes.sentAgain notes.setDropped notes.takeSample refusalClauses.anyOf refusalOrder.decide refusalOrder.firstOf refusalOrder.numbered refusalOrder.orElse refusalOrder.order refusalOrder.verdict octetsFold.foldBytes octetsFold.sum timer.cancelledUnchecked timer.newTimer timer.startedAtUnchecked multiTimer.newUnchecked rto.configInBounds rto.countsFull rto.fresh rto.noStats rto.onTimeoutUnchecked rto.rejectSample rto.stateBroken rto.timedOut checksumRfc1071.checksum checksumRfc1071.onesAdd checksumRfc1071.onesSum checksumRfc1071.words packetFormat.checksumOf packetFormat.datagram packetFormat.headerBytes packetFormat.matches packetReading.headerOf packetReading.payloadOf packetReading.payloadPart packetReading.readChecks packetReading.readDatagram storeSlot.putSlot storeSlot.slotAt storeSlot.slotBytes storeSlot.slotPayload storeSound.anyBelow storeSound.receiverSlotBroken storeSound.receiverSlotsBroken storeSound.senderSlotBroken storeSound.senderSlotsBroken windowAcknowledgement.ackDecision windowAcknowledgement.byDecision windowResending.datagramsFrom windowResending.markFrom windowResending.resend windowSending.sendChecks windowSending.sendChunk windowSlots.datagramFor windowSlots.emptyFrom windowSlots.fresh windowSlots.hold windowSlots.markRetransmitted windowSlots.release windowState.countsBroken windowState.numbersBroken windowState.stateBroken windowState.storeShort windowState.windowBroken receiverReceive.receive receiverReply.ackAfter receiverReply.applied receiverReply.roomMissing receiverState.countsBroken receiverState.stateBroken goBackNReceiver.dataDecision goBackNReceiver.decision deliveryCalls.datagrams sessionReceiving.handlePacket sessionReceiving.newReceiver sessionSending.acknowledged sessionSending.handleAck sessionSending.handleTimeout sessionSending.newSender sessionSending.resent sessionSending.sendChunk clock.armAfterSubmit clock.armOldest clock.cancel clock.due clock.newClock clock.nextDeadline clock.rearmAfterAck clock.sampleRtt clockEditionClock.onAck clockEditionClock.onSend scheduleRecord.freeFrom scheduleRecord.inserted scheduleRecord.placeIn schedule.popUnchecked schedule.putCopy schedule.scheduleAtUnchecked schedule.withoutFirst scheduleState.stateBroken events.rowOf channelBounds.configBroken channelFaults.carriedBytes channelFaults.deliveriesOf channelFaults.isCorrupted channelFaults.isDuplicated channelFaults.isLost channelFaults.isReordered channelProcess.countedStats channelProcess.processUnchecked path.carry path.copyFold path.deadlineOf path.newPath path.takeReady pathRolls.rollsAt pathRolls.rollsBroken submission.noteAfter submission.noteBefore submission.submit chunks.chunksOf chunks.pieces sendingRetransmit.retransmit sendingRetransmit.retransmitAll sending.pumpMost sending.sendOne timeouts.fireTimers timeouts.timedOut receiving.absorb receiving.onForward receiving.received receiving.serveAtMost receiving.submitAck acks.onAccepted acks.onAck acksReverse.serveAtMost arrivals.serveArrivals departures.sendDue stepSettle.nextDeadline stepSettle.senderIdle stepSettle.settle step.stepFor setup.clockBroken setup.roomMissing setup.setupBroken setup.stateBroken transferStart.newRun ieee.lt ieee.le ieee.eq ieee.mul ieee.ofInt ieee.toUnsigned
 both = (record { starts = refl; goes = refl; done = refl; over = refl }, record { starts = refl; goes = refl; done = refl; over = refl })
 
 pub edition-one-loss : Delivers choice.Edition 3015000000

@@ -41,7 +41,7 @@ use Rattle.step.specs.declared.Course.the-variants.{Going, Over}
 use Rattle.step.proofs.Laws.{arrives, step-is, afterBoth, bothExit}
 use Rattle.setup.specs.declared.TransferConfig.{TransferConfig}
 use Rattle.transfer.specs.Start.{planFor, newRun}
-use Rattle.transfer.specs.Run.{isOver, runAtMost, run, stepsLeft}
+use Rattle.transfer.specs.Run.{isOver, runAtMostFor, runAtMost, runFor, run, stepsLeft}
 use Rattle.transfer.specs.Transfer.{endOf}
 use Rattle.transfer.specs.declared.Ceilings.{Ceilings}
 use Rattle.transfer.proofs.Laws.{not-over, run-over}
@@ -177,7 +177,7 @@ module _ (p : Plan) (g : Given) where
 
   -- ---- the run
   most-why : (n : ℕ) (s : RunState) → SpentAt s → Why (runAtMost n p g s)
-  unfolding runAtMost
+  unfolding runAtMostFor
   most-why zero s q = going-why s q
   most-why (suc n) s q = by-course (isOver (step p g s .course)) refl (λ r. most-why n (step p g s .state) r)
     where
@@ -186,7 +186,7 @@ module _ (p : Plan) (g : Given) where
       by-course false e more = more (step-why s q .goes (not-over (step p g s .course) e))
 
   pub run-ended-why : (s : RunState) → s .resends .exhausted ≡ false → endOf (run p g s .course) ≡ end.Ended → EndedWhy p (run p g s .state)
-  unfolding run
+  unfolding runFor
   run-ended-why s e = most-why (suc (stepsLeft p s)) s (record { met = λ h. absurd (true≢false (sym h ∙ e)) }) .ends (run-over p g s)
 
 pub transfer-ended-why : (k : Ceilings) (c : TransferConfig) (g : Given) (l : Lent) → endOf (run (planFor k c g) g (newRun k c l) .course) ≡ end.Ended → EndedWhy (planFor k c g) (run (planFor k c g) g (newRun k c l) .state)

@@ -134,7 +134,7 @@ ends-table : map (λ x. rowOf (called x)) (case 1 1 1 1 1 ∷ case 0 1 1 1 1 ∷
     ∷ row (ascii "rolls spent") false 0 []
     ∷ row (ascii "events full") false 0 []
     ∷ []
-unfolding acks.onAccepted acks.onAck acksReverse.serveAtMost arrivals.serveArrivals channelBounds.configBroken channelFaults.carriedBytes channelFaults.deliveriesOf channelFaults.isCorrupted channelFaults.isDuplicated channelFaults.isLost channelFaults.isReordered channelProcess.processUnchecked checksum.checksum checksum.onesAdd checksum.onesSum checksum.words chunks.chunksOf chunks.pieces clock.armAfterSubmit clock.armOldest clock.due clock.newClock clock.nextDeadline clock.rearmAfterAck departures.sendDue multiTimer.newUnchecked notes.expiry notes.newNotes notes.sent notes.setDropped packetFormat.checksumOf packetFormat.datagram packetFormat.headerBytes packetFormat.matches packetReading.headerOf packetReading.payloadOf packetReading.payloadPart packetReading.readChecks packetReading.readDatagram path.carry path.deadlineOf path.newPath path.takeReady pathRolls.rollsAt pathRolls.rollsBroken receiverReceive.receive receiverReply.ackAfter receiverReply.applied receiverReply.roomMissing receiverState.countsBroken receiverState.stateBroken receiving.absorb receiving.onForward receiving.received receiving.serveAtMost receiving.submitAck refusalClauses.anyOf refusalOrder.decide refusalOrder.firstOf refusalOrder.numbered refusalOrder.orElse refusalOrder.order refusalOrder.verdict rto.configInBounds rto.fresh scheduleRecord.freeFrom scheduleRecord.inserted scheduleRecord.placeIn schedule.popUnchecked schedule.putCopy schedule.scheduleAtUnchecked schedule.withoutFirst sending.pumpMost sending.sendOne sessionReceiving.handlePacket sessionReceiving.newReceiver sessionSending.handleAck sessionSending.newSender sessionSending.sendChunk setup.clockBroken setup.roomMissing setup.setupBroken setup.stateBroken stepSettle.nextDeadline stepSettle.senderIdle stepSettle.settle step.step stopAndWait.dataDecision stopAndWait.decision storeSlot.putSlot storeSlot.slotAt storeSlot.slotBytes storeSound.anyBelow storeSound.senderSlotBroken storeSound.senderSlotsBroken submission.noteAfter submission.noteBefore submission.submit timeouts.fireTimers timer.cancelledUnchecked timer.newTimer timer.startedAtUnchecked transferRun.run transferRun.runAtMost transferStart.newRun transfer.runTransfer windowAcknowledgement.ackDecision windowAcknowledgement.byDecision windowSending.sendChecks windowSending.sendChunk windowSlots.fresh windowSlots.hold windowState.countsBroken windowState.numbersBroken windowState.stateBroken windowState.storeShort windowState.windowBroken lt le mul ofInt toUnsigned
+unfolding acks.onAccepted acks.onAck acksReverse.serveAtMost arrivals.serveArrivals channelBounds.configBroken channelFaults.carriedBytes channelFaults.deliveriesOf channelFaults.isCorrupted channelFaults.isDuplicated channelFaults.isLost channelFaults.isReordered channelProcess.processUnchecked checksum.checksum checksum.onesAdd checksum.onesSum checksum.words chunks.chunksOf chunks.pieces clock.armAfterSubmit clock.armOldest clock.due clock.newClock clock.nextDeadline clock.rearmAfterAck departures.sendDue multiTimer.newUnchecked notes.expiry notes.newNotes notes.sent notes.setDropped packetFormat.checksumOf packetFormat.datagram packetFormat.headerBytes packetFormat.matches packetReading.headerOf packetReading.payloadOf packetReading.payloadPart packetReading.readChecks packetReading.readDatagram path.carry path.deadlineOf path.newPath path.takeReady pathRolls.rollsAt pathRolls.rollsBroken receiverReceive.receive receiverReply.ackAfter receiverReply.applied receiverReply.roomMissing receiverState.countsBroken receiverState.stateBroken receiving.absorb receiving.onForward receiving.received receiving.serveAtMost receiving.submitAck refusalClauses.anyOf refusalOrder.decide refusalOrder.firstOf refusalOrder.numbered refusalOrder.orElse refusalOrder.order refusalOrder.verdict rto.configInBounds rto.fresh scheduleRecord.freeFrom scheduleRecord.inserted scheduleRecord.placeIn schedule.popUnchecked schedule.putCopy schedule.scheduleAtUnchecked schedule.withoutFirst sending.pumpMost sending.sendOne sessionReceiving.handlePacket sessionReceiving.newReceiver sessionSending.handleAck sessionSending.newSender sessionSending.sendChunk setup.clockBroken setup.roomMissing setup.setupBroken setup.stateBroken stepSettle.nextDeadline stepSettle.senderIdle stepSettle.settle step.stepFor stopAndWait.dataDecision stopAndWait.decision storeSlot.putSlot storeSlot.slotAt storeSlot.slotBytes storeSound.anyBelow storeSound.senderSlotBroken storeSound.senderSlotsBroken submission.noteAfter submission.noteBefore submission.submit timeouts.fireTimers timer.cancelledUnchecked timer.newTimer timer.startedAtUnchecked transferRun.runFor transferRun.runAtMostFor transferStart.newRun transfer.runTransfer windowAcknowledgement.ackDecision windowAcknowledgement.byDecision windowSending.sendChecks windowSending.sendChunk windowSlots.fresh windowSlots.hold windowState.countsBroken windowState.numbersBroken windowState.stateBroken windowState.storeShort windowState.windowBroken lt le mul ofInt toUnsigned
 ends-table = refl
 
 -- ---- what `transfer-ends` asks is met

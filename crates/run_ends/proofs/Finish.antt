@@ -34,7 +34,7 @@ use Rattle.step.specs.declared.End.the-variants as end
 use Rattle.step.specs.declared.Course.the-variants.{Going}
 use Rattle.step.proofs.Laws.{arrives, step-is, afterBoth, bothExit}
 use Rattle.transfer.specs.Start.{planFor, newRun, startOf}
-use Rattle.transfer.specs.Run.{isOver, runAtMost, run, stepsLeft}
+use Rattle.transfer.specs.Run.{isOver, runAtMostFor, runAtMost, runFor, run, stepsLeft}
 use Rattle.transfer.specs.Transfer.{endOf, finishedAt, runTransfer}
 use Rattle.transfer.specs.declared.Ceilings.{Ceilings}
 use Rattle.transfer.specs.declared.Outcome.{Outcome}
@@ -204,7 +204,7 @@ module _ (p : Plan) (g : Given) (s : RunState) where
           }
 
   most-finishes : (m n : ℕ) (u : RunState) → Timed p g s n u → isOver (runAtMost m p g u .course) ≡ true → Finishes p g s (runAtMost m p g u)
-  unfolding runAtMost
+  unfolding runAtMostFor
   most-finishes zero n u q o = absurd (true≢false (sym o))
   most-finishes (suc m) n u q o = by-course (isOver (step p g u .course)) refl o (λ i. most-finishes m (suc n) (step p g u .state) (timed-next n u q) i)
     where
@@ -214,7 +214,7 @@ module _ (p : Plan) (g : Given) (s : RunState) where
       by-course false e i more = more i
 
   pub run-finishes : s .time ≤ p .«max_virtual_time» → CompletedIs (p .«total_chunks») (sideOf s) → sideOf s .completed ≡ false → Finishes p g s (run p g s)
-  unfolding run stateAfter
+  unfolding runFor stateAfter
   run-finishes early c not-done =
       most-finishes (suc (stepsLeft p s)) 0 s (record { is = refl; early = early; completed-is = c; since = λ d. absurd (true≢false (sym d ∙ not-done)); before = λ d. absurd (true≢false (sym d ∙ not-done)) }) (run-over p g s)
 

@@ -40,32 +40,16 @@ use Rattle.setup.specs.declared.TransferConfig.{TransferConfig}
 use Rattle.step.specs.State.{Given, chunksFor, RunState, Lent, fireOf, withArrivals, withFired}
 use Rattle.step.specs.State as state
 use Rattle.step.specs.Settle.{StepExit, stepExit, over, unlessStopped, senderIdle, nextDeadline, moveTo, settle}
-use Rattle.step.specs.Step.{roundLess, step}
+use Rattle.step.specs.Step.{roundLess, stepFor}
 use Rattle.step.specs.declared.Plan.{Plan}
 use Rattle.step.specs.declared.End.the-variants.{Ended}
 use Rattle.step.specs.declared.Course.the-variants.{Going}
 use Rattle.transfer.specs.Start.{planOf, planFor, newRun, startOf}
-use Rattle.transfer.specs.Run.{isOver, runAtMost, run, stepsLeft}
+use Rattle.transfer.specs.Run.{isOver, runAtMostFor, runFor, stepsLeft}
 use Rattle.transfer.specs.Transfer.{outcomeOf, lentOf, ended, runTransfer}
 use Rattle.transfer.specs.declared.Ceilings.{Ceilings}
-use Rattle.run_ends.specs.AnyChunks.{stepOf, runAtMostOf, runOf, endedAtStart, NothingSent}
+use Rattle.run_ends.specs.AtStart.{endedAtStart, NothingSent}
 use Rattle.run_ends.proofs.Transfer.{accepted-is}
-
--- ---- the run is that of the file's chunks
-step-same : (p : Plan) (g : Given) (s : RunState) → step p g s ≡ stepOf (chunksFor p g) p g s
-unfolding step stepOf
-step-same p g s = refl
-
-most-same : (n : ℕ) (p : Plan) (g : Given) (s : RunState) → runAtMost n p g s ≡ runAtMostOf (chunksFor p g) n p g s
-unfolding runAtMost runAtMostOf
-most-same zero p g s = refl
-most-same (suc n) p g s =
-    ap (λ (x : StepExit). cond (isOver (x .course)) x (runAtMost n p g (x .state))) (step-same p g s)
-    ∙ ap (λ (x : StepExit). cond (isOver (stepOf (chunksFor p g) p g s .course)) (stepOf (chunksFor p g) p g s) x) (most-same n p g (stepOf (chunksFor p g) p g s .state))
-
-pub run-same : (p : Plan) (g : Given) (s : RunState) → run p g s ≡ runOf (chunksFor p g) p g s
-unfolding run runOf
-run-same p g s = most-same (suc (stepsLeft p s)) p g s
 
 -- ---- nothing waits on either line
 forward-none : (rolls : List Float) (total now : ℕ) (f : Direction) (b : Inbound) → f .path .scheduler .count ≡ 0 → serveForward rolls total now f b ≡ serveForwardExit f b false stop.Going
@@ -115,17 +99,17 @@ module _ (chunks : List (List ℕ)) (p : Plan) (g : Given) (s : RunState) where
 
   -- no arrivals, and x is what is sent
   quiet-step : (x : FireExit) → s .arrivals .forward .path .scheduler .count ≡ 0 → s .arrivals .inbound .reverse .path .scheduler .count ≡ 0
-      → sendDue (p .«max_retransmissions») (p .timing) (g .forwardRolls) chunks (s .time) (fireOf s) ≡ x → stepOf chunks p g s ≡ stepBy (arrivalExit (s .arrivals) false stop.Going) (λ u. x)
-  unfolding stepOf
+      → sendDue (p .«max_retransmissions») (p .timing) (g .forwardRolls) chunks (s .time) (fireOf s) ≡ x → stepFor chunks p g s ≡ stepBy (arrivalExit (s .arrivals) false stop.Going) (λ u. x)
+  unfolding stepFor
   quiet-step x e f h =
       ap (λ (a : ArrivalExit). stepBy a (λ u. sendDue (p .«max_retransmissions») (p .timing) (g .forwardRolls) chunks (s .time) (fireOf u))) (arrivals-none (p .timing) (g .reverseRolls) (p .«total_chunks») (s .time) (s .arrivals) e f)
       ∙ ap (λ (y : FireExit). stepBy (arrivalExit (s .arrivals) false stop.Going) (λ u. y)) h
 
 -- a run whose first step is over
-over-first : (chunks : List (List ℕ)) (p : Plan) (g : Given) (s : RunState) (x : StepExit) → stepOf chunks p g s ≡ x → isOver (x .course) ≡ true → runOf chunks p g s ≡ x
-unfolding runOf runAtMostOf
+over-first : (chunks : List (List ℕ)) (p : Plan) (g : Given) (s : RunState) (x : StepExit) → stepFor chunks p g s ≡ x → isOver (x .course) ≡ true → runFor chunks p g s ≡ x
+unfolding runFor runAtMostFor
 over-first chunks p g s x e h =
-    ap (λ (y : StepExit). cond (isOver (y .course)) y (runAtMostOf chunks (stepsLeft p s) p g (y .state))) e ∙ ap (λ (b : Bool). cond b x (runAtMostOf chunks (stepsLeft p s) p g (x .state))) h
+    ap (λ (y : StepExit). cond (isOver (y .course)) y (runAtMostFor chunks (stepsLeft p s) p g (y .state))) e ∙ ap (λ (b : Bool). cond b x (runAtMostFor chunks (stepsLeft p s) p g (x .state))) h
 
 -- ---- a run just made: no timer runs
 new-due : (t : Timing) (keys deadlines : List ℕ) (now : ℕ) (outstanding : Bool) → due t (newClock keys deadlines) now outstanding ≡ ran.Nothing
@@ -151,7 +135,7 @@ module _ (k : Ceilings) (c : TransferConfig) (g : Given) (l : Lent) where
   either false h i = i
 
   -- the ceiling is 0
-  met-exit : (chunks : List (List ℕ)) (p : Plan) → p .«max_retransmissions» ≡ 0 → AtStart k c l (stepOf chunks p g (newRun k c l))
+  met-exit : (chunks : List (List ℕ)) (p : Plan) → p .«max_retransmissions» ≡ 0 → AtStart k c l (stepFor chunks p g (newRun k c l))
   unfolding newRun newPath
   met-exit chunks p z =
       subst (AtStart k c l) (sym (quiet-step chunks p g (newRun k c l) _ refl refl (due-met (p .«max_retransmissions») (p .timing) (g .forwardRolls) 0 (fireOf (newRun k c l)) chunks (le-leb (p .«max_retransmissions») 0 (omega (arith, z))))))
@@ -171,7 +155,7 @@ module _ (k : Ceilings) (c : TransferConfig) (g : Given) (l : Lent) where
   unfolding newRun newPath nextDeadline deadlineOf
   new-settles s e = ap (λ (a : ArrivalState). nextDeadline (none .timing) (a .forward) (a .inbound .reverse) (a .clock)) e ∙ new-unset (none .timing) (l .keys) (l .deadlines)
 
-  none-exit : ceilingMet (c .«max_retransmissions») (newRun k c l .resends) ≡ false → AtStart k c l (stepOf [] none g (newRun k c l))
+  none-exit : ceilingMet (c .«max_retransmissions») (newRun k c l .resends) ≡ false → AtStart k c l (stepFor [] none g (newRun k c l))
   unfolding newRun newPath
   none-exit m =
       subst (AtStart k c l) (sym (quiet-step [] none g (newRun k c l) _ refl refl (due-none (c .«max_retransmissions») (none .timing) (g .forwardRolls) 0 (fireOf (newRun k c l)) m (new-due (none .timing) (l .keys) (l .deadlines) 0 _) refl)))
@@ -179,21 +163,21 @@ module _ (k : Ceilings) (c : TransferConfig) (g : Given) (l : Lent) where
       (subst (AtStart k c l) (sym (nothing-left (roundLess (newRun k c l)) refl (new-settles (roundLess (newRun k c l)) refl))) (record { over = refl; leaves = refl })))
 
   -- ---- the runs
-  first-over : (chunks : List (List ℕ)) (p : Plan) → AtStart k c l (stepOf chunks p g (newRun k c l)) → ended (runOf chunks p g (newRun k c l)) ≡ endedAtStart k c l
-  first-over chunks p a = ap ended (over-first chunks p g (newRun k c l) (stepOf chunks p g (newRun k c l)) refl (a .over)) ∙ a .leaves
+  first-over : (chunks : List (List ℕ)) (p : Plan) → AtStart k c l (stepFor chunks p g (newRun k c l)) → ended (runFor chunks p g (newRun k c l)) ≡ endedAtStart k c l
+  first-over chunks p a = ap ended (over-first chunks p g (newRun k c l) (stepFor chunks p g (newRun k c l)) refl (a .over)) ∙ a .leaves
 
   -- no chunks: whatever the ceiling, the run ends at its start
-  pub no-chunks : ended (runOf [] (planOf c 0 (k .rounds)) g (newRun k c l)) ≡ endedAtStart k c l
+  pub no-chunks : ended (runFor [] (planOf c 0 (k .rounds)) g (newRun k c l)) ≡ endedAtStart k c l
   unfolding newRun
   no-chunks = by-ceiling (c .«max_retransmissions») refl
     where
-      by-ceiling : (n : ℕ) → c .«max_retransmissions» ≡ n → ended (runOf [] (planOf c 0 (k .rounds)) g (newRun k c l)) ≡ endedAtStart k c l
+      by-ceiling : (n : ℕ) → c .«max_retransmissions» ≡ n → ended (runFor [] (planOf c 0 (k .rounds)) g (newRun k c l)) ≡ endedAtStart k c l
       by-ceiling zero z = first-over [] none (met-exit [] none z)
       by-ceiling (suc n) z = first-over [] none (none-exit (lt-leb (c .«max_retransmissions») 0 (omega (arith, z))))
 
   -- no packet may be sent again: the run ends before its first
   pub no-resends : CanStart (startOf c g l) → c .«max_retransmissions» ≡ 0 → runTransfer k c g l ≡ endedAtStart k c l
-  no-resends h z = accepted-is k c g l h ∙ ap ended (run-same (planFor k c g) g (newRun k c l)) ∙ first-over (chunksFor (planFor k c g) g) (planFor k c g) (met-exit (chunksFor (planFor k c g) g) (planFor k c g) z)
+  no-resends h z = accepted-is k c g l h ∙ first-over (chunksFor (planFor k c g) g) (planFor k c g) (met-exit (chunksFor (planFor k c g) g) (planFor k c g) z)
 
 -- ---- what such a run leaves
 none-filled : (p : ProtocolType) (w : ℕ) (store : List ℕ) → filled (newReceiver p w store .receiver) ≡ 0

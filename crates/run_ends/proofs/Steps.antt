@@ -20,7 +20,7 @@ use Rattle.step.specs.declared.End.the-variants as end
 use Rattle.step.specs.declared.Course.{Course}
 use Rattle.step.specs.declared.Course.the-variants.{Going}
 use Rattle.step.proofs.Laws.{arrives, step-is, settle-cases, afterBoth, bothExit, can-arrive, arrived-good, good-fire, can-send-due, step-good}
-use Rattle.transfer.specs.Run.{isOver, runAtMost, run, stepsLeft}
+use Rattle.transfer.specs.Run.{isOver, runAtMostFor, runAtMost, runFor, run, stepsLeft}
 use Rattle.transfer.specs.Transfer.{endOf}
 use Rattle.transfer.proofs.Laws.{not-over}
 use Rattle.run_ends.proofs.Lines.{LineAt, line-due}
@@ -120,7 +120,7 @@ module _ (c d : ChannelConfig) (p : Plan) (g : Given) where
 
   module _ (plan : GoodPlan p g) where
     most-ends : (n : ℕ) (s : RunState) → GoodRun p g s → Going-on s → Ends (runAtMost n p g s)
-    unfolding runAtMost
+    unfolding runAtMostFor
     most-ends zero s good q = record { is = inl q }
     most-ends (suc n) s good q = by-course (isOver (step p g s .course)) refl (λ more next. most-ends n (step p g s .state) more next)
       where
@@ -129,5 +129,5 @@ module _ (c d : ChannelConfig) (p : Plan) (g : Given) where
         by-course false e more = let i = not-over (step p g s .course) e in more (step-good plan good i) (still i (step-ends plan good q))
 
     pub run-ends-at : (s : RunState) → GoodRun p g s → Going-on s → EndsAt (endOf (run p g s .course)) (run p g s .state)
-    unfolding run
+    unfolding runFor
     run-ends-at s good q = most-ends (suc (stepsLeft p s)) s good q .is

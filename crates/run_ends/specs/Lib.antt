@@ -1,4 +1,4 @@
 pub mod Ends
-pub mod AnyChunks
+pub mod AtStart
 pub mod Finish
 pub mod Ended

@@ -45,7 +45,7 @@ use Rattle.step.specs.declared.End.{End}
 use Rattle.step.specs.declared.End.the-variants as end
 use Rattle.step.specs.declared.Course.the-variants.{Going, Over}
 use Rattle.step.proofs.Laws.{arrives, step-is, settle-cases, going-cases, afterBoth, bothExit, step-good, can-arrive, arrived-good, good-fire, can-send-due}
-use Rattle.transfer.specs.Run.{isOver, runAtMost, run, stepsLeft}
+use Rattle.transfer.specs.Run.{isOver, runAtMostFor, runAtMost, runFor, run, stepsLeft}
 use Rattle.transfer.proofs.Laws.{not-over}
 use Rattle.run_history.proofs.Tells.{Origin, Moment, moment, Told, Over as Ended, Goes, told-over}
 use Rattle.run_history.proofs.Arrivals.{arriveMoment, arrivals-told}
@@ -106,7 +106,7 @@ module _ (Q : RunState → Type 0) (moved : (u : RunState) (time moves rounds : 
 module _ (Q E : RunState → Type 0) (p : Plan) (g : Given) (plan : GoodPlan p g) (at-end : (s : RunState) → Q s → E s) (step-ends : (s : RunState) → GoodRun p g s → Q s → E (step p g s .state))
     (step-goes-on : (s : RunState) → GoodRun p g s → Q s → step p g s .course ≡ Going → Q (step p g s .state)) where
   run-most : (n : ℕ) (s : RunState) → GoodRun p g s → Q s → E (runAtMost n p g s .state)
-  unfolding runAtMost
+  unfolding runAtMostFor
   run-most zero s good q = at-end s q
   run-most (suc n) s good q = by-course (isOver (step p g s .course)) refl (λ more next. run-most n (step p g s .state) more next)
     where
@@ -115,7 +115,7 @@ module _ (Q E : RunState → Type 0) (p : Plan) (g : Given) (plan : GoodPlan p g
       by-course false e more = let c = not-over (step p g s .course) e in more (step-good plan good c) (step-goes-on s good q c)
 
   pub run-keeps : (s : RunState) → GoodRun p g s → Q s → E (run p g s .state)
-  unfolding run
+  unfolding runFor
   run-keeps s good q = run-most (suc (stepsLeft p s)) s good q
 
 -- ---- a step's calls
