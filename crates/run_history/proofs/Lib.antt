@@ -6,5 +6,6 @@ pub mod Arrivals
 pub mod Returns
 pub mod Departures
 pub mod Steps
+pub mod EndCalls
 pub mod Transfer
 pub mod Laws

@@ -2,4 +2,5 @@ pub mod Calls
 pub mod Lines
 pub mod Answered
 pub mod Premature
+pub mod EndCalls
 pub mod History
