@@ -2,9 +2,9 @@ use borrow.Author.Needs.{needs}
 use native.Mathlib.Omega.{arith}
 use mathlib.Core.Path.{ap}
 use lib.ListN.{length}
-use Rattle.linkrun_text.proofs.Laws.{length-none, length-one, length-two}
-use Rattle.linkrun_text.proofs.joined_length.Statement.{statement}
-use Rattle.linkrun_text.proofs.joined_length.Tie as tie
+use Rattle.trace.proofs.Lines.{length-none, length-one, length-two}
+use Rattle.trace.proofs.joined_length.Statement.{statement}
+use Rattle.trace.proofs.joined_length.Tie as tie
 
 returns : tie.Need-returns
 returns c = let a = c .before .args in let e = length-none (a .copies) (a .first) (a .second) (omega arith) in (omega arith, omega arith)

@@ -5,9 +5,9 @@ use mathlib.Core.List.{List}
 use native.Mathlib.Omega.{arith}
 use lib.ListN.{length}
 use Rattle.text.specs.Place.{writtenAt}
-use Rattle.linkrun_text.proofs.Laws.{line-columns}
-use Rattle.linkrun_text.proofs.write_line_unchecked.Statement.{statement}
-use Rattle.linkrun_text.proofs.write_line_unchecked.Tie as tie
+use Rattle.trace.proofs.Lines.{line-columns}
+use Rattle.trace.proofs.write_line.Statement.{statement}
+use Rattle.trace.proofs.write_line.Tie as tie
 
 array-read-mark : tie.Need-array-read-mark
 array-read-mark c = search needs
@@ -49,8 +49,8 @@ returns c =
     let w = c .before .before .write-columns .ensures in
     (w .0 ∙ ap (λ (l : List ℕ). a .at + length l) e, w .1 ∙ ap (writtenAt (a .out .now) (a .at)) e)
 
-pub write-line-unchecked-spec : {M : Type 1} → statement M
-write-line-unchecked-spec =
+pub write-line-spec : {M : Type 1} → statement M
+write-line-spec =
     tie.close
     (tie.spec
     array-read-mark

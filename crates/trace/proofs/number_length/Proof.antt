@@ -1,8 +1,8 @@
 use borrow.Author.Needs.{needs}
 use native.Mathlib.Omega.{arith}
 use Rattle.text.proofs.Laws.{digits-u64}
-use Rattle.linkrun_text.proofs.number_length.Statement.{statement}
-use Rattle.linkrun_text.proofs.number_length.Tie as tie
+use Rattle.trace.proofs.number_length.Statement.{statement}
+use Rattle.trace.proofs.number_length.Tie as tie
 
 decimal-length-requires : tie.Need-decimal-length-requires
 decimal-length-requires c κs = search needs

@@ -1,42 +1,35 @@
--- What the program `linkrun` prints of a run's forward events (document 01, at its end): a head line, then a line for
--- each event, fields parted by tabs.
+-- The text of a run's forward events (document 01, at its end): a head line, then a line for each event.
 use Prim.Native.Nat.{ℕ}
 use mathlib.Core.Bool.{cond}
 use mathlib.Core.List.{List, [], _∷_, _++_, map}
 use lib.ListN.{length}
-use lib.Dec.{ltb, eqb}
+use lib.Dec.{ltb}
 use Rattle.refusal.specs.Refusal.{ascii}
 use Rattle.refusal.specs.declared.Refusal.the-variants.{State}
 use Rattle.rows.specs.Rows.{asNumber}
 use Rattle.events.specs.Events.{ForwardEvent, eventsOf}
+use Rattle.text.specs.Letters.{tab, comma, lineFeed}
 use Rattle.text.specs.Decimal.{digits}
-use Rattle.text.specs.Field.{field}
 use Rattle.text.specs.Place.{PlaceExit, placeExit, place}
 use Rattle.text.specs.declared.PlaceAnswer.the-variants.{Refused}
 
-abbrev pub tab : ℕ
-tab = 9
+-- texts with a letter between each and the next
+unfoldable pub parted : ℕ → List (List ℕ) → List ℕ
+parted letter [] = []
+parted letter (t ∷ []) = t
+parted letter (t ∷ u ∷ ts) = t ++ (letter ∷ []) ++ parted letter (u ∷ ts)
 
-abbrev pub lineFeed : ℕ
-lineFeed = 10
+-- fields parted by tabs, and a line feed
+unfoldable pub line : List (List ℕ) → List ℕ
+line fields = parted tab fields ++ (lineFeed ∷ [])
 
-abbrev pub comma : ℕ
-comma = 44
-
--- the longest file that is run
-abbrev pub maxFile : ℕ
-maxFile = 256
-
--- several joined by commas, none as a hyphen
+-- several numbers joined by commas, none as a hyphen
 unfoldable pub joined : List ℕ → List ℕ
 joined [] = ascii "-"
-joined (n ∷ []) = digits n
-joined (n ∷ (m ∷ ns)) = field n comma ++ joined (m ∷ ns)
+joined (n ∷ ns) = parted comma (map digits (n ∷ ns))
 
--- a line's four columns
 unfoldable pub columns : ℕ → ℕ → List ℕ → List ℕ → List ℕ
-columns seq again delays folds =
-    field seq tab ++ (field again tab ++ ((joined delays ++ (tab ∷ [])) ++ (joined folds ++ (lineFeed ∷ []))))
+columns seq again delays folds = line (digits seq ∷ digits again ∷ joined delays ∷ joined folds ∷ [])
 
 -- the number, 0 first or 1 again, the delays in ms and the folds of the copies
 unfoldable pub eventLine : ForwardEvent → List ℕ
@@ -46,24 +39,16 @@ unfoldable pub eventLines : List ForwardEvent → List ℕ
 eventLines [] = []
 eventLines (e ∷ es) = eventLine e ++ eventLines es
 
-abbrev pub headLine : List ℕ
-headLine = ascii "seq\tagain\tdelays\tfolds\n"
+unfoldable pub headLine : List ℕ
+headLine = line (ascii "seq" ∷ ascii "again" ∷ ascii "delays" ∷ ascii "folds" ∷ [])
 
 unfoldable pub eventsText : List ForwardEvent → List ℕ
 eventsText es = headLine ++ eventLines es
 
--- of a file of so many bytes, and the events of its run
-unfoldable pub linkrunText : ℕ → List ForwardEvent → List ℕ
-linkrunText bytes es =
-    cond (ltb maxFile bytes) (ascii "long\n") (cond (eqb bytes 0) headLine (eventsText es))
-
--- a text made of the events in the first rows at the front of a lent buffer, 9 where the rows are fewer than the count
+-- a text of the events in the first rows at the front of a lent buffer; 9 where the rows are fewer than the count
 abbrev pub fromRows : List ℕ → ℕ → List (List ℕ) → (List ForwardEvent → List ℕ) → PlaceExit
 fromRows buffer count rows text =
     cond (ltb (length rows) count) (placeExit buffer (Refused State)) (place buffer 0 (text (eventsOf count rows)))
 
 unfoldable pub writeEvents : List ℕ → ℕ → List (List ℕ) → PlaceExit
 writeEvents buffer count rows = fromRows buffer count rows eventsText
-
-unfoldable pub writeLinkrun : List ℕ → ℕ → ℕ → List (List ℕ) → PlaceExit
-writeLinkrun buffer bytes count rows = fromRows buffer count rows (linkrunText bytes)

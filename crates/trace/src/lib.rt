@@ -1,4 +1,4 @@
-// What the program `linkrun` prints of a run's forward events, written into lent memory.
+// The forward events of a run as text in lent memory.
 ghost use mathlib.Core.Path.{_≡_};
 ghost use mathlib.Core.List.{[], _∷_, _++_, map};
 ghost use Prim.Native.Nat.{_+_, _≤_};
@@ -8,14 +8,11 @@ ghost use Rattle.events.specs.Events.{ofCopies, eventOf};
 ghost use Rattle.rows.specs.Rows.{asNumber, isSet};
 ghost use Rattle.text.specs.Decimal.{digits};
 ghost use Rattle.text.specs.Place.{writtenAt, placeExit, place};
-ghost use Rattle.linkrun_text.specs.Text.{joined, columns, eventLine, eventLines};
-ghost use Rattle.linkrun_text.specs.Text.{eventsText, writeEvents, writeLinkrun};
+ghost use Rattle.trace.specs.Text.{joined, columns, eventLine, eventLines};
+ghost use Rattle.trace.specs.Text.{eventsText, writeEvents};
 use events::Event;
 use refusal::Refusal;
 use text::PlaceAnswer;
-
-// The longest file that is run.
-pub const MAX_FILE: usize = 256;
 
 // The columns of a row.
 const SEQ: usize = 0;
@@ -42,23 +39,6 @@ pub fn write_events(rows: &[Event], count: usize, out: &mut [u8]) -> PlaceAnswer
     place_events(&rows[..count], out)
 }
 
-// Writes what `linkrun` prints of a file of so many bytes.
-pub fn write_linkrun(bytes: usize, rows: &[Event], count: usize, out: &mut [u8]) -> PlaceAnswer
-    ensures { λ r. ⌜ placeExit (now (out .exit)) r
-        ≡ writeLinkrun (now (out .entry)) bytes count (now (rows .entry)) ⌝ }
-{
-    if rows.len() < count {
-        return PlaceAnswer::Refused(Refusal::State);
-    }
-    if MAX_FILE < bytes {
-        return text::write_word(b"long\n", out, 0);
-    }
-    if bytes == 0 {
-        return text::write_word(b"seq\tagain\tdelays\tfolds\n", out, 0);
-    }
-    place_events(&rows[..count], out)
-}
-
 // Writes the head line and a line for each row.
 fn place_events(rows: &[Event], out: &mut [u8]) -> PlaceAnswer
     ensures { λ r. ⌜ placeExit (now (out .exit)) r
@@ -75,7 +55,7 @@ fn place_events(rows: &[Event], out: &mut [u8]) -> PlaceAnswer
         return PlaceAnswer::Refused(Refusal::Full);
     }
     let at = text::write_word_unchecked(head, out, 0);
-    let next = write_lines_unchecked(rows, out, at);
+    let next = write_lines(rows, out, at);
     PlaceAnswer::Next(next)
 }
 
@@ -97,7 +77,7 @@ fn lines_fit(rows: &[Event], room: usize) -> bool
     true
 }
 
-pub fn write_lines_unchecked(rows: &[Event], out: &mut [u8], at: usize) -> usize
+fn write_lines(rows: &[Event], out: &mut [u8], at: usize) -> usize
     requires { ⌜ at + length (eventLines (map eventOf (now rows))) ≤ length (now out) ⌝ }
     ensures { λ r. ⌜ (r ≡ at + length (eventLines (map eventOf (now (rows .entry)))))
         × (now (out .exit) ≡ writtenAt (now (out .entry)) at (eventLines (map eventOf (now (rows .entry))))) ⌝ }
@@ -106,13 +86,13 @@ pub fn write_lines_unchecked(rows: &[Event], out: &mut [u8], at: usize) -> usize
     let mut i: usize = 0;
     while i < rows.len() {
         let row = rows[i];
-        next = write_line_unchecked(row, out, next);
+        next = write_line(row, out, next);
         i += 1;
     }
     next
 }
 
-pub fn write_line_unchecked(row: Event, out: &mut [u8], at: usize) -> usize
+fn write_line(row: Event, out: &mut [u8], at: usize) -> usize
     requires { ⌜ at + length (eventLine (eventOf row)) ≤ length (now out) ⌝ }
     ensures { λ r. ⌜ (r ≡ at + length (eventLine (eventOf row)))
         × (now (out .exit) ≡ writtenAt (now (out .entry)) at (eventLine (eventOf row))) ⌝ }
@@ -147,8 +127,8 @@ fn write_columns(
     ensures { λ r. ⌜ (r ≡ at + length (columns seq again (ofCopies copies «first_delay» «second_delay»)
         (ofCopies copies «first_fold» «second_fold»)))
         × (now (out .exit) ≡ writtenAt (now (out .entry)) at
-            (columns seq again (ofCopies copies «first_delay» «second_delay»)
-            (ofCopies copies «first_fold» «second_fold»))) ⌝ }
+        (columns seq again (ofCopies copies «first_delay» «second_delay»)
+        (ofCopies copies «first_fold» «second_fold»))) ⌝ }
 {
     let a = text::write_field_unchecked(seq, b'\t', out, at);
     let b = text::write_field_unchecked(again, b'\t', out, a);
@@ -168,7 +148,7 @@ fn write_joined(
     requires { ⌜ at + length (joined (ofCopies copies first second) ++ (letter ∷ [])) ≤ length (now out) ⌝ }
     ensures { λ r. ⌜ (r ≡ at + length (joined (ofCopies copies first second) ++ (letter ∷ [])))
         × (now (out .exit)
-            ≡ writtenAt (now (out .entry)) at (joined (ofCopies copies first second) ++ (letter ∷ []))) ⌝ }
+        ≡ writtenAt (now (out .entry)) at (joined (ofCopies copies first second) ++ (letter ∷ []))) ⌝ }
 {
     if copies == 0 {
         let a = text::write_octet_unchecked(b'-', out, at);
@@ -181,7 +161,7 @@ fn write_joined(
     text::write_field_unchecked(second, letter, out, b)
 }
 
-// How many bytes a line takes, at most 107.
+// How many bytes a line takes.
 fn line_length(row: Event) -> usize
     ensures { λ r. ⌜ r ≡ length (eventLine (eventOf row)) ⌝ }
 {

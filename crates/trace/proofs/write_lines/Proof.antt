@@ -3,9 +3,9 @@ use mathlib.Core.Path.{_≡_, refl}
 use native.Mathlib.Omega.{arith}
 use lib.ListN.{length}
 use borrow.Author.Needs.{needs}
-use Rattle.linkrun_text.proofs.Laws.{linesFrom, Rest, rest-first, rest-room, rest-next, rest-end}
-use Rattle.linkrun_text.proofs.write_lines_unchecked.Statement.{statement}
-use Rattle.linkrun_text.proofs.write_lines_unchecked.Tie as tie
+use Rattle.trace.proofs.Lines.{linesFrom, Rest, rest-first, rest-room, rest-next, rest-end}
+use Rattle.trace.proofs.write_lines.Statement.{statement}
+use Rattle.trace.proofs.write_lines.Tie as tie
 
 abbrev Inv-loop : tie.InvT-loop
 Inv-loop rows out₀ at next₀ i₀ out next i = (i ≤ length rows) × Rest rows out₀ at out next i
@@ -22,8 +22,8 @@ mul-row c = search needs
 shared-slice-copy-out-row : tie.Need-shared-slice-copy-out-row Inv-loop μ-loop
 shared-slice-copy-out-row c = search needs
 
-write-line-unchecked-requires : tie.Need-write-line-unchecked-requires Inv-loop μ-loop
-write-line-unchecked-requires c κs =
+write-line-requires : tie.Need-write-line-requires Inv-loop μ-loop
+write-line-requires c κs =
     let l = c .before .before .before .loop in
     let a = c .before .before .before .before .before .args in rest-room (a .rows .now) (a .out .now) (a .at) (l .inv .1) (omega arith)
 
@@ -37,7 +37,7 @@ loop-again : tie.Need-loop-again Inv-loop μ-loop
 loop-again c =
     let l = c .before .before .before .before .before .before .loop in
     let a = c .before .before .before .before .before .before .before .before .args in
-    let e = c .before .before .write-line-unchecked .ensures in
+    let e = c .before .before .write-line .ensures in
     (omega arith, rest-next (a .rows .now) (a .out .now) (a .at) (l .inv .1) (omega arith) (e .0) (e .1))
 
 same-length : tie.Need-same-length Inv-loop μ-loop
@@ -48,8 +48,8 @@ returns c =
     let l = c .before .loop in
     let a = c .before .before .before .args in rest-end (a .rows .now) (a .out .now) (a .at) (l .inv .1) (omega arith)
 
-pub write-lines-unchecked-spec : {M : Type 1} → statement M
-write-lines-unchecked-spec =
+pub write-lines-spec : {M : Type 1} → statement M
+write-lines-spec =
     tie.close
     (tie.spec
     Inv-loop
@@ -57,7 +57,7 @@ write-lines-unchecked-spec =
     loop-holds
     mul-row
     shared-slice-copy-out-row
-    write-line-unchecked-requires
+    write-line-requires
     add-i
     loop-less
     loop-again

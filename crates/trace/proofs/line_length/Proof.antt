@@ -3,9 +3,9 @@ use mathlib.Core.Path.{ap}
 use native.Mathlib.Omega.{arith}
 use lib.ListN.{length, getD}
 use Rattle.events.specs.Events.{ofCopies}
-use Rattle.linkrun_text.proofs.Laws.{line-columns, length-columns}
-use Rattle.linkrun_text.proofs.line_length.Statement.{statement}
-use Rattle.linkrun_text.proofs.line_length.Tie as tie
+use Rattle.trace.proofs.Lines.{line-columns, length-columns}
+use Rattle.trace.proofs.line_length.Statement.{statement}
+use Rattle.trace.proofs.line_length.Tie as tie
 
 array-read-mark : tie.Need-array-read-mark
 array-read-mark c = search needs
@@ -64,7 +64,7 @@ returns c =
     let m = c .before .before .before .before .mark in
     let e = ap length (line-columns row (m .ensures)) in
     let l = length-columns (getD row 0 0) (m .result) (ofCopies (getD row 2 0) (getD row 3 0) (getD row 4 0))
-      (ofCopies (getD row 2 0) (getD row 5 0) (getD row 6 0)) in
+    (ofCopies (getD row 2 0) (getD row 5 0) (getD row 6 0)) in
     omega arith
 
 pub line-length-spec : {M : Type 1} → statement M

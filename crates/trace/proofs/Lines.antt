@@ -16,7 +16,9 @@ use Rattle.text.specs.Decimal.{digits}
 use Rattle.text.specs.Field.{field}
 use Rattle.text.specs.Place.{writtenAt}
 use Rattle.text.proofs.Laws.{length-written, written-after, Written}
-use Rattle.linkrun_text.specs.Text.{comma, tab, lineFeed, joined, columns, eventLine, eventLines, headLine, eventsText}
+use Rattle.refusal.specs.Refusal.{ascii}
+use Rattle.text.specs.Letters.{tab, comma, lineFeed}
+use Rattle.trace.specs.Text.{parted, line, joined, columns, eventLine, eventLines, headLine, eventsText}
 
 pub length-field : (n letter : ℕ) → length (field n letter) ≡ length (digits n) + 1
 unfolding field
@@ -24,16 +26,16 @@ length-field n letter = length-append (digits n) (letter ∷ [])
 
 -- the text of an event's copies
 module _ (copies a b : ℕ) where
-  pub joined-none : copies ≡ 0 → joined (ofCopies copies a b) ≡ 45 ∷ []
+  pub joined-none : copies ≡ 0 → joined (ofCopies copies a b) ≡ ascii "-"
   unfolding joined
   joined-none e = rw e
 
   pub joined-one : copies ≡ 1 → joined (ofCopies copies a b) ≡ digits a
-  unfolding joined
+  unfolding joined parted
   joined-one e = rw e
 
   pub joined-two : 2 ≤ copies → joined (ofCopies copies a b) ≡ field a comma ++ digits b
-  unfolding joined
+  unfolding joined parted field
   joined-two h = rw (take-all copies (a ∷ (b ∷ [])) h)
 
   pub length-none : copies ≡ 0 → length (joined (ofCopies copies a b)) ≡ 1
@@ -48,7 +50,7 @@ module _ (copies a b : ℕ) where
 
   -- with the letter after it
   module _ (letter : ℕ) where
-    pub closed-none : copies ≡ 0 → (45 ∷ []) ++ (letter ∷ []) ≡ joined (ofCopies copies a b) ++ (letter ∷ [])
+    pub closed-none : copies ≡ 0 → ascii "-" ++ (letter ∷ []) ≡ joined (ofCopies copies a b) ++ (letter ∷ [])
     closed-none e = ap (λ (l : List ℕ). l ++ (letter ∷ [])) (sym (joined-none e))
 
     pub closed-one : copies ≡ 1 → field a letter ≡ joined (ofCopies copies a b) ++ (letter ∷ [])
@@ -70,9 +72,18 @@ module _ (copies a b : ℕ) where
         → length (joined (ofCopies copies a b) ++ (letter ∷ [])) ≡ length (field a comma) + length (field b letter)
     closed-two-length h = ap length (sym (closed-two h)) ∙ length-append (field a comma) (field b letter)
 
+-- a line's columns, each with the letter after it
+abbrev pub closed : List ℕ → ℕ → List ℕ
+closed ns letter = joined ns ++ (letter ∷ [])
+
+pub columns-closed : (seq again : ℕ) (delays folds : List ℕ)
+    → columns seq again delays folds ≡ field seq tab ++ (field again tab ++ (closed delays tab ++ closed folds lineFeed))
+unfolding columns line parted field
+columns-closed seq again delays folds = simp append-assoc
+
 pub length-columns : (seq again : ℕ) (delays folds : List ℕ) → length (columns seq again delays folds)
     ≡ length (digits seq) + length (digits again) + length (joined delays) + length (joined folds) + 4
-unfolding columns field
+unfolding columns line parted
 length-columns seq again delays folds = simp length-append (omega arith)
 
 -- the lines of the rows from one on
@@ -160,9 +171,16 @@ unfolding eventLine eventOf
 line-columns row e = rw e
 
 -- the head line and the lines are the text
+pub head-text : headLine ≡ ascii "seq\tagain\tdelays\tfolds\n"
+unfolding headLine line parted
+head-text = refl
+
+pub length-head : length headLine ≡ 23
+length-head = ap length head-text
+
 pub length-text : (es : List ForwardEvent) → length (eventsText es) ≡ 23 + length (eventLines es)
 unfolding eventsText
-length-text es = length-append headLine (eventLines es)
+length-text es = length-append headLine (eventLines es) ∙ ap (λ (k : ℕ). k + length (eventLines es)) length-head
 
 module _ {buffer out : List ℕ} {at next : ℕ} (es : List ForwardEvent) (w : Written buffer at (headLine ++ eventLines es) out next) where
   pub text-after : next ≡ at + length (eventsText es)

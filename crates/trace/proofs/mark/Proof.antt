@@ -2,8 +2,8 @@ use Prim.Native.Nat.{ℕ}
 use mathlib.Core.Path.{_≡_}
 use borrow.Author.Tests.{eq-eqb, ne-eqb}
 use Rattle.rows.specs.Rows.{asNumber, isSet}
-use Rattle.linkrun_text.proofs.mark.Statement.{statement}
-use Rattle.linkrun_text.proofs.mark.Tie as tie
+use Rattle.trace.proofs.mark.Statement.{statement}
+use Rattle.trace.proofs.mark.Tie as tie
 
 set : (n : ℕ) → n ≡ 1 → 1 ≡ asNumber (isSet n)
 set n e = rw (eq-eqb n 1 e)

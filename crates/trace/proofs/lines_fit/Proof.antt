@@ -3,9 +3,9 @@ use mathlib.Core.Path.{_≡_, refl}
 use native.Mathlib.Omega.{arith}
 use lib.ListN.{length}
 use borrow.Author.Needs.{needs}
-use Rattle.linkrun_text.proofs.Laws.{linesFrom, fits-end, fits-not, fits-next}
-use Rattle.linkrun_text.proofs.lines_fit.Statement.{statement}
-use Rattle.linkrun_text.proofs.lines_fit.Tie as tie
+use Rattle.trace.proofs.Lines.{linesFrom, fits-end, fits-not, fits-next}
+use Rattle.trace.proofs.lines_fit.Statement.{statement}
+use Rattle.trace.proofs.lines_fit.Tie as tie
 
 abbrev Inv-loop : tie.InvT-loop
 Inv-loop rows room left₀ i₀ left i = (i ≤ length rows) × (left + length (linesFrom rows 0) ≡ room + length (linesFrom rows i))

@@ -7,10 +7,10 @@ use lib.ListN.{length}
 use borrow.Author.Tests.{leb-true, leb-false, not-true, not-false}
 use Rattle.events.specs.Events.{eventOf}
 use Rattle.text.proofs.Laws.{written-first, written-room, written-more, place-over, place-written}
-use Rattle.linkrun_text.specs.Text.{headLine, eventLines, eventsText}
-use Rattle.linkrun_text.proofs.Laws.{length-text, text-after, text-holds}
-use Rattle.linkrun_text.proofs.place_events.Statement.{statement}
-use Rattle.linkrun_text.proofs.place_events.Tie as tie
+use Rattle.trace.specs.Text.{parted, line, headLine, eventLines, eventsText}
+use Rattle.trace.proofs.Lines.{length-text, text-after, text-holds}
+use Rattle.trace.proofs.place_events.Statement.{statement}
+use Rattle.trace.proofs.place_events.Tie as tie
 
 returns : tie.Need-returns
 returns c =
@@ -33,8 +33,9 @@ returns-2 c =
 write-word-unchecked-requires : tie.Need-write-word-unchecked-requires
 write-word-unchecked-requires c κs = search needs
 
-write-lines-unchecked-requires : tie.Need-write-lines-unchecked-requires
-write-lines-unchecked-requires c κs =
+write-lines-requires : tie.Need-write-lines-requires
+unfolding headLine line parted
+write-lines-requires c κs =
     let a = c .before .before .before .before .before .before .before .before .before .before .before .args in
     let h = leb-true (length (eventLines (map eventOf (a .rows .now)))) (length (a .out .now) - 23) (sym (c .before .before .before .before .before .before .before .lines-fit .ensures) ∙ not-false (c .before .before .before .before .before .before .before .lines-fit .result) (c .before .before .before .before .before .before .if2 .left)) in
     let e1 = c .before .before .before .write-word-unchecked .ensures in
@@ -45,13 +46,14 @@ same-length : tie.Need-same-length
 same-length c = search needs
 
 returns-3 : tie.Need-returns-3
+unfolding headLine line parted
 returns-3 c =
     let a = c .before .before .before .before .before .before .before .before .before .before .before .before .before .before .args in
     let l = length-text (map eventOf (a .rows .now)) in
     let h = leb-true (length (eventLines (map eventOf (a .rows .now)))) (length (a .out .now) - 23) (sym (c .before .before .before .before .before .before .before .before .before .before .lines-fit .ensures) ∙ not-false (c .before .before .before .before .before .before .before .before .before .before .lines-fit .result) (c .before .before .before .before .before .before .before .before .before .if2 .left)) in
     let e1 = c .before .before .before .before .before .before .write-word-unchecked .ensures in
     let w1 = written-first (a .out .now) 0 headLine (e1 .0) (e1 .1) in
-    let e2 = c .before .before .write-lines-unchecked .ensures in
+    let e2 = c .before .before .write-lines .ensures in
     let w2 = written-more (a .out .now) 0 headLine (eventLines (map eventOf (a .rows .now))) w1 (omega arith) (e2 .0) (e2 .1) in
     place-written (a .out .now) (eventsText (map eventOf (a .rows .now))) 0 (omega arith) (text-after (map eventOf (a .rows .now)) w2) (text-holds (map eventOf (a .rows .now)) w2)
 
@@ -64,6 +66,6 @@ place-events-spec =
     lines-fit-requires
     returns-2
     write-word-unchecked-requires
-    write-lines-unchecked-requires
+    write-lines-requires
     same-length
     returns-3)
