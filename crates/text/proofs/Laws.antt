@@ -8,5 +8,5 @@ pub use Rattle.text.proofs.Numbers.{right-long, right-again, right-some
 pub use Rattle.text.proofs.Numbers.{length-written, written-after, Written, written-first, written-room, written-more}
 pub use Rattle.text.proofs.Numbers.{stops-at, read-digits, read-written, Accepted, read-accepted, accepted-read}
 pub use Rattle.text.proofs.Numbers.{read-hex-written, read-hex-accepted}
-pub use Rattle.text.proofs.Places.{place-over, place-written}
+pub use Rattle.text.proofs.Places.{place-over, place-written, place-within}
 pub use Rattle.text.proofs.Fields.{FieldAt, field-accepted, field-read}
