@@ -1,0 +1,2 @@
+pub mod Linkrun
+pub mod Internal

@@ -1,0 +1,9 @@
+pub mod Digits
+pub mod Unique
+pub mod Runs
+pub mod Places
+pub mod Hex
+pub mod Numbers
+pub mod KnownValues
+pub mod Fields
+pub mod Laws
