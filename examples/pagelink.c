@@ -4,7 +4,8 @@
  *
  * protocol=1..3 window=1..32, the same at both ends; seed=N loss=P dup=P swap=P flip=P impair what this process sends, P in
  * thousandths of its datagrams; flip turns one bit over, not in bytes 6 and 7. The receiver learns the file's length from
- * the first 8 bytes of the stream. The timing is the example's own: a fixed timeout, doubled while nothing comes back. */
+ * the first 8 bytes of the stream. Timers are the library's; the timeout is the example's own: a fixed one, doubled while
+ * nothing comes back. */
 #define _GNU_SOURCE
 #include "pindrelo.h"
 #include <arpa/inet.h>
@@ -41,7 +42,7 @@ static uint64_t clock_ns(void)
     uint64_t n = (uint64_t)t.tv_sec * 1000000000u + (uint64_t)t.tv_nsec;
     if (!start)
         start = n;
-    return n - start;
+    return n - start; /* the timers take at most 172,800 s */
 }
 
 /* ---- a line that loses, repeats, swaps and flips, in front of sendto */
@@ -128,7 +129,24 @@ static void report(const char *who, uint64_t bytes, uint64_t ns)
 
 static uint64_t s[PINDRELO_STATE_WORDS];
 static uint8_t sender_store[PINDRELO_STORE_SIZE(PINDRELO_MAX_WINDOW)];
-static uint64_t deadline[PINDRELO_MAX_WINDOW]; /* of number n at n % PINDRELO_MAX_WINDOW; 0: acknowledged */
+static uint64_t t[PINDRELO_TIMERS_WORDS], deadlines[PINDRELO_MAX_WINDOW];
+static uint32_t keys[PINDRELO_MAX_WINDOW];
+
+static void start_timer(uint64_t number, uint64_t now, uint64_t wait)
+{
+    pindrelo_answer a = pindrelo_timer_start(t, PINDRELO_TIMERS_WORDS, keys, PINDRELO_MAX_WINDOW, deadlines,
+                                             PINDRELO_MAX_WINDOW, (uint32_t)number, now, wait);
+    if (PINDRELO_STATUS(a))
+        die("timer start", a);
+}
+
+static void cancel_timer(uint64_t number)
+{
+    pindrelo_answer a = pindrelo_timer_cancel(t, PINDRELO_TIMERS_WORDS, keys, PINDRELO_MAX_WINDOW, deadlines,
+                                              PINDRELO_MAX_WINDOW, (uint32_t)number);
+    if (PINDRELO_STATUS(a))
+        die("timer cancel", a);
+}
 
 /* datagrams that lie end to end */
 static void transmit_all(const uint8_t *d, uint64_t n)
@@ -144,28 +162,28 @@ static void transmit_all(const uint8_t *d, uint64_t n)
 static int timeouts(uint64_t now, uint64_t wait)
 {
     static uint8_t out[PINDRELO_RESEND_SIZE(PINDRELO_MAX_WINDOW)];
-    uint64_t base = s[PINDRELO_SENDER_BASE], next = s[PINDRELO_SENDER_NEXT];
-    int due = 0;
-    for (uint64_t n = base; n < next; n++) {
-        uint64_t *mine = &deadline[n % PINDRELO_MAX_WINDOW];
-        if (!*mine || now < *mine)
-            continue;
-        pindrelo_answer a = protocol == PINDRELO_SELECTIVE_REPEAT
-            ? pindrelo_timeout_number(s, PINDRELO_STATE_WORDS, sender_store, sizeof sender_store, (uint32_t)n, out, sizeof out)
-            : pindrelo_timeout_all(s, PINDRELO_STATE_WORDS, sender_store, sizeof sender_store, out, sizeof out);
+    uint32_t due[PINDRELO_MAX_WINDOW];
+    pindrelo_answer a = pindrelo_timer_pop(t, PINDRELO_TIMERS_WORDS, keys, PINDRELO_MAX_WINDOW, deadlines,
+                                           PINDRELO_MAX_WINDOW, now, due, PINDRELO_MAX_WINDOW);
+    if (PINDRELO_STATUS(a))
+        die("timer pop", a);
+    uint64_t count = PINDRELO_VALUE(a);
+    int selective = protocol == PINDRELO_SELECTIVE_REPEAT;
+    for (uint64_t i = 0; i < (selective ? count : count > 0); i++) {
+        a = selective ? pindrelo_timeout_number(s, PINDRELO_STATE_WORDS, sender_store, sizeof sender_store, due[i], out, sizeof out)
+                      : pindrelo_timeout_all(s, PINDRELO_STATE_WORDS, sender_store, sizeof sender_store, out, sizeof out);
         if (PINDRELO_REFUSED(a))
             die("timeout", a);
-        due = 1;
-        if (PINDRELO_STATUS(a) == PINDRELO_DONE)
-            transmit_all(out, PINDRELO_VALUE(a));
-        if (protocol == PINDRELO_SELECTIVE_REPEAT) {
-            *mine = now + wait;
+        if (PINDRELO_STATUS(a) == PINDRELO_NOTHING)
             continue;
-        }
-        for (n = base; n < next; n++)
-            deadline[n % PINDRELO_MAX_WINDOW] = now + wait;
+        transmit_all(out, PINDRELO_VALUE(a));
+        if (selective)
+            start_timer(due[i], now, wait);
+        else
+            for (uint64_t n = s[PINDRELO_SENDER_BASE]; n < s[PINDRELO_SENDER_NEXT]; n++)
+                start_timer(n, now, wait);
     }
-    return due;
+    return count > 0;
 }
 
 static int send_file(const char *path)
@@ -191,6 +209,9 @@ static int send_file(const char *path)
     a = pindrelo_make_sender(protocol, window, UINT32_MAX, s, PINDRELO_STATE_WORDS, sender_store, sizeof sender_store);
     if (PINDRELO_STATUS(a))
         die("make sender", a);
+    a = pindrelo_make_timers(t, PINDRELO_TIMERS_WORDS, keys, PINDRELO_MAX_WINDOW, deadlines, PINDRELO_MAX_WINDOW);
+    if (PINDRELO_STATUS(a))
+        die("make timers", a);
 
     uint64_t progress = clock_ns(), begun = progress, wait = FIRST_TIMEOUT, refused = 0, other = 0;
     while (at < length || s[PINDRELO_SENDER_BASE] != s[PINDRELO_SENDER_NEXT]) {
@@ -203,12 +224,13 @@ static int send_file(const char *path)
                 die("send", a);
             transmit(d, PINDRELO_VALUE(a));
             at += n;
-            deadline[number % PINDRELO_MAX_WINDOW] = clock_ns() + wait;
+            start_timer(number, clock_ns(), wait);
         }
         poll(&(struct pollfd){.fd = line.fd, .events = POLLIN}, 1, 5);
         uint8_t in[65536];
         ssize_t n;
         while ((n = recv(line.fd, in, sizeof in, MSG_DONTWAIT)) >= 0) {
+            uint64_t base = s[PINDRELO_SENDER_BASE];
             a = pindrelo_acknowledge(s, PINDRELO_STATE_WORDS, sender_store, sizeof sender_store, in, (size_t)n);
             if (PINDRELO_FROM_LINE(a))
                 refused++; /* a damaged datagram: nothing changed */
@@ -217,7 +239,9 @@ static int send_file(const char *path)
             else if (PINDRELO_STATUS(a) == PINDRELO_NOT_ACCEPTED)
                 other++;
             else {
-                deadline[PINDRELO_VALUE(a) % PINDRELO_MAX_WINDOW] = 0;
+                uint64_t number = PINDRELO_VALUE(a); /* Go-Back-N's ACK is of all numbers up to it */
+                for (uint64_t k = protocol == PINDRELO_GO_BACK_N ? base : number; k <= number; k++)
+                    cancel_timer(k);
                 progress = clock_ns();
                 wait = FIRST_TIMEOUT;
             }

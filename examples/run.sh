@@ -1,6 +1,6 @@
 #!/bin/bash
-# The example: a random file over UDP on loopback, two processes, by each protocol, with loss, duplication, reordering and
-# flips from a seed; then the bytes are compared.
+# Packets and timers from C, then the example: a random file over UDP on loopback, two processes, by each protocol, with
+# loss, duplication, reordering and flips from a seed; the bytes are compared.
 # usage: bash examples/run.sh [BYTES [SEED [THOUSANDTHS]]]      after `rt staticlib pindrelo`
 set -u
 cd "$(dirname "$0")/.." || exit 2
@@ -11,6 +11,7 @@ d=$(mktemp -d) || exit 2
 trap 'rm -rf "$d"' EXIT
 cc -std=c11 -O2 -Wall -Wextra -Werror -Iinclude examples/pagelink.c "$library" -o "$d/pagelink" || exit 2
 failed=0
+cc -std=c99 -Wall -Wextra -Werror -pedantic -Iinclude examples/calls.c "$library" -o "$d/calls" && "$d/calls" || failed=1
 for protocol in 1 2 3; do
   head -c "$bytes" /dev/urandom >"$d/in"
   rm -f "$d/out"

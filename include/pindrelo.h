@@ -30,11 +30,11 @@ extern "C" {
  *      7  numbers   the numbers are used up: 4,294,901,760
  *      8  counts    a counter stands at 2^60 or more
  *      9  state     words, store or fill mark that no call left so: zeros, another kind, fewer words, another version
- *     16  the window is full       17  not accepted       18  nothing to send again       19  nothing to answer
+ *     10  time      a time above 172,800 s, a duration above 86,400 s
+ *     16  the window is full     17  not accepted     18  nothing     19  nothing to answer     20  invalid checksum
  *
  * 1 to 11 are refusals: no byte of anything lent has changed. The first that is true is answered, in the order 9,
- * 8, 4, 1, 2, 3, 6, 7, 5. (10 and 11 belong to times and rolls; no call here answers them.) From 16 on nothing
- * failed.
+ * 8, 10, 4, 1, 2, 3, 6, 7, 5. (11 belongs to rolls; no call here answers it.) From 16 on nothing failed.
  *
  * Which come from where: 1, 2, 3 and 6 of acknowledge and receive, and 7 of receive, are datagrams that the line
  * or another program made: count them and go on. All others are the host's own: a state that was overwritten,
@@ -53,10 +53,12 @@ enum {
     PINDRELO_NUMBERS = 7,
     PINDRELO_COUNTS = 8,
     PINDRELO_STATE = 9,
+    PINDRELO_TIME = 10,
     PINDRELO_WINDOW_FULL = 16,
     PINDRELO_NOT_ACCEPTED = 17,
     PINDRELO_NOTHING = 18,
-    PINDRELO_SILENT = 19
+    PINDRELO_SILENT = 19,
+    PINDRELO_INVALID = 20
 };
 
 #define PINDRELO_STATUS(a) ((unsigned)((a) & 0xff))
@@ -65,16 +67,16 @@ enum {
 /* a refusal's values */
 #define PINDRELO_FIRST(a) ((unsigned)(PINDRELO_VALUE(a) & 0xffff))
 #define PINDRELO_SECOND(a) ((unsigned)(PINDRELO_VALUE(a) >> 16 & 0xffff))
-/* of acknowledge and receive: the line's doing, not the host's */
+/* of acknowledge, receive and the readers of packets: the line's doing, not the host's */
 #define PINDRELO_FROM_LINE(a) \
     (PINDRELO_REFUSED(a) && (PINDRELO_STATUS(a) <= 3 || PINDRELO_STATUS(a) == 6 || PINDRELO_STATUS(a) == 7))
 
 /* ---- MEMORY
  *
- * A pointer is followed by its length: words (8 bytes, aligned) for a state, bytes for all else. Any length is
- * answered, too short ones by 9 or 5, NULL only with length 0. What C must keep, since no library can see it: a
- * pointer is valid for its length, and no two slices of one call overlap. Bytes past what a call writes stay as
- * they are. */
+ * A pointer is followed by its length: words (8 bytes, aligned) for a state, keys (4 bytes, aligned) and deadlines (8)
+ * for a timer set, bytes for all else. Any length is answered, too short ones by 9 or 5, NULL only with length 0. What
+ * C must keep, since no library can see it: a pointer is valid for its length, and no two slices of one call overlap.
+ * Bytes past what a call writes stay as they are. */
 
 #define PINDRELO_HEADER_SIZE 10
 #define PINDRELO_MAX_PAYLOAD 1400
@@ -82,7 +84,8 @@ enum {
 #define PINDRELO_ACK_SIZE 10
 #define PINDRELO_MAX_WINDOW 32
 #define PINDRELO_STATE_WORDS 8
-/* a store's bytes: of a sender (Stop-and-Wait's window is 1), and of Selective Repeat's receiver; the other two have none */
+#define PINDRELO_TIMERS_WORDS 3
+/* a store's bytes: of a sender (Stop-and-Wait's window is 1) and of Selective Repeat's receiver; others have none */
 #define PINDRELO_STORE_SIZE(window) ((size_t)(window) * 1404)
 /* what a timeout of all can write */
 #define PINDRELO_RESEND_SIZE(window) ((size_t)(window) * PINDRELO_MAX_DATAGRAM)
@@ -169,6 +172,58 @@ pindrelo_answer pindrelo_make_receiver(uint64_t protocol, size_t window,
 pindrelo_answer pindrelo_receive(uint64_t *state, size_t words, uint8_t *store, size_t store_size,
                                  const uint8_t *datagram, size_t length, uint8_t *output, size_t output_size,
                                  uint8_t *ack, size_t ack_size);
+
+/* ---- A TIMER SET
+ *
+ * For Selective Repeat: a timer for each outstanding number, which is its key. The set is its words, its keys and its
+ * deadlines, two slices of one length with an entry for each timer that may run; the window is enough. Times are
+ * nanoseconds from a start of the host's choice, one for each transfer: at most 172,800 s, so not a clock that counts
+ * from boot. A timer is due when now is at its deadline or past it. */
+
+/* 9 slices of unequal length, 5 fewer than PINDRELO_TIMERS_WORDS words. All entries become zeros. */
+pindrelo_answer pindrelo_make_timers(uint64_t *state, size_t words, uint32_t *keys, size_t key_count,
+                                     uint64_t *deadlines, size_t deadline_count);
+
+/* Sets or restarts the timer of a key. 9, 10, 5 where the key is new and no entry is unused. */
+pindrelo_answer pindrelo_timer_start(uint64_t *state, size_t words, uint32_t *keys, size_t key_count,
+                                     uint64_t *deadlines, size_t deadline_count,
+                                     uint32_t key, uint64_t now, uint64_t duration);
+
+/* Done: 1 where the key's timer ran, else 0; it runs no more. 9, 10. */
+pindrelo_answer pindrelo_timer_cancel(uint64_t *state, size_t words, uint32_t *keys, size_t key_count,
+                                      uint64_t *deadlines, size_t deadline_count, uint32_t key);
+
+/* Done: how many keys were due; they stand at the start of out, ascending, and run no more. 9, 10, 5. */
+pindrelo_answer pindrelo_timer_pop(uint64_t *state, size_t words, uint32_t *keys, size_t key_count,
+                                   uint64_t *deadlines, size_t deadline_count,
+                                   uint64_t now, uint32_t *out, size_t out_count);
+
+/* Done: the earliest deadline. Else NOTHING. 9, 10. */
+pindrelo_answer pindrelo_timer_earliest(const uint64_t *state, size_t words, const uint32_t *keys, size_t key_count,
+                                        const uint64_t *deadlines, size_t deadline_count);
+
+/* ---- PACKETS
+ *
+ * The ends read and write them; a host needs these calls only for packets of its own, as a Fin. A header has 10 bytes,
+ * big-endian: number 0 to 3, kind 4 (1 Data, 2 Ack, 3 Fin), flags 5, payload length 6 and 7, checksum 8 and 9. */
+
+enum { PINDRELO_DATA_PACKET = 1, PINDRELO_ACK_PACKET = 2, PINDRELO_FIN_PACKET = 3 };
+
+/* Done: number, kind and flags, for these macros. Bytes behind the payload are ignored. 1, 2, 3. */
+pindrelo_answer pindrelo_read(const uint8_t *datagram, size_t length);
+#define PINDRELO_PACKET_NUMBER(a) ((uint32_t)PINDRELO_VALUE(a))
+#define PINDRELO_PACKET_KIND(a) ((unsigned)(PINDRELO_VALUE(a) >> 32 & 0xff))
+#define PINDRELO_PACKET_FLAGS(a) ((unsigned)(PINDRELO_VALUE(a) >> 40))
+
+/* Done: the checksum matches. Else INVALID. 1, 2, 3. */
+pindrelo_answer pindrelo_validate(const uint8_t *datagram, size_t length);
+
+/* Done: the payload's length; it starts at byte PINDRELO_HEADER_SIZE. 1, 2, 3. */
+pindrelo_answer pindrelo_payload_length(const uint8_t *datagram, size_t length);
+
+/* A datagram with its checksum to the start of out. Done: its length. 2, 6, 5. */
+pindrelo_answer pindrelo_write(uint8_t kind, uint32_t number, uint8_t flags, const uint8_t *payload, size_t length,
+                               uint8_t *out, size_t out_size);
 
 /* ---- WHAT THE HOST DECIDES
  *
