@@ -1,0 +1,69 @@
+-- What the calls over words answer, from the equations of the calls below them.
+use Prim.Native.Nat.{ℕ}
+use mathlib.Core.Path.{_≡_, refl, sym, ap, _∙_}
+use mathlib.Core.List.{List, [], _∷_}
+use Rattle.refusal.specs.declared.Refusal.the-variants.{State}
+use Rattle.window.specs.declared.SendAnswer.{SendAnswer}
+use Rattle.window.specs.declared.AckAnswer.{AckAnswer}
+use Rattle.window.specs.declared.TimeoutAnswer.{TimeoutAnswer}
+use Rattle.window.specs.Sending.{SendExit, sendExit}
+use Rattle.window.specs.Acknowledgement.{AckExit, ackExit}
+use Rattle.window.specs.Resending.{TimeoutExit, timeoutExit}
+use Rattle.receiver.specs.declared.ReceiveAnswer.{ReceiveAnswer}
+use Rattle.receiver.specs.Receive.{ReceiveExit, receiveExit}
+use Rattle.session.specs.declared.Sender.{Sender}
+use Rattle.session.specs.declared.Receiver.{Receiver}
+use Rattle.session.specs.declared.Timeout.{Timeout}
+use Rattle.session.specs.Sending.{SenderEnd, senderEnd, sendChunk, handleAck, handleTimeout}
+use Rattle.session.specs.Receiving.{ReceiverEnd, receiverEnd, handlePacket}
+use Rattle.host_answer.specs.Answer.{refusalAnswer}
+use Rattle.host_words.specs.declared.HeldSender.the-variants as heldSenders
+use Rattle.host_words.specs.declared.HeldReceiver.the-variants as heldReceivers
+use Rattle.host_words.specs.Words.{heldSender, heldReceiver, withSender, withReceiver}
+use Rattle.host_ends.specs.Answers.{callExit, sendCode, ackCode, timeoutCode, receiveCode}
+use Rattle.host_ends.specs.Sender.{sent, sendHeld, send, numberOf, acknowledged, acknowledgeHeld, acknowledge, timedOut, timeoutHeld, timeout}
+use Rattle.host_ends.specs.Receiver.{received, receiveHeld, receive}
+
+module _ (state store payload out : List ℕ) where
+  pub on-sent : {s v : Sender} {a : SendAnswer} {x : ℕ} {state' store' out' : List ℕ} → heldSender state ≡ heldSenders.Sender s
+      → sendExit a (senderEnd v store') out' ≡ sendChunk (senderEnd s store) payload out → state' ≡ withSender state (v .state) → x ≡ sendCode a
+      → callExit x (state' ∷ store' ∷ out' ∷ []) ≡ send state store payload out
+  unfolding sendHeld
+  on-sent h e p q = rw (h, p, q) (ap (λ (y : SendExit SenderEnd). sent state y) e)
+
+  pub on-send-broken : {x : ℕ} → heldSender state ≡ heldSenders.Broken → x ≡ refusalAnswer State → callExit x (state ∷ store ∷ out ∷ []) ≡ send state store payload out
+  unfolding sendHeld
+  on-send-broken h q = rw (h, q)
+
+module _ (state store raw : List ℕ) where
+  pub on-acknowledged : {s v : Sender} {a : AckAnswer} {n x : ℕ} {state' store' : List ℕ} → heldSender state ≡ heldSenders.Sender s
+      → ackExit a (senderEnd v store') ≡ handleAck (senderEnd s store) raw → state' ≡ withSender state (v .state) → n ≡ numberOf raw → x ≡ ackCode n a
+      → callExit x (state' ∷ store' ∷ []) ≡ acknowledge state store raw
+  unfolding acknowledgeHeld
+  on-acknowledged h e p r q = rw (h, p, q, r) (ap (λ (y : AckExit SenderEnd). acknowledged (numberOf raw) state y) e)
+
+  pub on-acknowledge-broken : {x : ℕ} → heldSender state ≡ heldSenders.Broken → x ≡ refusalAnswer State → callExit x (state ∷ store ∷ []) ≡ acknowledge state store raw
+  unfolding acknowledgeHeld
+  on-acknowledge-broken h q = rw (h, q)
+
+module _ (state store : List ℕ) (t : Timeout) (out : List ℕ) where
+  pub on-timed-out : {s v : Sender} {a : TimeoutAnswer} {x : ℕ} {state' store' out' : List ℕ} → heldSender state ≡ heldSenders.Sender s
+      → timeoutExit a (senderEnd v store') out' ≡ handleTimeout (senderEnd s store) t out → state' ≡ withSender state (v .state) → x ≡ timeoutCode a
+      → callExit x (state' ∷ store' ∷ out' ∷ []) ≡ timeout state store t out
+  unfolding timeoutHeld
+  on-timed-out h e p q = rw (h, p, q) (ap (λ (y : TimeoutExit SenderEnd). timedOut state y) e)
+
+  pub on-timeout-broken : {x : ℕ} → heldSender state ≡ heldSenders.Broken → x ≡ refusalAnswer State → callExit x (state ∷ store ∷ out ∷ []) ≡ timeout state store t out
+  unfolding timeoutHeld
+  on-timeout-broken h q = rw (h, q)
+
+module _ (state store raw output ack : List ℕ) where
+  pub on-received : {s v : Receiver} {a : ReceiveAnswer} {x : ℕ} {state' store' output' ack' : List ℕ} → heldReceiver state ≡ heldReceivers.Receiver s
+      → receiveExit a (receiverEnd v store') output' ack' ≡ handlePacket (receiverEnd s store) raw output ack → state' ≡ withReceiver state (v .state) → x ≡ receiveCode a
+      → callExit x (state' ∷ store' ∷ output' ∷ ack' ∷ []) ≡ receive state store raw output ack
+  unfolding receiveHeld
+  on-received h e p q = rw (h, p, q) (ap (λ (y : ReceiveExit ReceiverEnd). received state y) e)
+
+  pub on-receive-broken : {x : ℕ} → heldReceiver state ≡ heldReceivers.Broken → x ≡ refusalAnswer State → callExit x (state ∷ store ∷ output ∷ ack ∷ []) ≡ receive state store raw output ack
+  unfolding receiveHeld
+  on-receive-broken h q = rw (h, q)

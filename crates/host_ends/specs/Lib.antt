@@ -1,0 +1,4 @@
+pub mod Answers
+pub mod Sender
+pub mod Receiver
+pub mod Making

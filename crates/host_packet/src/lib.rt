@@ -1,0 +1,106 @@
+// Packets for a host outside Rattle.
+ghost use mathlib.Core.Path.{_≡_};
+ghost use Rattle.packet.specs.Format.{withChecksum};
+ghost use Rattle.packet.specs.Writing.{toBytes};
+ghost use Rattle.host_packet.specs.Packet.{headerValue, read, validate, payloadLength, lengthCode, writeExit};
+ghost use Rattle.host_packet.specs.Packet.{written, packetOf, write};
+use packet::LengthAnswer;
+use packet::Packet;
+use packet::PacketAnswer;
+use packet::PacketType;
+use packet::PacketTypeAnswer;
+use packet::ValidityAnswer;
+use refusal::Refusal;
+
+// The header: done with number, kind and flags, or refused.
+pub fn read(raw: &[u8]) -> u64
+    ensures { λ r. ⌜ r ≡ read (now (raw .entry)) ⌝ }
+{
+    match Packet::from_bytes(raw) {
+        PacketAnswer::Packet(p) => host_answer::pack_unchecked(host_answer::DONE, header_value(p)),
+        PacketAnswer::Refused(r) => host_answer::refusal_answer(r),
+    }
+}
+
+// Whether the checksum matches: done, invalid, or refused.
+pub fn validate(raw: &[u8]) -> u64
+    ensures { λ r. ⌜ r ≡ validate (now (raw .entry)) ⌝ }
+{
+    match Packet::is_valid(raw) {
+        ValidityAnswer::Valid => host_answer::pack_unchecked(host_answer::DONE, 0),
+        ValidityAnswer::Invalid => host_answer::pack_unchecked(host_answer::INVALID, 0),
+        ValidityAnswer::Refused(r) => host_answer::refusal_answer(r),
+    }
+}
+
+// The payload stands behind the header: done with its length, or refused.
+pub fn payload_length(raw: &[u8]) -> u64
+    ensures { λ r. ⌜ r ≡ payloadLength (now (raw .entry)) ⌝ }
+{
+    match Packet::from_bytes(raw) {
+        PacketAnswer::Packet(_) => {
+            let payload = Packet::payload(raw);
+            host_answer::pack_unchecked(host_answer::DONE, payload.len() as u64)
+        }
+        PacketAnswer::Refused(r) => host_answer::refusal_answer(r),
+    }
+}
+
+// A datagram with its checksum to the start of out: done with its length, or refused.
+pub fn write(kind: u8, seq_num: u32, flags: u8, payload: &[u8], out: &mut [u8]) -> u64
+    ensures { λ r. ⌜ writeExit r (now (out .exit))
+        ≡ write kind «seq_num» flags (now (payload .entry)) (now (out .entry)) ⌝ }
+{
+    match PacketType::try_from(kind) {
+        PacketTypeAnswer::Type(pkt_type) => write_packet(seq_num, pkt_type, flags, payload, out),
+        PacketTypeAnswer::Refused(r) => host_answer::refusal_answer(r),
+    }
+}
+
+fn write_packet(
+    seq_num: u32,
+    pkt_type: PacketType,
+    flags: u8,
+    payload: &[u8],
+    out: &mut [u8],
+) -> u64
+    ensures { λ r. ⌜ writeExit r (now (out .exit))
+        ≡ written (toBytes (withChecksum (packetOf «seq_num» «pkt_type» flags) (now (payload .entry)))
+        (now (payload .entry)) (now (out .entry))) ⌝ }
+{
+    if Packet::MAX_PAYLOAD_SIZE < payload.len() {
+        return host_answer::refusal_answer(Refusal::Long);
+    }
+    let p = Packet {
+        seq_num,
+        pkt_type,
+        flags,
+        checksum: 0,
+    };
+    let p = p.compute_and_set_checksum_unchecked(payload);
+    length_code(p.to_bytes(payload, out))
+}
+
+fn length_code(a: LengthAnswer) -> u64
+    ensures { λ r. ⌜ r ≡ lengthCode a ⌝ }
+{
+    match a {
+        LengthAnswer::Length(n) => host_answer::pack_unchecked(host_answer::DONE, n as u64),
+        LengthAnswer::Refused(r) => host_answer::refusal_answer(r),
+    }
+}
+
+fn header_value(p: Packet) -> u64
+    ensures { λ r. ⌜ r ≡ headerValue p ⌝ }
+{
+    let pkt_type = p.pkt_type;
+    let kind = widened(pkt_type.to_byte());
+    let flags = widened(p.flags);
+    p.seq_num as u64 + kind * 4_294_967_296 + flags * 1_099_511_627_776
+}
+
+fn widened(n: u8) -> u64
+    ensures { λ r. ⌜ r ≡ n ⌝ }
+{
+    n as u64
+}

@@ -1,0 +1,221 @@
+// The library for a host in C, C++ or Rust: include/pindrelo.h. Each export is a call of a host_ crate, with its
+// contract.
+ghost use mathlib.Core.Path.{_≡_};
+ghost use mathlib.Core.List.{[], _∷_};
+ghost use Rattle.session.specs.declared.Timeout.the-variants as timeouts;
+ghost use Rattle.host_ends.specs.Answers.{callExit};
+ghost use Rattle.host_ends.specs.Sender as sender;
+ghost use Rattle.host_ends.specs.Receiver as receiver;
+ghost use Rattle.host_ends.specs.Making.{makeSender, makeReceiver};
+ghost use Rattle.host_packet.specs.Packet as packets;
+ghost use Rattle.multi_timer.specs.MultiTimer.{timersExit, popExit};
+ghost use Rattle.host_timers.specs.Timers as timers;
+use session::Timeout;
+
+#[no_mangle]
+pub extern "C" fn pindrelo_make_sender(
+    protocol: u64,
+    window: usize,
+    max_retries: u32,
+    state: &mut [u64],
+    store: &mut [u8],
+) -> u64
+    ensures { λ r. ⌜ callExit r (now (state .exit) ∷ now (store .exit) ∷ [])
+        ≡ makeSender protocol window «max_retries» (now (state .entry)) (now (store .entry)) ⌝ }
+{
+    host_ends::make_sender(protocol, window, max_retries, state, store)
+}
+
+#[no_mangle]
+pub extern "C" fn pindrelo_send(
+    state: &mut [u64],
+    store: &mut [u8],
+    payload: &[u8],
+    out: &mut [u8],
+) -> u64
+    ensures { λ r. ⌜ callExit r (now (state .exit) ∷ now (store .exit) ∷ now (out .exit) ∷ [])
+        ≡ sender.send (now (state .entry)) (now (store .entry)) (now (payload .entry)) (now (out .entry)) ⌝ }
+{
+    host_ends::send(state, store, payload, out)
+}
+
+#[no_mangle]
+pub extern "C" fn pindrelo_acknowledge(state: &mut [u64], store: &mut [u8], raw: &[u8]) -> u64
+    ensures { λ r. ⌜ callExit r (now (state .exit) ∷ now (store .exit) ∷ [])
+        ≡ sender.acknowledge (now (state .entry)) (now (store .entry)) (now (raw .entry)) ⌝ }
+{
+    host_ends::acknowledge(state, store, raw)
+}
+
+#[no_mangle]
+pub extern "C" fn pindrelo_timeout_all(state: &mut [u64], store: &mut [u8], out: &mut [u8]) -> u64
+    ensures { λ r. ⌜ callExit r (now (state .exit) ∷ now (store .exit) ∷ now (out .exit) ∷ [])
+        ≡ sender.timeout (now (state .entry)) (now (store .entry)) timeouts.All (now (out .entry)) ⌝ }
+{
+    host_ends::timeout(state, store, Timeout::All, out)
+}
+
+#[no_mangle]
+pub extern "C" fn pindrelo_timeout_earliest(
+    state: &mut [u64],
+    store: &mut [u8],
+    out: &mut [u8],
+) -> u64
+    ensures { λ r. ⌜ callExit r (now (state .exit) ∷ now (store .exit) ∷ now (out .exit) ∷ [])
+        ≡ sender.timeout (now (state .entry)) (now (store .entry)) timeouts.Earliest (now (out .entry)) ⌝ }
+{
+    host_ends::timeout(state, store, Timeout::Earliest, out)
+}
+
+#[no_mangle]
+pub extern "C" fn pindrelo_timeout_number(
+    state: &mut [u64],
+    store: &mut [u8],
+    seq_num: u32,
+    out: &mut [u8],
+) -> u64
+    ensures { λ r. ⌜ callExit r (now (state .exit) ∷ now (store .exit) ∷ now (out .exit) ∷ [])
+        ≡ sender.timeout (now (state .entry)) (now (store .entry)) (timeouts.Number «seq_num») (now (out .entry)) ⌝ }
+{
+    host_ends::timeout(state, store, Timeout::Number(seq_num), out)
+}
+
+#[no_mangle]
+pub extern "C" fn pindrelo_can_send(state: &[u64]) -> u64
+    ensures { λ r. ⌜ r ≡ sender.canSend (now (state .entry)) ⌝ }
+{
+    host_ends::can_send(state)
+}
+
+#[no_mangle]
+pub extern "C" fn pindrelo_in_flight(state: &[u64], store: &[u8]) -> u64
+    ensures { λ r. ⌜ r ≡ sender.inFlight (now (state .entry)) (now (store .entry)) ⌝ }
+{
+    host_ends::in_flight(state, store)
+}
+
+#[no_mangle]
+pub extern "C" fn pindrelo_make_receiver(
+    protocol: u64,
+    window: usize,
+    state: &mut [u64],
+    store: &mut [u8],
+) -> u64
+    ensures { λ r. ⌜ callExit r (now (state .exit) ∷ now (store .exit) ∷ [])
+        ≡ makeReceiver protocol window (now (state .entry)) (now (store .entry)) ⌝ }
+{
+    host_ends::make_receiver(protocol, window, state, store)
+}
+
+#[no_mangle]
+pub extern "C" fn pindrelo_receive(
+    state: &mut [u64],
+    store: &mut [u8],
+    raw: &[u8],
+    output: &mut [u8],
+    ack: &mut [u8],
+) -> u64
+    ensures { λ r. ⌜ callExit r
+        (now (state .exit) ∷ now (store .exit) ∷ now (output .exit) ∷ now (ack .exit) ∷ [])
+        ≡ receiver.receive (now (state .entry)) (now (store .entry)) (now (raw .entry)) (now (output .entry))
+        (now (ack .entry)) ⌝ }
+{
+    host_ends::receive(state, store, raw, output, ack)
+}
+
+#[no_mangle]
+pub extern "C" fn pindrelo_read(raw: &[u8]) -> u64
+    ensures { λ r. ⌜ r ≡ packets.read (now (raw .entry)) ⌝ }
+{
+    host_packet::read(raw)
+}
+
+#[no_mangle]
+pub extern "C" fn pindrelo_validate(raw: &[u8]) -> u64
+    ensures { λ r. ⌜ r ≡ packets.validate (now (raw .entry)) ⌝ }
+{
+    host_packet::validate(raw)
+}
+
+#[no_mangle]
+pub extern "C" fn pindrelo_payload_length(raw: &[u8]) -> u64
+    ensures { λ r. ⌜ r ≡ packets.payloadLength (now (raw .entry)) ⌝ }
+{
+    host_packet::payload_length(raw)
+}
+
+#[no_mangle]
+pub extern "C" fn pindrelo_write(
+    kind: u8,
+    seq_num: u32,
+    flags: u8,
+    payload: &[u8],
+    out: &mut [u8],
+) -> u64
+    ensures { λ r. ⌜ packets.writeExit r (now (out .exit))
+        ≡ packets.write kind «seq_num» flags (now (payload .entry)) (now (out .entry)) ⌝ }
+{
+    host_packet::write(kind, seq_num, flags, payload, out)
+}
+
+#[no_mangle]
+pub extern "C" fn pindrelo_make_timers(
+    state: &mut [u64],
+    keys: &mut [u32],
+    deadlines: &mut [u64],
+) -> u64
+    ensures { λ r. ⌜ timersExit (timers.wordsExit r (now (state .exit))) (now (keys .exit)) (now (deadlines .exit))
+        ≡ timers.makeTimers (now (state .entry)) (now (keys .entry)) (now (deadlines .entry)) ⌝ }
+{
+    host_timers::make_timers(state, keys, deadlines)
+}
+
+#[no_mangle]
+pub extern "C" fn pindrelo_timer_start(
+    state: &mut [u64],
+    keys: &mut [u32],
+    deadlines: &mut [u64],
+    key: u32,
+    now: u64,
+    duration: u64,
+) -> u64
+    ensures { λ r. ⌜ timersExit (timers.wordsExit r (state .exit .now)) (keys .exit .now) (deadlines .exit .now)
+        ≡ timers.start (state .entry .now) (keys .entry .now) (deadlines .entry .now) key now duration ⌝ }
+{
+    host_timers::start(state, keys, deadlines, key, now, duration)
+}
+
+#[no_mangle]
+pub extern "C" fn pindrelo_timer_cancel(
+    state: &mut [u64],
+    keys: &mut [u32],
+    deadlines: &mut [u64],
+    key: u32,
+) -> u64
+    ensures { λ r. ⌜ timersExit (timers.wordsExit r (now (state .exit))) (now (keys .exit)) (now (deadlines .exit))
+        ≡ timers.cancel (now (state .entry)) (now (keys .entry)) (now (deadlines .entry)) key ⌝ }
+{
+    host_timers::cancel(state, keys, deadlines, key)
+}
+
+#[no_mangle]
+pub extern "C" fn pindrelo_timer_pop(
+    state: &mut [u64],
+    keys: &mut [u32],
+    deadlines: &mut [u64],
+    now: u64,
+    out: &mut [u32],
+) -> u64
+    ensures { λ r. ⌜ popExit
+        (timersExit (timers.wordsExit r (state .exit .now)) (keys .exit .now) (deadlines .exit .now)) (out .exit .now)
+        ≡ timers.pop (state .entry .now) (keys .entry .now) (deadlines .entry .now) now (out .entry .now) ⌝ }
+{
+    host_timers::pop(state, keys, deadlines, now, out)
+}
+
+#[no_mangle]
+pub extern "C" fn pindrelo_timer_earliest(state: &[u64], keys: &[u32], deadlines: &[u64]) -> u64
+    ensures { λ r. ⌜ r ≡ timers.earliest (now (state .entry)) (now (keys .entry)) (now (deadlines .entry)) ⌝ }
+{
+    host_timers::earliest(state, keys, deadlines)
+}

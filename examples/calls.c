@@ -1,0 +1,78 @@
+/* calls: packets and timers from C, each answer compared; prints a line for each that is wrong. */
+#include "pindrelo.h"
+#include <stdio.h>
+#include <string.h>
+
+static int wrong;
+
+static void expect(const char *what, uint64_t got, uint64_t wanted)
+{
+    if (got != wanted) {
+        printf("calls: %s: %llu, not %llu\n", what, (unsigned long long)got, (unsigned long long)wanted);
+        wrong = 1;
+    }
+}
+
+#define DONE(value) ((uint64_t)(value) << 8)
+
+static void packets(void)
+{
+    uint8_t d[PINDRELO_MAX_DATAGRAM], before[PINDRELO_MAX_DATAGRAM];
+    const uint8_t a[1] = {0x41};
+    pindrelo_answer r;
+
+    memset(d, 7, sizeof d);
+    expect("write", pindrelo_write(PINDRELO_DATA_PACKET, 0, 0, a, 1, d, sizeof d), DONE(11));
+    expect("checksum of the byte 0x41", (uint64_t)(d[8] << 8 | d[9]), 0xBDFE);
+    expect("past the datagram", d[11], 7);
+    expect("payload", pindrelo_payload_length(d, 11), DONE(1));
+    expect("validate", pindrelo_validate(d, 11), PINDRELO_DONE);
+    d[10] ^= 1;
+    expect("validate a flipped bit", pindrelo_validate(d, 11), PINDRELO_INVALID);
+    expect("cut", pindrelo_read(d, 10), PINDRELO_CUT | DONE(1));
+    expect("short", pindrelo_read(d, 9), PINDRELO_SHORT | DONE(9));
+    d[4] = 4;
+    expect("kind", pindrelo_read(d, 11), PINDRELO_KIND | DONE(4));
+
+    pindrelo_write(PINDRELO_FIN_PACKET, 0xFFFFFFFF, 0x81, NULL, 0, d, sizeof d);
+    r = pindrelo_read(d, 10);
+    expect("number", PINDRELO_PACKET_NUMBER(r), 0xFFFFFFFF);
+    expect("kind of a Fin", PINDRELO_PACKET_KIND(r), PINDRELO_FIN_PACKET);
+    expect("flags", PINDRELO_PACKET_FLAGS(r), 0x81);
+
+    memcpy(before, d, sizeof d);
+    expect("write no kind", pindrelo_write(9, 0, 0, a, 1, d, sizeof d), PINDRELO_KIND | DONE(9));
+    expect("write a short buffer", pindrelo_write(1, 0, 0, a, 1, d, 10), PINDRELO_FULL);
+    expect("nothing written", (uint64_t)memcmp(before, d, sizeof d), 0);
+}
+
+static void timers(void)
+{
+    uint64_t t[PINDRELO_TIMERS_WORDS] = {0}, at[2] = {0, 0};
+    uint32_t keys[2] = {0, 0}, due[2] = {0, 0};
+
+    expect("no set", pindrelo_timer_earliest(t, 3, keys, 2, at, 2), PINDRELO_STATE);
+    expect("unequal", pindrelo_make_timers(t, 3, keys, 2, at, 1), PINDRELO_STATE);
+    expect("few words", pindrelo_make_timers(t, 2, keys, 2, at, 2), PINDRELO_FULL);
+    expect("make", pindrelo_make_timers(t, 3, keys, 2, at, 2), PINDRELO_DONE);
+    expect("none runs", pindrelo_timer_earliest(t, 3, keys, 2, at, 2), PINDRELO_NOTHING);
+    expect("start 9", pindrelo_timer_start(t, 3, keys, 2, at, 2, 9, 100, 20), PINDRELO_DONE);
+    expect("start 4", pindrelo_timer_start(t, 3, keys, 2, at, 2, 4, 100, 50), PINDRELO_DONE);
+    expect("start a third", pindrelo_timer_start(t, 3, keys, 2, at, 2, 5, 100, 50), PINDRELO_FULL);
+    expect("late", pindrelo_timer_start(t, 3, keys, 2, at, 2, 4, 172800000000001u, 0), PINDRELO_TIME);
+    expect("earliest", pindrelo_timer_earliest(t, 3, keys, 2, at, 2), DONE(120));
+    expect("pop early", pindrelo_timer_pop(t, 3, keys, 2, at, 2, 119, due, 2), DONE(0));
+    expect("pop 9", pindrelo_timer_pop(t, 3, keys, 2, at, 2, 120, due, 2), DONE(1));
+    expect("due", due[0], 9);
+    expect("cancel 9", pindrelo_timer_cancel(t, 3, keys, 2, at, 2, 9), DONE(0));
+    expect("cancel 4", pindrelo_timer_cancel(t, 3, keys, 2, at, 2, 4), DONE(1));
+}
+
+int main(void)
+{
+    packets();
+    timers();
+    if (!wrong)
+        printf("calls: as expected\n");
+    return wrong;
+}

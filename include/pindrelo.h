@@ -1,0 +1,241 @@
+/* pindrelo.h: reliable transfer of files over a lossy datagram line. Link libpindrelo.a (`rt staticlib pindrelo`).
+ *
+ * The host owns sockets, encryption and the clock. It hands over datagrams as they come, in memory that it lends
+ * for the length of a call. The library allocates nothing, keeps no state of its own, starts no thread, makes no
+ * system call and never blocks: two states may be used by two threads at once, one state by one thread at a time.
+ *
+ * What is promised of every call is proved: it ends on every input, its answer and every byte that it writes are
+ * fixed by its contract (crates/pindrelo/src/lib.rt), and a refused call changes nothing. */
+#ifndef PINDRELO_H
+#define PINDRELO_H
+
+#include <stddef.h>
+#include <stdint.h>
+
+#ifdef __cplusplus
+extern "C" {
+#endif
+
+/* ---- ANSWERS
+ *
+ * Every call answers one number of 64 bits: a status in its lowest 8 bits, a value in the 56 above them.
+ *
+ *      0  done; the value is named at each call
+ *      1  short     a datagram under 10 bytes; its length
+ *      2  kind      byte 4 of a datagram is not 1 to 3; the byte
+ *      3  cut       a datagram declares more payload than follows; declared and present
+ *      4  setup     protocol or window out of bounds, at making
+ *      5  full      a lent buffer is shorter than this call writes
+ *      6  long      a payload above 1,400 bytes
+ *      7  numbers   the numbers are used up: 4,294,901,760
+ *      8  counts    a counter stands at 2^60 or more
+ *      9  state     words, store or fill mark that no call left so: zeros, another kind, fewer words, another version
+ *     10  time      a time above 172,800 s, a duration above 86,400 s
+ *     16  the window is full     17  not accepted     18  nothing     19  nothing to answer     20  invalid checksum
+ *
+ * 1 to 11 are refusals: no byte of anything lent has changed. The first that is true is answered, in the order 9,
+ * 8, 10, 4, 1, 2, 3, 6, 7, 5. (11 belongs to rolls; no call here answers it.) From 16 on nothing failed.
+ *
+ * Which come from where: 1, 2, 3 and 6 of acknowledge and receive, and 7 of receive, are datagrams that the line
+ * or another program made: count them and go on. All others are the host's own: a state that was overwritten,
+ * memory too small. */
+
+typedef uint64_t pindrelo_answer;
+
+enum {
+    PINDRELO_DONE = 0,
+    PINDRELO_SHORT = 1,
+    PINDRELO_KIND = 2,
+    PINDRELO_CUT = 3,
+    PINDRELO_SETUP = 4,
+    PINDRELO_FULL = 5,
+    PINDRELO_LONG = 6,
+    PINDRELO_NUMBERS = 7,
+    PINDRELO_COUNTS = 8,
+    PINDRELO_STATE = 9,
+    PINDRELO_TIME = 10,
+    PINDRELO_WINDOW_FULL = 16,
+    PINDRELO_NOT_ACCEPTED = 17,
+    PINDRELO_NOTHING = 18,
+    PINDRELO_SILENT = 19,
+    PINDRELO_INVALID = 20
+};
+
+#define PINDRELO_STATUS(a) ((unsigned)((a) & 0xff))
+#define PINDRELO_VALUE(a) ((uint64_t)(a) >> 8)
+#define PINDRELO_REFUSED(a) (PINDRELO_STATUS(a) >= 1 && PINDRELO_STATUS(a) <= 11)
+/* a refusal's values */
+#define PINDRELO_FIRST(a) ((unsigned)(PINDRELO_VALUE(a) & 0xffff))
+#define PINDRELO_SECOND(a) ((unsigned)(PINDRELO_VALUE(a) >> 16 & 0xffff))
+/* of acknowledge, receive and the readers of packets: the line's doing, not the host's */
+#define PINDRELO_FROM_LINE(a) \
+    (PINDRELO_REFUSED(a) && (PINDRELO_STATUS(a) <= 3 || PINDRELO_STATUS(a) == 6 || PINDRELO_STATUS(a) == 7))
+
+/* ---- MEMORY
+ *
+ * A pointer is followed by its length: words (8 bytes, aligned) for a state, keys (4 bytes, aligned) and deadlines (8)
+ * for a timer set, bytes for all else. Any length is answered, too short ones by 9 or 5, NULL only with length 0. What
+ * C must keep, since no library can see it: a pointer is valid for its length, and no two slices of one call overlap.
+ * Bytes past what a call writes stay as they are. */
+
+#define PINDRELO_HEADER_SIZE 10
+#define PINDRELO_MAX_PAYLOAD 1400
+#define PINDRELO_MAX_DATAGRAM 1410
+#define PINDRELO_ACK_SIZE 10
+#define PINDRELO_MAX_WINDOW 32
+#define PINDRELO_STATE_WORDS 8
+#define PINDRELO_TIMERS_WORDS 3
+/* a store's bytes: of a sender (Stop-and-Wait's window is 1) and of Selective Repeat's receiver; others have none */
+#define PINDRELO_STORE_SIZE(window) ((size_t)(window) * 1404)
+/* what a timeout of all can write */
+#define PINDRELO_RESEND_SIZE(window) ((size_t)(window) * PINDRELO_MAX_DATAGRAM)
+
+/* ---- STATES
+ *
+ * A state is its words, with its store and, of a receiver, the output up to the fill mark: copy or save all of it
+ * and it goes on from there. Words are numbers in the machine's byte order. Word 0 has the kind and the version of
+ * this layout; words of another version are a 9. A host may read these words, and writes none: */
+
+enum {
+    PINDRELO_SENDER_WINDOW = 1,
+    PINDRELO_SENDER_BASE = 2, /* the lowest number not acknowledged */
+    PINDRELO_SENDER_NEXT = 3, /* the number of the next chunk; all is acknowledged where base is next */
+    PINDRELO_SENDER_TOTAL_SENT = 4,
+    PINDRELO_SENDER_RETRANSMISSIONS = 5,
+    PINDRELO_SENDER_MAX_RETRIES = 6, /* Stop-and-Wait */
+    PINDRELO_SENDER_RETRIES = 7
+};
+
+enum {
+    PINDRELO_RECEIVER_WINDOW = 1,
+    PINDRELO_RECEIVER_BASE = 2,   /* the number of the next chunk to be delivered */
+    PINDRELO_RECEIVER_FILLED = 3, /* the fill mark: how many bytes of the output are delivered */
+    PINDRELO_RECEIVER_TOTAL = 4,
+    PINDRELO_RECEIVER_SECOND = 5, /* Stop-and-Wait: duplicates; Go-Back-N: discarded; Selective Repeat: buffered */
+    PINDRELO_RECEIVER_THIRD = 6   /* Stop-and-Wait: corrupted; Go-Back-N: ACKs repeated; Selective Repeat: duplicates */
+};
+
+enum { PINDRELO_STOP_AND_WAIT = 1, PINDRELO_GO_BACK_N = 2, PINDRELO_SELECTIVE_REPEAT = 3 };
+
+/* ---- A SENDER
+ *
+ * Chunks are numbered from 0 in the order in which they are sent; a chunk has at most 1,400 bytes. Time is the
+ * host's: it keeps when each number was sent, and calls a timeout when its timer has run out. */
+
+/* protocol 1 to 3, window 1 to 32 (Stop-and-Wait runs with 1 whatever is named), max_retries of Stop-and-Wait alone.
+ * The store's slots become zeros. 9 store too short, 4, 5 fewer than PINDRELO_STATE_WORDS words. */
+pindrelo_answer pindrelo_make_sender(uint64_t protocol, size_t window, uint32_t max_retries,
+                                     uint64_t *state, size_t words, uint8_t *store, size_t store_size);
+
+/* A chunk: its datagram to the start of out. Done: the datagram's length; its number was word NEXT before the
+ * call. Else WINDOW_FULL. 9, 8, 6, 7, 5. */
+pindrelo_answer pindrelo_send(uint64_t *state, size_t words, uint8_t *store, size_t store_size,
+                              const uint8_t *payload, size_t length, uint8_t *out, size_t out_size);
+
+/* A datagram that came for the sender. Done: a valid ACK of an outstanding number, which is the value; Go-Back-N's
+ * is of all numbers up to it. Selective Repeat accepts the ACK of a number above base again: stop the number's
+ * timer, and take a sample of the round trip only if it ran and the number was sent once. Else NOT_ACCEPTED. 9, 8,
+ * 1, 2, 3, 6. */
+pindrelo_answer pindrelo_acknowledge(uint64_t *state, size_t words, uint8_t *store, size_t store_size,
+                                     const uint8_t *datagram, size_t length);
+
+/* A timeout: datagrams again, end to end to the start of out, each 10 + its bytes 6 and 7 (big-endian) long. Done:
+ * the bytes written. Else NOTHING: nothing is outstanding, the number isn't, or Stop-and-Wait's retries are spent.
+ * 9, 8, 5.
+ *   Stop-and-Wait     all three: the packet in flight
+ *   Go-Back-N         all and number: every outstanding one, lowest first; earliest: the lowest
+ *   Selective Repeat  number: that one; all and earliest: the one at base */
+pindrelo_answer pindrelo_timeout_all(uint64_t *state, size_t words, uint8_t *store, size_t store_size,
+                                     uint8_t *out, size_t out_size);
+pindrelo_answer pindrelo_timeout_earliest(uint64_t *state, size_t words, uint8_t *store, size_t store_size,
+                                          uint8_t *out, size_t out_size);
+pindrelo_answer pindrelo_timeout_number(uint64_t *state, size_t words, uint8_t *store, size_t store_size,
+                                        uint32_t number, uint8_t *out, size_t out_size);
+
+/* Done: 1 where the window is free, else 0. The store isn't looked at. 9, 8. */
+pindrelo_answer pindrelo_can_send(const uint64_t *state, size_t words);
+
+/* Done: how many numbers are outstanding and not acknowledged. 9, 8. */
+pindrelo_answer pindrelo_in_flight(const uint64_t *state, size_t words, const uint8_t *store, size_t store_size);
+
+/* ---- A RECEIVER
+ *
+ * Payloads go to the output in order, from the fill mark on; the output is the same memory in every call, and the
+ * file must fit in it. A 5 leaves all as it was: the sender's next copy will do. */
+
+/* window as the sender's. Only Selective Repeat's store is looked at and cleared. 9, 4, 5. */
+pindrelo_answer pindrelo_make_receiver(uint64_t protocol, size_t window,
+                                       uint64_t *state, size_t words, uint8_t *store, size_t store_size);
+
+/* A datagram that came for the receiver. Done: PINDRELO_ACK_SIZE bytes at the start of ack are to be sent back;
+ * the value is the ACK's number. Else SILENT. 9, 8, 1, 2, 3, 6, 7, 5. */
+pindrelo_answer pindrelo_receive(uint64_t *state, size_t words, uint8_t *store, size_t store_size,
+                                 const uint8_t *datagram, size_t length, uint8_t *output, size_t output_size,
+                                 uint8_t *ack, size_t ack_size);
+
+/* ---- A TIMER SET
+ *
+ * For Selective Repeat: a timer for each outstanding number, which is its key. The set is its words, its keys and its
+ * deadlines, two slices of one length with an entry for each timer that may run; the window is enough. Times are
+ * nanoseconds from a start of the host's choice, one for each transfer: at most 172,800 s, so not a clock that counts
+ * from boot. A timer is due when now is at its deadline or past it. */
+
+/* 9 slices of unequal length, 5 fewer than PINDRELO_TIMERS_WORDS words. All entries become zeros. */
+pindrelo_answer pindrelo_make_timers(uint64_t *state, size_t words, uint32_t *keys, size_t key_count,
+                                     uint64_t *deadlines, size_t deadline_count);
+
+/* Sets or restarts the timer of a key. 9, 10, 5 where the key is new and no entry is unused. */
+pindrelo_answer pindrelo_timer_start(uint64_t *state, size_t words, uint32_t *keys, size_t key_count,
+                                     uint64_t *deadlines, size_t deadline_count,
+                                     uint32_t key, uint64_t now, uint64_t duration);
+
+/* Done: 1 where the key's timer ran, else 0; it runs no more. 9, 10. */
+pindrelo_answer pindrelo_timer_cancel(uint64_t *state, size_t words, uint32_t *keys, size_t key_count,
+                                      uint64_t *deadlines, size_t deadline_count, uint32_t key);
+
+/* Done: how many keys were due; they stand at the start of out, ascending, and run no more. 9, 10, 5. */
+pindrelo_answer pindrelo_timer_pop(uint64_t *state, size_t words, uint32_t *keys, size_t key_count,
+                                   uint64_t *deadlines, size_t deadline_count,
+                                   uint64_t now, uint32_t *out, size_t out_count);
+
+/* Done: the earliest deadline. Else NOTHING. 9, 10. */
+pindrelo_answer pindrelo_timer_earliest(const uint64_t *state, size_t words, const uint32_t *keys, size_t key_count,
+                                        const uint64_t *deadlines, size_t deadline_count);
+
+/* ---- PACKETS
+ *
+ * The ends read and write them; a host needs these calls only for packets of its own, as a Fin. A header has 10 bytes,
+ * big-endian: number 0 to 3, kind 4 (1 Data, 2 Ack, 3 Fin), flags 5, payload length 6 and 7, checksum 8 and 9. */
+
+enum { PINDRELO_DATA_PACKET = 1, PINDRELO_ACK_PACKET = 2, PINDRELO_FIN_PACKET = 3 };
+
+/* Done: number, kind and flags, for these macros. Bytes behind the payload are ignored. 1, 2, 3. */
+pindrelo_answer pindrelo_read(const uint8_t *datagram, size_t length);
+#define PINDRELO_PACKET_NUMBER(a) ((uint32_t)PINDRELO_VALUE(a))
+#define PINDRELO_PACKET_KIND(a) ((unsigned)(PINDRELO_VALUE(a) >> 32 & 0xff))
+#define PINDRELO_PACKET_FLAGS(a) ((unsigned)(PINDRELO_VALUE(a) >> 40))
+
+/* Done: the checksum matches. Else INVALID. 1, 2, 3. */
+pindrelo_answer pindrelo_validate(const uint8_t *datagram, size_t length);
+
+/* Done: the payload's length; it starts at byte PINDRELO_HEADER_SIZE. 1, 2, 3. */
+pindrelo_answer pindrelo_payload_length(const uint8_t *datagram, size_t length);
+
+/* A datagram with its checksum to the start of out. Done: its length. 2, 6, 5. */
+pindrelo_answer pindrelo_write(uint8_t kind, uint32_t number, uint8_t flags, const uint8_t *payload, size_t length,
+                               uint8_t *out, size_t out_size);
+
+/* ---- WHAT THE HOST DECIDES
+ *
+ * The line may lose, repeat, delay and reorder datagrams and turn over one bit of a copy, but not in bytes 6 and
+ * 7, the payload's length: such a flip can pass the checksum, and so can two flips. A host whose line does that
+ * encrypts or checks datagrams itself. Then what is delivered is what was sent, in order.
+ *
+ * The end of a file is the host's: send its length first, or in another way. It is whole when the fill mark is its
+ * length. Then the receiver goes on answering for several times the sender's longest timeout: its last ACKs may
+ * have been lost. A sender that hears nothing for longer gives up, and cannot know whether all has arrived. */
+
+#ifdef __cplusplus
+}
+#endif
+#endif
