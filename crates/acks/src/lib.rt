@@ -22,7 +22,7 @@ use packet::PacketType;
 use path::Path;
 use rto::RtoEstimator;
 use schedule::ReadyAnswer;
-use schedule::Scheduled;
+use schedule::ScheduledRow;
 use session::Sender;
 use session::SenderState;
 
@@ -57,7 +57,7 @@ pub fn serve_reverse_unchecked(
     now: u64,
     store: &mut [u8],
     rows: &mut [Note],
-    records: &mut [Scheduled],
+    records: &mut [ScheduledRow],
     places: &mut [u8],
     keys: &mut [u32],
     deadlines: &mut [u64],

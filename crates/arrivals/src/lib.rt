@@ -14,7 +14,7 @@ use notes::Notes;
 use path::Path;
 use path::Stop;
 use receiving::ReceivingSide;
-use schedule::Scheduled;
+use schedule::ScheduledRow;
 
 // What arriving datagrams change besides the lent slices.
 pub struct Arrivals {
@@ -42,9 +42,9 @@ pub fn serve_arrivals_unchecked(
     receiver_store: &mut [u8],
     output: &mut [u8],
     rows: &mut [Note],
-    forward_records: &mut [Scheduled],
+    forward_records: &mut [ScheduledRow],
     forward_places: &mut [u8],
-    reverse_records: &mut [Scheduled],
+    reverse_records: &mut [ScheduledRow],
     reverse_places: &mut [u8],
     keys: &mut [u32],
     deadlines: &mut [u64],

@@ -11,6 +11,9 @@
 //   t NOW ROOM     pop_ready_at into a buffer of ROOM bytes, each a5 before; answers also the buffer and how many wait
 //   q              next_deadline, len, is_empty and room
 //   d              answers how many wait, the next order, all numbers of all records, and the CRC-32 of the places
+// A schedule of eight records goes through the structs: unpacked before `schedule_at` or `pop_ready_at`, packed after.
+ghost use mathlib.Core.Path.{_≡_};
+ghost use lib.ListN.{length};
 use channel::Channel;
 use channel::ChannelAnswer;
 use channel::ChannelConfig;
@@ -25,7 +28,11 @@ use replay_io::Fields;
 use schedule::ChannelScheduler;
 use schedule::DeadlineAnswer;
 use schedule::Deliveries;
+use schedule::OwnedSchedule;
+use schedule::PopResult;
 use schedule::ReadyAnswer;
+use schedule::ScheduleResult;
+use schedule::Scheduled;
 
 // records, places: how many of them the schedule has.
 struct State {
@@ -320,9 +327,8 @@ fn schedule_case(
     records: &mut [[u64; 4]],
     places: &mut [u8],
 ) -> State {
-    let done = state
-        .scheduler
-        .schedule_at(records, places, now, packet, deliveries);
+    let s = state.scheduler;
+    let done = schedule_at(s, records, places, now, packet, deliveries);
     let answer = done.answer;
     print_done(answer);
     let s = done.scheduler;
@@ -373,12 +379,83 @@ fn pop_to(
     places: &mut [u8],
     out: &mut [u8],
 ) -> State {
-    let done = state.scheduler.pop_ready_at(records, places, now, out);
+    let s = state.scheduler;
+    let done = pop_ready_at(s, records, places, now, out);
     let answer = done.answer;
     print_ready(answer);
     replay_io::print_bytes(out);
     let s = done.scheduler;
     with_scheduler(state, s)
+}
+
+fn schedule_at(
+    s: ChannelScheduler,
+    records: &mut [[u64; 4]],
+    places: &mut [u8],
+    now: u64,
+    packet: &[u8],
+    deliveries: Deliveries,
+) -> ScheduleResult {
+    if records.len() == 8 {
+        let done = unpacked(s, records).schedule_at(places, now, packet, deliveries);
+        let next = done.schedule;
+        let a = done.answer;
+        pack(next, records);
+        let after = next.scheduler;
+        return ScheduleResult {
+            scheduler: after,
+            answer: a,
+        };
+    }
+    s.schedule_at(records, places, now, packet, deliveries)
+}
+
+fn pop_ready_at(
+    s: ChannelScheduler,
+    records: &mut [[u64; 4]],
+    places: &mut [u8],
+    now: u64,
+    out: &mut [u8],
+) -> PopResult {
+    if records.len() == 8 {
+        let done = unpacked(s, records).pop_ready_at(places, now, out);
+        let next = done.schedule;
+        let a = done.answer;
+        pack(next, records);
+        let after = next.scheduler;
+        return PopResult {
+            scheduler: after,
+            answer: a,
+        };
+    }
+    s.pop_ready_at(records, places, now, out)
+}
+
+fn unpacked(s: ChannelScheduler, records: &[[u64; 4]]) -> OwnedSchedule
+    requires { ⌜ length (now records) ≡ 8 ⌝ }
+{
+    let mut rs = [Scheduled::unpacked([0, 0, 0, 0]); 8];
+    let mut i: usize = 0;
+    while i < 8 {
+        rs[i] = Scheduled::unpacked(records[i]);
+        i += 1;
+    }
+    OwnedSchedule {
+        records: rs,
+        scheduler: s,
+    }
+}
+
+fn pack(s: OwnedSchedule, records: &mut [[u64; 4]])
+    requires { ⌜ length (now records) ≡ 8 ⌝ }
+{
+    let rs = s.records;
+    let mut i: usize = 0;
+    while i < 8 {
+        let r = rs[i];
+        records[i] = r.packed();
+        i += 1;
+    }
 }
 
 fn read_case(f: Fields, s: ChannelScheduler, records: &[[u64; 4]], places: &[u8]) {

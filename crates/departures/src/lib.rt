@@ -15,7 +15,7 @@ use events::Event;
 use notes::Note;
 use path::Stop;
 use rto::RtoEstimator;
-use schedule::Scheduled;
+use schedule::ScheduledRow;
 use sending::Resends;
 use session::Sender;
 use submission::Outbound;
@@ -56,7 +56,7 @@ pub fn send_due_unchecked(
     store: &mut [u8],
     rows: &mut [Note],
     events: &mut [Event],
-    records: &mut [Scheduled],
+    records: &mut [ScheduledRow],
     places: &mut [u8],
     keys: &mut [u32],
     deadlines: &mut [u64],

@@ -15,7 +15,7 @@ use schedule::ChannelScheduler;
 use schedule::DeadlineAnswer;
 use schedule::Deliveries;
 use schedule::ReadyAnswer;
-use schedule::Scheduled;
+use schedule::ScheduledRow;
 use schedule::copies_of;
 
 // How many rolls a packet takes.
@@ -100,7 +100,7 @@ impl Path {
     // A path that has carried nothing; all records and places become zeros. The setup isn't looked at.
     pub fn new_unchecked(
         config: ChannelConfig,
-        records: &mut [Scheduled],
+        records: &mut [ScheduledRow],
         places: &mut [u8],
     ) -> Path
         ensures { λ r. ⌜ direction (now (records .exit)) (now (places .exit)) r
@@ -121,7 +121,7 @@ impl Path {
         self,
         rolls: &[f64],
         entry_free: bool,
-        records: &mut [Scheduled],
+        records: &mut [ScheduledRow],
         places: &mut [u8],
         now: u64,
         wire: &[u8],
@@ -172,7 +172,7 @@ impl Path {
     // The earliest copy that is due, at the front of `out`.
     pub fn take_unchecked(
         self,
-        records: &mut [Scheduled],
+        records: &mut [ScheduledRow],
         places: &mut [u8],
         now: u64,
         out: &mut [u8],
@@ -196,7 +196,7 @@ impl Path {
         }
     }
 
-    pub fn next_deadline_unchecked(self, records: &[Scheduled]) -> NextDeadline
+    pub fn next_deadline_unchecked(self, records: &[ScheduledRow]) -> NextDeadline
         requires { ⌜ self .scheduler .count ≤ length (now records) ⌝ }
         ensures { λ r. ⌜ r ≡ nextDeadline self (now (records .entry)) ⌝ }
     {

@@ -27,7 +27,7 @@ use path::Path;
 use path::Stop;
 use receiver::ReceiveAnswer;
 use schedule::ReadyAnswer;
-use schedule::Scheduled;
+use schedule::ScheduledRow;
 use schedule::copies_of;
 use session::Receiver;
 
@@ -93,9 +93,9 @@ pub fn serve_forward_unchecked(
     store: &mut [u8],
     output: &mut [u8],
     rows: &mut [Note],
-    forward_records: &mut [Scheduled],
+    forward_records: &mut [ScheduledRow],
     forward_places: &mut [u8],
-    reverse_records: &mut [Scheduled],
+    reverse_records: &mut [ScheduledRow],
     reverse_places: &mut [u8],
 ) -> ServeForwardResult
     requires { ⌜ CanServeForward (direction («forward_records» .now) («forward_places» .now) forward)
@@ -189,7 +189,7 @@ pub fn on_forward_unchecked(
     store: &mut [u8],
     output: &mut [u8],
     rows: &mut [Note],
-    records: &mut [Scheduled],
+    records: &mut [ScheduledRow],
     places: &mut [u8],
 ) -> ForwardResult
     requires { ⌜ CanOnForward (inbound side (store .now) (output .now) (segMetas notes (rows .now))
@@ -336,7 +336,7 @@ fn submit_ack(
     wire: &[u8],
     rolls: &[f64],
     rows: &mut [Note],
-    records: &mut [Scheduled],
+    records: &mut [ScheduledRow],
     places: &mut [u8],
 ) -> ForwardResult
     requires { ⌜ side .«ack_sent» + 1 < 2 ^ 64 ⌝ }

@@ -1,5 +1,6 @@
 pub mod Lists
 pub mod Ordering
+pub mod Structs
 pub mod Times
 pub mod Sound
 pub mod Doubled
@@ -7,6 +8,7 @@ pub mod FreePlaces
 pub mod Marks
 pub mod Memory
 pub mod Calls
+pub mod OwnedRecords
 pub mod Bytes
 pub mod Laws
 pub mod Examples

@@ -13,6 +13,7 @@ ghost use Rattle.schedule.specs.Internal.{boundsBroken, anyRecordBroken}
 use super::ChannelScheduler;
 use super::Deliveries;
 use super::Scheduled;
+use super::ScheduledRow;
 use super::copies_of;
 use super::leaves_after;
 use super::places::place_doubled;
@@ -27,7 +28,7 @@ impl ChannelScheduler {
     // The checks of `schedule_at`, of a packet of `size` bytes.
     pub(super) fn schedule_verdict(
         self,
-        records: &[Scheduled],
+        records: &[ScheduledRow],
         places: &[u8],
         now: u64,
         size: usize,
@@ -57,7 +58,7 @@ impl ChannelScheduler {
     // The checks of `pop_ready_at`, of a buffer of `size` bytes.
     pub(super) fn pop_verdict(
         self,
-        records: &[Scheduled],
+        records: &[ScheduledRow],
         places: &[u8],
         now: u64,
         size: usize,
@@ -80,7 +81,7 @@ impl ChannelScheduler {
     }
 
     // The checks of a call that only reads.
-    pub(super) fn read_verdict(self, records: &[Scheduled], places: &[u8]) -> Verdict
+    pub(super) fn read_verdict(self, records: &[ScheduledRow], places: &[u8]) -> Verdict
         ensures { λ r. ⌜ r ≡ verdict (readChecks (schedule (now (records .entry)) (now (places .entry)) self)) ⌝ }
     {
         if self.state_broken(records, places) {
@@ -96,7 +97,7 @@ impl ChannelScheduler {
     }
 
     // Check 9.
-    fn state_broken(self, records: &[Scheduled], places: &[u8]) -> bool
+    fn state_broken(self, records: &[ScheduledRow], places: &[u8]) -> bool
         ensures { λ b. ⌜ b ≡ stateBroken (schedule (now (records .entry)) (now (places .entry)) self) ⌝ }
     {
         let count = self.count;
@@ -107,7 +108,7 @@ impl ChannelScheduler {
     }
 
     // Check 10, of the times given and held.
-    fn time_late(self, records: &[Scheduled], now: u64, deliveries: Deliveries) -> bool
+    fn time_late(self, records: &[ScheduledRow], now: u64, deliveries: Deliveries) -> bool
         requires { ⌜ (self .count ≤ length (records .now)) × (ordered (take (self .count) (records .now)) ≡ true) ⌝ }
         ensures { λ b. ⌜ b ≡ (late now || (heldLate (take (self .count) (records .entry .now)) || deliveriesLate now
             deliveries)) ⌝ }
@@ -122,7 +123,7 @@ impl ChannelScheduler {
     }
 
     // Check 5 of `pop_ready_at`.
-    fn out_short(self, records: &[Scheduled], now: u64, size: usize) -> bool
+    fn out_short(self, records: &[ScheduledRow], now: u64, size: usize) -> bool
         requires { ⌜ self .count ≤ length (records .now) ⌝ }
         ensures { λ b. ⌜ b ≡ outShort (self .count) (records .entry .now) now size ⌝ }
     {
@@ -130,16 +131,16 @@ impl ChannelScheduler {
         if count == 0 {
             return false;
         }
-        let first = records[0];
-        if now < first[0] {
+        let first = Scheduled::unpacked(records[0]);
+        if now < first.time {
             return false;
         }
-        size < first[2] as usize
+        size < first.length as usize
     }
 }
 
 // Check 9 of a record by itself.
-fn bounds_broken(r: Scheduled, next: u64, places: u64) -> bool
+fn bounds_broken(r: ScheduledRow, next: u64, places: u64) -> bool
     ensures { λ b. ⌜ b ≡ boundsBroken next places r ⌝ }
 {
     let len = r[2] as usize;
@@ -154,7 +155,7 @@ fn bounds_broken(r: Scheduled, next: u64, places: u64) -> bool
 }
 
 // Check 9 of a record and the one in front of it. Mostly the time alone tells the order.
-fn record_broken(front: Scheduled, r: Scheduled, next: u64, places: u64) -> bool
+fn record_broken(front: ScheduledRow, r: ScheduledRow, next: u64, places: u64) -> bool
     ensures { λ b. ⌜ b ≡ recordBroken next places front r ⌝ }
 {
     if bounds_broken(r, next, places) {
@@ -169,7 +170,7 @@ fn record_broken(front: Scheduled, r: Scheduled, next: u64, places: u64) -> bool
 }
 
 // Whether one of the first `count` records breaks check 9, doubled places apart.
-fn any_record_broken(s: &[Scheduled], count: usize, next: u64, places: usize) -> bool
+fn any_record_broken(s: &[ScheduledRow], count: usize, next: u64, places: usize) -> bool
     requires { ⌜ count ≤ length (now s) ⌝ }
     ensures { λ b. ⌜ b ≡ anyRecordBroken next places vacant (take count (now (s .entry))) ⌝ }
 {
@@ -187,7 +188,7 @@ fn any_record_broken(s: &[Scheduled], count: usize, next: u64, places: usize) ->
 }
 
 // Whether one of the first `count` records breaks check 9.
-fn records_broken(s: &[Scheduled], count: usize, next: u64, places: usize) -> bool
+fn records_broken(s: &[ScheduledRow], count: usize, next: u64, places: usize) -> bool
     requires { ⌜ count ≤ length (now s) ⌝ }
     ensures { λ b. ⌜ b ≡ brokenFrom next places vacant (take count (now (s .entry))) ⌝ }
 {
@@ -199,15 +200,15 @@ fn records_broken(s: &[Scheduled], count: usize, next: u64, places: usize) -> bo
 
 // Whether one of the first `count` records, which are in leaving order, has a time above its bound: the last one's is
 // the latest.
-fn held_late(s: &[Scheduled], count: usize) -> bool
+fn held_late(s: &[ScheduledRow], count: usize) -> bool
     requires { ⌜ (count ≤ length (now s)) × (ordered (take count (now s)) ≡ true) ⌝ }
     ensures { λ b. ⌜ b ≡ heldLate (take count (now (s .entry))) ⌝ }
 {
     if count == 0 {
         return false;
     }
-    let r = s[count - 1];
-    MAX_TIME < r[0]
+    let r = Scheduled::unpacked(s[count - 1]);
+    MAX_TIME < r.time
 }
 
 // Whether a delay or the time that it leads to is above its bound.

@@ -22,11 +22,21 @@ use refusal::TestAnswer;
 use refusal::Verdict;
 
 mod checks;
+mod lent;
 mod order;
+mod owned;
 mod places;
 
-// A record: time in nanoseconds, order, length, place.
-pub type Scheduled = [u64; 4];
+// A record: its time in nanoseconds, how many were scheduled before it, its packet's length and place.
+pub struct Scheduled {
+    pub time: u64,
+    pub order: u64,
+    pub length: u64,
+    pub place: u64,
+}
+
+// A record as it lies in a lent slice: the same four numbers.
+pub type ScheduledRow = [u64; 4];
 
 // The first `count` records wait; `next_order` is the order of the next copy.
 pub struct ChannelScheduler {
@@ -64,6 +74,28 @@ pub enum DeadlineAnswer {
     Refused(Refusal),
 }
 
+// A schedule of eight records that it holds itself, as structs; only its places are lent.
+pub struct OwnedSchedule {
+    pub records: [Scheduled; 8],
+    pub scheduler: ChannelScheduler,
+}
+
+pub struct OwnedScheduleResult {
+    pub schedule: OwnedSchedule,
+    pub answer: DoneAnswer,
+}
+
+pub struct OwnedPopResult {
+    pub schedule: OwnedSchedule,
+    pub answer: ReadyAnswer,
+}
+
+// A record taken out, and the records without it.
+struct TakeResult {
+    first: Scheduled,
+    records: [Scheduled; 8],
+}
+
 // Which of 256 places waiting records have, whether two have the same of them, and whether one has a place behind them.
 struct Block {
     used: [bool; 256],
@@ -79,7 +111,7 @@ enum PlaceSum {
 
 impl ChannelScheduler {
     // An empty schedule; all records and places become zeros.
-    pub fn new(records: &mut [Scheduled], places: &mut [u8]) -> Self
+    pub fn new(records: &mut [ScheduledRow], places: &mut [u8]) -> Self
         ensures { λ r. ⌜ schedule (now (records .exit)) (now (places .exit)) r
             ≡ newSchedule (now (records .entry)) (now (places .entry)) ⌝ }
     {
@@ -95,7 +127,7 @@ impl ChannelScheduler {
     // Queues the output of the channel, all copies or none.
     pub fn schedule_at(
         self,
-        records: &mut [Scheduled],
+        records: &mut [ScheduledRow],
         places: &mut [u8],
         now: u64,
         packet: &[u8],
@@ -123,7 +155,7 @@ impl ChannelScheduler {
     // Takes out one packet whose time has come, if there is one, and writes it to `out`.
     pub fn pop_ready_at(
         self,
-        records: &mut [Scheduled],
+        records: &mut [ScheduledRow],
         places: &mut [u8],
         now: u64,
         out: &mut [u8],
@@ -141,7 +173,7 @@ impl ChannelScheduler {
     }
 
     // When the next packet may leave.
-    pub fn next_deadline(self, records: &[Scheduled], places: &[u8]) -> DeadlineAnswer
+    pub fn next_deadline(self, records: &[ScheduledRow], places: &[u8]) -> DeadlineAnswer
         ensures { λ r. ⌜ r ≡ nextDeadline (schedule (now (records .entry)) (now (places .entry)) self) ⌝ }
     {
         match self.read_verdict(records, places) {
@@ -151,7 +183,7 @@ impl ChannelScheduler {
     }
 
     // How many copies wait.
-    pub fn len(self, records: &[Scheduled], places: &[u8]) -> CountAnswer
+    pub fn len(self, records: &[ScheduledRow], places: &[u8]) -> CountAnswer
         ensures { λ r. ⌜ r ≡ len (schedule (now (records .entry)) (now (places .entry)) self) ⌝ }
     {
         match self.read_verdict(records, places) {
@@ -160,7 +192,7 @@ impl ChannelScheduler {
         }
     }
 
-    pub fn is_empty(self, records: &[Scheduled], places: &[u8]) -> TestAnswer
+    pub fn is_empty(self, records: &[ScheduledRow], places: &[u8]) -> TestAnswer
         ensures { λ r. ⌜ r ≡ isEmpty (schedule (now (records .entry)) (now (places .entry)) self) ⌝ }
     {
         match self.read_verdict(records, places) {
@@ -170,7 +202,7 @@ impl ChannelScheduler {
     }
 
     // How many copies more there is room for.
-    pub fn room(self, records: &[Scheduled], places: &[u8]) -> CountAnswer
+    pub fn room(self, records: &[ScheduledRow], places: &[u8]) -> CountAnswer
         ensures { λ r. ⌜ r ≡ room (schedule (now (records .entry)) (now (places .entry)) self) ⌝ }
     {
         match self.read_verdict(records, places) {
@@ -207,7 +239,7 @@ pub fn delay_of(deliveries: Deliveries, k: usize) -> u64
 }
 
 // Whether `p` leaves after `r`.
-pub fn leaves_after(p: Scheduled, r: Scheduled) -> bool
+pub fn leaves_after(p: ScheduledRow, r: ScheduledRow) -> bool
     ensures { λ b. ⌜ b ≡ after p r ⌝ }
 {
     let pt = p[0];
@@ -227,7 +259,7 @@ impl ChannelScheduler {
     // All copies of one answer of the channel.
     pub fn schedule_at_unchecked(
         self,
-        records: &mut [Scheduled],
+        records: &mut [ScheduledRow],
         places: &mut [u8],
         now: u64,
         packet: &[u8],
@@ -252,7 +284,7 @@ impl ChannelScheduler {
     // The earliest packet that is due.
     pub fn pop_ready_at_unchecked(
         self,
-        records: &mut [Scheduled],
+        records: &mut [ScheduledRow],
         places: &mut [u8],
         now: u64,
         out: &mut [u8],
@@ -268,16 +300,16 @@ impl ChannelScheduler {
                 answer: ReadyAnswer::Nothing,
             };
         }
-        let first = records[0];
-        if now < first[0] {
+        let first = Scheduled::unpacked(records[0]);
+        if now < first.time {
             return PopResult {
                 scheduler: self,
                 answer: ReadyAnswer::Nothing,
             };
         }
-        let len = first[2] as usize;
+        let len = first.length as usize;
         remove_first(records, count);
-        take_packet(places, first[3] as usize, len, out);
+        take_packet(places, first.place as usize, len, out);
         PopResult {
             scheduler: ChannelScheduler {
                 count: count - 1,
@@ -287,7 +319,7 @@ impl ChannelScheduler {
         }
     }
 
-    pub fn next_deadline_unchecked(self, records: &[Scheduled]) -> DeadlineAnswer
+    pub fn next_deadline_unchecked(self, records: &[ScheduledRow]) -> DeadlineAnswer
         requires { ⌜ self .count ≤ length (now records) ⌝ }
         ensures { λ r. ⌜ r ≡ firstTime (self .count) (now (records .entry)) ⌝ }
     {
@@ -295,12 +327,12 @@ impl ChannelScheduler {
         if count == 0 {
             return DeadlineAnswer::Nothing;
         }
-        let first = records[0];
-        DeadlineAnswer::At(first[0])
+        let first = Scheduled::unpacked(records[0]);
+        DeadlineAnswer::At(first.time)
     }
 
     // How many copies more there is room for.
-    pub fn room_unchecked(self, records: &[Scheduled], places: &[u8]) -> usize
+    pub fn room_unchecked(self, records: &[ScheduledRow], places: &[u8]) -> usize
         requires { ⌜ stateBroken (schedule (now records) (now places) self) ≡ false ⌝ }
         ensures { λ n. ⌜ n ≡ roomOf (schedule (now (records .entry)) (now (places .entry)) self) ⌝ }
     {
@@ -315,7 +347,7 @@ impl ChannelScheduler {
 
 impl ChannelScheduler {
     // One copy more, to leave at `time`.
-    fn put(self, records: &mut [Scheduled], places: &mut [u8], time: u64, packet: &[u8]) -> Self
+    fn put(self, records: &mut [ScheduledRow], places: &mut [u8], time: u64, packet: &[u8]) -> Self
         requires { ⌜ CanPut (schedule (now records) (now places) self) (now packet) ⌝ }
         ensures { λ r. ⌜ schedule (now (records .exit)) (now (places .exit)) r
             ≡ putCopy (schedule (now (records .entry)) (now (places .entry)) self) time (now (packet .entry)) ⌝ }
@@ -324,11 +356,13 @@ impl ChannelScheduler {
         let order = self.next_order;
         let place = lowest_free(records, count, places.len() / PLACE_SIZE);
         fill_place(places, place, packet);
-        insert(
-            records,
-            count,
-            [time, order, packet.len() as u64, place as u64],
-        );
+        let r = Scheduled {
+            time: time,
+            order: order,
+            length: packet.len() as u64,
+            place: place as u64,
+        };
+        insert(records, count, r.packed());
         ChannelScheduler {
             count: count + 1,
             next_order: order + 1,

@@ -6,10 +6,10 @@ ghost use Prim.Native.Nat.{_+_, _≤_, _<_};
 ghost use lib.ListN.{length, take, drop, replicate};
 ghost use Rattle.schedule.specs.Record.{vacant, after, ordered, inserted};
 ghost use Rattle.schedule.specs.Internal.{indexFor, raised};
-use super::Scheduled;
+use super::ScheduledRow;
 use super::leaves_after;
 
-pub(super) fn clear_records(s: &mut [Scheduled])
+pub(super) fn clear_records(s: &mut [ScheduledRow])
     ensures { λ _. ⌜ now (s .exit) ≡ replicate (length (now (s .entry))) vacant ⌝ }
 {
     let mut i: usize = 0;
@@ -20,7 +20,7 @@ pub(super) fn clear_records(s: &mut [Scheduled])
 }
 
 // Puts `r` among the first `count` records: those that leave after it move up by one.
-pub(super) fn insert(s: &mut [Scheduled], count: usize, r: Scheduled)
+pub(super) fn insert(s: &mut [ScheduledRow], count: usize, r: ScheduledRow)
     requires { ⌜ (count < length (now s)) × (ordered (take count (now s)) ≡ true) ⌝ }
     ensures { λ _. ⌜ now (s .exit)
         ≡ inserted after r (take count (now (s .entry))) ++ drop (count + 1) (now (s .entry)) ⌝ }
@@ -30,7 +30,7 @@ pub(super) fn insert(s: &mut [Scheduled], count: usize, r: Scheduled)
 }
 
 // Moves all but the first of the first `count` records down by one; the record left over becomes zeros.
-pub(super) fn remove_first(s: &mut [Scheduled], count: usize)
+pub(super) fn remove_first(s: &mut [ScheduledRow], count: usize)
     requires { ⌜ (0 < count) × (count ≤ length (now s)) ⌝ }
     ensures { λ _. ⌜ now (s .exit) ≡ drop 1 (take count (now (s .entry))) ++ vacant ∷ drop count (now (s .entry)) ⌝ }
 {
@@ -45,7 +45,7 @@ pub(super) fn remove_first(s: &mut [Scheduled], count: usize)
 }
 
 // How many of the first `count` records don't leave after `r`.
-fn index_for(s: &[Scheduled], count: usize, r: Scheduled) -> usize
+fn index_for(s: &[ScheduledRow], count: usize, r: ScheduledRow) -> usize
     requires { ⌜ (count ≤ length (now s)) × (ordered (take count (now s)) ≡ true) ⌝ }
     ensures { λ n. ⌜ n ≡ indexFor after r (take count (now (s .entry))) ⌝ }
 {
@@ -66,7 +66,7 @@ fn index_for(s: &[Scheduled], count: usize, r: Scheduled) -> usize
 }
 
 // Moves the first `n` records up by one. In a function of its own this loop becomes a memmove.
-fn move_up(s: &mut [Scheduled], n: usize)
+fn move_up(s: &mut [ScheduledRow], n: usize)
     requires { ⌜ n < length (now s) ⌝ }
     ensures { λ _. ⌜ now (s .exit) ≡ raised n 0 (now (s .entry)) ⌝ }
 {
@@ -79,7 +79,7 @@ fn move_up(s: &mut [Scheduled], n: usize)
 }
 
 // The first `n` records move up by one, and `r` comes first.
-fn insert_first(s: &mut [Scheduled], n: usize, r: Scheduled)
+fn insert_first(s: &mut [ScheduledRow], n: usize, r: ScheduledRow)
     requires { ⌜ n < length (now s) ⌝ }
     ensures { λ _. ⌜ now (s .exit) ≡ r ∷ (take n (now (s .entry)) ++ drop (n + 1) (now (s .entry))) ⌝ }
 {

@@ -10,12 +10,12 @@ ghost use Rattle.schedule.specs.Internal.{blockSize, blockAt, doubled, o
 ghost use Rattle.schedule.specs.Schedule.{placed, placeBytes};
 use super::Block;
 use super::PlaceSum;
-use super::Scheduled;
+use super::ScheduledRow;
 use bounds::PLACE_SIZE;
 
 // Whether two waiting records have the same place, where all places lie below `places`. No block behind the greatest
 // place is looked at.
-pub(super) fn place_doubled(s: &[Scheduled], count: usize, places: usize) -> bool
+pub(super) fn place_doubled(s: &[ScheduledRow], count: usize, places: usize) -> bool
     requires { ⌜ (count ≤ length (now s)) × (outside places (take count (now s)) ≡ false) ⌝ }
     ensures { λ b. ⌜ b ≡ doubled (take count (now (s .entry))) ⌝ }
 {
@@ -35,7 +35,7 @@ pub(super) fn place_doubled(s: &[Scheduled], count: usize, places: usize) -> boo
 
 // The lowest place that no waiting record has. If none lies past `count`, it is the only one up to there, and its
 // number what the sum of all these numbers has more than the sum of the places.
-pub(super) fn lowest_free(s: &[Scheduled], count: usize, places: usize) -> usize
+pub(super) fn lowest_free(s: &[ScheduledRow], count: usize, places: usize) -> usize
     requires { ⌜ (count ≤ length (now s)) × (0 < length (freePlaces places (take count (now s))))
         × (outside places (take count (now s)) ≡ false) × (doubled (take count (now s)) ≡ false) ⌝ }
     ensures { λ p. ⌜ p ≡ lowestFree places (take count (now (s .entry))) ⌝ }
@@ -77,7 +77,7 @@ pub(super) fn take_packet(places: &mut [u8], place: usize, len: usize, out: &mut
 }
 
 // The block of 256 places from `base` on.
-fn block_at(s: &[Scheduled], count: usize, base: u64) -> Block
+fn block_at(s: &[ScheduledRow], count: usize, base: u64) -> Block
     requires { ⌜ count ≤ length (now s) ⌝ }
     ensures { λ b. ⌜ b ≡ blockAt base (take count (now (s .entry))) ⌝ }
 {
@@ -123,7 +123,7 @@ fn first_unset(used: &[bool; 256]) -> usize
 }
 
 // The lowest place that no waiting record has, found by marks.
-fn lowest_unmarked(s: &[Scheduled], count: usize, places: usize) -> usize
+fn lowest_unmarked(s: &[ScheduledRow], count: usize, places: usize) -> usize
     requires { ⌜ (count ≤ length (now s)) × (0 < length (freePlaces places (take count (now s)))) ⌝ }
     ensures { λ p. ⌜ p ≡ lowestFree places (take count (now (s .entry))) ⌝ }
 {
@@ -140,7 +140,7 @@ fn lowest_unmarked(s: &[Scheduled], count: usize, places: usize) -> usize
     places
 }
 
-fn place_at(s: &[Scheduled], i: usize) -> u64
+fn place_at(s: &[ScheduledRow], i: usize) -> u64
     requires { ⌜ i < length (now s) ⌝ }
     ensures { λ p. ⌜ p ≡ placeOf (getD (now (s .entry)) i []) ⌝ }
 {
@@ -149,7 +149,7 @@ fn place_at(s: &[Scheduled], i: usize) -> u64
 }
 
 // `sum` and the places of the records from `from` on, if none lies past `count`.
-fn sum_from(s: &[Scheduled], count: usize, from: usize, sum: u64) -> PlaceSum
+fn sum_from(s: &[ScheduledRow], count: usize, from: usize, sum: u64) -> PlaceSum
     requires { ⌜ (from ≤ count) × (count ≤ length (now s)) × (count ≤ sumLimit) × (sum ≤ from * sumLimit) ⌝ }
     ensures { λ r. ⌜ r ≡ sumFrom count sum (drop from (take count (now (s .entry)))) ⌝ }
 {
@@ -168,7 +168,7 @@ fn sum_from(s: &[Scheduled], count: usize, from: usize, sum: u64) -> PlaceSum
 }
 
 // The sum of the places, if none lies past `count`. Four sums at a time don't wait for one another.
-fn place_sum(s: &[Scheduled], count: usize) -> PlaceSum
+fn place_sum(s: &[ScheduledRow], count: usize) -> PlaceSum
     requires { ⌜ (count ≤ length (now s)) × (count ≤ sumLimit) ⌝ }
     ensures { λ r. ⌜ r ≡ sumFrom count 0 (take count (now (s .entry))) ⌝ }
 {

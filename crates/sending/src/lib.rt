@@ -23,7 +23,7 @@ use clock::Timing;
 use events::Event;
 use notes::Note;
 use path::Stop;
-use schedule::Scheduled;
+use schedule::ScheduledRow;
 use session::Sender;
 use submission::Outbound;
 
@@ -72,7 +72,7 @@ fn send_one(
     store: &mut [u8],
     rows: &mut [Note],
     events: &mut [Event],
-    records: &mut [Scheduled],
+    records: &mut [ScheduledRow],
     places: &mut [u8],
     keys: &mut [u32],
     deadlines: &mut [u64],
@@ -139,7 +139,7 @@ pub fn pump_sends_unchecked(
     store: &mut [u8],
     rows: &mut [Note],
     events: &mut [Event],
-    records: &mut [Scheduled],
+    records: &mut [ScheduledRow],
     places: &mut [u8],
     keys: &mut [u32],
     deadlines: &mut [u64],
@@ -212,7 +212,7 @@ pub fn retransmit_unchecked(
     rolls: &[f64],
     rows: &mut [Note],
     events: &mut [Event],
-    records: &mut [Scheduled],
+    records: &mut [ScheduledRow],
     places: &mut [u8],
     keys: &mut [u32],
     deadlines: &mut [u64],
@@ -303,7 +303,7 @@ pub fn retransmit_from_unchecked(
     rolls: &[f64],
     rows: &mut [Note],
     events: &mut [Event],
-    records: &mut [Scheduled],
+    records: &mut [ScheduledRow],
     places: &mut [u8],
     keys: &mut [u32],
     deadlines: &mut [u64],

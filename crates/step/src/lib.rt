@@ -26,7 +26,7 @@ use notes::Note;
 use path::NextDeadline;
 use path::Path;
 use path::Stop;
-use schedule::Scheduled;
+use schedule::ScheduledRow;
 use sending::Resends;
 use session::Sender;
 use submission::Outbound;
@@ -160,8 +160,8 @@ fn next_deadline(
     forward: Path,
     reverse: Path,
     clock: Clock,
-    forward_records: &[Scheduled],
-    reverse_records: &[Scheduled],
+    forward_records: &[ScheduledRow],
+    reverse_records: &[ScheduledRow],
     keys: &[u32],
     deadlines: &[u64],
 ) -> Deadline
@@ -267,8 +267,8 @@ fn move_to(plan: Plan, state: State, deadline: Deadline) -> StepResult
 fn settle(
     plan: Plan,
     state: State,
-    forward_records: &[Scheduled],
-    reverse_records: &[Scheduled],
+    forward_records: &[ScheduledRow],
+    reverse_records: &[ScheduledRow],
     keys: &[u32],
     deadlines: &[u64],
 ) -> StepResult
@@ -394,9 +394,9 @@ pub fn step_unchecked(
     output: &mut [u8],
     rows: &mut [Note],
     events: &mut [Event],
-    forward_records: &mut [Scheduled],
+    forward_records: &mut [ScheduledRow],
     forward_places: &mut [u8],
-    reverse_records: &mut [Scheduled],
+    reverse_records: &mut [ScheduledRow],
     reverse_places: &mut [u8],
     keys: &mut [u32],
     deadlines: &mut [u64],

@@ -15,7 +15,7 @@ use path::Carriage;
 use path::Path;
 use path::Stop;
 use schedule::Deliveries;
-use schedule::Scheduled;
+use schedule::ScheduledRow;
 use schedule::copies_of;
 use session::Oldest;
 
@@ -46,7 +46,7 @@ pub fn submit_unchecked(
     rolls: &[f64],
     rows: &mut [Note],
     events: &mut [Event],
-    records: &mut [Scheduled],
+    records: &mut [ScheduledRow],
     places: &mut [u8],
     keys: &mut [u32],
     deadlines: &mut [u64],

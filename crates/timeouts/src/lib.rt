@@ -16,7 +16,7 @@ use multi_timer::NextKey;
 use notes::Note;
 use path::Stop;
 use rto::RtoEstimator;
-use schedule::Scheduled;
+use schedule::ScheduledRow;
 use sending::Resends;
 use session::Sender;
 use session::Timeout;
@@ -44,7 +44,7 @@ pub fn fire_timers_unchecked(
     store: &mut [u8],
     rows: &mut [Note],
     events: &mut [Event],
-    records: &mut [Scheduled],
+    records: &mut [ScheduledRow],
     places: &mut [u8],
     keys: &mut [u32],
     deadlines: &mut [u64],
@@ -149,7 +149,7 @@ fn timed_out(
     store: &mut [u8],
     rows: &mut [Note],
     events: &mut [Event],
-    records: &mut [Scheduled],
+    records: &mut [ScheduledRow],
     places: &mut [u8],
     keys: &mut [u32],
     deadlines: &mut [u64],
@@ -239,7 +239,7 @@ fn fire_single(
     store: &mut [u8],
     rows: &mut [Note],
     events: &mut [Event],
-    records: &mut [Scheduled],
+    records: &mut [ScheduledRow],
     places: &mut [u8],
     keys: &mut [u32],
     deadlines: &mut [u64],
@@ -295,7 +295,7 @@ fn fire_number(
     store: &mut [u8],
     rows: &mut [Note],
     events: &mut [Event],
-    records: &mut [Scheduled],
+    records: &mut [ScheduledRow],
     places: &mut [u8],
     keys: &mut [u32],
     deadlines: &mut [u64],
@@ -350,7 +350,7 @@ fn fire_numbers(
     store: &mut [u8],
     rows: &mut [Note],
     events: &mut [Event],
-    records: &mut [Scheduled],
+    records: &mut [ScheduledRow],
     places: &mut [u8],
     keys: &mut [u32],
     deadlines: &mut [u64],

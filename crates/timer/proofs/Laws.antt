@@ -1,5 +1,5 @@
 -- What crates above may cite of the retransmission timer.
-use mathlib.Core.Path.{_≡_, refl}
+use mathlib.Core.Path.{_≡_, refl, _∙_, ap}
 use mathlib.Core.Bool.{true, false}
 use Prim.Native.Nat.{ℕ, _-_, _^_, _≤_, _<_}
 use native.Mathlib.Omega.{arith}
@@ -9,7 +9,9 @@ use Rattle.duration.proofs.Laws.{start-in-time, start-late-within}
 use Rattle.refusal.specs.declared.Refusal.the-variants.{Time}
 use Rattle.timer.specs.Timer.{deadlineTooLate, startTooLate, readTooLate, expiredAt, nextGeneration, newTimer, startedAtUnchecked, cancelledUnchecked, timerResult, startedAt, cancelled, isExpiredAt, isExpiredForAt}
 use Rattle.timer.specs.declared.RetransmissionTimer.{RetransmissionTimer}
+use Rattle.timer.specs.declared.TimerAnswer.{TimerAnswer}
 use Rattle.timer.specs.declared.TimerAnswer.the-variants.{Id, Refused}
+use Rattle.timer.specs.declared.TimerResult.{TimerResult}
 use Rattle.refusal.specs.declared.TestAnswer as Test
 use Rattle.timer.proofs.Checks.{time-check}
 
@@ -22,6 +24,10 @@ pub start-accepted : (t : RetransmissionTimer) (now duration : ℕ) → startToo
 unfolding startedAt
 start-accepted t now duration e = simp (time-check, e)
 
+pub cancel-refused : (t : RetransmissionTimer) → deadlineTooLate (t .deadline) ≡ true → cancelled t ≡ timerResult t (Refused Time)
+unfolding cancelled
+cancel-refused t e = simp (time-check, e)
+
 pub cancel-accepted : (t : RetransmissionTimer) → deadlineTooLate (t .deadline) ≡ false → cancelled t ≡ timerResult (cancelledUnchecked t) (Id (nextGeneration (t .generation)))
 unfolding cancelled
 cancel-accepted t e = simp (time-check, e)
@@ -29,6 +35,17 @@ cancel-accepted t e = simp (time-check, e)
 pub expired-accepted : (t : RetransmissionTimer) (now : ℕ) → readTooLate t now ≡ false → isExpiredAt t now ≡ Test.the-variants.Is (expiredAt (t .deadline) now)
 unfolding isExpiredAt
 expired-accepted t now e = simp (time-check, e)
+
+-- so a timer lent to a refused call is as it was
+pub lent-start-refused : (t t′ : RetransmissionTimer) (a : TimerAnswer) (now duration : ℕ) → timerResult t′ a ≡ startedAt t now duration → startTooLate t now duration ≡ true → (t′ ≡ t) × (a ≡ Refused Time)
+lent-start-refused t t′ a now duration p e =
+    let q = p ∙ start-refused t now duration e in
+    (ap (λ (c : TimerResult). c .timer) q, ap (λ (c : TimerResult). c .answer) q)
+
+pub lent-cancel-refused : (t t′ : RetransmissionTimer) (a : TimerAnswer) → timerResult t′ a ≡ cancelled t → deadlineTooLate (t .deadline) ≡ true → (t′ ≡ t) × (a ≡ Refused Time)
+lent-cancel-refused t t′ a p e =
+    let q = p ∙ cancel-refused t e in
+    (ap (λ (c : TimerResult). c .timer) q, ap (λ (c : TimerResult). c .answer) q)
 
 -- a time and a duration within 86,400 s are never late, nor is a time within 172,800 s
 pub start-too-late-within : (t : RetransmissionTimer) (now duration : ℕ) → deadlineTooLate (t .deadline) ≡ false → now ≤ maxDuration → duration ≤ maxDuration → startTooLate t now duration ≡ false

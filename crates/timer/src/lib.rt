@@ -1,4 +1,4 @@
-// The retransmission timer, by value: the reference's timing/timer.rs on nanoseconds.
+// The retransmission timer, by value and lent: the reference's timing/timer.rs on nanoseconds.
 use bounds::MAX_TIME;
 use refusal::Refusal;
 use refusal::TestAnswer;
@@ -7,7 +7,7 @@ ghost use mathlib.Core.Bool.{false};
 ghost use Prim.Native.Nat.{_-_};
 ghost use Rattle.timer.specs.Timer.{deadlineTooLate, startTooLate, readTooLate};
 ghost use Rattle.timer.specs.Timer.{active, expiredAt, deadlineRemaining, startedAtUnchecked, cancelledUnchecked};
-ghost use Rattle.timer.specs.Timer.{newTimer, startedAt, cancelled, isActive, remainingAt};
+ghost use Rattle.timer.specs.Timer.{newTimer, timerResult, startedAt, cancelled, isActive, remainingAt};
 ghost use Rattle.timer.specs.Timer.{isExpiredAt, isExpiredForAt};
 
 pub enum Deadline {
@@ -78,6 +78,47 @@ impl RetransmissionTimer {
         TimerResult {
             timer: t,
             answer: TimerAnswer::Id(t.generation),
+        }
+    }
+
+    // Starts or restarts the lent timer.
+    pub fn start_at(&mut self, now: u64, duration: u64) -> TimerAnswer
+        ensures { λ r. ⌜ timerResult (self .exit .now) r ≡ startedAt (self .entry .now) now duration ⌝ }
+    {
+        let c = (*self).started_at(now, duration);
+        *self = c.timer;
+        c.answer
+    }
+
+    pub fn cancel(&mut self) -> TimerAnswer
+        ensures { λ r. ⌜ timerResult (self .exit .now) r ≡ cancelled (self .entry .now) ⌝ }
+    {
+        let c = (*self).cancelled();
+        *self = c.timer;
+        c.answer
+    }
+
+    // `start_at` on a value, for callers that lend no struct.
+    pub fn started_lent(self, now: u64, duration: u64) -> TimerResult
+        ensures { λ r. ⌜ r ≡ startedAt self now duration ⌝ }
+    {
+        let mut timer = self;
+        let answer = timer.start_at(now, duration);
+        TimerResult {
+            timer: timer,
+            answer: answer,
+        }
+    }
+
+    // `cancel` on a value.
+    pub fn cancelled_lent(self) -> TimerResult
+        ensures { λ r. ⌜ r ≡ cancelled self ⌝ }
+    {
+        let mut timer = self;
+        let answer = timer.cancel();
+        TimerResult {
+            timer: timer,
+            answer: answer,
         }
     }
 

@@ -16,8 +16,8 @@
 //   z                      clear
 //   d                      answers how many entries are used, and all keys and deadlines
 //   n                      a retransmission timer
-//   t NOW DURATION         start_at
-//   u                      cancel
+//   t NOW DURATION         start_at, on a lent timer, which calls the by-value form
+//   u                      cancel, so too
 //   v NOW                  is_active, is_expired_at and remaining_at
 //   w GENERATION NOW       is_expired_for_at
 //   f NS                   as_secs_f64
@@ -284,8 +284,8 @@ fn timer_call(f: Fields, t: RetransmissionTimer) -> RetransmissionTimer {
     let letter = f.letter;
     match letter {
         b'n' => RetransmissionTimer::new(),
-        b't' => print_change(t.started_at(v[0], v[1])),
-        b'u' => print_change(t.cancelled()),
+        b't' => print_change(t.started_lent(v[0], v[1])),
+        b'u' => print_change(t.cancelled_lent()),
         b'v' => print_timer(t, v[0]),
         _ => print_timer_for(t, v[0], v[1]),
     }

@@ -24,7 +24,7 @@ use receiving::ReceivingSide;
 use refusal::Refusal;
 use refusal::Verdict;
 use rto::RtoEstimator;
-use schedule::Scheduled;
+use schedule::ScheduledRow;
 use sending::Resends;
 use session::Receiver;
 use session::Sender;
@@ -144,9 +144,9 @@ pub fn new_state_unchecked(
     receiver_store: &mut [u8],
     rows: &mut [Note],
     events: &mut [Event],
-    forward_records: &mut [Scheduled],
+    forward_records: &mut [ScheduledRow],
     forward_places: &mut [u8],
-    reverse_records: &mut [Scheduled],
+    reverse_records: &mut [ScheduledRow],
     reverse_places: &mut [u8],
     keys: &mut [u32],
     deadlines: &mut [u64],
@@ -292,9 +292,9 @@ pub fn run_unchecked(
     output: &mut [u8],
     rows: &mut [Note],
     events: &mut [Event],
-    forward_records: &mut [Scheduled],
+    forward_records: &mut [ScheduledRow],
     forward_places: &mut [u8],
-    reverse_records: &mut [Scheduled],
+    reverse_records: &mut [ScheduledRow],
     reverse_places: &mut [u8],
     keys: &mut [u32],
     deadlines: &mut [u64],
@@ -353,9 +353,9 @@ pub fn run_transfer(
     output: &mut [u8],
     rows: &mut [Note],
     events: &mut [Event],
-    forward_records: &mut [Scheduled],
+    forward_records: &mut [ScheduledRow],
     forward_places: &mut [u8],
-    reverse_records: &mut [Scheduled],
+    reverse_records: &mut [ScheduledRow],
     reverse_places: &mut [u8],
     keys: &mut [u32],
     deadlines: &mut [u64],

@@ -1,0 +1,2 @@
+pub mod ProofSheet
+pub mod Departures
