@@ -1,9 +1,8 @@
 -- What the forward line hands over: each copy is a call.
 use Prim.Native.Nat.{ℕ, _+_}
 use mathlib.Core.Path.{_≡_, refl, sym, ap, _∙_, subst}
-use mathlib.Core.Bool.{Bool, true, false, cond, _||_, true≢false}
-use mathlib.Core.List.{List, [], _∷_, _++_}
-use lib.Ieee.{Float}
+use mathlib.Core.Bool.{Bool, true, false, cond, _||_}
+use mathlib.Core.List.{List, [], _++_}
 use lib.ListN.{take}
 use lib.Dec.{ltb}
 use Rattle.packet.specs.Format.{newPacket, made}
@@ -15,18 +14,16 @@ use Rattle.receiver.specs.declared.ReceiveAnswer.the-variants as receiveAnswer
 use Rattle.schedule.specs.declared.ReadyAnswer.the-variants as ready
 use Rattle.rto.specs.declared.RtoEstimator.{RtoEstimator}
 use Rattle.path.specs.Direction.{Direction}
-use Rattle.path.specs.Path.{isGoing, leftByTake, takeReady, packetBuffer, leftByCarry, carry, stopOf, CanCarry}
+use Rattle.path.specs.Path.{isGoing, leftByTake, takeReady, CanCarry}
 use Rattle.path.specs.declared.Stop.the-variants as stop
-use Rattle.events.specs.Events.{ForwardEvent}
 use Rattle.session.specs.Sending.{SenderEnd, windowOf}
-use Rattle.session.specs.Receiving.{receiverEnd, base, isCumulative}
+use Rattle.session.specs.Receiving.{base, isCumulative}
 use Rattle.session.specs.declared.Receiver.{Receiver}
 use Rattle.receiving.specs.Receiving.{Inbound, ForwardExit, isData, gbnDuplicate, newDuplicates, delivered, absorb, completedAt, handled, received, onForward, submitAck, ServeForwardExit, serveForward}
 use Rattle.receiving.specs.declared.ReceivingSide.{ReceivingSide}
 use Rattle.receiving.specs.Good.{CanOnForward}
 use Rattle.receiving.proofs.Laws.{Received, data-received, received-good, ack-submitted, markedMetas, submit-carries, forward-dropped, forward-silent, forward-refused, forward-acknowledged, nextTaken, nextExit, serve-turns}
-use Rattle.run_history.specs.Calls.{Ends, ends, arrival, Submission, Reply, reply, repliedBy}
-use Rattle.bounds.specs.Bounds.{maxDatagram}
+use Rattle.run_history.specs.Calls.{ends, arrival, Reply, reply, repliedBy}
 use native.Mathlib.Omega.{arith}
 use Rattle.packet.proofs.Laws.{made-length}
 use Rattle.channel.specs.declared.Channel.{Channel}
@@ -38,7 +35,7 @@ use Rattle.notes.specs.Notes.{SegMetas, markAckScheduled}
 use Rattle.sending.specs.declared.Resends.{Resends}
 use Rattle.run_history.specs.Premature.{covers}
 use Rattle.run_history.proofs.Noted.{noted-marked, any-more}
-use Rattle.run_history.proofs.Columns.{LineAfter, Sending, Replying, carry-replying}
+use Rattle.run_history.proofs.Columns.{carry-replying}
 use Rattle.run_history.proofs.Tells.{Origin, Moment, moment, Told, Makes, Goes, still-told, by-call, Notes, same-noted, same-chunked, none-sent, none-replied, no-more}
 
 absorbed-duplicates : (total now : ℕ) (x : ReceivingSide) → absorb total now x .«duplicate_data» ≡ x .«duplicate_data»

@@ -13,17 +13,16 @@ use Rattle.channel.specs.declared.ChannelConfig.{ChannelConfig}
 use Rattle.channel.proofs.Tallies.{tallied}
 use Rattle.path.specs.Direction.{Direction}
 use Rattle.path.specs.Rolls.{packetRolls, rollsAt}
-use Rattle.path.specs.Path.{CarryExit, isGoing, leftByCarry, carry, stopOf, copyFold, packetBuffer}
-use Rattle.path.specs.declared.Stop.{Stop}
+use Rattle.path.specs.Path.{CarryExit, isGoing, leftByCarry, carry, stopOf, copyFold}
 use Rattle.path.specs.declared.Stop.the-variants.{Going}
-use Rattle.path.proofs.Laws.{nextRolls, granted, copyBytes, carriedOn, Fits, going-is, going-fits, carries, stop-same}
+use Rattle.path.proofs.Laws.{nextRolls, granted, copyBytes, carriedOn, going-is, going-fits, carries, stop-same}
 use Rattle.events.specs.Events.{ForwardEvent, forwardEvent, eventsOf}
 use Rattle.clock.specs.Clock as clock
 use Rattle.clock.specs.declared.Timing.{Timing}
 use Rattle.submission.specs.Submission.{Outgoing, submit}
 use Rattle.submission.proofs.Laws.{eventMade, submit-going, submit-stopped, going-written, going-events, stopped-events}
 use Rattle.run_history.specs.Calls.{Submission, submission, Reply, one}
-use Rattle.run_history.specs.Lines.{filter, count, carriedOf, forwardWires, reverseWires, packets, packetsFrom, eventFor, eventsFrom}
+use Rattle.run_history.specs.Lines.{filter, count, carriedOf, forwardWires, reverseWires, packets, eventFor, eventsFrom}
 use Rattle.run_history.proofs.Lists.{filter-more, packetAt, packets-more, events-more}
 
 abbrev pub eventsIn : Outgoing → List ForwardEvent

@@ -1,5 +1,5 @@
 -- What is sent: each chunk is a call, and each timeout with what becomes of its datagrams.
-use Prim.Native.Nat.{ℕ, _+_, _≤_, _<_}
+use Prim.Native.Nat.{ℕ, _+_, _<_}
 use mathlib.Core.Path.{_≡_, refl, sym, ap, _∙_, subst}
 use mathlib.Core.Bool.{Bool, true, false, cond, not, _&&_, true≢false}
 use mathlib.Core.List.{List, [], _∷_, _++_, append-nil, append-assoc, foldl}
@@ -13,14 +13,12 @@ use Rattle.channel.specs.declared.ChannelConfig.{ChannelConfig}
 use Rattle.chunks.specs.Chunks.{chunksOf}
 use Rattle.delivery.specs.Calls.{numberOf}
 use Rattle.rto.specs.History as rto
-use Rattle.rto.specs.Rto.{onTimeout, onTimeoutUnchecked, countsFull}
+use Rattle.rto.specs.Rto.{onTimeoutUnchecked, countsFull}
 use Rattle.rto.specs.declared.RtoEstimator.{RtoEstimator}
 use Rattle.rto.specs.declared.TimeoutResult.{TimeoutResult}
 use Rattle.rto.proofs.Laws.{Good, timeout-accepted}
 use Rattle.path.specs.Path.{isGoing, packetBuffer}
 use Rattle.clock.specs.Clock as clock
-use Rattle.clock.specs.Clock.{cancelNumber}
-use Rattle.clock.specs.Estimator.{GoodEstimator}
 use Rattle.clock.specs.declared.Timing.{Timing}
 use Rattle.clock.specs.declared.Timing.the-variants.{PerNumber}
 use Rattle.clock.proofs.Laws.{can-back-off}
@@ -37,13 +35,13 @@ use Rattle.submission.specs.Submission.{Outgoing, submit}
 use Rattle.receiving.specs.Receiving.{Inbound, inbound}
 use Rattle.sending.specs.Sending.{PumpState, PumpExit, pumpSends, canPump, nextNumber, sendOne}
 use Rattle.sending.specs.Good.{CanPump}
-use Rattle.sending.specs.Retransmit.{RetransmitExit, retransmitExit, retransmit, exhausted, retransmitAll, ceilingMet}
+use Rattle.sending.specs.Retransmit.{RetransmitExit, retransmit, exhausted, retransmitAll, ceilingMet}
 use Rattle.sending.specs.declared.Resends.{Resends}
 use Rattle.sending.proofs.Laws.{number-left, sent-next, pump-turns, can-send, retransmit-counts, all-none, all-by}
-use Rattle.timeouts.specs.Timeouts.{FireState, fireState, FireExit, withClock, withResends, timedOut, timeoutOf, stopped, fireNumber, fireNumbers, expired, fireTimers}
+use Rattle.timeouts.specs.Timeouts.{FireState, FireExit, timedOut, timeoutOf, fireNumber, fireNumbers, expired, fireTimers}
 use Rattle.timeouts.specs.Good.{GoodFire}
 use Rattle.timeouts.proofs.Laws.{sender-unbroken, timed-out-by, timers-by, cancelled, fire-due, fire-not-due, fire-number-good, numbers-none, numbers-exhausted, numbers-going, numbers-stopped, stopped-good, cancelled-good}
-use Rattle.run_history.specs.Calls.{Call, chunk, timeout as timesOut, Submission, submission, resubmissions, backOff}
+use Rattle.run_history.specs.Calls.{chunk, timeout as timesOut, Submission, submission, resubmissions, backOff}
 use native.Mathlib.Nat.{le-trans}
 use Rattle.rows.specs.Rows.{asNumber}
 use Rattle.notes.specs.Notes.{SegMetas, isPremature}
@@ -56,6 +54,17 @@ use Rattle.run_history.specs.Premature.{any, isFirstGranted, covers}
 use Rattle.run_history.proofs.Noted.{Noted, noted-as, noted-again, noted-first, first-more, again-more, again-premature}
 use Rattle.run_history.proofs.Columns.{eventsIn, lineOf, Sending, submit-sending}
 use Rattle.run_history.proofs.Tells.{Origin, Moment, moment, Told, Goes, still-told, by-call, same-noted, none-chunked, none-sent, none-replied, no-more}
+
+-- ---- the run goes on and the ceiling is not met
+pub goes-both : (x y : Bool) → (x && not y) ≡ true → (x ≡ true) × (y ≡ false)
+goes-both true false e = (refl, refl)
+goes-both true true e = absurd (true≢false (sym e))
+goes-both false y e = absurd (true≢false (sym e))
+
+pub both-go : (x y : Bool) → x ≡ true → y ≡ false → (x && not y) ≡ true
+both-go true false e f = refl
+both-go true true e f = absurd (true≢false f)
+both-go false y e f = absurd (true≢false (sym e))
 
 -- ---- counting
 count-none : {A : Type 0} (test : A → Bool) → count test [] ≡ 0
@@ -230,11 +239,6 @@ module _ (b : Origin) (i : Inbound) (acks duplicates : ℕ) where
   abbrev pub Fired : FireExit → Type 0
   Fired x = Goes b (fireMoment (x .state)) (goesOn x)
 
-  goes-both : (x y : Bool) → (x && not y) ≡ true → (x ≡ true) × (y ≡ false)
-  goes-both true false e = (refl, refl)
-  goes-both true true e = absurd (true≢false (sym e))
-  goes-both false y e = absurd (true≢false (sym e))
-
   -- the sender's next number stays
   timeout-noted : (of : Timeout) (s : FireState) → SenderUnbroken (s .sender) → (o : Outgoing) (xs : List Reply) → Noted (grantedIn o) (λ (j : ℕ). any (covers j) xs) (windowOf (s .sender .sender) .«next_seq_num») (o .metas)
       → Noted (grantedIn o) (λ (j : ℕ). any (covers j) (xs ++ [])) (windowOf (resent (s .sender) of .after .sender) .«next_seq_num») (o .metas)
@@ -307,13 +311,8 @@ module _ (b : Origin) (i : Inbound) (acks duplicates : ℕ) where
       numbers-told [] s g left q = subst Fired (sym (numbers-none limit (b .forwardRolls) now s)) (still-told q)
       numbers-told (n ∷ ns) s g left q =
           by-ceiling (ceilingMet limit (s .resends)) refl
-          (λ c e. numbers-told ns (fireNumber limit (b .forwardRolls) now n s .state) (fire-number-good g limit n c e) (ceiling-left n s g c ∙ left) (number-told n s g q .0 (both _ _ e (ceiling-left n s g c ∙ left))))
+          (λ c e. numbers-told ns (fireNumber limit (b .forwardRolls) now n s .state) (fire-number-good g limit n c e) (ceiling-left n s g c ∙ left) (number-told n s g q .0 (both-go _ _ e (ceiling-left n s g c ∙ left))))
         where
-          both : (x y : Bool) → x ≡ true → y ≡ false → (x && not y) ≡ true
-          both true false e f = refl
-          both true true e f = absurd (true≢false f)
-          both false y e f = absurd (true≢false (sym e))
-
           Rest : Type 0
           Rest = ceilingMet limit (s .resends) ≡ false → isGoing (fireNumber limit (b .forwardRolls) now n s .stop) ≡ true → Fired (fireNumbers limit (b .forwardRolls) now ns (fireNumber limit (b .forwardRolls) now n s .state))
 

@@ -12,16 +12,13 @@ use Rattle.delivery.specs.Ends.{one, all, earliest}
 use Rattle.stop_and_wait.specs.Sender as stopAndWait
 use Rattle.window.specs.Slots as slots
 use Rattle.sending.proofs.Laws.{unused}
-use Rattle.session.specs.Sending.{SenderEnd, senderIn, windowOf, newSender, sendChunk, handleAck, handleTimeout, timeoutNumber, resent}
+use Rattle.session.specs.Sending.{SenderEnd, senderIn, sendChunk, handleAck, handleTimeout, timeoutNumber, resent}
 use Rattle.receiver.specs.Receive.{ReceiveExit}
 use Rattle.receiver.specs.declared.PacketReading.{PacketReading}
 use Rattle.tallies.proofs.Laws.{stop-and-wait-receiver, go-back-n-receiver, selective-repeat-receiver}
 use Rattle.stop_and_wait.specs.Receiver as stopAndWaitReceiver
 use Rattle.go_back_n.specs.Receiver as goBackNReceiver
 use Rattle.selective_repeat.specs.Receiver as selectiveRepeatReceiver
-use Rattle.selective_repeat.specs.declared.SelectiveRepeatReceiver.{SelectiveRepeatReceiver}
-use Rattle.stop_and_wait.specs.declared.StopAndWaitReceiver.{StopAndWaitReceiver}
-use Rattle.go_back_n.specs.declared.GoBackNReceiver.{GoBackNReceiver}
 use Rattle.protocol.specs.declared.ProtocolType.{ProtocolType}
 use Rattle.protocol.specs.declared.ProtocolType.the-variants.{StopAndWait, GoBackN, SelectiveRepeat}
 use Rattle.session.specs.Receiving.{ReceiverEnd, filled, newReceiver, handlePacket, receivedAs, stopAndWaitReceiverEnd, goBackNReceiverEnd, selectiveRepeatReceiverEnd}

@@ -7,5 +7,6 @@ pub mod Returns
 pub mod Departures
 pub mod Steps
 pub mod EndCalls
+pub mod Duplicates
 pub mod Transfer
 pub mod Laws

@@ -1,22 +1,22 @@
 -- The notes of a run say of each number sent whether its first datagram was granted a copy, and whether an ACK of it was sent.
-use Prim.Native.Nat.{ℕ, _+_, _≤_, _<_, min}
+use Prim.Native.Nat.{ℕ, _+_, _≤_, _<_}
 use mathlib.Core.Path.{_≡_, refl, sym, ap, _∙_, subst}
-use mathlib.Core.Bool.{Bool, true, false, cond, not, _&&_, _||_, true≢false}
+use mathlib.Core.Bool.{Bool, true, false, cond, not, _&&_, _||_}
 use mathlib.Core.List.{List, [], _∷_, _++_}
 use mathlib.Core.Logic.{_⊎_, inl, inr, ⊎-elim}
 use native.Mathlib.Omega.{arith}
 use native.Mathlib.Decide.{ℕ-discrete}
 use borrow.Author.Tests.{lt-ltb, le-ltb, ltb-true, ltb-false, leb-true, leb-false, eqb-true, eqb-false, eq-eqb, ne-eqb}
 use lib.Dec.{ltb, leb, eqb}
-use lib.ListN.{length, getD}
-use Rattle.rows.specs.Rows.{asNumber, isSet}
+use lib.ListN.{length}
+use Rattle.rows.specs.Rows.{isSet}
 use Rattle.rows.proofs.Laws.{flag-back}
 use Rattle.schedule.specs.State.{copies}
 use Rattle.schedule.specs.declared.Deliveries.{Deliveries}
 use Rattle.schedule.specs.declared.Deliveries.the-variants.{Lost, One, Two}
 use Rattle.events.specs.Events.{ForwardEvent, delaysOf, forwardEvent}
-use Rattle.notes.specs.SegMeta.{SegMeta, segMeta, noteRow, firstSent, withSending, withDropped, withAckScheduled, withRttSampled, premature}
-use Rattle.notes.specs.Notes.{SegMetas, metaAt, update, newNotes, sent, sentAgain, markAckScheduled, isPremature, takeSample}
+use Rattle.notes.specs.SegMeta.{SegMeta, segMeta, firstSent, withSending, withDropped, withAckScheduled, withRttSampled, premature}
+use Rattle.notes.specs.Notes.{SegMetas, metaAt, update, newNotes, sent, markAckScheduled, isPremature, takeSample}
 use Rattle.notes.specs.declared.Notes.{Notes}
 use Rattle.notes.proofs.Laws.{update-notes, update-length, update-at, update-other, update-cases, new-count, sent-count, sent-length, sent-at, sent-other, again-is, dropped-is, mark-one, mark-length, mark-count, mark-covers, mark-above, sample-cases, premature-noted, premature-none}
 use Rattle.submission.specs.Submission.{noteBefore, noteAfter}

@@ -1,14 +1,13 @@
 -- What the reverse line hands over: each copy is a call, and a sample that an accepted ACK gives another.
-use Prim.Native.Nat.{ℕ, _+_, _-_, _≤_}
+use Prim.Native.Nat.{ℕ, _+_, _≤_}
 use mathlib.Core.Path.{_≡_, refl, sym, ap, _∙_, subst}
-use mathlib.Core.Bool.{Bool, true, false, cond, not, _&&_, true≢false}
-use mathlib.Core.List.{List, [], _∷_, _++_}
+use mathlib.Core.Bool.{Bool, true, false, cond, not, true≢false}
+use mathlib.Core.List.{List, [], _++_}
 use lib.ListN.{take}
 use native.Mathlib.Nat.{le-trans}
-use native.Mathlib.Omega.{arith}
 use Rattle.packet.specs.Reading.{readDatagram}
 use Rattle.rto.specs.History as rto
-use Rattle.rto.specs.Rto.{updateRtt, updateRttUnchecked, countsFull}
+use Rattle.rto.specs.Rto.{updateRttUnchecked}
 use Rattle.rto.specs.declared.RtoEstimator.{RtoEstimator}
 use Rattle.rto.specs.declared.UpdateResult.{UpdateResult}
 use Rattle.rto.proofs.Laws.{update-accepted}
@@ -21,7 +20,6 @@ use Rattle.clock.specs.declared.Timing.{Timing}
 use Rattle.clock.proofs.Laws.{can-sample}
 use Rattle.path.specs.Direction.{Direction}
 use Rattle.path.specs.Path.{leftByTake, takeReady}
-use Rattle.schedule.specs.declared.ReadyAnswer.the-variants as ready
 use Rattle.window.specs.Acknowledgement.{inWindow, AckExit}
 use Rattle.delivery.specs.Ends.{isHandled}
 use Rattle.session.specs.Sending.{SenderEnd, windowOf, handleAck, handleAckUnchecked, ackAnswerOf}
@@ -29,7 +27,7 @@ use Rattle.session.specs.GoodSender.{SenderUnbroken}
 use Rattle.session.proofs.Laws.{ack-keeps-sender}
 use Rattle.receiving.specs.Receiving.{Inbound, inbound}
 use Rattle.acks.specs.Acks.{AckState, ackState, ackNumber, sampleSeq, onAccepted, counted, duplicate, isAccepted, byNumber, onAck}
-use Rattle.acks.specs.Good.{GoodAcks, CanOnAck}
+use Rattle.acks.specs.Good.{CanOnAck}
 use Rattle.acks.specs.Reverse.{serveReverse, CanServeReverse}
 use Rattle.acks.specs.declared.AckNumber.{AckNumber}
 use Rattle.acks.specs.declared.AckNumber.the-variants as ack
@@ -39,7 +37,7 @@ use Rattle.sending.specs.declared.Resends.{Resends}
 use Rattle.run_history.specs.Calls.{Reply}
 use Rattle.run_history.specs.Premature.{any, isFirstGranted, covers}
 use Rattle.run_history.proofs.Noted.{Noted, noted-sampled}
-use Rattle.run_history.proofs.Tells.{Origin, Moment, moment, Sent, Replied, Told, Makes, told-more, told-noted, Notes, same-noted, withMetas, none-chunked, same-chunked, none-sent, none-replied, no-more}
+use Rattle.run_history.proofs.Tells.{Origin, Moment, moment, Told, Makes, told-more, told-noted, Notes, same-noted, none-chunked, same-chunked, none-sent, none-replied, no-more}
 
 module _ (b : Origin) (f : Direction) (i : Inbound) (again : Resends) (written : ℕ) (rows : List (List ℕ)) where
   -- the receiving side as it was, with the reverse line

@@ -1,20 +1,17 @@
 -- Every step of a run, also the last, makes its calls; so does the run.
-use Prim.Native.Nat.{ℕ, zero, suc, _≤_, _<_}
-use mathlib.Core.Path.{_≡_, refl, sym, ap, _∙_, subst}
-use mathlib.Core.Bool.{Bool, true, false, cond, not, _||_, _&&_, true≢false}
+use Prim.Native.Nat.{ℕ, zero, suc, _≤_}
+use mathlib.Core.Path.{_≡_, refl, sym, subst}
+use mathlib.Core.Bool.{Bool, true, false, cond, _||_}
 use mathlib.Core.List.{List}
 use native.Mathlib.Omega.{arith}
 use lib.Dec.{eqb}
-use lib.Ieee.{Float}
-use lib.ListN.{length, take}
-use Rattle.bounds.specs.Bounds.{countLimit, seqNumLimit}
+use lib.ListN.{length}
+use Rattle.bounds.specs.Bounds.{seqNumLimit}
 use Rattle.chunks.specs.Chunks.{chunksOf}
 use Rattle.path.specs.Path.{isGoing}
 use Rattle.path.specs.declared.Stop.{Stop}
 use Rattle.path.specs.declared.Stop.the-variants as stop
 use Rattle.protocol.specs.declared.ProtocolType.{ProtocolType}
-use Rattle.packet.specs.Reading.{readDatagram}
-use Rattle.schedule.specs.declared.ReadyAnswer.the-variants as ready
 use Rattle.path.specs.Direction.{Direction}
 use Rattle.clock.specs.Clock.{due}
 use Rattle.clock.specs.declared.Timing.{Timing}
@@ -30,13 +27,13 @@ use Rattle.sending.specs.Sending.{pumpSends}
 use Rattle.timeouts.specs.Timeouts.{FireState, FireExit, timeoutOf}
 use Rattle.timeouts.specs.Good.{GoodFire}
 use Rattle.timeouts.proofs.Laws.{stopped-good, cancelled-good, fire-number-good, numbers-timing}
-use Rattle.arrivals.specs.Arrivals.{ArrivalState, ArrivalExit, acksOf, serveArrivals, CanServeArrivals}
+use Rattle.arrivals.specs.Arrivals.{ArrivalState, ArrivalExit, acksOf, CanServeArrivals}
 use Rattle.arrivals.proofs.Laws.{served, can-serve-reverse, between, either-exit}
 use Rattle.departures.specs.Departures.{pumpOf, pumped, goesOn, sendDue, CanSendDue}
 use Rattle.departures.proofs.Laws.{fired, can-pump}
 use Rattle.completion.proofs.Laws.{Start, chunksIn, endOf, good-can-time-out}
 use Rattle.prefixes.proofs.Laws.{Prefixed, prefixed-turn, prefixed-served, prefixed-acked, prefixed-pumped, PrefixedFire, prefixed-fired, turn-not-refused}
-use Rattle.step.specs.State.{Given, RunState, fireOf, withArrivals, withFired, exhausted, at}
+use Rattle.step.specs.State.{Given, RunState, withArrivals, exhausted, at}
 use Rattle.step.specs.Settle.{StepExit, stepExit, over, unlessStopped, settle}
 use Rattle.step.specs.Step.{roundLess, step}
 use Rattle.step.specs.Good.{GoodPlan, GoodRun}
@@ -48,25 +45,15 @@ use Rattle.step.proofs.Laws.{arrives, step-is, settle-cases, going-cases, after
 use Rattle.transfer.specs.Run.{isOver, runAtMostFor, runAtMost, runFor, run, stepsLeft}
 use Rattle.transfer.proofs.Laws.{not-over}
 use Rattle.run_history.proofs.Tells.{Origin, Moment, moment, Told, Over as Ended, Goes, told-over}
-use Rattle.run_history.proofs.Arrivals.{arriveMoment, arrivals-told}
+use Rattle.run_history.proofs.Arrivals.{arrivals-told}
 use Rattle.run_history.proofs.Returns.{returns-told}
-use Rattle.run_history.proofs.Departures.{fireMoment, Fired, fires-told, pumps-told}
+use Rattle.run_history.proofs.Departures.{goes-both, both-go, fireMoment, Fired, fires-told, pumps-told}
 
 -- a run's state as its calls made it
 abbrev pub momentAt : RunState → Moment
 momentAt s =
     let a = s .arrivals in
     moment (a .forward) (a .inbound) (a .sender) (a .estimator) (a .received) (a .duplicates) (s .resends) (s .written) (s .events)
-
-both : (x y : Bool) → (x && not y) ≡ true → (x ≡ true) × (y ≡ false)
-both true false e = (refl, refl)
-both true true e = absurd (true≢false (sym e))
-both false y e = absurd (true≢false (sym e))
-
-and-both : (x y : Bool) → x ≡ true → y ≡ false → (x && not y) ≡ true
-and-both true false e f = refl
-and-both true true e f = absurd (true≢false f)
-and-both false y e f = absurd (true≢false (sym e))
 
 -- ---- Q: whatever the parts of a round keep, a step keeps, where it looks at no time, no round and no ceiling
 module _ (Q : RunState → Type 0) (moved : (u : RunState) (time moves rounds : ℕ) → Q u → Q (at u time moves rounds)) (spent : (u : RunState) → Q u → Q (exhausted u)) (p : Plan) (g : Given) (s : RunState) where
@@ -197,7 +184,7 @@ module _ (b : Origin) (p : Plan) (file : List ℕ) (plan : GoodPlan p (record { 
         by-test true e x =
             let on = can-pump (p .«max_retransmissions») can e in
             let u = pumps-told b (a .inbound) (a .received) (a .duplicates) same (timers .state .estimator) (timers .state .resends) (pumpOf (timers .state)) on (x .0 .0 e) in
-            (((λ k. u .0 (both (isGoing (sends true .stop)) (timers .state .resends .exhausted) k .0)), u .1), prefixed-pumped begins (endOf (a .inbound)) (a .inbound .output) on (x .1))
+            (((λ k. u .0 (goes-both (isGoing (sends true .stop)) (timers .state .resends .exhausted) k .0)), u .1), prefixed-pumped begins (endOf (a .inbound)) (a .inbound .output) on (x .1))
         by-test false e x = x
 
   -- ---- both, and the run
@@ -211,7 +198,7 @@ module _ (b : Origin) (p : Plan) (file : List ℕ) (plan : GoodPlan p (record { 
     step-told : step p g s .course ≡ Going → Goes-on (step p g s .state)
     step-told =
         step-goes Goes-on (λ u time moves rounds h. record { told = h .told; prefixed = h .prefixed; left = h .left }) p g s
-        (λ on more left. record { told = departed on .0 .0 (and-both _ _ more left); prefixed = departed on .1; left = left })
+        (λ on more left. record { told = departed on .0 .0 (both-go _ _ more left); prefixed = departed on .1; left = left })
 
   pub run-told : (s : RunState) → GoodRun p g s → Goes-on s → Ended b (momentAt (run p g s .state))
   run-told = run-keeps Goes-on (λ (u : RunState). Ended b (momentAt u)) p g plan (λ s q. told-over (q .told)) step-ended step-told

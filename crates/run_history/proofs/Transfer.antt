@@ -1,7 +1,7 @@
 -- The answer of `run_transfer` from the history of its calls.
-use Prim.Native.Nat.{ℕ, _*_, _≤_, _<_}
-use mathlib.Core.Path.{_≡_, refl, sym, ap, _∙_, subst}
-use mathlib.Core.List.{List, [], _∷_}
+use Prim.Native.Nat.{ℕ, _*_, _≤_}
+use mathlib.Core.Path.{_≡_, refl, sym, ap, subst}
+use mathlib.Core.List.{List, []}
 use native.Mathlib.Omega.{arith}
 use lib.ListN.{length, take, replicate}
 use borrow.Author.Tests.{le-ltb}
@@ -39,7 +39,7 @@ use Rattle.clock.specs.Estimator.{Factors}
 use Rattle.setup.specs.Setup.{CanStart, startChecks}
 use Rattle.setup.proofs.Laws.{start-accepted}
 use Rattle.setup.specs.declared.TransferConfig.{TransferConfig}
-use Rattle.step.specs.State.{Given, RunState, Lent}
+use Rattle.step.specs.State.{Given, Lent}
 use Rattle.step.specs.Settle.{StepExit}
 use Rattle.transfer.specs.Start.{planFor, reverseConfig, newRun, startOf}
 use Rattle.transfer.specs.Run.{run}

@@ -1,7 +1,7 @@
 -- Document 01, "Turned away" and the ends of a run: none of a run's calls is refused, and only its last may leave a
 -- datagram that was not carried.
 use mathlib.Core.Path.{_≡_}
-use mathlib.Core.Bool.{Bool, true, false}
+use mathlib.Core.Bool.{true, false}
 use mathlib.Core.List.{List, [], _∷_}
 use lib.ListN.{length, replicate}
 use Rattle.receiver.specs.Reply.{isRefused}

@@ -1,12 +1,13 @@
 -- The calls of a run on each end alone, as tallies has them: from its answers follow the counters of an end.
 use Prim.Native.Nat.{ℕ}
-use mathlib.Core.Bool.{cond}
+use mathlib.Core.Bool.{Bool, cond}
 use mathlib.Core.List.{List, [], _∷_}
 use Rattle.protocol.specs.declared.ProtocolType.{ProtocolType}
 use Rattle.protocol.specs.declared.ProtocolType.the-variants.{StopAndWait, GoBackN, SelectiveRepeat}
 use Rattle.receiver.specs.declared.PacketReading.{PacketReading}
 use Rattle.delivery.specs.AnyBytes as any
 use Rattle.tallies.specs.Senders.{SenderCalls}
+use Rattle.tallies.specs.Readings.{isOlder, isDuplicate}
 use Rattle.tallies.specs.Receivers as receivers
 use Rattle.path.specs.Path.{packetBuffer}
 use Rattle.session.specs.Sending.{SenderEnd, windowOf, sendChunk, handleAck, handleTimeout, ampleBuffer}
@@ -48,3 +49,9 @@ abbrev pub receiverFrom : ProtocolType → ℕ → List PacketReading → ℕ �
 receiverFrom StopAndWait w hs filled = receiverState.StopAndWait (receivers.stopAndWaitAfter hs filled)
 receiverFrom GoBackN w hs filled = receiverState.GoBackN (receivers.goBackNAfter hs filled)
 receiverFrom SelectiveRepeat w hs filled = receiverState.SelectiveRepeat (receivers.selectiveRepeatAfter w hs filled)
+
+-- whether a reading, after those before it, is Data that came before: older than base or, in Selective Repeat, noted
+abbrev pub isRepeated : ProtocolType → ℕ → List PacketReading → PacketReading → Bool
+isRepeated StopAndWait w hs h = isOlder hs h
+isRepeated GoBackN w hs h = isOlder hs h
+isRepeated SelectiveRepeat w hs h = isDuplicate w hs h
