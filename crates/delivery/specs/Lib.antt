@@ -4,4 +4,3 @@ pub mod KuroseRoss
 pub mod Room
 pub mod Ends
 pub mod AnyBytes
-pub mod KnownAnswers

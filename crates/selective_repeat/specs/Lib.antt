@@ -1,3 +1,2 @@
 pub mod Sender
 pub mod Receiver
-pub mod KnownAnswers
