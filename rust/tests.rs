@@ -142,6 +142,44 @@ fn refused_changes_nothing() {
 }
 
 #[test]
+fn refused_receive_changes_nothing() {
+    let mut rng = Rng(13);
+    let mut refused = [0u64; 12];
+    for _ in 0..200_000 {
+        let p = PROTOCOLS[rng.below(3)];
+        let mut s = Sender::new(p, 4, 2).unwrap();
+        let mut r = Receiver::new(p, 4).unwrap();
+        let (mut d, mut output, mut ack) = ([0; MAX_DATAGRAM], vec![7u8; rng.below(4)], vec![7u8; rng.below(13)]);
+        let n = s.send(&[1, 2, 3][..rng.below(4)], &mut d).unwrap().unwrap();
+        match rng.below(6) {
+            0 => r.words[rng.below(8)] = rng.below(50) as u64,
+            1 => r.words[rng.below(8)] = (rng.below(1 << 30) as u64) << rng.below(34),
+            2 => {
+                let n = rng.below(r.store.len() + 1);
+                r.store.truncate(n)
+            }
+            3 => d[rng.below(n)] ^= 1 << rng.below(8),
+            _ => {}
+        }
+        let before = (r.clone(), output.clone(), ack.clone());
+        let cut = if rng.below(4) == 0 { rng.below(n + 1) } else { n };
+        if let Err(e) = r.receive(&d[..cut], &mut output, &mut ack) {
+            assert!(before == (r, output, ack), "{e}");
+            refused[match e {
+                Refusal::Short { .. } => 1,
+                Refusal::Kind { .. } => 2,
+                Refusal::Cut { .. } => 3,
+                Refusal::Full => 5,
+                Refusal::Counts => 8,
+                Refusal::State => 9,
+                _ => 0,
+            }] += 1;
+        }
+    }
+    assert!([1, 2, 3, 5, 8, 9].iter().all(|n| refused[*n] > 0), "{refused:?}");
+}
+
+#[test]
 fn states_that_are_none() {
     let mut out = [0; MAX_DATAGRAM];
     // zeros, another version, a receiver's words, numbers above 32 bits

@@ -2,13 +2,14 @@
 use Prim.Native.Nat.{ℕ, _≤_}
 use mathlib.Core.Path.{_≡_, refl, sym, ap, _∙_}
 use mathlib.Core.Bool.{Bool, true, false, cond}
-use mathlib.Core.List.{List}
+use mathlib.Core.List.{List, [], _∷_}
 use native.Mathlib.Omega.{arith}
-use borrow.Author.Tests.{ltb-false, eqb-true, not-false}
+use borrow.Author.Tests.{ltb-false, eqb-true, not-false, le-ltb}
 use lib.ListN.{length, getD}
 use lib.Dec.{ltb, eqb}
 use lib.Seq.{set-getD}
 use Rattle.refusal.proofs.Laws.{none-of}
+use Rattle.refusal.specs.Clauses.{anyOf}
 use Rattle.refusal.specs.declared.Refusal.the-variants.{State}
 use Rattle.multi_timer.specs.MultiTimer.{TimersExit, timersExit, answering, newUnchecked, startTimerAt, cancelTimer, PopExit, popExit, popExpiredAt}
 use Rattle.multi_timer.specs.declared.MultiTimer.{MultiTimer}
@@ -66,3 +67,15 @@ module _ (state ks ds : List ℕ) where
       → popExit (timersExit (wordsExit x state') ks' ds') out' ≡ pop state ks ds now out
   unfolding popHeld
   on-popped now out h e p q = rw (h, p, q) (ap (poppedExit state) e)
+
+-- the set that is put into words is what they hold
+timers-held-in : (x : MultiTimer) (rest : List ℕ) → heldTimers (timersWord ∷ x .count ∷ x .«global_generation» ∷ rest) ≡ held.Timers x
+unfolding heldTimers unreadable anyOf
+timers-held-in x rest = rw (le-ltb (length (timersWord ∷ x .count ∷ x .«global_generation» ∷ rest)) timersWords (omega arith))
+
+pub timers-held : (s : List ℕ) (x : MultiTimer) → timersWords ≤ length s → heldTimers (withTimers s x) ≡ held.Timers x
+unfolding withTimers
+timers-held (a ∷ b ∷ c ∷ rest) x l = timers-held-in x rest
+timers-held [] x l = absurd (omega arith)
+timers-held (a ∷ []) x l = absurd (omega arith)
+timers-held (a ∷ b ∷ []) x l = absurd (omega arith)
