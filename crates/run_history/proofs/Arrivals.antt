@@ -71,6 +71,7 @@ module _ (b : Origin) (v : SenderEnd) (e : RtoEstimator) (acks duplicates : ℕ)
           sending = none-sent b now-at;
           replying = λ xs s. rw h (none-replied b now-at xs s);
           estimator-is = refl;
+          taken = tt;
           datas-are = rw h (no-more (i .side .«data_received»));
           repeats-are = rw h (no-more (i .side .«duplicate_data»));
           premature-are = λ test h. no-more _;
@@ -97,6 +98,7 @@ module _ (b : Origin) (v : SenderEnd) (e : RtoEstimator) (acks duplicates : ℕ)
           sending = none-sent b now-at;
           replying = λ xs s. rw (h, none, d .reverse, d .acks) (none-replied b now-at xs s);
           estimator-is = refl;
+          taken = tt;
           datas-are = rw h (sym (d .datas));
           repeats-are = repeats h;
           premature-are = λ test h. no-more _;
@@ -118,6 +120,7 @@ module _ (b : Origin) (v : SenderEnd) (e : RtoEstimator) (acks duplicates : ℕ)
           sending = none-sent b now-at;
           replying = λ xs s. rw (h, a) (carry-replying {xs = xs} now n (windowOf (v .sender) .«next_seq_num») (isCumulative (handled raw i .receiver .receiver)) (made (newPacket n packetType.Ack) []) (received total now raw i .reverse) (rw (d .acks, d .reverse) s) going g);
           estimator-is = refl;
+          taken = tt;
           datas-are = rw h (sym (d .datas));
           repeats-are = repeats h;
           premature-are = λ test h. no-more _;

@@ -51,6 +51,7 @@ use Rattle.submission.proofs.Laws.{metasOf, eventMade, submit-going, going-even
 use Rattle.run_history.specs.Calls.{Reply, one}
 use Rattle.run_history.specs.Lines.{filter, count}
 use Rattle.run_history.specs.Premature.{any, isFirstGranted, covers}
+use Rattle.run_history.specs.Answered.{Taken}
 use Rattle.run_history.proofs.Noted.{Noted, noted-as, noted-again, noted-first, first-more, again-more, again-premature}
 use Rattle.run_history.proofs.Columns.{eventsIn, lineOf, Sending, submit-sending}
 use Rattle.run_history.proofs.Tells.{Origin, Moment, moment, Told, Goes, still-told, by-call, same-noted, none-chunked, none-sent, none-replied, no-more}
@@ -173,6 +174,10 @@ back-off-once : (wires : List (List ℕ)) → 0 < length wires → backOff wires
 back-off-once [] h = absurd (omega arith)
 back-off-once (wire ∷ wires) h = refl
 
+timeout-taken : (e : RtoEstimator) → Good e → countsFull (e .stats) ≡ false → rto.isRefused e rto.timeout ≡ false
+unfolding rto.isRefused
+timeout-taken e good counts = ap (λ (x : TimeoutResult). rto.timeoutRefused (x .answer)) (timeout-accepted e good counts)
+
 backed-off : (e : RtoEstimator) → Good e → countsFull (e .stats) ≡ false → rto.step e rto.timeout ≡ onTimeoutUnchecked e
 unfolding rto.step
 backed-off e good counts = ap (λ (x : TimeoutResult). x .estimator) (timeout-accepted e good counts)
@@ -208,6 +213,7 @@ module _ (b : Origin) (i : Inbound) (acks duplicates : ℕ) where
         sending = λ xs s. submit-sending t given (bytesSent (x .answer) (x .out)) (w .outgoing) s (no-more (again .«retx_submitted»)) _ refl;
         replying = none-replied b (pumpMoment e again w);
         estimator-is = refl;
+        taken = tt;
         datas-are = no-more _;
         repeats-are = no-more _;
         premature-are = λ test h. no-more _;
@@ -259,6 +265,7 @@ module _ (b : Origin) (i : Inbound) (acks duplicates : ℕ) where
           sending = none-sent b (fireMoment s);
           replying = none-replied b (fireMoment s);
           estimator-is = rw none;
+          taken = rw none tt;
           datas-are = no-more _;
           repeats-are = no-more _;
           premature-are = λ test h. ap (λ (n : ℕ). s .resends .premature + n) (count-none (λ (x : Submission). test (x .seq))) ∙ no-more _;
@@ -277,6 +284,7 @@ module _ (b : Origin) (i : Inbound) (acks duplicates : ℕ) where
           sending = again .sending;
           replying = none-replied b (fireMoment s);
           estimator-is = ap (foldl rto.step (s .estimator)) (back-off-once (resent (s .sender) of .packets) some) ∙ backed-off (s .estimator) good counts;
+          taken = subst (Taken (s .estimator)) (sym (back-off-once (resent (s .sender) of .packets) some)) (timeout-taken (s .estimator) good counts, tt);
           datas-are = no-more _;
           repeats-are = no-more _;
           premature-are = again .premature;

@@ -2,7 +2,7 @@
 use Prim.Native.Nat.{ℕ, _+_, _*_}
 use mathlib.Core.Path.{_≡_, refl, sym, ap, _∙_}
 use mathlib.Core.Bool.{Bool, true, false, cond}
-use mathlib.Core.List.{List, [], _∷_, _++_, append-nil, append-assoc, dropLast}
+use mathlib.Core.List.{List, [], _∷_, _++_, append-nil, append-assoc, dropLast, foldl}
 use native.Mathlib.Omega.{arith}
 use lib.Ieee.{Float}
 use lib.ListN.{length}
@@ -12,7 +12,9 @@ use Rattle.events.specs.Events.{ForwardEvent}
 use Rattle.path.specs.Rolls.{packetRolls, rollsAt}
 use Rattle.path.specs.Path.{packetBuffer}
 use Rattle.run_history.specs.Calls.{Call, Ends, after, afterCalls, collect, total, Submission}
-use Rattle.run_history.specs.Answered.{Each}
+use Rattle.rto.specs.History as rto
+use Rattle.rto.specs.declared.RtoEstimator.{RtoEstimator}
+use Rattle.run_history.specs.Answered.{Each, Taken}
 use Rattle.run_history.specs.Premature.{isPrematureAfter, prematureBy, prematureIn}
 use Rattle.run_history.specs.Lines.{filter, packetsFrom, eventFor, eventsFrom}
 
@@ -63,6 +65,11 @@ pub drop-last-more : (cs : List Call) (c : Call) → dropLast (cs ++ c ∷ []) �
 drop-last-more [] c = refl
 drop-last-more (d ∷ []) c = refl
 drop-last-more (d ∷ e ∷ cs) c = ap (λ (l : List Call). d ∷ l) (drop-last-more (e ∷ cs) c)
+
+-- ---- the estimator's calls
+pub taken-more : (x : RtoEstimator) (cs ds : List rto.Call) → Taken x cs → Taken (foldl rto.step x cs) ds → Taken x (cs ++ ds)
+taken-more x [] ds h k = k
+taken-more x (c ∷ cs) ds h k = (h .0, taken-more (rto.step x c) cs ds (h .1) k)
 
 -- ---- packets
 pub filter-more : {A : Type 0} (test : A → Bool) (xs : List A) (x : A) → filter test (xs ++ x ∷ []) ≡ filter test xs ++ cond (test x) (x ∷ []) []

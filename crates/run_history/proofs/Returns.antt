@@ -58,6 +58,7 @@ module _ (b : Origin) (f : Direction) (i : Inbound) (again : Resends) (written :
           sending = none-sent b (returnMoment d s);
           replying = none-replied b (returnMoment d s);
           estimator-is = refl;
+          taken = tt;
           datas-are = no-more _;
           repeats-are = no-more _;
           premature-are = λ test k. no-more _;
@@ -86,6 +87,7 @@ module _ (b : Origin) (f : Direction) (i : Inbound) (again : Resends) (written :
           sending = none-sent b (returnMoment d s);
           replying = none-replied b (returnMoment d s);
           estimator-is = refl;
+          taken = tt;
           datas-are = no-more _;
           repeats-are = no-more _;
           premature-are = λ test k. no-more _;
@@ -105,6 +107,13 @@ module _ (b : Origin) (f : Direction) (i : Inbound) (again : Resends) (written :
           let counts = can-sample (s .estimator) (s .received) g (s .metas) now (can .good .notes) (can .few) .counts in
           ap (λ (x : UpdateResult). x .estimator) (update-accepted (s .estimator) l re (record { state = g .state; times = g .times }) counts (le-trans h (can .good .notes .within)))
 
+      update-taken : (l : ℕ) (re : Bool) → l ≤ now → rto.isRefused (s .estimator) (rto.sample l re) ≡ false
+      unfolding rto.isRefused
+      update-taken l re h =
+          let g = can .good .estimator in
+          let counts = can-sample (s .estimator) (s .received) g (s .metas) now (can .good .notes) (can .few) .counts in
+          ap (λ (x : UpdateResult). rto.updateRefused (x .answer)) (update-accepted (s .estimator) l re (record { state = g .state; times = g .times }) counts (le-trans h (can .good .notes .within)))
+
       accepted-told : (n seq : ℕ) → Returns d (answered (s .duplicates)) → Returns d (onAccepted timing now n seq (counted s (handleAck (s .sender) raw .after)))
       unfolding onAccepted sampleRtt
       accepted-told n seq q = by-sample (takeSample (s .metas) seq now .sample) refl (told-noted q (takeSample (s .metas) seq now .metas) (λ xs k. noted-sampled k seq now))
@@ -123,6 +132,7 @@ module _ (b : Origin) (f : Direction) (i : Inbound) (again : Resends) (written :
                 sending = none-sent b (then-at (s .estimator));
                 replying = none-replied b (then-at (s .estimator));
                 estimator-is = update-is l re (sample-within (s .metas) seq now l re e);
+                taken = (update-taken l re (sample-within (s .metas) seq now l re e), tt);
                 datas-are = no-more _;
                 repeats-are = no-more _;
                 premature-are = λ test h. no-more _;

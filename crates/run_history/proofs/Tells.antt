@@ -19,10 +19,10 @@ use Rattle.receiving.specs.Receiving.{Inbound}
 use Rattle.run_history.specs.Calls.{Call, Ends, ends, after, afterCalls, collect, total, chunkBy, nextNumber, Submission, submittedBy, Reply, repliedBy, estimatedBy, dataIn, duplicateDataIn, acksIn, duplicateAcksIn}
 use Rattle.notes.specs.Notes.{SegMetas, isPremature}
 use Rattle.sending.specs.declared.Resends.{Resends}
-use Rattle.run_history.specs.Answered.{Each, NotRefused, Whole}
+use Rattle.run_history.specs.Answered.{Each, NotRefused, Taken, Whole}
 use Rattle.run_history.specs.Premature.{any, isFirstGranted, covers, isPrematureAfter, prematureBy, prematureIn}
 use Rattle.run_history.proofs.Noted.{Noted, premature-is}
-use Rattle.run_history.proofs.Lists.{after-more, collect-more, total-more, premature-more, each-more, each-first, drop-last-more}
+use Rattle.run_history.proofs.Lists.{after-more, collect-more, total-more, premature-more, each-more, taken-more, each-first, drop-last-more}
 use Rattle.run_history.proofs.Columns.{Line, lineOf, Sending, Replying}
 
 -- what a run starts with
@@ -86,6 +86,7 @@ pub record Tells (b : Origin) (cs : List Call) (m : Moment) : Type 0 where
   pub sending : Sent b (collect submittedBy (b .start) cs) m
   pub replying : Replied b (collect repliedBy (b .start) cs) m
   pub estimator-is : rto.afterCalls (b .rto) (collect estimatedBy (b .start) cs) ≡ m .estimator
+  pub taken : Taken (fresh (b .rto)) (collect estimatedBy (b .start) cs)
   pub datas-are : total dataIn (b .start) cs ≡ m .datas
   pub repeats-are : total duplicateDataIn (b .start) cs ≡ m .repeats
   pub premature-are : prematureIn (b .forward) (b .forwardRolls) (b .start) [] cs ≡ m .premature
@@ -121,6 +122,7 @@ pub record Makes (b : Origin) (c : Call) (m next : Moment) : Type 0 where
   pub sending : (xs : List Submission) → Sent b xs m → Sent b (xs ++ submittedBy (m .ends) c) next
   pub replying : (xs : List Reply) → Replied b xs m → Replied b (xs ++ repliedBy (m .ends) c) next
   pub estimator-is : foldl rto.step (m .estimator) (estimatedBy (m .ends) c) ≡ next .estimator
+  pub taken : Taken (m .estimator) (estimatedBy (m .ends) c)
   pub datas-are : m .datas + dataIn (m .ends) c ≡ next .datas
   pub repeats-are : m .repeats + duplicateDataIn (m .ends) c ≡ next .repeats
   pub premature-are : (test : ℕ → Bool) → ((n : ℕ) → test n ≡ isPremature (m .metas) n) → m .premature + prematureBy test (m .ends) c ≡ next .premature
@@ -159,6 +161,7 @@ module _ {b : Origin} {c : Call} {m next : Moment} (q : Told b m) (h : Makes b c
             ap (foldl rto.step (fresh (b .rto))) (collected estimatedBy) ∙ foldl-append rto.step (fresh (b .rto)) (collect estimatedBy (b .start) cs) (estimatedBy (m .ends) c)
             ∙ ap (λ (e : RtoEstimator). foldl rto.step e (estimatedBy (m .ends) c)) (t .estimator-is) ∙ h .estimator-is;
         premature-are = premature-more (b .forward) (b .forwardRolls) (b .start) [] cs c ∙ ap (λ (n : ℕ). n + prematureBy test (afterCalls (b .start) cs) c) (t .premature-are) ∙ ap (λ (e : Ends). m .premature + prematureBy test e c) (t .ends-are) ∙ h .premature-are test test-is;
+        taken = subst (Taken (fresh (b .rto))) (sym (collected estimatedBy)) (taken-more (fresh (b .rto)) (collect estimatedBy (b .start) cs) (estimatedBy (m .ends) c) (t .taken) (subst (λ (e : RtoEstimator). Taken e (estimatedBy (m .ends) c)) (sym (t .estimator-is)) (h .taken)));
         datas-are = summed dataIn (t .datas-are) (h .datas-are);
         repeats-are = summed duplicateDataIn (t .repeats-are) (h .repeats-are);
         acks-are = summed acksIn (t .acks-are) (h .acks-are);
@@ -235,6 +238,7 @@ told-noted q x k =
         sending = t .sending;
         replying = t .replying;
         estimator-is = t .estimator-is;
+        taken = t .taken;
         datas-are = t .datas-are;
         repeats-are = t .repeats-are;
         premature-are = t .premature-are;

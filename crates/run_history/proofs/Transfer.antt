@@ -79,6 +79,7 @@ module _ (k : Ceilings) (c : TransferConfig) (g : Given) (l : Lent) where
           sending = record { again-are = refl; written-are = refl; line = record { used-is = refl; channel-is = refl }; events-are = sym (events-none (replicate (length (l .events)) vacant)) };
           replying = record { acks-are = refl; line = record { used-is = refl; channel-is = refl } };
           estimator-is = refl;
+          taken = tt;
           datas-are = refl;
           repeats-are = refl;
           premature-are = refl;
@@ -149,6 +150,7 @@ module _ (k : Ceilings) (c : TransferConfig) (g : Given) (l : Lent) where
               forward-is = ap (λ (x : Channel). x .stats) (sym (t .sending .line .channel-is));
               reverse-is = ap (λ (x : Channel). x .stats) (sym (t .replying .line .channel-is));
               estimator-is = t .estimator-is;
+              estimates-taken = t .taken;
               counts-are = rw (t .sending .again-are, t .premature-are, t .datas-are, t .replying .acks-are, t .acks-are, t .repeats-are, t .duplicates-are, t .sending .written-are);
               events-are = t .sending .events-are;
             };

@@ -5,6 +5,8 @@ use mathlib.Core.Bool.{true, false}
 use mathlib.Core.List.{List, [], _∷_}
 use lib.ListN.{length, replicate}
 use Rattle.receiver.specs.Reply.{isRefused}
+use Rattle.rto.specs.History as rto
+use Rattle.rto.specs.declared.RtoEstimator.{RtoEstimator}
 use Rattle.delivery.specs.Ends.{isSendRefused, isTimeoutRefused, isHandled}
 use Rattle.session.specs.Sending.{handleAck, handleTimeout, resent, ampleBuffer}
 use Rattle.run_history.specs.Calls.{Call, chunk, timeout, arrival, return, sample, Ends, after}
@@ -23,6 +25,11 @@ NotRefused e (timeout t carried) =
 NotRefused e (arrival raw carried) = readsAsData raw ≡ true → isRefused (receivedBy e raw .answer) ≡ false
 NotRefused e (return raw) = readsAsAck raw ≡ true → isHandled (handleAck (e .sender) raw .answer) ≡ true
 NotRefused e (sample d again) = Unit {0}
+
+-- the estimator refuses none of its calls
+abbrev pub Taken : RtoEstimator → List rto.Call → Type 0
+Taken x [] = Unit {0}
+Taken x (c ∷ cs) = (rto.isRefused x c ≡ false) × Taken (rto.step x c) cs
 
 -- all that it wrote was handed to its line and carried
 abbrev pub Whole : Ends → Call → Type 0

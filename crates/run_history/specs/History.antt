@@ -4,6 +4,7 @@ use mathlib.Core.List.{List, [], dropLast}
 use lib.ListN.{length, take}
 use Rattle.channel.specs.History as channel
 use Rattle.rto.specs.History as rto
+use Rattle.rto.specs.Rto.{fresh}
 use Rattle.events.specs.Events.{eventsOf}
 use Rattle.chunks.specs.Chunks.{chunksOf}
 use Rattle.session.specs.Sending.{senderEnd, windowOf, newSender}
@@ -18,7 +19,7 @@ use Rattle.run_history.specs.Calls.{Call, Ends, ends, afterCalls, collec
 use Rattle.run_history.specs.Calls.{Submission, submittedBy, repliedBy}
 use Rattle.run_history.specs.Calls.{estimatedBy, dataIn, duplicateDataIn, acksIn, duplicateAcksIn}
 use Rattle.run_history.specs.Lines.{count, carriedOf, forwardWires, reverseWires, packets, eventsFrom}
-use Rattle.run_history.specs.Answered.{Each, NotRefused, Whole}
+use Rattle.run_history.specs.Answered.{Each, NotRefused, Taken, Whole}
 use Rattle.run_history.specs.Premature.{prematureIn}
 
 -- both ends as made, and at the end of a run
@@ -58,6 +59,7 @@ pub record Tell (c : TransferConfig) (g : Given) (e : Ends) (cs : List Call) (o 
   pub reverse-is : channel.tallies (reverseConfig (c .channel))
       (packets (g .reverseRolls) (reverseWires (collect repliedBy e cs))) ≡ o .reverse
   pub estimator-is : rto.afterCalls (c .rto) (collect estimatedBy e cs) ≡ o .estimator
+  pub estimates-taken : Taken (fresh (c .rto)) (collect estimatedBy e cs)
   -- the driver's counts are those of the list, the events those of the packets carried forward, in order
   pub counts-are : countsFrom c g e cs ≡ o .driver
   pub events-are : eventsFrom (c .channel) (g .forwardRolls) 0 (carriedOf (collect submittedBy e cs))
