@@ -19,9 +19,10 @@ impl Cases {
         writeln!(self.stdout, "{letter}{answer}").unwrap();
         self.count += 1;
     }
-    // Near what a replay reads, or what `rt try` lets it write (1 MiB).
+    #[allow(dead_code)]
+    // Near what a replay reads, or so long that `rt try` might end it: it may write 1 MiB, and has a limit of time.
     pub fn is_full(&self) -> bool {
-        self.stdin.len() > 500_000 || self.stdout.len() > 800_000
+        self.stdin.len() > 500_000 || self.stdout.len() > 400_000
     }
     pub fn save(&self, dir: &str) {
         std::fs::create_dir_all(dir).unwrap();
