@@ -29,16 +29,19 @@ extern "C" {
  *      6  long      a payload above 1,400 bytes
  *      7  numbers   the numbers are used up: 4,294,901,760
  *      8  counts    a counter stands at 2^60 or more
- *      9  state     words, store or fill mark that no call left so: zeros, another kind, fewer words, another version
- *     10  time      a time above 172,800 s, a duration above 86,400 s
+ *      9  state     words, store or output that don't fit: zeros, another kind, fewer words, another version, an
+ *                   output shorter than its fill mark. It is no check of integrity: other words may pass
+ *     10  time      a time given, held or to be stored above 172,800 s, a duration above 86,400 s
  *     16  the window is full     17  not accepted     18  nothing     19  nothing to answer     20  invalid checksum
  *
  * 1 to 11 are refusals: no byte of anything lent has changed. The first that is true is answered, in the order 9,
- * 8, 10, 4, 1, 2, 3, 6, 7, 5. (11 belongs to rolls; no call here answers it.) From 16 on nothing failed.
+ * 8, 10, 4, 1, 2, 3, 6, 7, 5. (11 belongs to rolls; no call here answers it. 12 to 15 are kept for refusals to come.)
+ * From 16 on nothing failed; but for 19, which counts the datagram, nothing has changed then either. Where no value is
+ * named it is 0.
  *
- * Which come from where: 1, 2, 3 and 6 of acknowledge and receive, and 7 of receive, are datagrams that the line
- * or another program made: count them and go on. All others are the host's own: a state that was overwritten,
- * memory too small. */
+ * Which come from where: 1, 2, 3 and 6 of calls that are given a datagram, and 7 of receive, are the line's or another
+ * program's doing: count them and go on. All others are the host's own: a state that was overwritten, memory too
+ * small. The macros below name their argument more than once: give them a variable, not a call. */
 
 typedef uint64_t pindrelo_answer;
 
@@ -63,7 +66,7 @@ enum {
 
 #define PINDRELO_STATUS(a) ((unsigned)((a) & 0xff))
 #define PINDRELO_VALUE(a) ((uint64_t)(a) >> 8)
-#define PINDRELO_REFUSED(a) (PINDRELO_STATUS(a) >= 1 && PINDRELO_STATUS(a) <= 11)
+#define PINDRELO_REFUSED(a) (PINDRELO_STATUS(a) >= 1 && PINDRELO_STATUS(a) <= 15)
 /* a refusal's values */
 #define PINDRELO_FIRST(a) ((unsigned)(PINDRELO_VALUE(a) & 0xffff))
 #define PINDRELO_SECOND(a) ((unsigned)(PINDRELO_VALUE(a) >> 16 & 0xffff))
@@ -107,7 +110,7 @@ enum {
 };
 
 enum {
-    PINDRELO_RECEIVER_WINDOW = 1,
+    PINDRELO_RECEIVER_WINDOW = 1, /* Selective Repeat; 1 in the others */
     PINDRELO_RECEIVER_BASE = 2,   /* the number of the next chunk to be delivered */
     PINDRELO_RECEIVER_FILLED = 3, /* the fill mark: how many bytes of the output are delivered */
     PINDRELO_RECEIVER_TOTAL = 4,
@@ -122,8 +125,9 @@ enum { PINDRELO_STOP_AND_WAIT = 1, PINDRELO_GO_BACK_N = 2, PINDRELO_SELECTIVE_RE
  * Chunks are numbered from 0 in the order in which they are sent; a chunk has at most 1,400 bytes. Time is the
  * host's: it keeps when each number was sent, and calls a timeout when its timer has run out. */
 
-/* protocol 1 to 3, window 1 to 32 (Stop-and-Wait runs with 1 whatever is named), max_retries of Stop-and-Wait alone.
- * The store's slots become zeros. 9 store too short, 4, 5 fewer than PINDRELO_STATE_WORDS words. */
+/* protocol 1 to 3, window 1 to 32 (a 4 else in every protocol; Stop-and-Wait then runs with 1), max_retries of
+ * Stop-and-Wait alone. The store's slots become zeros. An unknown protocol is a 4 before all else; then 9 store too
+ * short, 4, 5 fewer than PINDRELO_STATE_WORDS words. */
 pindrelo_answer pindrelo_make_sender(uint64_t protocol, size_t window, uint32_t max_retries,
                                      uint64_t *state, size_t words, uint8_t *store, size_t store_size);
 
@@ -140,8 +144,8 @@ pindrelo_answer pindrelo_acknowledge(uint64_t *state, size_t words, uint8_t *sto
                                      const uint8_t *datagram, size_t length);
 
 /* A timeout: datagrams again, end to end to the start of out, each 10 + its bytes 6 and 7 (big-endian) long. Done:
- * the bytes written. Else NOTHING: nothing is outstanding, the number isn't, or Stop-and-Wait's retries are spent.
- * 9, 8, 5.
+ * the bytes written. Else NOTHING: nothing is outstanding, Stop-and-Wait's retries are spent (then in_flight is 1),
+ * or in Selective Repeat the number isn't outstanding or is acknowledged. 9, 8, 5.
  *   Stop-and-Wait     all three: the packet in flight
  *   Go-Back-N         all and number: every outstanding one, lowest first; earliest: the lowest
  *   Selective Repeat  number: that one; all and earliest: the one at base */
@@ -155,15 +159,16 @@ pindrelo_answer pindrelo_timeout_number(uint64_t *state, size_t words, uint8_t *
 /* Done: 1 where the window is free, else 0. The store isn't looked at. 9, 8. */
 pindrelo_answer pindrelo_can_send(const uint64_t *state, size_t words);
 
-/* Done: how many numbers are outstanding and not acknowledged. 9, 8. */
+/* Done: how many numbers are outstanding and not acknowledged. Only Selective Repeat looks at the store. 9, 8. */
 pindrelo_answer pindrelo_in_flight(const uint64_t *state, size_t words, const uint8_t *store, size_t store_size);
 
 /* ---- A RECEIVER
  *
- * Payloads go to the output in order, from the fill mark on; the output is the same memory in every call, and the
- * file must fit in it. A 5 leaves all as it was: the sender's next copy will do. */
+ * Payloads go to the output in order, from the fill mark on; the output has the same length in every call, and the
+ * file must fit in it. Bytes below the fill mark are never read or written again. A 5 leaves all as it was: the
+ * sender's next copy will do. */
 
-/* window as the sender's. Only Selective Repeat's store is looked at and cleared. 9, 4, 5. */
+/* protocol and window as the sender's. Only Selective Repeat's store is looked at and cleared. 9, 4, 5. */
 pindrelo_answer pindrelo_make_receiver(uint64_t protocol, size_t window,
                                        uint64_t *state, size_t words, uint8_t *store, size_t store_size);
 
@@ -205,7 +210,9 @@ pindrelo_answer pindrelo_timer_earliest(const uint64_t *state, size_t words, con
 /* ---- PACKETS
  *
  * The ends read and write them; a host needs these calls only for packets of its own, as a Fin. A header has 10 bytes,
- * big-endian: number 0 to 3, kind 4 (1 Data, 2 Ack, 3 Fin), flags 5, payload length 6 and 7, checksum 8 and 9. */
+ * big-endian: number 0 to 3, kind 4 (1 Data, 2 Ack, 3 Fin), flags 5 (bit 0: sent again), payload length 6 and 7,
+ * checksum 8 and 9. A receiver acknowledges a Fin by the Fin's number, whatever was delivered, and a sender takes that
+ * ACK for a chunk's: number a Fin 0xFFFFFFFF, which no chunk has, and look for its ACK with pindrelo_read. */
 
 enum { PINDRELO_DATA_PACKET = 1, PINDRELO_ACK_PACKET = 2, PINDRELO_FIN_PACKET = 3 };
 
@@ -231,8 +238,14 @@ pindrelo_answer pindrelo_write(uint8_t kind, uint32_t number, uint8_t flags, con
  * 7, the payload's length: such a flip can pass the checksum, and so can two flips. A host whose line does that
  * encrypts or checks datagrams itself. Then what is delivered is what was sent, in order.
  *
+ * A line carries one transfer between two ends of one protocol and one window. A late ACK of an earlier transfer, or
+ * one of another protocol's receiver, is taken for this one's: keep transfers apart by port, key or a number of the
+ * host's own.
+ *
+ * At most window x 1,400 bytes are on their way at once, and nothing here slows a sender down for a busy line.
+ *
  * The end of a file is the host's: send its length first, or in another way. It is whole when the fill mark is its
- * length. Then the receiver goes on answering for several times the sender's longest timeout: its last ACKs may
+ * length, with what was sent before it counted too. Then the receiver goes on answering for several times the sender's longest timeout: its last ACKs may
  * have been lost. A sender that hears nothing for longer gives up, and cannot know whether all has arrived. */
 
 #ifdef __cplusplus
