@@ -245,8 +245,9 @@ pindrelo_answer pindrelo_write(uint8_t kind, uint32_t number, uint8_t flags, con
  * At most window x 1,400 bytes are on their way at once, and nothing here slows a sender down for a busy line.
  *
  * The end of a file is the host's: send its length first, or in another way. It is whole when the fill mark is its
- * length, with what was sent before it counted too. Then the receiver goes on answering for several times the sender's longest timeout: its last ACKs may
- * have been lost. A sender that hears nothing for longer gives up, and cannot know whether all has arrived. */
+ * length, with what was sent before it counted too. Then the receiver goes on answering for several times the sender's
+ * longest timeout: its last ACKs may have been lost. A sender that hears nothing for longer gives up, and cannot know
+ * whether all has arrived. */
 
 #ifdef __cplusplus
 }
