@@ -10,7 +10,8 @@ abbrev pub isRunning : RetransmissionTimer → Bool
 isRunning t = active (t .deadline)
 
 -- (5.1): every time a packet with data is sent, also again, a timer that isn't running is started to expire after
--- the RTO. At an expiry it has been stopped, (5.4), and the RTO doubled, (5.5), so this is (5.6) too.
+-- the RTO. An expiry has stopped it, the earliest packet is sent again, (5.4), and the RTO is doubled, (5.5), so this
+-- is (5.6) too.
 unfoldable pub onSend : RetransmissionTimer → ℕ → ℕ → RetransmissionTimer
 onSend t now rto = cond (isRunning t) t (startedAtUnchecked t now rto)
 

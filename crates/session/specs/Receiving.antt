@@ -125,7 +125,7 @@ handleReadingIn (receiverState.SelectiveRepeat r) store h payload output ack =
 unfoldable pub handleReading : ReceiverEnd → PacketReading → List ℕ → List ℕ → List ℕ → ReceiveExit ReceiverEnd
 handleReading v h payload output ack = handleReadingIn (v .receiver .state) (v .store) h payload output ack
 
--- 7 is true of a packet, valid or not
+-- 7 looks at a valid packet alone
 abbrev pub isHigh : Packet → Bool → Bool
 isHigh p valid = valid && isNumberHigh p
 

@@ -68,8 +68,8 @@ reverseConfig c = record {
 abbrev pub noResends : Resends
 noResends = record { «retx_submitted» = 0; premature = 0; exhausted = false }
 
--- both ends, both lines and the clock as made, in lent memory that is zeroed, all but the output; of a run of so many
--- moments the first is no move
+-- both ends, both lines and the clock as made: slots of the window, entries, records, places, notes and events are
+-- zeros, the output stays as it is; of a run of so many moments the first is no move, and none runs as one
 unfoldable pub newRun : Ceilings → TransferConfig → Lent → RunState
 newRun k c l =
     let receiver = newReceiver (c .protocol) (c .«window_size») (l .receiverStore) in

@@ -17,7 +17,7 @@ use Rattle.transfer.specs.declared.Outcome.{Outcome}
 use Rattle.transfer.specs.declared.RunAnswer.{RunAnswer}
 use Rattle.transfer.specs.declared.RunAnswer.the-variants as answer
 
--- MAX_EVENTS, MAX_SAME_TIME_SPINS; Stop-and-Wait's retries have no ceiling of their own
+-- MAX_EVENTS, MAX_SAME_TIME_SPINS; the source gives Stop-and-Wait u32::MAX retries
 abbrev pub defaultCeilings : Ceilings
 defaultCeilings = record { steps = 1000000; rounds = 100000; retries = 4294967295 }
 

@@ -136,7 +136,7 @@ fn reverse_config(c: ChannelConfig) -> ChannelConfig
     }
 }
 
-// Both ends, lines and the clock as made; all lent memory but the output becomes zeros.
+// Both ends, lines and the clock as made: slots of the window, entries, records, places, notes and events become zeros.
 pub fn new_state_unchecked(
     config: TransferConfig,
     ceilings: Ceilings,

@@ -1,10 +1,10 @@
 // A run for the benchmark in Rust: numbers and slices only.
 //
-// numbers: protocol (0 Stop-and-Wait, 1 Go-Back-N, 2 Selective Repeat), clock (0 the source's, 1 the edition's), window,
-// chunk, reorder_extra_ms, base_delay_ms, jitter_ms, initial_rto, min_rto, max_rto, granularity, max_virtual_time,
-// max_retransmissions. reals: loss, duplicate, reorder, corrupt, alpha, beta, k, rto_multiplier. answer: 0 not
-// completed, 1 completed, 16 + n the refusal n; the finishing time, the end, the fill mark, and the packets that the
-// forward and the reverse line have seen.
+// numbers: protocol (0 Stop-and-Wait, 1 Go-Back-N, 2 Selective Repeat), clock (0 the source's, 1 the edition's),
+// window, chunk, reorder_extra_ms, base_delay_ms, jitter_ms, initial_rto, min_rto, max_rto, granularity,
+// max_virtual_time, max_retransmissions. reals: loss, duplicate, reorder, corrupt, alpha, beta, k, rto_multiplier.
+// answer: 0 not completed, 1 completed, 16 + n the refusal n; the finishing time, the end, the fill mark, and the
+// packets that the forward and the reverse line have seen.
 ghost use mathlib.Core.Path.{_≡_};
 use channel::ChannelConfig;
 use protocol::ProtocolType;
