@@ -2,7 +2,7 @@
 use Prim.Native.Nat.{ℕ, _+_, _*_, _≤_, _<_, _/_}
 use native.Mathlib.Omega.{arith}
 use mathlib.Core.Path.{_≡_, refl, sym, ap, _∙_, subst}
-use mathlib.Core.Bool.{Bool, true, false}
+use mathlib.Core.Bool.{Bool, true, false, not}
 use mathlib.Core.List.{List, [], _∷_}
 use lib.Ieee.{Float}
 use lib.ListN.{length, replicate}
@@ -120,6 +120,7 @@ module _ (k : Ceilings) (c : TransferConfig) (g : Given) (l : Lent) (h : CanStar
           first = λ flips. runs-delivered (q .runs) flips;
           whole = λ flips done. runs-completed (last .state .arrivals .inbound) (q .runs) flips (q .completed) done;
           prefixes = prefixed-written (q .prefixed);
+          said = λ all. q .completed ∙ ap not (le-ltb _ _ all);
           same-length = λ done e. prefixed-completed (last .state .arrivals .inbound) (q .prefixed) (q .completed) done e;
         }
 

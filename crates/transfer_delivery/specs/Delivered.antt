@@ -1,5 +1,5 @@
 -- Document 01, demand 3, of `run_transfer`: what a run that wasn't refused has written.
-use Prim.Native.Nat.{ℕ}
+use Prim.Native.Nat.{ℕ, _≤_}
 use mathlib.Core.Path.{_≡_}
 use mathlib.Core.Bool.{true}
 use mathlib.Core.List.{List}
@@ -10,7 +10,7 @@ use Rattle.session.specs.Sending.{SenderEnd, senderEnd, slotCount}
 use Rattle.session.specs.Receiving.{ReceiverEnd, receiverEnd, filled}
 use Rattle.setup.specs.declared.TransferConfig.{TransferConfig}
 use Rattle.completion.specs.Flips.{FlipsOutside}
-use Rattle.completion.specs.Delivered.{FirstDelivered}
+use Rattle.completion.specs.Delivered.{FirstDelivered, deliveredTo}
 use Rattle.prefixes.specs.Prefixes.{PrefixesWritten}
 use Rattle.step.specs.State.{Given, Lent}
 use Rattle.transfer.specs.declared.Outcome.{Outcome}
@@ -34,7 +34,7 @@ writtenAt o l = take (filled (o .receiver)) (l .output)
 -- Where no bit was flipped in the length bytes: the delivered chunks are the first ones, the distance is within the
 -- window, nothing else was written, and a run that says completed has written exactly the file. On any rolls: each
 -- delivered part is a prefix of its chunk, and a run that says completed with the fill mark at the file's length has
--- written exactly the file.
+-- written exactly the file; a run that delivered as many parts as there are chunks says completed.
 pub record Delivered (c : TransferConfig) (g : Given) (before : Lent) (o : Outcome) (after : Lent) : Type 0 where
   pub first : FlipsOutside (c .channel) (g .forwardRolls) (fileChunks c g) (eventsAt o after)
       → FirstDelivered (fileChunks c g) (slotCount (c .protocol) (c .«window_size»)) (before .output) (senderAt o after)
@@ -42,4 +42,5 @@ pub record Delivered (c : TransferConfig) (g : Given) (before : Lent) (o : Outco
   pub whole : FlipsOutside (c .channel) (g .forwardRolls) (fileChunks c g) (eventsAt o after)
       → o .completed ≡ true → writtenAt o after ≡ g .file
   pub prefixes : PrefixesWritten (fileChunks c g) (before .output) (receiverAt o after) (after .output)
+  pub said : length (fileChunks c g) ≤ deliveredTo (receiverAt o after) → o .completed ≡ true
   pub same-length : o .completed ≡ true → filled (o .receiver) ≡ length (g .file) → writtenAt o after ≡ g .file
