@@ -1,12 +1,14 @@
 -- Why a run ended as the source's does.
 use Prim.Native.Nat.{ℕ, zero, suc, _-_, _≤_}
 use native.Mathlib.Omega.{arith}
-use mathlib.Core.Path.{_≡_, refl, sym, _∙_, subst}
-use mathlib.Core.Bool.{Bool, true, false, cond, true≢false, false≢true, _&&_, _||_, and-eq-true-iff}
+use mathlib.Core.Path.{_≡_, refl, sym, ap, _∙_, subst}
+use mathlib.Core.Bool.{Bool, true, false, cond, not, true≢false, false≢true, _&&_, _||_, and-eq-true-iff}
+use mathlib.Core.Logic.{_⊎_, inl, inr}
 use mathlib.Core.List.{List, [], _∷_}
 use lib.Dec.{eqb, leb, ltb}
 use lib.Ieee.{Float}
-use borrow.Author.Tests.{leb-true, ltb-true, eqb-true}
+use lib.ListN.{length}
+use borrow.Author.Tests.{leb-true, ltb-true, ltb-false, eqb-true}
 use Rattle.timer.specs.declared.Deadline.{Deadline}
 use Rattle.timer.specs.declared.Deadline.the-variants as deadline
 use Rattle.path.specs.Path.{isGoing}
@@ -16,14 +18,16 @@ use Rattle.rto.specs.Rto.{onTimeoutUnchecked}
 use Rattle.clock.specs.Clock.{cancelNumber}
 use Rattle.clock.specs.declared.Timing.{Timing}
 use Rattle.clock.specs.declared.Timing.the-variants.{PerNumber}
-use Rattle.session.specs.Sending.{oldestOutstanding, resent}
+use Rattle.window.specs.State.{outstanding}
+use Rattle.session.specs.Sending.{windowOf, canSend, oldestOutstanding, resent}
+use Rattle.session.specs.declared.Sender.{Sender}
 use Rattle.session.specs.declared.Oldest.{Oldest}
 use Rattle.session.specs.declared.Timeout.{Timeout}
 use Rattle.session.specs.declared.Timeout.the-variants as timeout
 use Rattle.notes.specs.Notes.{isPremature}
 use Rattle.delivery.specs.Calls.{numberOf}
 use Rattle.submission.specs.Submission.{Outgoing}
-use Rattle.sending.specs.Sending.{pumpSends}
+use Rattle.sending.specs.Sending.{PumpState, PumpExit, pumpExit, nextNumber, canPump, sendOne, progressed, pumpMost, pumpSends}
 use Rattle.sending.specs.Retransmit.{RetransmitExit, retransmit, countedAgain, ceilingMet, retransmitAll}
 use Rattle.sending.specs.Retransmit as again
 use Rattle.sending.specs.declared.Resends.{Resends}
@@ -45,7 +49,7 @@ use Rattle.transfer.specs.Run.{isOver, runAtMostFor, runAtMost, runFor, run, st
 use Rattle.transfer.specs.Transfer.{endOf}
 use Rattle.transfer.specs.declared.Ceilings.{Ceilings}
 use Rattle.transfer.proofs.Laws.{not-over, run-over}
-use Rattle.run_ends.specs.Ended.{isIdle, nextTime, EndedWhy}
+use Rattle.run_ends.specs.Ended.{isIdle, nextTime, NothingToSend, EndedWhy}
 use Rattle.run_ends.specs.Ended.EndedWhy.{finished, resends-used, nothing-due, past-limit, rounds-used, not-later, moments-used}
 
 -- ---- exhausted only where the ceiling is met
@@ -121,8 +125,56 @@ module _ (limit : ℕ) where
         by-test true = timers-spent t s q
         by-test false = timers-spent t s q
 
+-- ---- a chunk that can be sent is sent: with nothing sent every chunk was, or the window has no space
+abbrev NoneLeft : ℕ → Sender → Type 0
+NoneLeft total s = (total ≤ windowOf s .«next_seq_num») ⊎ (windowOf s .«window_size» ≤ outstanding (windowOf s))
+
+not-free : (total : ℕ) (s : Sender) → canPump total s ≡ false → NoneLeft total s
+not-free total s e = by-tests (canSend s) (ltb (windowOf s .«next_seq_num») total) refl refl e
+  where
+    by-tests : (a b : Bool) → canSend s ≡ a → ltb (windowOf s .«next_seq_num») total ≡ b → (a && b) ≡ false → NoneLeft total s
+    by-tests true true p q e = absurd (true≢false e)
+    by-tests true false p q e = inl (ltb-false _ _ q)
+    by-tests false b p q e = inr (ltb-false _ _ p)
+
+or-right : (a b : Bool) → (a || b) ≡ false → b ≡ false
+or-right true b e = absurd (true≢false e)
+or-right false b e = e
+
+module _ (t : Timing) (rolls : List Float) (chunks : List (List ℕ)) (now : ℕ) where
+  none-pumped : (n rto : ℕ) (s : PumpState) → length chunks - nextNumber s ≤ n → pumpMost n t rolls chunks rto now s .progress ≡ false → NoneLeft (length chunks) (pumpMost n t rolls chunks rto now s .state .sender .sender)
+  unfolding pumpMost sendOne
+  none-pumped zero rto s h e = inl (omega (arith, h))
+  none-pumped (suc n) rto s h e = by-free (canPump (length chunks) (s .sender .sender)) refl e
+    where
+      one : PumpExit
+      one = sendOne t rolls chunks rto now s
+
+      sends : (b : Bool) → cond b (progressed (pumpMost n t rolls chunks rto now (one .state))) one .progress ≡ false → ⊥
+      sends true e = true≢false e
+      sends false e = true≢false e
+
+      by-free : (b : Bool) → canPump (length chunks) (s .sender .sender) ≡ b → cond b (cond (isGoing (one .stop)) (progressed (pumpMost n t rolls chunks rto now (one .state))) one) (pumpExit s false stop.Going) .progress ≡ false
+          → NoneLeft (length chunks) (cond b (cond (isGoing (one .stop)) (progressed (pumpMost n t rolls chunks rto now (one .state))) one) (pumpExit s false stop.Going) .state .sender .sender)
+      by-free true f e = absurd (sends (isGoing (one .stop)) e)
+      by-free false f e = not-free (length chunks) (s .sender .sender) f
+
+  none-sent : (limit : ℕ) (s : FireState) → let x = sendDue limit t rolls chunks now s in isGoing (x .stop) ≡ true → x .state .resends .exhausted ≡ false → x .progress ≡ false → NoneLeft (length chunks) (x .state .sender .sender)
+  unfolding sendDue
+  none-sent limit s = by-test (goesOn fired) refl
+    where
+      fired : FireExit
+      fired = fireTimers limit t rolls now s
+
+      sent : PumpExit
+      sent = pumpSends t rolls chunks (fired .state .estimator .«current_rto») now (pumpOf (fired .state))
+
+      by-test : (b : Bool) → goesOn fired ≡ b → let x = cond b (pumped fired sent) fired in isGoing (x .stop) ≡ true → x .state .resends .exhausted ≡ false → x .progress ≡ false → NoneLeft (length chunks) (x .state .sender .sender)
+      by-test true g on k e = none-pumped (length chunks - nextNumber (pumpOf (fired .state))) (fired .state .estimator .«current_rto») (pumpOf (fired .state)) (omega arith) (or-right (fired .progress) (sent .progress) e)
+      by-test false g on k e = absurd (true≢false (sym (ap (λ (b : Bool). b && not (fired .state .resends .exhausted)) on ∙ ap not k) ∙ g))
+
 -- ---- a step
-module _ (p : Plan) (g : Given) where
+module _ (p : Plan) (g : Given) (whole : p .«total_chunks» ≡ length (chunksFor p g)) where
   abbrev SpentAt : RunState → Type 0
   SpentAt s = Spent (p .«max_retransmissions») (s .resends)
 
@@ -139,8 +191,8 @@ module _ (p : Plan) (g : Given) where
   going-why : (u : RunState) → SpentAt u → Why (stepExit u Going)
   going-why u q = record { goes = λ e. q; ends = λ o e. absurd (false≢true o) }
 
-  unless : (st : Stop) (u : RunState) (rest : StepExit) → Why rest → Why (unlessStopped st u rest)
-  unless stop.Going u rest h = h
+  unless : (st : Stop) (u : RunState) (rest : StepExit) → (isGoing st ≡ true → Why rest) → Why (unlessStopped st u rest)
+  unless stop.Going u rest h = h refl
   unless stop.RollsSpent u rest h = record { goes = λ e. absurd (still-going e); ends = λ o e. let z : _≡_ {A = ℕ} 0 1 = cc in absurd (omega arith) }
   unless stop.EventsFull u rest h = record { goes = λ e. absurd (still-going e); ends = λ o e. let z : _≡_ {A = ℕ} 0 1 = cc in absurd (omega arith) }
   unless stop.ScheduleFull u rest h = record { goes = λ e. absurd (still-going e); ends = λ o e. let z : _≡_ {A = ℕ} 0 1 = cc in absurd (omega arith) }
@@ -149,31 +201,38 @@ module _ (p : Plan) (g : Given) where
   either true x y h k = h refl
   either false x y h k = k refl
 
-  move-why : (u : RunState) (d : Deadline) → nextTime p u ≡ d → SpentAt u → Why (moveTo p u d)
-  move-why u deadline.Unset e q = over-why u (u .time) (nothing-due e)
-  move-why u (deadline.At t) e q =
-      either (leb t (u .time)) _ _ (λ h. over-why (exhausted u) (u .time) (not-later t e (leb-true t (u .time) h)))
-      (λ h. either (ltb (p .«max_virtual_time») t) _ _ (λ k. over-why u (p .«max_virtual_time») (past-limit t e (ltb-true (p .«max_virtual_time») t k)))
-      (λ k. either (eqb (u .moves) 0) _ _ (λ m. over-why (at u t (u .moves) (u .rounds)) t (moments-used (eqb-true (u .moves) 0 m) e)) (λ m. going-why (at u t (u .moves - 1) (p .rounds)) q)))
+  move-why : (u : RunState) (d : Deadline) → nextTime p u ≡ d → NothingToSend p u → SpentAt u → Why (moveTo p u d)
+  move-why u deadline.Unset e n q = over-why u (u .time) (nothing-due n e)
+  move-why u (deadline.At t) e n q =
+      either (leb t (u .time)) _ _ (λ h. over-why (exhausted u) (u .time) (not-later n t e (leb-true t (u .time) h)))
+      (λ h. either (ltb (p .«max_virtual_time») t) _ _ (λ k. over-why u (p .«max_virtual_time») (past-limit n t e (ltb-true (p .«max_virtual_time») t k)))
+      (λ k. either (eqb (u .moves) 0) _ _ (λ m. over-why (at u t (u .moves) (u .rounds)) t (moments-used n (eqb-true (u .moves) 0 m) e)) (λ m. going-why (at u t (u .moves - 1) (p .rounds)) q)))
 
-  settle-why : (u : RunState) → SpentAt u → Why (settle p u)
+  settle-why : (u : RunState) → NothingToSend p u → SpentAt u → Why (settle p u)
   unfolding settle
-  settle-why u q =
+  settle-why u n q =
       either (u .arrivals .inbound .side .completed && isIdle p u) _ _ (λ h. let w = and-eq-true-iff (u .arrivals .inbound .side .completed) (isIdle p u) .0 h in over-why u (u .time) (finished (w .0) (w .1)))
-      (λ h. move-why u (nextTime p u) refl q)
+      (λ h. move-why u (nextTime p u) refl n q)
 
   module _ (s : RunState) (q : SpentAt s) where
     both : SpentAt (afterBoth p g s)
     both = due-spent (p .«max_retransmissions») (g .forwardRolls) (s .time) (p .timing) (chunksFor p g) (fireOf (withArrivals (roundLess s) (arrives p g s .state))) q
+
+    -- no progress: nothing was sent
+    nothing-left : isGoing (bothExit p g s .stop) ≡ true → afterBoth p g s .resends .exhausted ≡ false → bothExit p g s .progress ≡ false → NothingToSend p (afterBoth p g s)
+    nothing-left on k e =
+        subst (λ (n : ℕ). NoneLeft n (afterBoth p g s .arrivals .sender .sender)) (sym whole)
+        (none-sent (p .timing) (g .forwardRolls) (chunksFor p g) (s .time) (p .«max_retransmissions») (fireOf (withArrivals (roundLess s) (arrives p g s .state))) on k e)
 
     step-why : Why (step p g s)
     step-why =
         subst Why (sym (step-is p g s))
         (either (eqb (s .rounds) 0) _ _ (λ h. over-why (exhausted s) (s .time) (rounds-used (eqb-true (s .rounds) 0 h)))
         (λ h. unless (arrives p g s .stop) (withArrivals (roundLess s) (arrives p g s .state)) _
-        (unless (bothExit p g s .stop) (afterBoth p g s) _
-        (either (afterBoth p g s .resends .exhausted) _ _ (λ k. over-why (afterBoth p g s) (s .time) (resends-used (both .met k)))
-        (λ k. either (arrives p g s .progress || bothExit p g s .progress) _ _ (λ m. going-why (afterBoth p g s) both) (λ m. settle-why (afterBoth p g s) both))))))
+        (λ i. unless (bothExit p g s .stop) (afterBoth p g s) _
+        (λ on. either (afterBoth p g s .resends .exhausted) _ _ (λ k. over-why (afterBoth p g s) (s .time) (resends-used (both .met k)))
+        (λ k. either (arrives p g s .progress || bothExit p g s .progress) _ _ (λ m. going-why (afterBoth p g s) both)
+        (λ m. settle-why (afterBoth p g s) (nothing-left on k (or-right (arrives p g s .progress) (bothExit p g s .progress) m)) both))))))
 
   -- ---- the run
   most-why : (n : ℕ) (s : RunState) → SpentAt s → Why (runAtMost n p g s)
@@ -191,4 +250,4 @@ module _ (p : Plan) (g : Given) where
 
 pub transfer-ended-why : (k : Ceilings) (c : TransferConfig) (g : Given) (l : Lent) → endOf (run (planFor k c g) g (newRun k c l) .course) ≡ end.Ended → EndedWhy (planFor k c g) (run (planFor k c g) g (newRun k c l) .state)
 unfolding newRun
-transfer-ended-why k c g l = run-ended-why (planFor k c g) g (newRun k c l) refl
+transfer-ended-why k c g l = run-ended-why (planFor k c g) g refl (newRun k c l) refl

@@ -40,7 +40,8 @@ use Rattle.transfer.specs.declared.Ceilings.{Ceilings}
 use Rattle.transfer.specs.declared.Outcome.{Outcome}
 use Rattle.transfer.specs.declared.RunAnswer.the-variants as answer
 use Rattle.transfer.proofs.Laws.{run-over}
-use Rattle.run_ends.specs.Finish.{sideOf, deliveredBy, stateAfter, CompletedIn, Finishes, FinishedSo}
+use Rattle.run_ends.specs.Ended.{nextTime}
+use Rattle.run_ends.specs.Finish.{sideOf, deliveredBy, stateAfter, CompletedIn, PastLimit, Finishes, FinishedSo}
 use Rattle.run_ends.proofs.Transfer.{by-outcome}
 
 -- ---- what a step from s leaves: the time is not earlier and within the limit
@@ -48,7 +49,7 @@ record StepsTo (p : Plan) (s : RunState) (sides : ReceivingSide → Type 0) (x :
   later : s .time ≤ x .state .time
   in-time : x .state .time ≤ p .«max_virtual_time»
   side : sides (sideOf (x .state))
-  finishes : isOver (x .course) ≡ true → (finishedAt (x .course) ≡ finishingTime (x .state) (x .state .time)) ⊎ ((endOf (x .course) ≡ end.Ended) × (finishedAt (x .course) ≡ finishingTime (x .state) (p .«max_virtual_time»)))
+  finishes : isOver (x .course) ≡ true → (finishedAt (x .course) ≡ finishingTime (x .state) (x .state .time)) ⊎ ((endOf (x .course) ≡ end.Ended) × (finishedAt (x .course) ≡ finishingTime (x .state) (p .«max_virtual_time»)) × PastLimit p (x .state))
 
 module _ (p : Plan) (g : Given) (s : RunState) (sides : ReceivingSide → Type 0) (early : s .time ≤ p .«max_virtual_time») where
   abbrev Steps : StepExit → Type 0
@@ -58,18 +59,18 @@ module _ (p : Plan) (g : Given) (s : RunState) (sides : ReceivingSide → Type 0
   over-now : (u : RunState) (e : End) → u .time ≡ s .time → sides (sideOf u) → Steps (over u e (u .time))
   over-now u e t q = record { later = omega (arith, t); in-time = omega (arith, t); side = q; finishes = λ i. inl refl }
 
-  move-steps : (u : RunState) (d : Deadline) → u .time ≡ s .time → sides (sideOf u) → Steps (moveTo p u d)
-  move-steps u deadline.Unset e q = over-now u end.Ended e q
-  move-steps u (deadline.At t) e q = by-past (leb t (u .time)) (ltb (p .«max_virtual_time») t) (leb-false t (u .time)) (ltb-false (p .«max_virtual_time») t)
+  move-steps : (u : RunState) (d : Deadline) → nextTime p u ≡ d → u .time ≡ s .time → sides (sideOf u) → Steps (moveTo p u d)
+  move-steps u deadline.Unset n e q = over-now u end.Ended e q
+  move-steps u (deadline.At t) n e q = by-past (leb t (u .time)) (ltb (p .«max_virtual_time») t) (leb-false t (u .time)) (ltb-true (p .«max_virtual_time») t) (ltb-false (p .«max_virtual_time») t)
     where
       by-moves : (b : Bool) → u .time < t → t ≤ p .«max_virtual_time» → Steps (cond b (over (at u t (u .moves) (u .rounds)) end.Ended t) (stepExit (at u t (u .moves - 1) (p .rounds)) Going))
       by-moves true h k = record { later = omega (arith, e, h); in-time = k; side = q; finishes = λ i. inl refl }
       by-moves false h k = record { later = omega (arith, e, h); in-time = k; side = q; finishes = λ i. absurd (true≢false (sym i)) }
 
-      by-past : (a b : Bool) → (a ≡ false → u .time < t) → (b ≡ false → t ≤ p .«max_virtual_time») → Steps (cond a (over (exhausted u) end.Ended (u .time)) (cond b (over u end.Ended (p .«max_virtual_time»)) (moved p u t)))
-      by-past true b h k = over-now (exhausted u) end.Ended e q
-      by-past false true h k = record { later = omega (arith, e); in-time = omega (arith, e); side = q; finishes = λ i. inr (refl, refl) }
-      by-past false false h k = by-moves (eqb (u .moves) 0) (h refl) (k refl)
+      by-past : (a b : Bool) → (a ≡ false → u .time < t) → (b ≡ true → p .«max_virtual_time» < t) → (b ≡ false → t ≤ p .«max_virtual_time») → Steps (cond a (over (exhausted u) end.Ended (u .time)) (cond b (over u end.Ended (p .«max_virtual_time»)) (moved p u t)))
+      by-past true b h l k = over-now (exhausted u) end.Ended e q
+      by-past false true h l k = record { later = omega (arith, e); in-time = omega (arith, e); side = q; finishes = λ i. inr (refl, refl, record { deadline = t; next = n; past = l refl }) }
+      by-past false false h l k = by-moves (eqb (u .moves) 0) (h refl) (k refl)
 
   settle-steps : (u : RunState) → u .time ≡ s .time → sides (sideOf u) → Steps (settle p u)
   unfolding settle
@@ -77,7 +78,7 @@ module _ (p : Plan) (g : Given) (s : RunState) (sides : ReceivingSide → Type 0
     where
       go : (b : Bool) → Steps (cond b (over u end.Ended (u .time)) (moveTo p u (nextDeadline (p .timing) (u .arrivals .forward) (u .arrivals .inbound .reverse) (u .arrivals .clock))))
       go true = over-now u end.Ended e q
-      go false = move-steps u (nextDeadline (p .timing) (u .arrivals .forward) (u .arrivals .inbound .reverse) (u .arrivals .clock)) e q
+      go false = move-steps u (nextTime p u) refl e q
 
   unless : (st : Stop) (u : RunState) (rest : StepExit) → u .time ≡ s .time → sides (sideOf u) → Steps rest → Steps (unlessStopped st u rest)
   unless stop.Going u rest e q h = h
@@ -186,9 +187,9 @@ module _ (p : Plan) (g : Given) (s : RunState) where
       on-completed d =
           ⊎-elim (λ e. e ∙ ap (λ (b : Bool). cond b (sideOf v .«completed_at») (v .time)) d) (λ e. e .1 ∙ ap (λ (b : Bool). cond b (sideOf v .«completed_at») (p .«max_virtual_time»)) d) (next .finishes o)
 
-      on-open : sideOf v .completed ≡ false → (finishedAt (step p g u .course) ≡ v .time) ⊎ ((endOf (step p g u .course) ≡ end.Ended) × (finishedAt (step p g u .course) ≡ p .«max_virtual_time»))
+      on-open : sideOf v .completed ≡ false → (finishedAt (step p g u .course) ≡ v .time) ⊎ ((endOf (step p g u .course) ≡ end.Ended) × (finishedAt (step p g u .course) ≡ p .«max_virtual_time») × PastLimit p v)
       on-open d =
-          ⊎-elim (λ e. inl (e ∙ ap (λ (b : Bool). cond b (sideOf v .«completed_at») (v .time)) d)) (λ e. inr (e .0, e .1 ∙ ap (λ (b : Bool). cond b (sideOf v .«completed_at») (p .«max_virtual_time»)) d)) (next .finishes o)
+          ⊎-elim (λ e. inl (e ∙ ap (λ (b : Bool). cond b (sideOf v .«completed_at») (v .time)) d)) (λ e. inr (e .0, e .1 ∙ ap (λ (b : Bool). cond b (sideOf v .«completed_at») (p .«max_virtual_time»)) d, e .2)) (next .finishes o)
 
       within : (b : Bool) → sideOf v .completed ≡ b → finishedAt (step p g u .course) ≤ p .«max_virtual_time»
       within true d = let e = on-completed d in let h = timed-next .before d in let k = timed-next .early in omega (arith, e, h, k)
@@ -200,7 +201,7 @@ module _ (p : Plan) (g : Given) (s : RunState) where
             in-time = within (sideOf v .completed) refl;
             completed = λ d. subst (CompletedIn p g s) (sym (on-completed d)) (timed-next .since d);
             stopped = λ d h. ⊎-elim (λ e. e) (λ e. absurd (h (e .0))) (on-open d);
-            ended = λ d h. ⊎-elim (λ e. inl e) (λ e. inr (e .1)) (on-open d);
+            ended = λ d h. ⊎-elim (λ e. inl e) (λ e. inr (e .1, e .2)) (on-open d);
           }
 
   most-finishes : (m n : ℕ) (u : RunState) → Timed p g s n u → isOver (runAtMost m p g u .course) ≡ true → Finishes p g s (runAtMost m p g u)

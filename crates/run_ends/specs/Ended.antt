@@ -2,8 +2,11 @@
 use Prim.Native.Nat.{ℕ, _≤_, _<_}
 use mathlib.Core.Path.{_≡_}
 use mathlib.Core.Bool.{Bool, true}
+use mathlib.Core.Logic.{_⊎_}
 use Rattle.timer.specs.declared.Deadline.{Deadline}
 use Rattle.timer.specs.declared.Deadline.the-variants.{Unset, At}
+use Rattle.window.specs.State.{outstanding}
+use Rattle.session.specs.Sending.{windowOf}
 use Rattle.step.specs.State.{RunState}
 use Rattle.step.specs.Settle.{senderIdle, nextDeadline}
 use Rattle.step.specs.declared.Plan.{Plan}
@@ -20,13 +23,20 @@ nextTime p s =
     let a = s .arrivals in
     nextDeadline (p .timing) (a .forward) (a .inbound .reverse) (a .clock)
 
+-- every chunk was sent, or the window has no space
+abbrev pub NothingToSend : Plan → RunState → Type 0
+NothingToSend p s =
+    let w = windowOf (s .arrivals .sender .sender) in
+    (p .«total_chunks» ≤ w .«next_seq_num») ⊎ (w .«window_size» ≤ outstanding w)
+
 -- completed with nothing left to do; as many packets sent again as may be; nothing that is due, or only past the limit;
--- the rounds at this moment used up, or a next time that isn't later; the moments used up, after the move
+-- the rounds at this moment used up, or a next time that isn't later; the moments used up, after the move. A run waits
+-- for a time only with nothing to send.
 pub data EndedWhy (p : Plan) (s : RunState) : Type 0 where
   finished : s .arrivals .inbound .side .completed ≡ true → isIdle p s ≡ true → EndedWhy p s
   resends-used : p .«max_retransmissions» ≤ s .resends .«retx_submitted» → EndedWhy p s
-  nothing-due : nextTime p s ≡ Unset → EndedWhy p s
-  past-limit : (t : ℕ) → nextTime p s ≡ At t → p .«max_virtual_time» < t → EndedWhy p s
+  nothing-due : NothingToSend p s → nextTime p s ≡ Unset → EndedWhy p s
+  past-limit : NothingToSend p s → (t : ℕ) → nextTime p s ≡ At t → p .«max_virtual_time» < t → EndedWhy p s
   rounds-used : s .rounds ≡ 0 → EndedWhy p s
-  not-later : (t : ℕ) → nextTime p s ≡ At t → t ≤ s .time → EndedWhy p s
-  moments-used : s .moves ≡ 0 → nextTime p s ≡ At (s .time) → EndedWhy p s
+  not-later : NothingToSend p s → (t : ℕ) → nextTime p s ≡ At t → t ≤ s .time → EndedWhy p s
+  moments-used : NothingToSend p s → s .moves ≡ 0 → nextTime p s ≡ At (s .time) → EndedWhy p s

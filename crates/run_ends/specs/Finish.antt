@@ -1,9 +1,10 @@
 -- app/transfer.rs, `run_transfer`: the finishing time. It is the moment of the step that delivered the last chunk; of a
--- run that isn't completed, now, or where the next deadline is past the limit, the limit.
+-- run that isn't completed, now, or the limit, but only where the next deadline is past it.
 use Prim.Native.Nat.{ℕ, zero, suc, _≤_, _<_}
 use mathlib.Core.Path.{_≡_}
 use mathlib.Core.Bool.{true, false}
 use mathlib.Core.Logic.{_⊎_}
+use Rattle.timer.specs.declared.Deadline.the-variants.{At}
 use Rattle.session.specs.Receiving.{base}
 use Rattle.receiving.specs.declared.ReceivingSide.{ReceivingSide}
 use Rattle.setup.specs.declared.TransferConfig.{TransferConfig}
@@ -16,6 +17,7 @@ use Rattle.transfer.specs.Start.{planFor, newRun}
 use Rattle.transfer.specs.Transfer.{endOf, finishedAt}
 use Rattle.transfer.specs.declared.Ceilings.{Ceilings}
 use Rattle.transfer.specs.declared.Outcome.{Outcome}
+use Rattle.run_ends.specs.Ended.{nextTime}
 
 abbrev pub sideOf : RunState → ReceivingSide
 sideOf s = s .arrivals .inbound .side
@@ -35,6 +37,12 @@ pub record CompletedIn (p : Plan) (g : Given) (s : RunState) (time : ℕ) : Type
   pub before : deliveredBy (stateAfter steps p g s) < p .«total_chunks»
   pub after : p .«total_chunks» ≤ deliveredBy (stateAfter (suc steps) p g s)
 
+-- the next deadline is past the limit
+pub record PastLimit (p : Plan) (s : RunState) : Type 0 where
+  pub deadline : ℕ
+  pub next : nextTime p s ≡ At deadline
+  pub past : p .«max_virtual_time» < deadline
+
 -- of a run from s that ended so
 pub record Finishes (p : Plan) (g : Given) (s : RunState) (x : StepExit) : Type 0 where
   pub in-time : finishedAt (x .course) ≤ p .«max_virtual_time»
@@ -42,7 +50,8 @@ pub record Finishes (p : Plan) (g : Given) (s : RunState) (x : StepExit) : Type 
   pub stopped : sideOf (x .state) .completed ≡ false → (endOf (x .course) ≡ Ended → ⊥)
       → finishedAt (x .course) ≡ x .state .time
   pub ended : sideOf (x .state) .completed ≡ false → endOf (x .course) ≡ Ended
-      → (finishedAt (x .course) ≡ x .state .time) ⊎ (finishedAt (x .course) ≡ p .«max_virtual_time»)
+      → (finishedAt (x .course) ≡ x .state .time)
+      ⊎ ((finishedAt (x .course) ≡ p .«max_virtual_time») × PastLimit p (x .state))
 
 -- of a call that wasn't refused
 pub record FinishedSo (k : Ceilings) (c : TransferConfig) (g : Given) (l : Lent) (o : Outcome) : Type 0 where

@@ -1,4 +1,4 @@
 pub mod Ends
 pub mod AtStart
-pub mod Finish
 pub mod Ended
+pub mod Finish
