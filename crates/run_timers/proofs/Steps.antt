@@ -1,0 +1,108 @@
+-- What the parts of a step keep, every step keeps that goes on or ends as the source's does; and so a run.
+use Prim.Native.Nat.{ℕ}
+use native.Mathlib.Omega.{arith}
+use mathlib.Core.Path.{_≡_, refl, sym, ap, _∙_, subst}
+use mathlib.Core.Bool.{Bool, true, false, cond, _||_}
+use mathlib.Core.List.{List}
+use lib.Dec.{eqb}
+use lib.Ieee.{Float}
+use Rattle.chunks.specs.Chunks.{chunksOf}
+use Rattle.path.specs.Path.{isGoing}
+use Rattle.path.specs.declared.Stop.{Stop}
+use Rattle.path.specs.declared.Stop.the-variants as stop
+use Rattle.clock.specs.declared.Timing.{Timing}
+use Rattle.session.specs.GoodSender.{senderBroken}
+use Rattle.sending.specs.Sending.{pumpSends}
+use Rattle.sending.proofs.Laws.{pump-can}
+use Rattle.timeouts.specs.Timeouts.{FireState}
+use Rattle.timeouts.specs.Good.{GoodFire}
+use Rattle.timeouts.proofs.Laws.{fire-timers-keeps}
+use Rattle.arrivals.specs.Arrivals.{ArrivalState}
+use Rattle.departures.specs.Departures.{pumpOf, pumped, goesOn, sendDue, CanSendDue}
+use Rattle.departures.proofs.Laws.{fired, can-pump}
+use Rattle.step.specs.State.{Given, RunState, withArrivals}
+use Rattle.step.specs.Settle.{StepExit, unlessStopped, settle}
+use Rattle.step.specs.Step.{roundLess, step}
+use Rattle.step.specs.Good.{GoodPlan, GoodRun}
+use Rattle.step.specs.declared.Plan.{Plan}
+use Rattle.step.specs.declared.End.{End}
+use Rattle.step.specs.declared.End.the-variants as end
+use Rattle.step.specs.declared.Course.{Course}
+use Rattle.step.specs.declared.Course.the-variants.{Going}
+use Rattle.step.proofs.Laws.{arrives, step-is, settle-cases, afterBoth, bothExit, arrived-good, good-fire, can-send-due, step-good}
+use Rattle.transfer.specs.Run.{run}
+use Rattle.transfer.specs.Transfer.{endOf}
+use Rattle.edition_clock.specs.AlongARun.{Reached, start, next}
+use Rattle.edition_clock.proofs.Run.{run-last}
+
+-- ---- check 9 of the sender is false after the departures too
+sent-unbroken : {t : Timing} {rolls : List Float} {size : ℕ} {file : List ℕ} {total samples now : ℕ} (top : ℕ) (s : FireState) → CanSendDue t rolls size file total now s → GoodFire t rolls samples now s
+    → senderBroken (sendDue top t rolls (chunksOf size file) now s .state .sender) ≡ false
+unfolding sendDue
+sent-unbroken {t} {rolls} {size} {file} {now = now} top s can g = by-test (goesOn (fired top can)) refl
+  where
+    by-test : (b : Bool) → goesOn (fired top can) ≡ b
+        → senderBroken (cond b (pumped (fired top can) (pumpSends t rolls (chunksOf size file) (fired top can .state .estimator .«current_rto») now (pumpOf (fired top can .state)))) (fired top can) .state .sender) ≡ false
+    by-test true e = pump-can (can-pump top can e) .good .sender
+    by-test false e = fire-timers-keeps g top .sender
+
+-- ---- of both lines, the ends and the timers, and how many packets were sent again
+abbrev pub Kept : Type 1
+Kept = ArrivalState → ℕ → Type 0
+
+abbrev pub At : Kept → RunState → Type 0
+At Q s = Q (s .arrivals) (s .resends .«retx_submitted»)
+
+module _ (Q : Kept) (p : Plan) (g : Given) where
+  abbrev AtEnd : StepExit → Type 0
+  AtEnd x = endOf (x .course) ≡ end.Ended → At Q (x .state)
+
+  unless : (st : Stop) (u : RunState) (rest : StepExit) → (isGoing st ≡ true → AtEnd rest) → AtEnd (unlessStopped st u rest)
+  unless stop.Going u rest h = h refl
+  unless stop.RollsSpent u rest h = λ e. let z : _≡_ {A = ℕ} 0 1 = cc in absurd (omega arith)
+  unless stop.EventsFull u rest h = λ e. let z : _≡_ {A = ℕ} 0 1 = cc in absurd (omega arith)
+  unless stop.ScheduleFull u rest h = λ e. let z : _≡_ {A = ℕ} 0 1 = cc in absurd (omega arith)
+
+  either : (b : Bool) (x y : StepExit) → AtEnd x → AtEnd y → AtEnd (cond b x y)
+  either true x y h k = h
+  either false x y h k = k
+
+  settled : (u : RunState) → At Q u → AtEnd (settle p u)
+  settled u q = settle-cases p u AtEnd (λ time i. q) (λ t e h i. q) (λ t e h k z i. q) (λ t e h k z i. q)
+
+  step-at : (s : RunState) → At Q s → (isGoing (bothExit p g s .stop) ≡ true → At Q (afterBoth p g s)) → AtEnd (step p g s)
+  step-at s q both =
+      subst AtEnd (sym (step-is p g s))
+      (either (eqb (s .rounds) 0) _ _ (λ i. q)
+      (unless (arrives p g s .stop) (withArrivals (roundLess s) (arrives p g s .state)) _
+      (λ first. unless (bothExit p g s .stop) (afterBoth p g s) _
+      (λ on. either (afterBoth p g s .resends .exhausted) _ _ (λ i. both on)
+      (either (arrives p g s .progress || bothExit p g s .progress) _ _ (λ i. both on) (settled (afterBoth p g s) (both on)))))))
+
+-- ---- a run
+pub record Between (Q : Kept) (p : Plan) (g : Given) (s : RunState) : Type 0 where
+  pub good : GoodRun p g s
+  pub kept : At Q s
+
+module _ (Q : Kept) (p : Plan) (g : Given) (plan : GoodPlan p g) (both : (s : RunState) → GoodRun p g s → At Q s → isGoing (bothExit p g s .stop) ≡ true → At Q (afterBoth p g s)) (s : RunState) (begun : Between Q p g s) where
+  pub reached-between : {u : RunState} → Reached p g s u → Between Q p g u
+  reached-between start = begun
+  reached-between (next {u = u} r go) =
+      let b = reached-between r in
+      record { good = step-good plan (b .good) go; kept = step-at Q p g u (b .kept) (both u (b .good) (b .kept)) (ap endOf go) }
+
+  pub record Last (u : RunState) : Type 0 where
+    pub kept : At Q u
+    pub unbroken : senderBroken (u .arrivals .sender) ≡ false
+
+  pub run-last-at : endOf (run p g s .course) ≡ end.Ended → Last (run p g s .state)
+  run-last-at e =
+      let x = run-last p g s in
+      let b = reached-between (x .reached) in
+      let u = x .before in
+      let over : endOf (step p g (x .before) .course) ≡ end.Ended = ap (λ (y : StepExit). endOf (y .course)) (sym (x .last)) ∙ e in
+      subst (λ (y : StepExit). Last (y .state)) (sym (x .last))
+      (record {
+        kept = step-at Q p g u (b .kept) (both u (b .good) (b .kept)) over;
+        unbroken = step-at (λ a n. senderBroken (a .sender) ≡ false) p g u (b .good .sender) (λ on. sent-unbroken (p .«max_retransmissions») _ (can-send-due (arrived-good (b .good)) plan) (good-fire (arrived-good (b .good)))) over;
+      })
