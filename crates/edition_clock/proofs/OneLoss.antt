@@ -1,27 +1,25 @@
 -- What one lost datagram costs Go-Back-N, by computation of the run.
-use Prim.Native.Nat.{ℕ, zero, suc}
+use Prim.Native.Nat.{ℕ}
 use mathlib.Core.Path.{_≡_, refl, ap, _∙_}
-use mathlib.Core.Bool.{Bool, true, not, _&&_, and-eq-true-iff}
+use mathlib.Core.Bool.{true}
 use lib.Ieee as ieee
-use borrow.Author.Tests.{not-true}
 use Rattle.refusal.specs.Order.{verdict}
-use Rattle.refusal.specs.declared.Refusal.{Refusal}
 use Rattle.refusal.specs.declared.Verdict.the-variants.{Accepted}
-use Rattle.refusal.proofs.Laws.{on-accepted}
 use Rattle.setup.specs.Setup.{startChecks}
+use Rattle.setup.proofs.Laws.{start-accepted}
 use Rattle.setup.specs.declared.ClockChoice.{ClockChoice}
 use Rattle.setup.specs.declared.ClockChoice.the-variants as choice
-use Rattle.step.specs.State.{Given, RunState}
+use Rattle.step.specs.State.{RunState}
 use Rattle.step.specs.Settle.{StepExit}
-use Rattle.step.specs.Step.{step}
 use Rattle.step.specs.declared.Plan.{Plan}
 use Rattle.step.specs.declared.Course.the-variants.{Over}
 use Rattle.step.specs.declared.End.the-variants.{Ended}
 use Rattle.transfer.specs.Start.{planFor, newRun, startOf}
-use Rattle.transfer.specs.Run.{isOver, run}
-use Rattle.transfer.specs.Transfer.{defaultCeilings, finishedAt, outcomeOf, RunExit, runExit, ended, runTransfer}
+use Rattle.transfer.specs.Run.{run}
+use Rattle.transfer.specs.Transfer.{defaultCeilings, finishedAt, outcomeOf, RunExit, runTransfer}
 use Rattle.transfer.specs.declared.RunAnswer.the-variants as answer
-use Rattle.transfer.proofs.Laws.{run-ends, run-goes}
+use Rattle.transfer.proofs.Runs.{stepsFrom, goesOn, run-steps}
+use Rattle.transfer.proofs.Laws.{accepted-is}
 use Rattle.edition_clock.specs.OneLoss.{config, file, memory, Delivers}
 use Rattle.notes.specs.Notes as notes
 use Rattle.refusal.specs.Clauses as refusalClauses
@@ -73,23 +71,6 @@ use Rattle.step.specs.Step as step
 use Rattle.setup.specs.Setup as setup
 use Rattle.transfer.specs.Start as transferStart
 
--- ---- so many steps that go on, and one that doesn't
-module _ (p : Plan) (g : Given) where
-  pub stepsFrom : ℕ → RunState → StepExit
-  stepsFrom zero s = step p g s
-  stepsFrom (suc n) s = let x = step p g s in stepsFrom n (x .state)
-
-  pub goesOn : ℕ → RunState → Bool
-  goesOn zero s = isOver (step p g s .course)
-  goesOn (suc n) s = let x = step p g s in not (isOver (x .course)) && goesOn n (x .state)
-
-  run-steps : (n : ℕ) (s : RunState) → goesOn n s ≡ true → run p g s ≡ stepsFrom n s
-  unfolding stepsFrom goesOn
-  run-steps zero s e = run-ends p g s e
-  run-steps (suc n) s e =
-      let b = and-eq-true-iff (not (isOver (step p g s .course))) (goesOn n (step p g s .state)) .0 e in
-      run-goes p g s (not-true _ (b .0)) ∙ run-steps n (step p g s .state) (b .1)
-
 -- ---- the smallest input, on either clock
 module _ (clock : ClockChoice) where
   abbrev plan : Plan
@@ -99,8 +80,7 @@ module _ (clock : ClockChoice) where
   first = newRun defaultCeilings (config clock) memory
 
   answers : verdict (startChecks (startOf (config clock) file memory)) ≡ Accepted → runTransfer defaultCeilings (config clock) file memory .answer ≡ answer.Outcome (outcomeOf (run plan file first))
-  unfolding runTransfer
-  answers a = ap (λ (x : RunExit). x .answer) (on-accepted (λ (r : Refusal). runExit (answer.Refused r) memory) (ended (run plan file first)) a)
+  answers a = ap (λ (x : RunExit). x .answer) (accepted-is defaultCeilings (config clock) file memory (start-accepted (startOf (config clock) file memory) a))
 
   -- by so many steps
   record Computes (n time : ℕ) : Type 0 where

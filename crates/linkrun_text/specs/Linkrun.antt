@@ -1,5 +1,6 @@
 -- The program `linkrun` (document 01, at its end): its built-in setup, and what it prints for a file.
 use Prim.Native.Nat.{ℕ, _*_}
+use mathlib.Core.Path.{_≡_}
 use mathlib.Core.Bool.{cond}
 use mathlib.Core.List.{List, [], _∷_}
 use lib.Dec.{ltb}
@@ -16,6 +17,7 @@ use Rattle.setup.specs.declared.ClockChoice.the-variants.{Source}
 use Rattle.setup.specs.declared.TransferConfig.{TransferConfig}
 use Rattle.step.specs.State.{given, Lent, lent}
 use Rattle.transfer.specs.Transfer.{defaultCeilings, RunExit, runTransfer}
+use Rattle.transfer.specs.declared.Outcome.{Outcome as RunOutcome}
 use Rattle.transfer.specs.declared.RunAnswer.{RunAnswer}
 use Rattle.transfer.specs.declared.RunAnswer.the-variants.{Outcome, Refused}
 use Rattle.trace.specs.Text.{eventsText}
@@ -70,6 +72,11 @@ linkrunLent =
 
 unfoldable pub linkrunRun : List ℕ → RunExit
 linkrunRun file = runTransfer defaultCeilings linkrunSetup (given file linkrunRolls linkrunRolls) linkrunLent
+
+-- the run of a file was not refused
+pub record Ran (file : List ℕ) : Type 0 where
+  pub outcome : RunOutcome
+  pub answered : linkrunRun file .answer ≡ Outcome outcome
 
 -- the events of a run; of a refused one none
 abbrev pub answeredEvents : RunAnswer → List (List ℕ) → List ForwardEvent

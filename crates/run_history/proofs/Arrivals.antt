@@ -36,7 +36,7 @@ use Rattle.sending.specs.declared.Resends.{Resends}
 use Rattle.run_history.specs.Premature.{covers}
 use Rattle.run_history.proofs.Noted.{noted-marked, any-more}
 use Rattle.run_history.proofs.Columns.{carry-replying}
-use Rattle.run_history.proofs.Tells.{Origin, Moment, moment, Told, Makes, Goes, still-told, by-call, Notes, same-noted, same-chunked, none-sent, none-replied, no-more}
+use Rattle.run_history.proofs.Tells.{Origin, Moment, moment, Told, Makes, Goes, still-told, by-call, Notes, no-trip, same-noted, same-chunked, none-sent, none-replied, no-more}
 
 absorbed-duplicates : (total now : ℕ) (x : ReceivingSide) → absorb total now x .«duplicate_data» ≡ x .«duplicate_data»
 unfolding absorb
@@ -70,8 +70,8 @@ module _ (b : Origin) (v : SenderEnd) (e : RtoEstimator) (acks duplicates : ℕ)
           chunks-are = same-chunked b now-at;
           sending = none-sent b now-at;
           replying = λ xs s. rw h (none-replied b now-at xs s);
-          estimator-is = refl;
-          taken = tt;
+          estimator-is = λ sampled again t. refl;
+          taken = λ sampled again t. tt;
           datas-are = rw h (no-more (i .side .«data_received»));
           repeats-are = rw h (no-more (i .side .«duplicate_data»));
           premature-are = λ test h. no-more _;
@@ -97,8 +97,8 @@ module _ (b : Origin) (v : SenderEnd) (e : RtoEstimator) (acks duplicates : ℕ)
           chunks-are = same-chunked b now-at;
           sending = none-sent b now-at;
           replying = λ xs s. rw (h, none, d .reverse, d .acks) (none-replied b now-at xs s);
-          estimator-is = refl;
-          taken = tt;
+          estimator-is = λ sampled again t. refl;
+          taken = λ sampled again t. tt;
           datas-are = rw h (sym (d .datas));
           repeats-are = repeats h;
           premature-are = λ test h. no-more _;
@@ -119,8 +119,8 @@ module _ (b : Origin) (v : SenderEnd) (e : RtoEstimator) (acks duplicates : ℕ)
           chunks-are = same-chunked b now-at;
           sending = none-sent b now-at;
           replying = λ xs s. rw (h, a) (carry-replying {xs = xs} now n (windowOf (v .sender) .«next_seq_num») (isCumulative (handled raw i .receiver .receiver)) (made (newPacket n packetType.Ack) []) (received total now raw i .reverse) (rw (d .acks, d .reverse) s) going g);
-          estimator-is = refl;
-          taken = tt;
+          estimator-is = λ sampled again t. refl;
+          taken = λ sampled again t. tt;
           datas-are = rw h (sym (d .datas));
           repeats-are = repeats h;
           premature-are = λ test h. no-more _;
@@ -129,9 +129,9 @@ module _ (b : Origin) (v : SenderEnd) (e : RtoEstimator) (acks duplicates : ℕ)
         }
 
     -- the notes after it
-    silent-noted : isData (readDatagram raw) ≡ true → reply (handled raw i .answer) (isCumulative (handled raw i .receiver .receiver)) (windowOf (v .sender) .«next_seq_num») true ≡ [] → (xs : List Reply) → Notes xs now-at
-        → Notes (xs ++ repliedBy (now-at .ends) (arrival raw true)) (then-at (received total now raw i))
-    silent-noted h nothing xs q = rw (h, nothing, data-received total now raw i .metas) (same-noted now-at xs q)
+    silent-noted : isData (readDatagram raw) ≡ true → reply (handled raw i .answer) (isCumulative (handled raw i .receiver .receiver)) (windowOf (v .sender) .«next_seq_num») true ≡ [] → (xs : List Reply) (ys : List ℕ) → Notes xs ys now-at
+        → Notes (xs ++ repliedBy (now-at .ends) (arrival raw true)) (ys ++ []) (then-at (received total now raw i))
+    silent-noted h nothing xs ys q = rw (h, nothing, data-received total now raw i .metas) (same-noted now-at xs ys q)
 
     module _ (can : CanOnForward i (b .reverseRolls) now) (config : i .reverse .path .channel .config ≡ b .reverse) (n : ℕ) where
       abbrev wire : List ℕ
@@ -155,9 +155,9 @@ module _ (b : Origin) (v : SenderEnd) (e : RtoEstimator) (acks duplicates : ℕ)
           ∙ ap (λ (ds : Deliveries). cond (ltb 0 (copies ds)) (markedMetas (b .reverseRolls) now n wire later) (later .metas)) (whole-granted (later .reverse) (b .reverseRolls) true now wire can-carry no-faults (fits .left))
           ∙ ap (λ (x : SegMetas). markAckScheduled x n (isCumulative (later .side .receiver))) (d .metas) ∙ ap (λ (r : Receiver). markAckScheduled (i .metas) n (isCumulative r)) (d .receiver)
 
-      acked-noted : isData (readDatagram raw) ≡ true → handled raw i .answer ≡ receiveAnswer.Ack n → isGoing (submitAck (b .reverseRolls) now n wire later .stop) ≡ true → (going : Bool) → (xs : List Reply) → Notes xs now-at
-          → Notes (xs ++ repliedBy (now-at .ends) (arrival raw going)) (then-at (submitAck (b .reverseRolls) now n wire later .inbound))
-      acked-noted h a g going xs q = rw (h, a, marks g) (noted-marked q n (isCumulative (handled raw i .receiver .receiver)) (λ k. any-more (covers k) xs _))
+      acked-noted : isData (readDatagram raw) ≡ true → handled raw i .answer ≡ receiveAnswer.Ack n → isGoing (submitAck (b .reverseRolls) now n wire later .stop) ≡ true → (going : Bool) → (xs : List Reply) (ys : List ℕ) → Notes xs ys now-at
+          → Notes (xs ++ repliedBy (now-at .ends) (arrival raw going)) (ys ++ []) (then-at (submitAck (b .reverseRolls) now n wire later .inbound))
+      acked-noted h a g going xs ys q = rw (h, a, marks g) (no-trip (now-at .events) _ ys (noted-marked q n (isCumulative (handled raw i .receiver .receiver)) (λ k. any-more (covers k) xs _)))
 
     pub arrival-told : CanOnForward i (b .reverseRolls) now → Arrives f i → Goes b (then-at (onForward (b .reverseRolls) total now raw i .inbound)) (isGoing (onForward (b .reverseRolls) total now raw i .stop))
     arrival-told can q = by-reading (isData (readDatagram raw)) refl
@@ -177,7 +177,7 @@ module _ (b : Origin) (v : SenderEnd) (e : RtoEstimator) (acks duplicates : ℕ)
 
         by-reading : (t : Bool) → isData (readDatagram raw) ≡ t → After (onForward (b .reverseRolls) total now raw i)
         by-reading true h = by-answer h (handled raw i .answer) refl
-        by-reading false h = subst After (sym (forward-dropped (b .reverseRolls) total now raw i h)) (by-call q (dropped h) (λ g. refl) (λ g xs k. rw h (same-noted now-at xs k)))
+        by-reading false h = subst After (sym (forward-dropped (b .reverseRolls) total now raw i h)) (by-call q (dropped h) (λ g. refl) (λ g xs ys k. rw h (same-noted now-at xs ys k)))
 
   -- taking a copy changes nothing that the calls make
   taken : (now : ℕ) (f : Direction) (i : Inbound) (going : Bool) → Goes b (arriveMoment f i) going → Goes b (arriveMoment (leftByTake (nextTaken now f)) i) going

@@ -1,8 +1,8 @@
 -- What is sent: each chunk is a call, and each timeout with what becomes of its datagrams.
-use Prim.Native.Nat.{ℕ, _+_, _<_}
+use Prim.Native.Nat.{ℕ, zero, suc, _+_, _≤_, _<_}
 use mathlib.Core.Path.{_≡_, refl, sym, ap, _∙_, subst}
 use mathlib.Core.Bool.{Bool, true, false, cond, not, _&&_, true≢false}
-use mathlib.Core.List.{List, [], _∷_, _++_, append-nil, append-assoc, foldl}
+use mathlib.Core.List.{List, [], _∷_, _++_, append-nil, append-assoc, foldl, map}
 use native.Mathlib.Omega.{arith}
 use lib.Ieee.{Float}
 use native.Mathlib.Numerals.{add-one}
@@ -18,12 +18,15 @@ use Rattle.rto.specs.declared.RtoEstimator.{RtoEstimator}
 use Rattle.rto.specs.declared.TimeoutResult.{TimeoutResult}
 use Rattle.rto.proofs.Laws.{Good, timeout-accepted}
 use Rattle.path.specs.Path.{isGoing, packetBuffer}
+use Rattle.protocol.specs.Runs.{upFrom}
+use Rattle.window.specs.Slots as slots
+use Rattle.window.specs.Slots.{datagramFor}
 use Rattle.clock.specs.Clock as clock
 use Rattle.clock.specs.declared.Timing.{Timing}
 use Rattle.clock.specs.declared.Timing.the-variants.{PerNumber}
 use Rattle.clock.proofs.Laws.{can-back-off}
-use Rattle.session.proofs.Laws.{resent-as}
-use Rattle.session.specs.Sending.{SenderEnd, windowOf, isDue, sendChunk, resent, oldestOutstanding}
+use Rattle.session.proofs.Laws.{datagram-number, resent-as}
+use Rattle.session.specs.Sending.{SenderEnd, windowOf, windowEnd, isDue, sendChunk, resent, oldestOutstanding}
 use Rattle.delivery.specs.Ends.{bytesSent, isSendRefused}
 use Rattle.session.specs.GoodSender.{SenderUnbroken}
 use Rattle.departures.specs.Departures.{goesOn}
@@ -41,7 +44,8 @@ use Rattle.sending.proofs.Laws.{number-left, sent-next, pump-turns, can-send, r
 use Rattle.timeouts.specs.Timeouts.{FireState, FireExit, timedOut, timeoutOf, fireNumber, fireNumbers, expired, fireTimers}
 use Rattle.timeouts.specs.Good.{GoodFire}
 use Rattle.timeouts.proofs.Laws.{sender-unbroken, timed-out-by, timers-by, cancelled, fire-due, fire-not-due, fire-number-good, numbers-none, numbers-exhausted, numbers-going, numbers-stopped, stopped-good, cancelled-good}
-use Rattle.run_history.specs.Calls.{chunk, timeout as timesOut, Submission, submission, resubmissions, backOff}
+use Rattle.run_history.specs.Calls.{chunk, timeout as timesOut, Submission, submission, resubmissions}
+use Rattle.run_history.specs.Samples.{backOff}
 use native.Mathlib.Nat.{le-trans}
 use Rattle.rows.specs.Rows.{asNumber}
 use Rattle.notes.specs.Notes.{SegMetas, isPremature}
@@ -49,12 +53,12 @@ use Rattle.path.proofs.Laws.{granted, going-is}
 use Rattle.submission.specs.Submission.{noteBefore}
 use Rattle.submission.proofs.Laws.{metasOf, eventMade, submit-going, going-events, after-again}
 use Rattle.run_history.specs.Calls.{Reply, one}
-use Rattle.run_history.specs.Lines.{filter, count}
-use Rattle.run_history.specs.Premature.{any, isFirstGranted, covers}
+use Rattle.run_history.specs.Lines.{filter, count, any}
+use Rattle.run_history.specs.Premature.{isFirstGranted}
 use Rattle.run_history.specs.Answered.{Taken}
-use Rattle.run_history.proofs.Noted.{Noted, noted-as, noted-again, noted-first, first-more, again-more, again-premature}
+use Rattle.run_history.proofs.Noted.{noted-again, noted-first, first-more, again-more, isEventAgain, first-once, again-twice, again-premature}
 use Rattle.run_history.proofs.Columns.{eventsIn, lineOf, Sending, submit-sending}
-use Rattle.run_history.proofs.Tells.{Origin, Moment, moment, Told, Goes, still-told, by-call, same-noted, none-chunked, none-sent, none-replied, no-more}
+use Rattle.run_history.proofs.Tells.{Origin, Moment, moment, NotedBy, Told, Goes, still-told, by-call, nothing-noted, same-noted, none-chunked, none-sent, none-replied, no-more}
 
 -- ---- the run goes on and the ceiling is not met
 pub goes-both : (x y : Bool) → (x && not y) ≡ true → (x ≡ true) × (y ≡ false)
@@ -87,8 +91,19 @@ as-one false = refl
 sum-more : (p c k y x r : ℕ) → x ≡ c + k → r ≡ p + c → r + k ≡ y → p + x ≡ y
 sum-more p c k y x r e f g = omega arith
 
-abbrev grantedIn : Outgoing → ℕ → Bool
-grantedIn o n = any (isFirstGranted n) (eventsIn o)
+-- ---- the numbers of datagrams are below one
+abbrev Below : ℕ → List (List ℕ) → Type 0
+Below next [] = Unit {0}
+Below next (wire ∷ wires) = (numberOf wire < next) × Below next wires
+
+below-made : (v : slots.Sender) (next count first : ℕ) → first + count ≤ next → Below next (map (datagramFor v) (upFrom first count))
+below-made v next zero first h = tt
+below-made v next (suc count) first h = (rw (datagram-number v first) (omega arith), below-made v next count (suc first) (omega arith))
+
+resent-below : (v : SenderEnd) (t : Timeout) → SenderUnbroken v → Below (windowOf (v .sender) .«next_seq_num») (resent v t .packets)
+resent-below v t unbroken =
+    let r = resent-as v t unbroken in
+    subst (Below (windowOf (v .sender) .«next_seq_num»)) (sym (r .packets-are)) (below-made (windowEnd (resent v t .after)) (windowOf (v .sender) .«next_seq_num») (r .count) (r .first) (r .within .below))
 
 -- ---- datagrams again, until the ceiling is met or the run ends
 module _ (c : ChannelConfig) (rolls : List Float) (limit : ℕ) (t : Timing) (rto now : ℕ) (oldest : Oldest) where
@@ -100,16 +115,16 @@ module _ (c : ChannelConfig) (rolls : List Float) (limit : ℕ) (t : Timing) (rt
     sending : (xs : List Submission) → Sends xs r o → Sends (xs ++ resubmissions carried wires) (y .resends) (y .outgoing)
     whole : isGoing (y .stop) ≡ true → y .resends .exhausted ≡ false → carried ≡ replicate (length wires) true
     premature : (test : ℕ → Bool) → ((n : ℕ) → test n ≡ isPremature (o .metas) n) → r .premature + count (λ (x : Submission). test (x .seq)) (resubmissions carried wires) ≡ y .resends .premature
-    noted : isGoing (y .stop) ≡ true → (acked : ℕ → Bool) (next : ℕ) → Noted (grantedIn o) acked next (o .metas) → Noted (grantedIn (y .outgoing)) acked next (y .outgoing .metas)
+    noted : isGoing (y .stop) ≡ true → (xs : List Reply) (ys : List ℕ) (next : ℕ) → Below next wires → NotedBy (eventsIn o) xs ys next (o .metas) → NotedBy (eventsIn (y .outgoing)) xs ys next (y .outgoing .metas)
 
   none-again : (wires : List (List ℕ)) (r : Resends) (o : Outgoing) (y : RetransmitExit) → ((xs : List Submission) → Sends xs r o → Sends xs (y .resends) (y .outgoing)) → (isGoing (y .stop) ≡ true → y .resends .exhausted ≡ false → [] ≡ replicate (length wires) true)
-      → r .premature ≡ y .resends .premature → ((acked : ℕ → Bool) (next : ℕ) → Noted (grantedIn o) acked next (o .metas) → Noted (grantedIn (y .outgoing)) acked next (y .outgoing .metas)) → Resubmits wires r o y
+      → r .premature ≡ y .resends .premature → ((xs : List Reply) (ys : List ℕ) (next : ℕ) → NotedBy (eventsIn o) xs ys next (o .metas) → NotedBy (eventsIn (y .outgoing)) xs ys next (y .outgoing .metas)) → Resubmits wires r o y
   none-again wires r o y f w p k = record {
     carried = [];
     sending = λ xs s. subst (λ (l : List Submission). Sends l (y .resends) (y .outgoing)) (sym (append-nil xs)) (f xs s);
     whole = w;
     premature = λ test h. ap (λ (n : ℕ). r .premature + n) (count-none (λ (x : Submission). test (x .seq))) ∙ no-more (r .premature) ∙ p;
-    noted = λ g. k;
+    noted = λ g xs ys next l. k xs ys next;
   }
 
   one-again : (wire : List ℕ) (r : Resends) (o : Outgoing) (b : Bool) → isGoing (retransmit t rolls rto now oldest (numberOf wire) wire r o .stop) ≡ b → (xs : List Submission) → Sends xs r o
@@ -132,10 +147,12 @@ module _ (c : ChannelConfig) (rolls : List Float) (limit : ℕ) (t : Timing) (rt
   unfolding retransmit
   again-events wire r o g = going-events t rolls (given wire) wire o (going-is _ g)
 
-  again-noted : (wire : List ℕ) (r : Resends) (o : Outgoing) → isGoing (again wire r o .stop) ≡ true → (acked : ℕ → Bool) (next : ℕ) → Noted (grantedIn o) acked next (o .metas) → Noted (grantedIn (again wire r o .outgoing)) acked next (again wire r o .outgoing .metas)
-  again-noted wire r o g acked next q =
-      subst (Noted (grantedIn (again wire r o .outgoing)) acked next) (sym (again-metas wire r o g))
-      (noted-as (noted-again q (numberOf wire) now rto (granted (o .forward) rolls)) (λ n. ap (any (isFirstGranted n)) (again-events wire r o g) ∙ again-more (eventsIn o) (numberOf wire) _ (granted (o .forward) rolls) n) (λ n. refl))
+  again-noted : (wire : List ℕ) (r : Resends) (o : Outgoing) → isGoing (again wire r o .stop) ≡ true → (xs : List Reply) (ys : List ℕ) (next : ℕ) → numberOf wire < next → NotedBy (eventsIn o) xs ys next (o .metas)
+      → NotedBy (eventsIn (again wire r o .outgoing)) xs ys next (again wire r o .outgoing .metas)
+  again-noted wire r o g xs ys next below q =
+      subst (NotedBy (eventsIn (again wire r o .outgoing)) xs ys next) (sym (again-metas wire r o g))
+      (noted-again q (numberOf wire) below (λ n. ap (any (isFirstGranted n)) (again-events wire r o g) ∙ again-more (eventsIn o) (numberOf wire) _ (granted (o .forward) rolls) n)
+      (λ n. ap (any (isEventAgain n)) (again-events wire r o g) ∙ again-twice (eventsIn o) (numberOf wire) _ (granted (o .forward) rolls) n) now rto (granted (o .forward) rolls))
 
   again-test : (wire : List ℕ) (r : Resends) (o : Outgoing) → isGoing (again wire r o .stop) ≡ true → (n : ℕ) → isPremature (again wire r o .outgoing .metas) n ≡ isPremature (o .metas) n
   again-test wire r o g n =
@@ -154,7 +171,7 @@ module _ (c : ChannelConfig) (rolls : List Float) (limit : ℕ) (t : Timing) (rt
             let c = again-count wire r o test h in
             let p = count-one (λ (x : Submission). test (x .seq)) (submission (numberOf wire) true wire true) (resubmissions (rest .carried) wires) in
             sum-more _ _ _ _ _ _ p c k;
-        noted = λ on acked next q. rest .noted on acked next (again-noted wire r o g acked next q);
+        noted = λ on xs ys next l q. rest .noted on xs ys next (l .1) (again-noted wire r o g xs ys next (l .0) q);
         sending = λ xs s. subst (λ (l : List Submission). Sends l (y .resends) (y .outgoing)) (append-assoc xs (submission (numberOf wire) true wire true ∷ []) (resubmissions (rest .carried) wires)) (rest .sending _ (one-again wire r o true g xs s));
       }
 
@@ -164,9 +181,9 @@ module _ (c : ChannelConfig) (rolls : List Float) (limit : ℕ) (t : Timing) (rt
       ∙ sym (again-count wire r o test h)
 
   resubmits : (wires : List (List ℕ)) (r : Resends) (o : Outgoing) → Resubmits wires r o (retransmitAll limit t rolls rto now oldest wires r o)
-  resubmits [] r o = subst (Resubmits [] r o) (sym (all-none limit t rolls rto now oldest r o)) (none-again [] r o _ (λ xs s. s) (λ g x. refl) refl (λ acked next q. q))
+  resubmits [] r o = subst (Resubmits [] r o) (sym (all-none limit t rolls rto now oldest r o)) (none-again [] r o _ (λ xs s. s) (λ g x. refl) refl (λ xs ys next q. q))
   resubmits (wire ∷ wires) r o =
-      all-by limit t rolls rto now oldest wire wires r o (Resubmits (wire ∷ wires) r o) refl (none-again (wire ∷ wires) r o _ (λ xs s. s) (λ g x. absurd (true≢false x)) refl (λ acked next q. q))
+      all-by limit t rolls rto now oldest wire wires r o (Resubmits (wire ∷ wires) r o) refl (none-again (wire ∷ wires) r o _ (λ xs s. s) (λ g x. absurd (true≢false x)) refl (λ xs ys next q. q))
       (λ g. record { carried = false ∷ []; sending = one-again wire r o false g; whole = λ h x. absurd (true≢false (sym h ∙ g)); premature = λ test h. last-count wire wires r o test h; noted = λ h. absurd (true≢false (sym h ∙ g)) })
       (λ g. more-again wire wires r o _ g (resubmits wires (again wire r o .resends) (again wire r o .outgoing)))
 
@@ -212,8 +229,8 @@ module _ (b : Origin) (i : Inbound) (acks duplicates : ℕ) where
         chunks-are = λ xs h. one-chunked b chunks same (nextNumber w) within (windowOf (x .after .sender) .«next_seq_num») grows xs h;
         sending = λ xs s. submit-sending t given (bytesSent (x .answer) (x .out)) (w .outgoing) s (no-more (again .«retx_submitted»)) _ refl;
         replying = none-replied b (pumpMoment e again w);
-        estimator-is = refl;
-        taken = tt;
+        estimator-is = λ sampled again t. refl;
+        taken = λ sampled again t. tt;
         datas-are = no-more _;
         repeats-are = no-more _;
         premature-are = λ test h. no-more _;
@@ -221,15 +238,16 @@ module _ (b : Origin) (i : Inbound) (acks duplicates : ℕ) where
         duplicates-are = no-more _;
       })
       (λ g. g)
-      (λ g xs k.
+      (λ g xs ys k.
       let o = w .outgoing in
       let on = going-is _ g in
       let ds = granted (o .forward) (b .forwardRolls) in
       let wire = bytesSent (x .answer) (x .out) in
-      same-noted (pumpMoment e again (sendOne t (b .forwardRolls) chunks rto now w .state)) xs
-      (subst (λ (n : ℕ). Noted (grantedIn (submit t (b .forwardRolls) given wire o .outgoing)) (λ (j : ℕ). any (covers j) xs) n (submit t (b .forwardRolls) given wire o .outgoing .metas)) (sym grows)
-      (subst (Noted (grantedIn (submit t (b .forwardRolls) given wire o .outgoing)) (λ (j : ℕ). any (covers j) xs) (nextNumber w + 1)) (ap (λ (y : Outgoing). y .metas) (sym (submit-going t (b .forwardRolls) given wire o on)))
-      (noted-first k now rto ds row (λ n. ap (any (isFirstGranted n)) (going-events t (b .forwardRolls) given wire o on) ∙ first-more (eventsIn o) (nextNumber w) _ ds n)))))
+      let made = going-events t (b .forwardRolls) given wire o on in
+      same-noted (pumpMoment e again (sendOne t (b .forwardRolls) chunks rto now w .state)) xs ys
+      (subst (λ (n : ℕ). NotedBy (eventsIn (submit t (b .forwardRolls) given wire o .outgoing)) xs ys n (submit t (b .forwardRolls) given wire o .outgoing .metas)) (sym grows)
+      (subst (NotedBy (eventsIn (submit t (b .forwardRolls) given wire o .outgoing)) xs ys (nextNumber w + 1)) (ap (λ (y : Outgoing). y .metas) (sym (submit-going t (b .forwardRolls) given wire o on)))
+      (noted-first k now rto ds row (λ n. ap (any (isFirstGranted n)) made ∙ first-more (eventsIn o) (nextNumber w) _ ds n) (λ n. ap (any (isEventAgain n)) made ∙ first-once (eventsIn o) (nextNumber w) _ ds n)))))
 
   pub pumps-told : {t : Timing} {size : ℕ} {file : List ℕ} {total rto now : ℕ} → b .chunks ≡ chunksOf size file → (e : RtoEstimator) (again : Resends) (w : PumpState) → CanPump t (b .forwardRolls) size file total rto now w → Told b (pumpMoment e again w)
       → Goes b (pumpMoment e again (pumpSends t (b .forwardRolls) (chunksOf size file) rto now w .state)) (isGoing (pumpSends t (b .forwardRolls) (chunksOf size file) rto now w .stop))
@@ -246,11 +264,9 @@ module _ (b : Origin) (i : Inbound) (acks duplicates : ℕ) where
   Fired x = Goes b (fireMoment (x .state)) (goesOn x)
 
   -- the sender's next number stays
-  timeout-noted : (of : Timeout) (s : FireState) → SenderUnbroken (s .sender) → (o : Outgoing) (xs : List Reply) → Noted (grantedIn o) (λ (j : ℕ). any (covers j) xs) (windowOf (s .sender .sender) .«next_seq_num») (o .metas)
-      → Noted (grantedIn o) (λ (j : ℕ). any (covers j) (xs ++ [])) (windowOf (resent (s .sender) of .after .sender) .«next_seq_num») (o .metas)
-  timeout-noted of s unbroken o xs k =
-      subst (λ (n : ℕ). Noted (grantedIn o) (λ (j : ℕ). any (covers j) (xs ++ [])) n (o .metas)) (sym (resent-as (s .sender) of unbroken .same .next))
-      (subst (λ (l : List Reply). Noted (grantedIn o) (λ (j : ℕ). any (covers j) l) (windowOf (s .sender .sender) .«next_seq_num») (o .metas)) (sym (append-nil xs)) k)
+  timeout-noted : (of : Timeout) (s : FireState) → SenderUnbroken (s .sender) → (o : Outgoing) (xs : List Reply) (ys : List ℕ) → NotedBy (eventsIn o) xs ys (windowOf (s .sender .sender) .«next_seq_num») (o .metas)
+      → NotedBy (eventsIn o) (xs ++ []) (ys ++ []) (windowOf (resent (s .sender) of .after .sender) .«next_seq_num») (o .metas)
+  timeout-noted of s unbroken o xs ys k = subst (λ (n : ℕ). NotedBy (eventsIn o) (xs ++ []) (ys ++ []) n (o .metas)) (sym (resent-as (s .sender) of unbroken .same .next)) (nothing-noted (eventsIn o) xs ys k)
 
   module _ (limit now : ℕ) where
     timed-out-told : (t : Timing) (of : Timeout) (s : FireState) → SenderUnbroken (s .sender) → Good (s .estimator) → countsFull (s .estimator .stats) ≡ false → Told b (fireMoment s) → Fired (timedOut limit t (b .forwardRolls) now of s)
@@ -264,15 +280,15 @@ module _ (b : Origin) (i : Inbound) (acks duplicates : ℕ) where
           chunks-are = none-chunked b (resent-as (s .sender) of unbroken .same .next);
           sending = none-sent b (fireMoment s);
           replying = none-replied b (fireMoment s);
-          estimator-is = rw none;
-          taken = rw none tt;
+          estimator-is = λ sampled again t. rw none;
+          taken = λ sampled again t. rw none tt;
           datas-are = no-more _;
           repeats-are = no-more _;
           premature-are = λ test h. ap (λ (n : ℕ). s .resends .premature + n) (count-none (λ (x : Submission). test (x .seq))) ∙ no-more _;
           acks-are = no-more _;
           duplicates-are = no-more _;
         })
-        (λ g. ap (λ (l : List (List ℕ)). replicate (length l) true) (sym none)) (λ g xs k. timeout-noted of s unbroken (s .outgoing) xs k))
+        (λ g. ap (λ (l : List (List ℕ)). replicate (length l) true) (sym none)) (λ g xs ys k. timeout-noted of s unbroken (s .outgoing) xs ys k))
         (λ some.
         let again = resubmits (b .forward) (b .forwardRolls) limit t (onTimeoutUnchecked (s .estimator) .«current_rto») now (oldestOutstanding (resent (s .sender) of .after .sender)) (resent (s .sender) of .packets) (s .resends) (s .outgoing) in
         let all = retransmitAll limit t (b .forwardRolls) (onTimeoutUnchecked (s .estimator) .«current_rto») now (oldestOutstanding (resent (s .sender) of .after .sender)) (resent (s .sender) of .packets) (s .resends) (s .outgoing) in
@@ -283,8 +299,8 @@ module _ (b : Origin) (i : Inbound) (acks duplicates : ℕ) where
           chunks-are = none-chunked b (resent-as (s .sender) of unbroken .same .next);
           sending = again .sending;
           replying = none-replied b (fireMoment s);
-          estimator-is = ap (foldl rto.step (s .estimator)) (back-off-once (resent (s .sender) of .packets) some) ∙ backed-off (s .estimator) good counts;
-          taken = subst (Taken (s .estimator)) (sym (back-off-once (resent (s .sender) of .packets) some)) (timeout-taken (s .estimator) good counts, tt);
+          estimator-is = λ sampled again t. ap (foldl rto.step (s .estimator)) (back-off-once (resent (s .sender) of .packets) some) ∙ backed-off (s .estimator) good counts;
+          taken = λ sampled again t. subst (Taken (s .estimator)) (sym (back-off-once (resent (s .sender) of .packets) some)) (timeout-taken (s .estimator) good counts, tt);
           datas-are = no-more _;
           repeats-are = no-more _;
           premature-are = again .premature;
@@ -292,7 +308,7 @@ module _ (b : Origin) (i : Inbound) (acks duplicates : ℕ) where
           duplicates-are = no-more _;
         })
         (λ g. let h = goes-both _ _ g in again .whole (h .0) (h .1))
-        (λ g xs k. timeout-noted of s unbroken (all .outgoing) xs (again .noted (goes-both (isGoing (all .stop)) (all .resends .exhausted) g .0) _ _ k)))
+        (λ g xs ys k. timeout-noted of s unbroken (all .outgoing) xs ys (again .noted (goes-both (isGoing (all .stop)) (all .resends .exhausted) g .0) xs ys _ (resent-below (s .sender) of unbroken) k)))
 
     -- ---- all timers that have run out
     module _ {samples : ℕ} (few : samples < countLimit) where

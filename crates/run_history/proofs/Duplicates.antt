@@ -32,7 +32,7 @@ use Rattle.step.specs.State.{Given, Lent}
 use Rattle.transfer.specs.declared.Ceilings.{Ceilings}
 use Rattle.transfer.specs.declared.DriverCounts.{DriverCounts}
 use Rattle.transfer.specs.declared.Outcome.{Outcome}
-use Rattle.run_history.specs.Calls.{Call, chunk, timeout, arrival, return, sample, Ends, ends, afterCalls, collect, total, readsAsData, receivedBy, duplicateDataIn}
+use Rattle.run_history.specs.Calls.{Call, chunk, timeout, arrival, return, Ends, ends, afterCalls, collect, total, readsAsData, receivedBy, duplicateDataIn}
 use Rattle.run_history.specs.Answered.{Each, NotRefused}
 use Rattle.run_history.specs.EndCalls.{receiverCallBy, receiverFrom, isRepeated}
 use Rattle.run_history.specs.History.{startEnds, History}
@@ -145,8 +145,7 @@ module _ (p : ProtocolType) (w : ℕ) (store : List ℕ) (v : SenderEnd) (output
   each-repeated : (cs : List Call) (c : Call) → NotRefused (afterCalls first cs) c → duplicateDataIn (afterCalls first cs) c + repeats cs ≡ repeats (cs ++ c ∷ [])
   each-repeated cs (chunk payload carried) h = zero-more _ ∙ ap (count (isRepeated p w)) (sym (none-read cs (chunk payload carried) refl))
   each-repeated cs (timeout t carried) h = zero-more _ ∙ ap (count (isRepeated p w)) (sym (none-read cs (timeout t carried) refl))
-  each-repeated cs (return raw) h = zero-more _ ∙ ap (count (isRepeated p w)) (sym (none-read cs (return raw) refl))
-  each-repeated cs (sample d again) h = zero-more _ ∙ ap (count (isRepeated p w)) (sym (none-read cs (sample d again) refl))
+  each-repeated cs (return raw age) h = zero-more _ ∙ ap (count (isRepeated p w)) (sym (none-read cs (return raw age) refl))
   each-repeated cs (arrival raw carried) h = go (readsAsData raw) refl
     where
       go : (b : Bool) → readsAsData raw ≡ b → duplicateDataIn (afterCalls first cs) (arrival raw carried) + repeats cs ≡ repeats (cs ++ arrival raw carried ∷ [])

@@ -33,7 +33,7 @@ use Rattle.session.specs.declared.SenderState.the-variants as senderState
 use Rattle.session.specs.declared.Timeout.{Timeout}
 use Rattle.session.specs.declared.Timeout.the-variants as timeout
 use Rattle.receiving.specs.Receiving.{ackBuffer}
-use Rattle.run_history.specs.Calls.{Call, chunk, timeout as timesOut, arrival, return, sample, Ends, ends, after, afterCalls, collect, readsAsData, readsAsAck, receivedBy}
+use Rattle.run_history.specs.Calls.{Call, chunk, timeout as timesOut, arrival, return, Ends, ends, after, afterCalls, collect, readsAsData, readsAsAck, receivedBy}
 use Rattle.run_history.specs.EndCalls.{sessionSender, senderCallBy, receiverCallBy, receiverFrom}
 
 -- ---- the sender: each call of a session is its protocol's
@@ -65,13 +65,12 @@ sender-after e (arrival raw carried ∷ cs) = ap (λ (v : SenderEnd). senders.af
     same : (b : Bool) (x : ReceiveExit ReceiverEnd) → e .sender ≡ cond b (ends (e .sender) (x .receiver) (x .output)) e .sender
     same true x = refl
     same false x = refl
-sender-after e (return raw ∷ cs) = go (readsAsAck raw) (sender-after (after e (return raw)) cs)
+sender-after e (return raw age ∷ cs) = go (readsAsAck raw) (sender-after (after e (return raw age)) cs)
   where
-    go : (b : Bool) → senders.afterCalls sessionSender (cond b (ends (handleAck (e .sender) raw .after) (e .receiver) (e .output)) e .sender) (collect senderCallBy (after e (return raw)) cs) ≡ afterCalls (after e (return raw)) cs .sender
-        → senders.afterCalls sessionSender (e .sender) (cond b (any.ack raw ∷ []) [] ++ collect senderCallBy (after e (return raw)) cs) ≡ afterCalls (after e (return raw)) cs .sender
+    go : (b : Bool) → senders.afterCalls sessionSender (cond b (ends (handleAck (e .sender) raw .after) (e .receiver) (e .output)) e .sender) (collect senderCallBy (after e (return raw age)) cs) ≡ afterCalls (after e (return raw age)) cs .sender
+        → senders.afterCalls sessionSender (e .sender) (cond b (any.ack raw ∷ []) [] ++ collect senderCallBy (after e (return raw age)) cs) ≡ afterCalls (after e (return raw age)) cs .sender
     go true h = h
     go false h = h
-sender-after e (sample d again ∷ cs) = sender-after e cs
 
 -- ---- the receiver
 pub receiver-after : (e : Ends) (cs : List Call) → receivers.afterCalls handlePacket (e .receiver) (collect receiverCallBy e cs) ≡ afterCalls e cs .receiver
@@ -85,12 +84,11 @@ receiver-after e (arrival raw carried ∷ cs) = go (readsAsData raw) (receiver-a
         → receivers.afterCalls handlePacket (e .receiver) (cond b (record { raw = raw; output = e .output; ack = ackBuffer } ∷ []) [] ++ collect receiverCallBy (after e (arrival raw carried)) cs) ≡ afterCalls (after e (arrival raw carried)) cs .receiver
     go true h = h
     go false h = h
-receiver-after e (return raw ∷ cs) = ap (λ (r : ReceiverEnd). receivers.afterCalls handlePacket r (collect receiverCallBy (after e (return raw)) cs)) (same (readsAsAck raw) (handleAck (e .sender) raw .after)) ∙ receiver-after (after e (return raw)) cs
+receiver-after e (return raw age ∷ cs) = ap (λ (r : ReceiverEnd). receivers.afterCalls handlePacket r (collect receiverCallBy (after e (return raw age)) cs)) (same (readsAsAck raw) (handleAck (e .sender) raw .after)) ∙ receiver-after (after e (return raw age)) cs
   where
     same : (b : Bool) (v : SenderEnd) → e .receiver ≡ cond b (ends v (e .receiver) (e .output)) e .receiver
     same true v = refl
     same false v = refl
-receiver-after e (sample d again ∷ cs) = receiver-after e cs
 
 -- each call of a session is its protocol's
 module _ {R : Type 0} (handle : receivers.Handling R) (end : R → ReceiverEnd) (each : (r : R) (raw output ack : List ℕ) → handlePacket (end r) raw output ack ≡ receivedAs end (handle r raw output ack)) where

@@ -16,6 +16,7 @@ use Rattle.rto.specs.History as rto
 use Rattle.rto.specs.declared.RtoEstimator.{RtoEstimator}
 use Rattle.run_history.specs.Answered.{Each, Taken}
 use Rattle.run_history.specs.Premature.{isPrematureAfter, prematureBy, prematureIn}
+use Rattle.run_history.specs.Samples.{isSampledAfter, isAgainAfter, estimatedBy, estimatedIn}
 use Rattle.run_history.specs.Lines.{filter, packetsFrom, eventFor, eventsFrom}
 
 -- ---- calls
@@ -49,6 +50,16 @@ premature-more c rolls e before (x ∷ cs) d =
   where
     sum : (a b x y : ℕ) → y ≡ b + x → a + y ≡ (a + b) + x
     sum a b x y h = omega arith
+
+pub estimated-more : (e : Ends) (before cs : List Call) (d : Call)
+    → estimatedIn e before (cs ++ d ∷ []) ≡ estimatedIn e before cs ++ estimatedBy (isSampledAfter e (before ++ cs)) (isAgainAfter e (before ++ cs)) (afterCalls e (before ++ cs)) d
+unfolding estimatedIn
+estimated-more e before [] d = append-nil _ ∙ ap (λ (l : List Call). estimatedBy (isSampledAfter e l) (isAgainAfter e l) (afterCalls e l) d) (sym (append-nil before))
+estimated-more e before (x ∷ cs) d =
+    let these = estimatedBy (isSampledAfter e before) (isAgainAfter e before) (afterCalls e before) x in
+    ap (λ (l : List rto.Call). these ++ l)
+    (estimated-more e (before ++ x ∷ []) cs d ∙ ap (λ (l : List Call). estimatedIn e (before ++ x ∷ []) cs ++ estimatedBy (isSampledAfter e l) (isAgainAfter e l) (afterCalls e l) d) (append-assoc before (x ∷ []) cs))
+    ∙ sym (append-assoc these (estimatedIn e (before ++ x ∷ []) cs) (estimatedBy (isSampledAfter e (before ++ x ∷ cs)) (isAgainAfter e (before ++ x ∷ cs)) (afterCalls e (before ++ x ∷ cs)) d))
 
 -- ---- each call
 pub each-more : (P : Ends → Call → Type 0) (e : Ends) (cs : List Call) (c : Call) → Each P e cs → P (afterCalls e cs) c → Each P e (cs ++ c ∷ [])

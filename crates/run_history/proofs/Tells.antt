@@ -1,9 +1,10 @@
 -- A list of calls tells a run at a moment, and with one call more the run after it.
-use Prim.Native.Nat.{ℕ, _+_}
+use Prim.Native.Nat.{ℕ, _+_, _<_}
 use mathlib.Core.Path.{_≡_, sym, ap, _∙_, subst}
 use mathlib.Core.Bool.{Bool, true, _&&_}
 use mathlib.Core.List.{List, [], _∷_, _++_, append-nil, dropLast, foldl, foldl-append}
 use native.Mathlib.Omega.{arith}
+use lib.Dec.{eqb}
 use lib.Ieee.{Float}
 use lib.ListN.{take}
 use Rattle.channel.specs.declared.ChannelConfig.{ChannelConfig}
@@ -16,13 +17,16 @@ use Rattle.events.specs.Events.{ForwardEvent, eventsOf}
 use Rattle.session.specs.Sending.{SenderEnd}
 use Rattle.session.specs.Receiving.{receiverEnd}
 use Rattle.receiving.specs.Receiving.{Inbound}
-use Rattle.run_history.specs.Calls.{Call, Ends, ends, after, afterCalls, collect, total, chunkBy, nextNumber, Submission, submittedBy, Reply, repliedBy, estimatedBy, dataIn, duplicateDataIn, acksIn, duplicateAcksIn}
-use Rattle.notes.specs.Notes.{SegMetas, isPremature}
+use Rattle.run_history.specs.Calls.{Call, Ends, ends, after, afterCalls, collect, total, chunkBy, nextNumber, Submission, submittedBy, Reply, repliedBy, dataIn, duplicateDataIn, acksIn, duplicateAcksIn}
+use Rattle.rows.specs.Rows.{isSet}
+use Rattle.notes.specs.Notes.{SegMetas, metaAt, isPremature}
 use Rattle.sending.specs.declared.Resends.{Resends}
 use Rattle.run_history.specs.Answered.{Each, NotRefused, Taken, Whole}
-use Rattle.run_history.specs.Premature.{any, isFirstGranted, covers, isPrematureAfter, prematureBy, prematureIn}
-use Rattle.run_history.proofs.Noted.{Noted, premature-is}
-use Rattle.run_history.proofs.Lists.{after-more, collect-more, total-more, premature-more, each-more, taken-more, each-first, drop-last-more}
+use Rattle.run_history.specs.Lines.{any, carriedOf}
+use Rattle.run_history.specs.Premature.{isFirstGranted, covers, isPrematureAfter, prematureBy, prematureIn}
+use Rattle.run_history.specs.Samples.{roundTripBy, isSampledAfter, isAgainAfter, estimatedBy, estimatedIn}
+use Rattle.run_history.proofs.Noted.{flags, Noted, premature-is, isEventAgain, events-again}
+use Rattle.run_history.proofs.Lists.{after-more, collect-more, total-more, premature-more, estimated-more, each-more, taken-more, each-first, drop-last-more}
 use Rattle.run_history.proofs.Columns.{Line, lineOf, Sending, Replying}
 
 -- what a run starts with
@@ -85,17 +89,20 @@ pub record Tells (b : Origin) (cs : List Call) (m : Moment) : Type 0 where
   pub chunks-are : Chunked b (collect chunkBy (b .start) cs) m
   pub sending : Sent b (collect submittedBy (b .start) cs) m
   pub replying : Replied b (collect repliedBy (b .start) cs) m
-  pub estimator-is : rto.afterCalls (b .rto) (collect estimatedBy (b .start) cs) ≡ m .estimator
-  pub taken : Taken (fresh (b .rto)) (collect estimatedBy (b .start) cs)
+  pub estimator-is : rto.afterCalls (b .rto) (estimatedIn (b .start) [] cs) ≡ m .estimator
+  pub taken : Taken (fresh (b .rto)) (estimatedIn (b .start) [] cs)
   pub datas-are : total dataIn (b .start) cs ≡ m .datas
   pub repeats-are : total duplicateDataIn (b .start) cs ≡ m .repeats
   pub premature-are : prematureIn (b .forward) (b .forwardRolls) (b .start) [] cs ≡ m .premature
   pub acks-are : total acksIn (b .start) cs ≡ m .acks
   pub duplicates-are : total duplicateAcksIn (b .start) cs ≡ m .duplicates
 
--- the notes by the events and the replies
-abbrev pub Notes : List Reply → Moment → Type 0
-Notes xs m = Noted (λ (n : ℕ). any (isFirstGranted n) (m .events)) (λ (n : ℕ). any (covers n) xs) (nextNumber (m .ends)) (m .metas)
+-- the notes by the events, the replies and the round trips
+abbrev pub NotedBy : List ForwardEvent → List Reply → List ℕ → ℕ → SegMetas → Type 0
+NotedBy es xs ys next m = Noted (flags (λ (n : ℕ). any (isFirstGranted n) es) (λ (n : ℕ). any (covers n) xs) (λ (n : ℕ). any (eqb n) ys) (λ (n : ℕ). any (isEventAgain n) es)) next m
+
+abbrev pub Notes : List Reply → List ℕ → Moment → Type 0
+Notes xs ys m = NotedBy (m .events) xs ys (nextNumber (m .ends)) (m .metas)
 
 -- while the run goes on, and where it may have ended at the last call
 pub record Told (b : Origin) (m : Moment) : Type 0 where
@@ -103,7 +110,7 @@ pub record Told (b : Origin) (m : Moment) : Type 0 where
   pub tells : Tells b calls m
   pub not-refused : Each NotRefused (b .start) calls
   pub whole : Each Whole (b .start) calls
-  pub noted : Notes (collect repliedBy (b .start) calls) m
+  pub noted : Notes (collect repliedBy (b .start) calls) (collect roundTripBy (b .start) calls) m
 
 pub record Over (b : Origin) (m : Moment) : Type 0 where
   pub calls : List Call
@@ -114,6 +121,10 @@ pub record Over (b : Origin) (m : Moment) : Type 0 where
 pub told-over : {b : Origin} {m : Moment} → Told b m → Over b m
 told-over {b} q = record { calls = q .calls; tells = q .tells; not-refused = q .not-refused; whole = each-first Whole (b .start) (q .calls) (q .whole) }
 
+-- tests of the segments sent that say what the notes say
+abbrev pub Tested : (sampled again : ℕ → Bool) → Moment → Type 0
+Tested sampled again m = (n : ℕ) → n < nextNumber (m .ends) → (sampled n ≡ isSet (metaAt (m .metas) n .rttSampled)) × (again n ≡ isSet (metaAt (m .metas) n .everRetransmitted))
+
 -- what one call makes of a moment
 pub record Makes (b : Origin) (c : Call) (m next : Moment) : Type 0 where
   pub not-refused : NotRefused (m .ends) c
@@ -121,8 +132,8 @@ pub record Makes (b : Origin) (c : Call) (m next : Moment) : Type 0 where
   pub chunks-are : (xs : List (List ℕ)) → Chunked b xs m → Chunked b (xs ++ chunkBy (m .ends) c) next
   pub sending : (xs : List Submission) → Sent b xs m → Sent b (xs ++ submittedBy (m .ends) c) next
   pub replying : (xs : List Reply) → Replied b xs m → Replied b (xs ++ repliedBy (m .ends) c) next
-  pub estimator-is : foldl rto.step (m .estimator) (estimatedBy (m .ends) c) ≡ next .estimator
-  pub taken : Taken (m .estimator) (estimatedBy (m .ends) c)
+  pub estimator-is : (sampled again : ℕ → Bool) → Tested sampled again m → foldl rto.step (m .estimator) (estimatedBy sampled again (m .ends) c) ≡ next .estimator
+  pub taken : (sampled again : ℕ → Bool) → Tested sampled again m → Taken (m .estimator) (estimatedBy sampled again (m .ends) c)
   pub datas-are : m .datas + dataIn (m .ends) c ≡ next .datas
   pub repeats-are : m .repeats + duplicateDataIn (m .ends) c ≡ next .repeats
   pub premature-are : (test : ℕ → Bool) → ((n : ℕ) → test n ≡ isPremature (m .metas) n) → m .premature + prematureBy test (m .ends) c ≡ next .premature
@@ -148,6 +159,20 @@ module _ {b : Origin} {c : Call} {m next : Moment} (q : Told b m) (h : Makes b c
   test-is : (n : ℕ) → test n ≡ isPremature (m .metas) n
   test-is n = ap (λ (l : List ForwardEvent). any (isFirstGranted n) l && any (covers n) (collect repliedBy (b .start) cs)) (q .tells .sending .events-are) ∙ premature-is (q .noted) n
 
+  abbrev sampled : ℕ → Bool
+  sampled = isSampledAfter (b .start) cs
+
+  abbrev again : ℕ → Bool
+  again = isAgainAfter (b .start) cs
+
+  tested : Tested sampled again m
+  tested n l =
+      let x = q .noted .says n l in
+      (sym (x .rtt), sym (events-again (b .forward) (b .forwardRolls) 0 (carriedOf (collect submittedBy (b .start) cs)) n) ∙ ap (any (isEventAgain n)) (q .tells .sending .events-are) ∙ sym (x .resent))
+
+  estimates : estimatedIn (b .start) [] (cs ++ c ∷ []) ≡ estimatedIn (b .start) [] cs ++ estimatedBy sampled again (m .ends) c
+  estimates = estimated-more (b .start) [] cs c ∙ ap (λ (l : List rto.Call). estimatedIn (b .start) [] cs ++ l) (at-ends (λ (e : Ends). estimatedBy sampled again e c))
+
   tells-more : Tells b (cs ++ c ∷ []) next
   unfolding rto.afterCalls
   tells-more =
@@ -158,10 +183,11 @@ module _ {b : Origin} {c : Call} {m next : Moment} (q : Told b m) (h : Makes b c
         sending = subst (λ (xs : List Submission). Sent b xs next) (sym (collected submittedBy)) (h .sending _ (t .sending));
         replying = subst (λ (xs : List Reply). Replied b xs next) (sym (collected repliedBy)) (h .replying _ (t .replying));
         estimator-is =
-            ap (foldl rto.step (fresh (b .rto))) (collected estimatedBy) ∙ foldl-append rto.step (fresh (b .rto)) (collect estimatedBy (b .start) cs) (estimatedBy (m .ends) c)
-            ∙ ap (λ (e : RtoEstimator). foldl rto.step e (estimatedBy (m .ends) c)) (t .estimator-is) ∙ h .estimator-is;
+            ap (foldl rto.step (fresh (b .rto))) estimates ∙ foldl-append rto.step (fresh (b .rto)) (estimatedIn (b .start) [] cs) (estimatedBy sampled again (m .ends) c)
+            ∙ ap (λ (e : RtoEstimator). foldl rto.step e (estimatedBy sampled again (m .ends) c)) (t .estimator-is) ∙ h .estimator-is sampled again tested;
         premature-are = premature-more (b .forward) (b .forwardRolls) (b .start) [] cs c ∙ ap (λ (n : ℕ). n + prematureBy test (afterCalls (b .start) cs) c) (t .premature-are) ∙ ap (λ (e : Ends). m .premature + prematureBy test e c) (t .ends-are) ∙ h .premature-are test test-is;
-        taken = subst (Taken (fresh (b .rto))) (sym (collected estimatedBy)) (taken-more (fresh (b .rto)) (collect estimatedBy (b .start) cs) (estimatedBy (m .ends) c) (t .taken) (subst (λ (e : RtoEstimator). Taken e (estimatedBy (m .ends) c)) (sym (t .estimator-is)) (h .taken)));
+        taken = subst (Taken (fresh (b .rto))) (sym estimates)
+            (taken-more (fresh (b .rto)) (estimatedIn (b .start) [] cs) (estimatedBy sampled again (m .ends) c) (t .taken) (subst (λ (e : RtoEstimator). Taken e (estimatedBy sampled again (m .ends) c)) (sym (t .estimator-is)) (h .taken sampled again tested)));
         datas-are = summed dataIn (t .datas-are) (h .datas-are);
         repeats-are = summed duplicateDataIn (t .repeats-are) (h .repeats-are);
         acks-are = summed acksIn (t .acks-are) (h .acks-are);
@@ -171,8 +197,16 @@ module _ {b : Origin} {c : Call} {m next : Moment} (q : Told b m) (h : Makes b c
   refused-none : Each NotRefused (b .start) (cs ++ c ∷ [])
   refused-none = each-more NotRefused (b .start) cs c (q .not-refused) (subst (λ (e : Ends). NotRefused e c) (sym (q .tells .ends-are)) (h .not-refused))
 
-  pub told-more : Whole (m .ends) c → ((xs : List Reply) → Notes xs m → Notes (xs ++ repliedBy (m .ends) c) next) → Told b next
-  told-more w k = record { calls = cs ++ c ∷ []; tells = tells-more; not-refused = refused-none; noted = subst (λ (xs : List Reply). Notes xs next) (sym (collected repliedBy)) (k _ (q .noted)); whole = each-more Whole (b .start) cs c (q .whole) (subst (λ (e : Ends). Whole e c) (sym (q .tells .ends-are)) w) }
+  pub told-more : Whole (m .ends) c → ((xs : List Reply) (ys : List ℕ) → Notes xs ys m → Notes (xs ++ repliedBy (m .ends) c) (ys ++ roundTripBy (m .ends) c) next) → Told b next
+  told-more w k =
+      record {
+        calls = cs ++ c ∷ [];
+        tells = tells-more;
+        not-refused = refused-none;
+        noted = subst (λ (xs : List Reply). Notes xs (collect roundTripBy (b .start) (cs ++ c ∷ [])) next) (sym (collected repliedBy))
+            (subst (λ (ys : List ℕ). Notes (collect repliedBy (b .start) cs ++ repliedBy (m .ends) c) ys next) (sym (collected roundTripBy)) (k _ _ (q .noted)));
+        whole = each-more Whole (b .start) cs c (q .whole) (subst (λ (e : Ends). Whole e c) (sym (q .tells .ends-are)) w);
+      }
 
   pub over-more : Over b next
   over-more = record { calls = cs ++ c ∷ []; tells = tells-more; not-refused = refused-none; whole = subst (Each Whole (b .start)) (sym (drop-last-more cs c)) (q .whole) }
@@ -201,51 +235,18 @@ Goes b m going = (going ≡ true → Told b m) × Over b m
 pub still-told : {b : Origin} {m : Moment} {going : Bool} → Told b m → Goes b m going
 still-told q = (λ g. q, told-over q)
 
-pub by-call : {b : Origin} {c : Call} {m next : Moment} {going : Bool} → Told b m → Makes b c m next → (going ≡ true → Whole (m .ends) c) → (going ≡ true → (xs : List Reply) → Notes xs m → Notes (xs ++ repliedBy (m .ends) c) next) → Goes b next going
+pub by-call : {b : Origin} {c : Call} {m next : Moment} {going : Bool} → Told b m → Makes b c m next → (going ≡ true → Whole (m .ends) c) → (going ≡ true → (xs : List Reply) (ys : List ℕ) → Notes xs ys m → Notes (xs ++ repliedBy (m .ends) c) (ys ++ roundTripBy (m .ends) c) next) → Goes b next going
 by-call q h w k = (λ g. told-more q h (w g) (k g), over-more q h)
 
--- a call that is answered with no ACK, and notes nothing
-pub same-noted : (m : Moment) (xs : List Reply) → Notes xs m → Notes (xs ++ []) m
-same-noted m xs q = subst (λ (l : List Reply). Notes l m) (sym (append-nil xs)) q
+-- a call that is answered with no ACK, ends no round trip, or neither, and notes nothing
+pub no-reply : (es : List ForwardEvent) (xs : List Reply) (ys : List ℕ) {next : ℕ} {x : SegMetas} → NotedBy es xs ys next x → NotedBy es (xs ++ []) ys next x
+no-reply es xs ys {next} {x} q = subst (λ (l : List Reply). NotedBy es l ys next x) (sym (append-nil xs)) q
 
--- other notes
-abbrev pub withMetas : Moment → SegMetas → Moment
-withMetas m x = record {
-  ends = m .ends;
-  forward = m .forward;
-  reverse = m .reverse;
-  estimator = m .estimator;
-  datas = m .datas;
-  replies = m .replies;
-  acks = m .acks;
-  duplicates = m .duplicates;
-  repeats = m .repeats;
-  metas = x;
-  again = m .again;
-  premature = m .premature;
-  written = m .written;
-  events = m .events;
-}
+pub no-trip : (es : List ForwardEvent) (xs : List Reply) (ys : List ℕ) {next : ℕ} {x : SegMetas} → NotedBy es xs ys next x → NotedBy es xs (ys ++ []) next x
+no-trip es xs ys {next} {x} q = subst (λ (l : List ℕ). NotedBy es xs l next x) (sym (append-nil ys)) q
 
-pub told-noted : {b : Origin} {m : Moment} → Told b m → (x : SegMetas) → ((xs : List Reply) → Notes xs m → Notes xs (withMetas m x)) → Told b (withMetas m x)
-told-noted q x k =
-    let t = q .tells in
-    record {
-      calls = q .calls;
-      tells = record {
-        ends-are = t .ends-are;
-        chunks-are = t .chunks-are;
-        sending = t .sending;
-        replying = t .replying;
-        estimator-is = t .estimator-is;
-        taken = t .taken;
-        datas-are = t .datas-are;
-        repeats-are = t .repeats-are;
-        premature-are = t .premature-are;
-        acks-are = t .acks-are;
-        duplicates-are = t .duplicates-are;
-      };
-      not-refused = q .not-refused;
-      whole = q .whole;
-      noted = k _ (q .noted);
-    }
+pub nothing-noted : (es : List ForwardEvent) (xs : List Reply) (ys : List ℕ) {next : ℕ} {x : SegMetas} → NotedBy es xs ys next x → NotedBy es (xs ++ []) (ys ++ []) next x
+nothing-noted es xs ys q = no-reply es xs (ys ++ []) (no-trip es xs ys q)
+
+pub same-noted : (m : Moment) (xs : List Reply) (ys : List ℕ) → Notes xs ys m → Notes (xs ++ []) (ys ++ []) m
+same-noted m xs ys q = nothing-noted (m .events) xs ys q

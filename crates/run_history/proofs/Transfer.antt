@@ -17,45 +17,34 @@ use Rattle.chunks.specs.Chunks.{chunksOf}
 use Rattle.sending.proofs.Laws.{unused}
 use Rattle.prefixes.proofs.Laws.{prefixed-start}
 use Rattle.rows.specs.Rows.{vacant}
-use Rattle.refusal.specs.Order.{verdict}
-use Rattle.refusal.specs.declared.Refusal.{Refusal}
-use Rattle.refusal.specs.declared.Verdict.{Verdict}
-use Rattle.refusal.specs.declared.Verdict.the-variants.{Accepted, Refused}
-use Rattle.refusal.proofs.Laws.{on-accepted, on-refused}
 use Rattle.channel.specs.History as channel
 use Rattle.channel.specs.declared.Channel.{Channel}
-use Rattle.channel.specs.declared.ChannelConfig.{ChannelConfig}
-use Rattle.channel.proofs.Laws.{zero, NoFaults}
-use mathlib.Core.Bool.{false}
 use Rattle.notes.specs.Notes.{newNotes}
-use Rattle.run_history.specs.Premature.{any, isFirstGranted, prematureIn}
-use Rattle.run_history.proofs.Noted.{Noted, noted-as, noted-none}
+use Rattle.run_history.specs.Premature.{isFirstGranted, prematureIn}
+use Rattle.run_history.specs.Samples.{estimatedIn}
+use Rattle.run_history.proofs.Noted.{noted-as, noted-none, isEventAgain}
 use Rattle.rto.specs.History as rto
 use Rattle.path.specs.Rolls.{Doubles}
 use Rattle.path.specs.Path.{newPath}
 use Rattle.events.specs.Events.{eventsOf}
 use Rattle.events.proofs.Laws.{events-none}
 use Rattle.clock.specs.Estimator.{Factors}
-use Rattle.setup.specs.Setup.{CanStart, startChecks}
-use Rattle.setup.proofs.Laws.{start-accepted}
+use Rattle.setup.specs.Setup.{CanStart}
 use Rattle.setup.specs.declared.TransferConfig.{TransferConfig}
 use Rattle.step.specs.State.{Given, Lent}
 use Rattle.step.specs.Settle.{StepExit}
 use Rattle.transfer.specs.Start.{planFor, reverseConfig, newRun, startOf}
 use Rattle.transfer.specs.Run.{run}
-use Rattle.transfer.specs.Transfer.{outcomeOf, lentOf, RunExit, runExit, ended, runTransfer}
+use Rattle.transfer.specs.Transfer.{outcomeOf, lentOf, runTransfer}
 use Rattle.transfer.specs.declared.Ceilings.{Ceilings}
 use Rattle.transfer.specs.declared.Outcome.{Outcome}
 use Rattle.transfer.specs.declared.RunAnswer.the-variants as answer
-use Rattle.transfer.proofs.Starts.{start-plan, start-good, sender-window, sender-store}
+use Rattle.transfer.proofs.Laws.{reverse-no-faults, start-plan, start-good, sender-window, sender-store, by-outcome}
 use Rattle.run_history.specs.Calls.{afterCalls, collect, total}
-use Rattle.run_history.specs.Lines.{filter, packetsFrom, eventsFrom}
+use Rattle.run_history.specs.Lines.{filter, any, packetsFrom, eventsFrom}
 use Rattle.run_history.specs.History.{startEnds, History}
-use Rattle.run_history.proofs.Tells.{Origin, Told, Over as Ended}
+use Rattle.run_history.proofs.Tells.{Origin, NotedBy, Told, Over as Ended}
 use Rattle.run_history.proofs.Steps.{momentAt, Goes-on, run-told}
-
-no-faults : (c : ChannelConfig) → NoFaults (reverseConfig c)
-no-faults c = record { loss = zero false; duplicate = zero false; reorder = zero false; corrupt = zero false }
 
 receiving-room : (p : ProtocolType) (w : ℕ) (store : List ℕ) → (p ≡ SelectiveRepeat → w * slotSize ≤ length store) → ReceivingRoom p (slotCount p w) store
 unfolding storeShort
@@ -69,7 +58,7 @@ module _ (k : Ceilings) (c : TransferConfig) (g : Given) (l : Lent) where
 
   -- no calls
   start-told : Told origin (momentAt (newRun k c l))
-  unfolding newRun newPath afterCalls collect total filter packetsFrom eventsFrom channel.filter rto.afterCalls any prematureIn
+  unfolding newRun newPath afterCalls collect total filter packetsFrom eventsFrom channel.filter rto.afterCalls any prematureIn estimatedIn
   start-told =
       record {
         calls = [];
@@ -88,8 +77,10 @@ module _ (k : Ceilings) (c : TransferConfig) (g : Given) (l : Lent) where
         };
         not-refused = tt;
         whole = tt;
-        noted = subst (λ (n : ℕ). Noted (λ (j : ℕ). any (isFirstGranted j) (eventsOf 0 (replicate (length (l .events)) vacant))) (λ (j : ℕ). false) n (newNotes (l .rows))) (sym (unused (c .protocol) (c .«window_size») (k .retries) (l .senderStore) .next))
-            (noted-as (noted-none (l .rows)) (λ n. ap (any (isFirstGranted n)) (events-none (replicate (length (l .events)) vacant))) (λ n. refl));
+        noted =
+            let none = events-none (replicate (length (l .events)) vacant) in
+            subst (λ (n : ℕ). NotedBy (eventsOf 0 (replicate (length (l .events)) vacant)) [] [] n (newNotes (l .rows))) (sym (unused (c .protocol) (c .«window_size») (k .retries) (l .senderStore) .next))
+            (noted-as (noted-none (l .rows)) (λ n. record { granted = ap (any (isFirstGranted n)) none; acked = refl; sampled = refl; again = ap (any (isEventAgain n)) none }));
       }
 
   abbrev last : StepExit
@@ -122,7 +113,7 @@ module _ (k : Ceilings) (c : TransferConfig) (g : Given) (l : Lent) where
           octets = file;
         }
 
-    start-goes : Goes-on origin (planFor k c g) (g .file) (start-plan k c g l h) (c .protocol) (slotCount (c .protocol) (c .«window_size»)) (k .retries) (l .senderStore) (l .receiverStore) (l .output) (h .output-room) refl (no-faults (c .channel)) (newRun k c l)
+    start-goes : Goes-on origin (planFor k c g) (g .file) (start-plan k c g l h) (c .protocol) (slotCount (c .protocol) (c .«window_size»)) (k .retries) (l .senderStore) (l .receiverStore) (l .output) (h .output-room) refl (reverse-no-faults (c .channel)) (newRun k c l)
     unfolding newRun
     start-goes =
         record {
@@ -134,7 +125,7 @@ module _ (k : Ceilings) (c : TransferConfig) (g : Given) (l : Lent) where
     module _ (forward : Doubles (g .forwardRolls)) (reverse : Doubles (g .reverseRolls)) (factors : Factors (c .rto)) where
       last-told : Ended origin (momentAt (last .state))
       last-told =
-          run-told origin (planFor k c g) (g .file) (start-plan k c g l h) (c .protocol) (slotCount (c .protocol) (c .«window_size»)) (k .retries) (l .senderStore) (l .receiverStore) (l .output) (h .output-room) refl (no-faults (c .channel)) (newRun k c l)
+          run-told origin (planFor k c g) (g .file) (start-plan k c g l h) (c .protocol) (slotCount (c .protocol) (c .«window_size»)) (k .retries) (l .senderStore) (l .receiverStore) (l .output) (h .output-room) refl (reverse-no-faults (c .channel)) (newRun k c l)
           (start-good k c g l h forward reverse factors) start-goes
 
       last-history : History k c g l (outcomeOf last) (lentOf (last .state))
@@ -156,25 +147,6 @@ module _ (k : Ceilings) (c : TransferConfig) (g : Given) (l : Lent) where
             };
           }
 
-  accepted-is : verdict (startChecks (startOf c g l)) ≡ Accepted → runTransfer k c g l ≡ ended last
-  unfolding runTransfer
-  accepted-is a = on-accepted (λ (r : Refusal). runExit (answer.Refused r) l) (ended last) a
-
-  refused-is : {r : Refusal} → verdict (startChecks (startOf c g l)) ≡ Refused r → runTransfer k c g l ≡ runExit (answer.Refused r) l
-  unfolding runTransfer
-  refused-is a = on-refused (λ (r : Refusal). runExit (answer.Refused r) l) (ended last) a
-
-  of-outcome : (o : Outcome) (x : StepExit) → History k c g l (outcomeOf x) (lentOf (x .state)) → answer.Outcome (outcomeOf x) ≡ answer.Outcome o → History k c g l o (lentOf (x .state))
-  of-outcome o x h e = let same : outcomeOf x ≡ o = cc in subst (λ (y : Outcome). History k c g l y (lentOf (x .state))) same h
-
-  not-outcome : {r : Refusal} {o : Outcome} → answer.Refused r ≡ answer.Outcome o → ⊥
-  not-outcome e = let z : _≡_ {A = ℕ} 0 1 = cc in omega arith
-
   -- of every call that isn't refused. Octets, Doubles and Factors say what the lent bytes and doubles are by their types.
   pub transfer-history : Octets (l .senderStore) → Octets (g .file) → Doubles (g .forwardRolls) → Doubles (g .reverseRolls) → Factors (c .rto) → (o : Outcome) → runTransfer k c g l .answer ≡ answer.Outcome o → History k c g l o (runTransfer k c g l .lent)
-  transfer-history store file forward reverse factors o = by-verdict (verdict (startChecks (startOf c g l))) refl
-    where
-      by-verdict : (v : Verdict) → verdict (startChecks (startOf c g l)) ≡ v → runTransfer k c g l .answer ≡ answer.Outcome o → History k c g l o (runTransfer k c g l .lent)
-      by-verdict Accepted a =
-          subst (λ (x : RunExit). x .answer ≡ answer.Outcome o → History k c g l o (x .lent)) (sym (accepted-is a)) (of-outcome o last (last-history (start-accepted (startOf c g l) a) store file forward reverse factors))
-      by-verdict (Refused r) a = subst (λ (x : RunExit). x .answer ≡ answer.Outcome o → History k c g l o (x .lent)) (sym (refused-is a)) (λ e. absurd (not-outcome e))
+  transfer-history store file forward reverse factors = by-outcome k c g l (History k c g l) (λ h. last-history h store file forward reverse factors)

@@ -9,7 +9,7 @@ use Rattle.rto.specs.History as rto
 use Rattle.rto.specs.declared.RtoEstimator.{RtoEstimator}
 use Rattle.delivery.specs.Ends.{isSendRefused, isTimeoutRefused, isHandled}
 use Rattle.session.specs.Sending.{handleAck, handleTimeout, resent, ampleBuffer}
-use Rattle.run_history.specs.Calls.{Call, chunk, timeout, arrival, return, sample, Ends, after}
+use Rattle.run_history.specs.Calls.{Call, chunk, timeout, arrival, return, Ends, after}
 use Rattle.run_history.specs.Calls.{readsAsData, readsAsAck, sentBy, receivedBy}
 
 -- a property of each call and the ends before it
@@ -23,8 +23,7 @@ NotRefused e (chunk payload carried) = isSendRefused (sentBy e payload .answer) 
 NotRefused e (timeout t carried) =
     isTimeoutRefused (handleTimeout (e .sender) t (ampleBuffer (e .sender .sender)) .answer) ≡ false
 NotRefused e (arrival raw carried) = readsAsData raw ≡ true → isRefused (receivedBy e raw .answer) ≡ false
-NotRefused e (return raw) = readsAsAck raw ≡ true → isHandled (handleAck (e .sender) raw .answer) ≡ true
-NotRefused e (sample d again) = Unit {0}
+NotRefused e (return raw age) = readsAsAck raw ≡ true → isHandled (handleAck (e .sender) raw .answer) ≡ true
 
 -- the estimator refuses none of its calls
 abbrev pub Taken : RtoEstimator → List rto.Call → Type 0
@@ -36,5 +35,4 @@ abbrev pub Whole : Ends → Call → Type 0
 Whole e (chunk payload carried) = carried ≡ true
 Whole e (timeout t carried) = carried ≡ replicate (length (resent (e .sender) t .packets)) true
 Whole e (arrival raw carried) = carried ≡ true
-Whole e (return raw) = Unit {0}
-Whole e (sample d again) = Unit {0}
+Whole e (return raw age) = Unit {0}

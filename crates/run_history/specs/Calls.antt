@@ -13,7 +13,6 @@ use Rattle.receiver.specs.declared.ReceiveAnswer.the-variants as receiveAnswer
 use Rattle.delivery.specs.Calls.{numberOf}
 use Rattle.delivery.specs.Ends.{bytesSent}
 use Rattle.path.specs.Path.{packetBuffer}
-use Rattle.rto.specs.History as rto
 use Rattle.session.specs.Sending.{SenderEnd, windowOf, sendChunk, handleAck, resent}
 use Rattle.session.specs.Receiving.{ReceiverEnd, isCumulative, handlePacket}
 use Rattle.session.specs.declared.Timeout.{Timeout}
@@ -29,10 +28,8 @@ pub data Call : Type 0 where
   timeout : Timeout → List Bool → Call
   -- a copy from the forward line; whether the ACK that answers it, if any, was carried on the reverse line
   arrival : List ℕ → Bool → Call
-  -- a copy from the reverse line
-  return : List ℕ → Call
-  -- the time of a round trip, and whether its segment was sent again, to the estimator
-  sample : ℕ → Bool → Call
+  -- a copy from the reverse line; how long before it the segment whose round trip it ends was first sent
+  return : List ℕ → ℕ → Call
 
 -- ---- both ends, with the receiver's output
 pub record Ends : Type 0 where
@@ -67,8 +64,7 @@ after e (chunk payload carried) = ends (sentBy e payload .after) (e .receiver) (
 after e (timeout t carried) = ends (resent (e .sender) t .after) (e .receiver) (e .output)
 after e (arrival raw carried) =
     cond (readsAsData raw) (ends (e .sender) (receivedBy e raw .receiver) (receivedBy e raw .output)) e
-after e (return raw) = cond (readsAsAck raw) (ends (handleAck (e .sender) raw .after) (e .receiver) (e .output)) e
-after e (sample d again) = e
+after e (return raw age) = cond (readsAsAck raw) (ends (handleAck (e .sender) raw .after) (e .receiver) (e .output)) e
 
 unfoldable pub afterCalls : Ends → List Call → Ends
 afterCalls e [] = e
@@ -88,8 +84,7 @@ abbrev pub chunkBy : Ends → Call → List (List ℕ)
 chunkBy e (chunk payload carried) = payload ∷ []
 chunkBy e (timeout t carried) = []
 chunkBy e (arrival raw carried) = []
-chunkBy e (return raw) = []
-chunkBy e (sample d again) = []
+chunkBy e (return raw age) = []
 
 abbrev pub nextNumber : Ends → ℕ
 nextNumber e = windowOf (e .sender .sender) .«next_seq_num»
@@ -116,8 +111,7 @@ submittedBy e (chunk payload carried) =
     submission (nextNumber e) false (bytesSent (x .answer) (x .out)) carried ∷ []
 submittedBy e (timeout t carried) = resubmissions carried (resent (e .sender) t .packets)
 submittedBy e (arrival raw carried) = []
-submittedBy e (return raw) = []
-submittedBy e (sample d again) = []
+submittedBy e (return raw age) = []
 
 -- ---- what is handed to the reverse line: the ACKs that the receiver answers with, of which number, whether it
 -- acknowledges those before it too, and how many numbers had been sent
@@ -147,20 +141,7 @@ repliedBy e (timeout t carried) = []
 repliedBy e (arrival raw carried) =
     let x = receivedBy e raw in
     cond (readsAsData raw) (reply (x .answer) (isCumulative (x .receiver .receiver)) (nextNumber e) carried) []
-repliedBy e (return raw) = []
-repliedBy e (sample d again) = []
-
--- ---- the estimator's calls: a timeout for each that wrote something, and the samples
-abbrev pub backOff : List (List ℕ) → List rto.Call
-backOff [] = []
-backOff (wire ∷ wires) = rto.timeout ∷ []
-
-abbrev pub estimatedBy : Ends → Call → List rto.Call
-estimatedBy e (chunk payload carried) = []
-estimatedBy e (timeout t carried) = backOff (resent (e .sender) t .packets)
-estimatedBy e (arrival raw carried) = []
-estimatedBy e (return raw) = []
-estimatedBy e (sample d again) = rto.sample d again ∷ []
+repliedBy e (return raw age) = []
 
 -- ---- counts: copies that read as Data, copies that read as valid ACKs, those of them that the sender didn't accept
 abbrev pub one : Bool → ℕ
@@ -171,8 +152,7 @@ abbrev pub dataIn : Ends → Call → ℕ
 dataIn e (chunk payload carried) = 0
 dataIn e (timeout t carried) = 0
 dataIn e (arrival raw carried) = one (readsAsData raw)
-dataIn e (return raw) = 0
-dataIn e (sample d again) = 0
+dataIn e (return raw age) = 0
 
 -- of Data, what the receiver's own count of duplicates rises by, and for Go-Back-N, which has none, what comes late
 abbrev pub duplicateDataIn : Ends → Call → ℕ
@@ -182,19 +162,16 @@ duplicateDataIn e (arrival raw carried) =
     let before = e .receiver .receiver in
     let later = receivedBy e raw .receiver .receiver in
     cond (readsAsData raw) (newDuplicates before (gbnDuplicate before (readDatagram raw)) later) 0
-duplicateDataIn e (return raw) = 0
-duplicateDataIn e (sample d again) = 0
+duplicateDataIn e (return raw age) = 0
 
 abbrev pub acksIn : Ends → Call → ℕ
 acksIn e (chunk payload carried) = 0
 acksIn e (timeout t carried) = 0
 acksIn e (arrival raw carried) = 0
-acksIn e (return raw) = one (readsAsAck raw)
-acksIn e (sample d again) = 0
+acksIn e (return raw age) = one (readsAsAck raw)
 
 abbrev pub duplicateAcksIn : Ends → Call → ℕ
 duplicateAcksIn e (chunk payload carried) = 0
 duplicateAcksIn e (timeout t carried) = 0
 duplicateAcksIn e (arrival raw carried) = 0
-duplicateAcksIn e (return raw) = one (readsAsAck raw && not (isAccepted (handleAck (e .sender) raw .answer)))
-duplicateAcksIn e (sample d again) = 0
+duplicateAcksIn e (return raw age) = one (readsAsAck raw && not (isAccepted (handleAck (e .sender) raw .answer)))

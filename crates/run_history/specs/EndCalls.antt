@@ -15,7 +15,7 @@ use Rattle.session.specs.declared.Timeout.{Timeout}
 use Rattle.session.specs.declared.ReceiverState.{ReceiverState}
 use Rattle.session.specs.declared.ReceiverState.the-variants as receiverState
 use Rattle.receiving.specs.Receiving.{ackBuffer}
-use Rattle.run_history.specs.Calls.{Call, chunk, timeout, arrival, return, sample, Ends, readsAsData, readsAsAck}
+use Rattle.run_history.specs.Calls.{Call, chunk, timeout, arrival, return, Ends, readsAsData, readsAsAck}
 
 -- a session's sender
 abbrev pub sessionSender : SenderCalls
@@ -33,16 +33,14 @@ abbrev pub senderCallBy : Ends → Call → List (any.SenderCall Timeout)
 senderCallBy e (chunk payload carried) = any.send payload packetBuffer ∷ []
 senderCallBy e (timeout t carried) = any.timeout t (ampleBuffer (e .sender .sender)) ∷ []
 senderCallBy e (arrival raw carried) = []
-senderCallBy e (return raw) = cond (readsAsAck raw) (any.ack raw ∷ []) []
-senderCallBy e (sample d again) = []
+senderCallBy e (return raw age) = cond (readsAsAck raw) (any.ack raw ∷ []) []
 
 abbrev pub receiverCallBy : Ends → Call → List receivers.Call
 receiverCallBy e (chunk payload carried) = []
 receiverCallBy e (timeout t carried) = []
 receiverCallBy e (arrival raw carried) =
     cond (readsAsData raw) (record { raw = raw; output = e .output; ack = ackBuffer } ∷ []) []
-receiverCallBy e (return raw) = []
-receiverCallBy e (sample d again) = []
+receiverCallBy e (return raw age) = []
 
 -- the receiver that readings, the latest first, tell of a protocol, but for the fill mark
 abbrev pub receiverFrom : ProtocolType → ℕ → List PacketReading → ℕ → ReceiverState

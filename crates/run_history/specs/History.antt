@@ -17,8 +17,9 @@ use Rattle.transfer.specs.declared.DriverCounts.{DriverCounts}
 use Rattle.transfer.specs.declared.Outcome.{Outcome}
 use Rattle.run_history.specs.Calls.{Call, Ends, ends, afterCalls, collect, total, chunkBy}
 use Rattle.run_history.specs.Calls.{Submission, submittedBy, repliedBy}
-use Rattle.run_history.specs.Calls.{estimatedBy, dataIn, duplicateDataIn, acksIn, duplicateAcksIn}
+use Rattle.run_history.specs.Calls.{dataIn, duplicateDataIn, acksIn, duplicateAcksIn}
 use Rattle.run_history.specs.Lines.{count, carriedOf, forwardWires, reverseWires, packets, eventsFrom}
+use Rattle.run_history.specs.Samples.{estimatedIn}
 use Rattle.run_history.specs.Answered.{Each, NotRefused, Taken, Whole}
 use Rattle.run_history.specs.Premature.{prematureIn}
 
@@ -58,8 +59,8 @@ pub record Tell (c : TransferConfig) (g : Given) (e : Ends) (cs : List Call) (o 
       ≡ o .forward
   pub reverse-is : channel.tallies (reverseConfig (c .channel))
       (packets (g .reverseRolls) (reverseWires (collect repliedBy e cs))) ≡ o .reverse
-  pub estimator-is : rto.afterCalls (c .rto) (collect estimatedBy e cs) ≡ o .estimator
-  pub estimates-taken : Taken (fresh (c .rto)) (collect estimatedBy e cs)
+  pub estimator-is : rto.afterCalls (c .rto) (estimatedIn e [] cs) ≡ o .estimator
+  pub estimates-taken : Taken (fresh (c .rto)) (estimatedIn e [] cs)
   -- the driver's counts are those of the list, the events those of the packets carried forward, in order
   pub counts-are : countsFrom c g e cs ≡ o .driver
   pub events-are : eventsFrom (c .channel) (g .forwardRolls) 0 (carriedOf (collect submittedBy e cs))

@@ -2,5 +2,6 @@ pub mod Calls
 pub mod Lines
 pub mod Answered
 pub mod Premature
+pub mod Samples
 pub mod EndCalls
 pub mod History

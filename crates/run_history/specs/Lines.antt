@@ -1,7 +1,7 @@
 -- Document 01, `channel/mod.rs` and `app/transfer.rs`: what a line makes of the packets handed to it. Each packet that
 -- it carried took the next eight rolls of its direction.
 use Prim.Native.Nat.{ℕ, _+_}
-use mathlib.Core.Bool.{Bool, cond}
+use mathlib.Core.Bool.{Bool, false, cond, _||_}
 use mathlib.Core.List.{List, [], _∷_, map}
 use lib.Ieee.{Float}
 use lib.ListN.{length}
@@ -20,6 +20,10 @@ filter test (x ∷ xs) = cond (test x) (x ∷ filter test xs) (filter test xs)
 
 abbrev pub count : {A : Type 0} → (A → Bool) → List A → ℕ
 count test xs = length (filter test xs)
+
+unfoldable pub any : {A : Type 0} → (A → Bool) → List A → Bool
+any test [] = false
+any test (x ∷ xs) = test x || any test xs
 
 -- the packets that a line carried, in order
 abbrev pub carriedOf : List Submission → List Submission

@@ -1,7 +1,7 @@
 -- `is_premature` (app/transfer.rs): a datagram again, though the first of its number was granted a copy and an ACK of
 -- the number was sent before.
 use Prim.Native.Nat.{ℕ, _+_}
-use mathlib.Core.Bool.{Bool, false, not, cond, _&&_, _||_}
+use mathlib.Core.Bool.{Bool, not, cond, _&&_}
 use mathlib.Core.List.{List, [], _∷_, _++_}
 use lib.Dec.{ltb, leb, eqb}
 use lib.Ieee.{Float}
@@ -9,13 +9,9 @@ use lib.ListN.{length}
 use Rattle.channel.specs.declared.ChannelConfig.{ChannelConfig}
 use Rattle.events.specs.Events.{ForwardEvent}
 use Rattle.session.specs.Sending.{resent}
-use Rattle.run_history.specs.Calls.{Call, chunk, timeout, arrival, return, sample, Ends, afterCalls, collect}
+use Rattle.run_history.specs.Calls.{Call, chunk, timeout, arrival, return, Ends, afterCalls, collect}
 use Rattle.run_history.specs.Calls.{resubmissions, submittedBy, Reply, repliedBy}
-use Rattle.run_history.specs.Lines.{count, carriedOf, eventsFrom}
-
-unfoldable pub any : {A : Type 0} → (A → Bool) → List A → Bool
-any test [] = false
-any test (x ∷ xs) = test x || any test xs
+use Rattle.run_history.specs.Lines.{count, any, carriedOf, eventsFrom}
 
 -- the first datagram of the number was granted a copy
 abbrev pub isFirstGranted : ℕ → ForwardEvent → Bool
@@ -37,8 +33,7 @@ prematureBy test e (chunk payload carried) = 0
 prematureBy test e (timeout t carried) =
     count (λ x. test (x .seq)) (resubmissions carried (resent (e .sender) t .packets))
 prematureBy test e (arrival raw carried) = 0
-prematureBy test e (return raw) = 0
-prematureBy test e (sample d again) = 0
+prematureBy test e (return raw age) = 0
 
 -- of the calls cs after those before
 unfoldable pub prematureIn : ChannelConfig → List Float → Ends → List Call → List Call → ℕ

@@ -1,5 +1,6 @@
 pub mod Steps
 pub mod Runs
 pub mod Starts
+pub mod Outcomes
 pub mod Calls
 pub mod Laws

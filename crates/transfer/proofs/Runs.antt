@@ -2,8 +2,9 @@
 use Prim.Native.Nat.{ℕ, zero, suc, _+_, _*_, _≤_, _<_}
 use native.Mathlib.Omega.{arith}
 use mathlib.Core.Path.{_≡_, refl, sym, ap, _∙_, subst}
-use mathlib.Core.Bool.{Bool, true, false, cond, true≢false}
+use mathlib.Core.Bool.{Bool, true, false, cond, not, _&&_, true≢false, and-eq-true-iff}
 use lib.ListN.{length}
+use borrow.Author.Tests.{not-true}
 use Rattle.step.specs.State.{Given, RunState, Lent}
 use Rattle.step.specs.Settle.{StepExit, stepExit}
 use Rattle.step.specs.Step.{step}
@@ -72,6 +73,22 @@ module _ (p : Plan) (g : Given) where
   run-goes s e =
       let l = steps-fall s e in
       at-going (stepsLeft p s) s e ∙ steps-enough (suc (stepsLeft p (next s))) (stepsLeft p s) (next s) (omega arith) (omega (arith, l))
+
+  -- ---- a run of known length: so many steps that go on, and one that doesn't
+  unfoldable pub stepsFrom : ℕ → RunState → StepExit
+  stepsFrom zero s = step p g s
+  stepsFrom (suc n) s = let x = step p g s in stepsFrom n (x .state)
+
+  unfoldable pub goesOn : ℕ → RunState → Bool
+  goesOn zero s = isOver (step p g s .course)
+  goesOn (suc n) s = let x = step p g s in not (isOver (x .course)) && goesOn n (x .state)
+
+  pub run-steps : (n : ℕ) (s : RunState) → goesOn n s ≡ true → run p g s ≡ stepsFrom n s
+  unfolding stepsFrom goesOn
+  run-steps zero s e = run-ends s e
+  run-steps (suc n) s e =
+      let b = and-eq-true-iff (not (isOver (step p g s .course))) (goesOn n (step p g s .state)) .0 e in
+      run-goes s (not-true _ (b .0)) ∙ run-steps n (step p g s .state) (b .1)
 
 -- ---- what is left of a run
 pub record Same (l m : Lent) : Type 0 where

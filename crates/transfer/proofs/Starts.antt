@@ -20,6 +20,7 @@ use Rattle.protocol.specs.declared.ProtocolType.the-variants.{StopAndWait, GoBa
 use Rattle.window.specs.State.{windowBroken, storeShort}
 use Rattle.channel.specs.Bounds.{configBroken, chancesBroken, delaysBroken}
 use Rattle.channel.specs.declared.ChannelConfig.{ChannelConfig}
+use Rattle.channel.proofs.Laws.{zero, NoFaults}
 use Rattle.path.specs.Rolls.{Doubles}
 use Rattle.path.specs.Path.{newPath}
 use Rattle.path.proofs.Laws as path
@@ -82,6 +83,9 @@ none-above n m e = omega arith
 reverse-fine : (c : ChannelConfig) → configBroken c ≡ false → configBroken (reverseConfig c) ≡ false
 unfolding configBroken le
 reverse-fine c h = or-false (chancesBroken (c .loss) (c .duplicate) (c .reorder) (c .corrupt)) (delaysBroken (c .«reorder_extra_ms») (c .«base_delay_ms») (c .«jitter_ms»)) h .1
+
+pub reverse-no-faults : (c : ChannelConfig) → NoFaults (reverseConfig c)
+reverse-no-faults c = record { loss = zero false; duplicate = zero false; reorder = zero false; corrupt = zero false }
 
 module _ (k : Ceilings) (c : TransferConfig) (g : Given) (l : Lent) (h : CanStart (startOf c g l)) where
   pub start-can-make : 0 < k .steps → CanMake k c (l .senderStore) (l .receiverStore) (l .keys) (l .deadlines)
