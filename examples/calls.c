@@ -36,9 +36,9 @@ static void packets(void)
 
     pindrelo_write(PINDRELO_FIN_PACKET, 0xFFFFFFFF, 0x81, NULL, 0, d, sizeof d);
     r = pindrelo_read(d, 10);
-    expect("number", PINDRELO_PACKET_NUMBER(r), 0xFFFFFFFF);
-    expect("kind of a Fin", PINDRELO_PACKET_KIND(r), PINDRELO_FIN_PACKET);
-    expect("flags", PINDRELO_PACKET_FLAGS(r), 0x81);
+    expect("number", pindrelo_packet_number(r), 0xFFFFFFFF);
+    expect("kind of a Fin", pindrelo_packet_kind(r), PINDRELO_FIN_PACKET);
+    expect("flags", pindrelo_packet_flags(r), 0x81);
 
     memcpy(before, d, sizeof d);
     expect("write no kind", pindrelo_write(9, 0, 0, a, 1, d, sizeof d), PINDRELO_KIND | DONE(9));
@@ -59,7 +59,7 @@ static void timers(void)
     expect("start 9", pindrelo_timer_start(t, 3, keys, 2, at, 2, 9, 100, 20), PINDRELO_DONE);
     expect("start 4", pindrelo_timer_start(t, 3, keys, 2, at, 2, 4, 100, 50), PINDRELO_DONE);
     expect("start a third", pindrelo_timer_start(t, 3, keys, 2, at, 2, 5, 100, 50), PINDRELO_FULL);
-    expect("late", pindrelo_timer_start(t, 3, keys, 2, at, 2, 4, 172800000000001u, 0), PINDRELO_TIME);
+    expect("late", pindrelo_timer_start(t, 3, keys, 2, at, 2, 4, PINDRELO_MAX_TIME + 1, 0), PINDRELO_TIME);
     expect("earliest", pindrelo_timer_earliest(t, 3, keys, 2, at, 2), DONE(120));
     expect("pop early", pindrelo_timer_pop(t, 3, keys, 2, at, 2, 119, due, 2), DONE(0));
     expect("pop 9", pindrelo_timer_pop(t, 3, keys, 2, at, 2, 120, due, 2), DONE(1));

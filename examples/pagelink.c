@@ -30,7 +30,7 @@ static unsigned protocol = PINDRELO_SELECTIVE_REPEAT, window = PINDRELO_MAX_WIND
 
 static void die(const char *what, pindrelo_answer a)
 {
-    fprintf(stderr, "pagelink: %s: status %u, values %u %u (%s)\n", what, PINDRELO_STATUS(a), PINDRELO_FIRST(a), PINDRELO_SECOND(a), strerror(errno));
+    fprintf(stderr, "pagelink: %s: status %u, values %u %u (%s)\n", what, pindrelo_status(a), pindrelo_first(a), pindrelo_second(a), strerror(errno));
     exit(1);
 }
 
@@ -136,7 +136,7 @@ static void start_timer(uint64_t number, uint64_t now, uint64_t wait)
 {
     pindrelo_answer a = pindrelo_timer_start(t, PINDRELO_TIMERS_WORDS, keys, PINDRELO_MAX_WINDOW, deadlines,
                                              PINDRELO_MAX_WINDOW, (uint32_t)number, now, wait);
-    if (PINDRELO_STATUS(a))
+    if (pindrelo_status(a))
         die("timer start", a);
 }
 
@@ -144,7 +144,7 @@ static void cancel_timer(uint64_t number)
 {
     pindrelo_answer a = pindrelo_timer_cancel(t, PINDRELO_TIMERS_WORDS, keys, PINDRELO_MAX_WINDOW, deadlines,
                                               PINDRELO_MAX_WINDOW, (uint32_t)number);
-    if (PINDRELO_STATUS(a))
+    if (pindrelo_status(a))
         die("timer cancel", a);
 }
 
@@ -165,18 +165,18 @@ static int timeouts(uint64_t now, uint64_t wait)
     uint32_t due[PINDRELO_MAX_WINDOW];
     pindrelo_answer a = pindrelo_timer_pop(t, PINDRELO_TIMERS_WORDS, keys, PINDRELO_MAX_WINDOW, deadlines,
                                            PINDRELO_MAX_WINDOW, now, due, PINDRELO_MAX_WINDOW);
-    if (PINDRELO_STATUS(a))
+    if (pindrelo_status(a))
         die("timer pop", a);
-    uint64_t count = PINDRELO_VALUE(a);
+    uint64_t count = pindrelo_value(a);
     int selective = protocol == PINDRELO_SELECTIVE_REPEAT;
     for (uint64_t i = 0; i < (selective ? count : count > 0); i++) {
         a = selective ? pindrelo_timeout_number(s, PINDRELO_STATE_WORDS, sender_store, sizeof sender_store, due[i], out, sizeof out)
                       : pindrelo_timeout_all(s, PINDRELO_STATE_WORDS, sender_store, sizeof sender_store, out, sizeof out);
-        if (PINDRELO_REFUSED(a))
+        if (pindrelo_refused(a))
             die("timeout", a);
-        if (PINDRELO_STATUS(a) == PINDRELO_NOTHING)
+        if (pindrelo_status(a) == PINDRELO_NOTHING)
             continue;
-        transmit_all(out, PINDRELO_VALUE(a));
+        transmit_all(out, pindrelo_value(a));
         if (selective)
             start_timer(due[i], now, wait);
         else
@@ -207,10 +207,10 @@ static int send_file(const char *path)
         got += (uint64_t)n;
     }
     a = pindrelo_make_sender(protocol, window, UINT32_MAX, s, PINDRELO_STATE_WORDS, sender_store, sizeof sender_store);
-    if (PINDRELO_STATUS(a))
+    if (pindrelo_status(a))
         die("make sender", a);
     a = pindrelo_make_timers(t, PINDRELO_TIMERS_WORDS, keys, PINDRELO_MAX_WINDOW, deadlines, PINDRELO_MAX_WINDOW);
-    if (PINDRELO_STATUS(a))
+    if (pindrelo_status(a))
         die("make timers", a);
 
     uint64_t progress = clock_ns(), begun = progress, wait = FIRST_TIMEOUT, refused = 0, other = 0;
@@ -218,11 +218,11 @@ static int send_file(const char *path)
         while (at < length) { /* fill the window */
             uint64_t n = length - at < PINDRELO_MAX_PAYLOAD ? length - at : PINDRELO_MAX_PAYLOAD, number = s[PINDRELO_SENDER_NEXT];
             a = pindrelo_send(s, PINDRELO_STATE_WORDS, sender_store, sizeof sender_store, stream + at, n, d, sizeof d);
-            if (PINDRELO_STATUS(a) == PINDRELO_WINDOW_FULL)
+            if (pindrelo_status(a) == PINDRELO_WINDOW_FULL)
                 break;
-            if (PINDRELO_STATUS(a))
+            if (pindrelo_status(a))
                 die("send", a);
-            transmit(d, PINDRELO_VALUE(a));
+            transmit(d, pindrelo_value(a));
             at += n;
             start_timer(number, clock_ns(), wait);
         }
@@ -232,14 +232,14 @@ static int send_file(const char *path)
         while ((n = recv(line.fd, in, sizeof in, MSG_DONTWAIT)) >= 0) {
             uint64_t base = s[PINDRELO_SENDER_BASE];
             a = pindrelo_acknowledge(s, PINDRELO_STATE_WORDS, sender_store, sizeof sender_store, in, (size_t)n);
-            if (PINDRELO_FROM_LINE(a))
+            if (pindrelo_from_line(a))
                 refused++; /* a damaged datagram: nothing changed */
-            else if (PINDRELO_REFUSED(a))
+            else if (pindrelo_refused(a))
                 die("acknowledge", a);
-            else if (PINDRELO_STATUS(a) == PINDRELO_NOT_ACCEPTED)
+            else if (pindrelo_status(a) != PINDRELO_DONE)
                 other++;
             else {
-                uint64_t number = PINDRELO_VALUE(a); /* Go-Back-N's ACK is of all numbers up to it */
+                uint64_t number = pindrelo_value(a); /* Go-Back-N's ACK is of all numbers up to it */
                 for (uint64_t k = protocol == PINDRELO_GO_BACK_N ? base : number; k <= number; k++)
                     cancel_timer(k);
                 progress = clock_ns();
@@ -277,7 +277,7 @@ static int receive_file(const char *path)
     if (fd < 0 || output == MAP_FAILED)
         die(path, 0);
     a = pindrelo_make_receiver(protocol, window, r, PINDRELO_STATE_WORDS, store, sizeof store);
-    if (PINDRELO_STATUS(a))
+    if (pindrelo_status(a))
         die("make receiver", a);
 
     uint64_t written = 8, size = UINT64_MAX, refused = 0, silent = 0, done = 0, begun = 0, last = clock_ns();
@@ -301,11 +301,11 @@ static int receive_file(const char *path)
         if (!begun)
             begun = last;
         a = pindrelo_receive(r, PINDRELO_STATE_WORDS, store, sizeof store, in, (size_t)n, output, capacity, ack, sizeof ack);
-        if (PINDRELO_FROM_LINE(a))
+        if (pindrelo_from_line(a))
             refused++; /* a damaged datagram: nothing changed */
-        else if (PINDRELO_REFUSED(a))
+        else if (pindrelo_refused(a))
             die("receive", a);
-        else if (PINDRELO_STATUS(a) == PINDRELO_SILENT)
+        else if (pindrelo_status(a) != PINDRELO_DONE)
             silent++;
         else
             transmit(ack, sizeof ack);

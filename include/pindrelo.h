@@ -12,6 +12,10 @@
 #include <stddef.h>
 #include <stdint.h>
 
+#if SIZE_MAX != UINT64_MAX
+#error "libpindrelo.a is for x86-64, where size_t has 64 bits"
+#endif
+
 #ifdef __cplusplus
 extern "C" {
 #endif
@@ -41,7 +45,7 @@ extern "C" {
  *
  * Which come from where: 1, 2, 3 and 6 of calls that are given a datagram, and 7 of receive, are the line's or another
  * program's doing: count them and go on. All others are the host's own: a state that was overwritten, memory too
- * small. The macros below name their argument more than once: give them a variable, not a call. */
+ * small. */
 
 typedef uint64_t pindrelo_answer;
 
@@ -64,15 +68,38 @@ enum {
     PINDRELO_INVALID = 20
 };
 
-#define PINDRELO_STATUS(a) ((unsigned)((a) & 0xff))
-#define PINDRELO_VALUE(a) ((uint64_t)(a) >> 8)
-#define PINDRELO_REFUSED(a) (PINDRELO_STATUS(a) >= 1 && PINDRELO_STATUS(a) <= 15)
-/* a refusal's values */
-#define PINDRELO_FIRST(a) ((unsigned)(PINDRELO_VALUE(a) & 0xffff))
-#define PINDRELO_SECOND(a) ((unsigned)(PINDRELO_VALUE(a) >> 16 & 0xffff))
+static inline unsigned pindrelo_status(pindrelo_answer a)
+{
+    return (unsigned)(a & 0xff);
+}
+
+static inline uint64_t pindrelo_value(pindrelo_answer a)
+{
+    return a >> 8;
+}
+
+static inline int pindrelo_refused(pindrelo_answer a)
+{
+    return pindrelo_status(a) >= 1 && pindrelo_status(a) <= 15;
+}
+
 /* of acknowledge, receive and the readers of packets: the line's doing, not the host's */
-#define PINDRELO_FROM_LINE(a) \
-    (PINDRELO_REFUSED(a) && (PINDRELO_STATUS(a) <= 3 || PINDRELO_STATUS(a) == 6 || PINDRELO_STATUS(a) == 7))
+static inline int pindrelo_from_line(pindrelo_answer a)
+{
+    unsigned s = pindrelo_status(a);
+    return (s >= PINDRELO_SHORT && s <= PINDRELO_CUT) || s == PINDRELO_LONG || s == PINDRELO_NUMBERS;
+}
+
+/* a refusal's values */
+static inline unsigned pindrelo_first(pindrelo_answer a)
+{
+    return (unsigned)(pindrelo_value(a) & 0xffff);
+}
+
+static inline unsigned pindrelo_second(pindrelo_answer a)
+{
+    return (unsigned)(pindrelo_value(a) >> 16 & 0xffff);
+}
 
 /* ---- MEMORY
  *
@@ -88,6 +115,9 @@ enum {
 #define PINDRELO_MAX_WINDOW 32
 #define PINDRELO_STATE_WORDS 8
 #define PINDRELO_TIMERS_WORDS 3
+/* times, in nanoseconds from a start of the host's choice: 172,800 s and 86,400 s */
+#define PINDRELO_MAX_TIME UINT64_C(172800000000000)
+#define PINDRELO_MAX_DURATION UINT64_C(86400000000000)
 /* a store's bytes: of a sender (Stop-and-Wait's window is 1) and of Selective Repeat's receiver; others have none */
 #define PINDRELO_STORE_SIZE(window) ((size_t)(window) * 1404)
 /* what a timeout of all can write */
@@ -138,8 +168,9 @@ pindrelo_answer pindrelo_send(uint64_t *state, size_t words, uint8_t *store, siz
 
 /* A datagram that came for the sender. Done: a valid ACK of an outstanding number, which is the value; Go-Back-N's
  * is of all numbers up to it. Selective Repeat accepts the ACK of a number above base again: stop the number's
- * timer, and take a sample of the round trip only if it ran and the number was sent once. Else NOT_ACCEPTED. 9, 8,
- * 1, 2, 3, 6. */
+ * timer, and take a sample of the round trip only if it ran and the number was sent once (Karn). The number to sample
+ * is the value, in Go-Back-N word BASE before the call: the lowest that this ACK covers. Else NOT_ACCEPTED. 9, 8, 1,
+ * 2, 3, 6. */
 pindrelo_answer pindrelo_acknowledge(uint64_t *state, size_t words, uint8_t *store, size_t store_size,
                                      const uint8_t *datagram, size_t length);
 
@@ -216,11 +247,23 @@ pindrelo_answer pindrelo_timer_earliest(const uint64_t *state, size_t words, con
 
 enum { PINDRELO_DATA_PACKET = 1, PINDRELO_ACK_PACKET = 2, PINDRELO_FIN_PACKET = 3 };
 
-/* Done: number, kind and flags, for these macros. Bytes behind the payload are ignored. 1, 2, 3. */
+/* Done: number, kind and flags, for the three functions below. Bytes behind the payload are ignored. 1, 2, 3. */
 pindrelo_answer pindrelo_read(const uint8_t *datagram, size_t length);
-#define PINDRELO_PACKET_NUMBER(a) ((uint32_t)PINDRELO_VALUE(a))
-#define PINDRELO_PACKET_KIND(a) ((unsigned)(PINDRELO_VALUE(a) >> 32 & 0xff))
-#define PINDRELO_PACKET_FLAGS(a) ((unsigned)(PINDRELO_VALUE(a) >> 40))
+
+static inline uint32_t pindrelo_packet_number(pindrelo_answer a)
+{
+    return (uint32_t)pindrelo_value(a);
+}
+
+static inline unsigned pindrelo_packet_kind(pindrelo_answer a)
+{
+    return (unsigned)(pindrelo_value(a) >> 32 & 0xff);
+}
+
+static inline unsigned pindrelo_packet_flags(pindrelo_answer a)
+{
+    return (unsigned)(pindrelo_value(a) >> 40 & 0xff);
+}
 
 /* Done: the checksum matches. Else INVALID. 1, 2, 3. */
 pindrelo_answer pindrelo_validate(const uint8_t *datagram, size_t length);
