@@ -1,5 +1,6 @@
 //! A safe wrapper of pindrelo.h, without other crates: states own their memory, lent slices can't overlap, answers are
-//! `Result`s. Link libpindrelo.a: `-L native=target/staticlib -l static=pindrelo`. What each call does is said there.
+//! `Result`s. What each call does is said there. Link libpindrelo.a: `-L native=target/staticlib -l static=pindrelo`.
+#![allow(dead_code)]
 
 mod raw {
     extern "C" {

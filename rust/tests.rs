@@ -1,5 +1,4 @@
 //! `rustc --edition 2021 -O --test rust/tests.rs -L native=target/staticlib -l static=pindrelo -o target/rust_tests`
-#[allow(dead_code)]
 mod pindrelo;
 use pindrelo::{Packet, PacketKind, Protocol, Receiver, Refusal, Sender, Timers};
 use pindrelo::{ACK_SIZE, HEADER_SIZE, MAX_DATAGRAM, MAX_DURATION, MAX_PAYLOAD, MAX_TIME, MAX_WINDOW};
