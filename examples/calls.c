@@ -36,9 +36,9 @@ static void packets(void)
 
     pindrelo_write(PINDRELO_FIN_PACKET, 0xFFFFFFFF, 0x81, NULL, 0, d, sizeof d);
     r = pindrelo_read(d, 10);
-    expect("number", PINDRELO_PACKET_NUMBER(r), 0xFFFFFFFF);
-    expect("kind of a Fin", PINDRELO_PACKET_KIND(r), PINDRELO_FIN_PACKET);
-    expect("flags", PINDRELO_PACKET_FLAGS(r), 0x81);
+    expect("number", pindrelo_packet_number(r), 0xFFFFFFFF);
+    expect("kind of a Fin", pindrelo_packet_kind(r), PINDRELO_FIN_PACKET);
+    expect("flags", pindrelo_packet_flags(r), 0x81);
 
     memcpy(before, d, sizeof d);
     expect("write no kind", pindrelo_write(9, 0, 0, a, 1, d, sizeof d), PINDRELO_KIND | DONE(9));
@@ -59,7 +59,7 @@ static void timers(void)
     expect("start 9", pindrelo_timer_start(t, 3, keys, 2, at, 2, 9, 100, 20), PINDRELO_DONE);
     expect("start 4", pindrelo_timer_start(t, 3, keys, 2, at, 2, 4, 100, 50), PINDRELO_DONE);
     expect("start a third", pindrelo_timer_start(t, 3, keys, 2, at, 2, 5, 100, 50), PINDRELO_FULL);
-    expect("late", pindrelo_timer_start(t, 3, keys, 2, at, 2, 4, 172800000000001u, 0), PINDRELO_TIME);
+    expect("late", pindrelo_timer_start(t, 3, keys, 2, at, 2, 4, PINDRELO_MAX_TIME + 1, 0), PINDRELO_TIME);
     expect("earliest", pindrelo_timer_earliest(t, 3, keys, 2, at, 2), DONE(120));
     expect("pop early", pindrelo_timer_pop(t, 3, keys, 2, at, 2, 119, due, 2), DONE(0));
     expect("pop 9", pindrelo_timer_pop(t, 3, keys, 2, at, 2, 120, due, 2), DONE(1));
@@ -68,10 +68,55 @@ static void timers(void)
     expect("cancel 4", pindrelo_timer_cancel(t, 3, keys, 2, at, 2, 4), DONE(1));
 }
 
+/* one chunk from a sender to a receiver, by each protocol */
+static void ends(void)
+{
+    uint64_t protocol, s[PINDRELO_STATE_WORDS], r[PINDRELO_STATE_WORDS];
+    uint8_t sent[PINDRELO_STORE_SIZE(4)], held[PINDRELO_STORE_SIZE(4)];
+    uint8_t d[PINDRELO_RESEND_SIZE(4)], output[4], ack[PINDRELO_ACK_SIZE];
+    const uint8_t chunk[3] = {'a', 'b', 'c'};
+
+    for (protocol = PINDRELO_STOP_AND_WAIT; protocol <= PINDRELO_SELECTIVE_REPEAT; protocol++) {
+        memset(r, 0, sizeof r);
+        expect("zeros", pindrelo_receive(r, 8, held, sizeof held, d, 0, output, 4, ack, 10), PINDRELO_STATE);
+        expect("window 33", pindrelo_make_receiver(protocol, 33, r, 8, d, sizeof d),
+               protocol == PINDRELO_SELECTIVE_REPEAT ? PINDRELO_STATE : PINDRELO_SETUP);
+        expect("window 0", pindrelo_make_sender(protocol, 0, 1, s, 8, sent, sizeof sent), PINDRELO_SETUP);
+        expect("seven words", pindrelo_make_sender(protocol, 4, 1, s, 7, sent, sizeof sent), PINDRELO_FULL);
+        expect("make sender", pindrelo_make_sender(protocol, 4, 1, s, 8, sent, sizeof sent), PINDRELO_DONE);
+        expect("make receiver", pindrelo_make_receiver(protocol, 4, r, 8, held, sizeof held), PINDRELO_DONE);
+        expect("can send", pindrelo_can_send(s, 8), DONE(1));
+        expect("nothing out", pindrelo_timeout_all(s, 8, sent, sizeof sent, d, sizeof d), PINDRELO_NOTHING);
+        expect("send", pindrelo_send(s, 8, sent, sizeof sent, chunk, 3, d, sizeof d), DONE(13));
+        expect("no room", pindrelo_receive(r, 8, held, sizeof held, d, 13, output, 2, ack, 10), PINDRELO_FULL);
+        expect("short ack", pindrelo_receive(r, 8, held, sizeof held, d, 13, output, 4, ack, 9), PINDRELO_FULL);
+        d[12] ^= 4;
+        expect("flipped", pindrelo_receive(r, 8, held, sizeof held, d, 13, output, 4, ack, 10), PINDRELO_SILENT);
+        d[12] ^= 4;
+        expect("receive", pindrelo_receive(r, 8, held, sizeof held, d, 13, output, 4, ack, 10), DONE(0));
+        expect("fill mark", r[PINDRELO_RECEIVER_FILLED], 3);
+        expect("delivered", (uint64_t)memcmp(output, chunk, 3), 0);
+        expect("again", pindrelo_timeout_all(s, 8, sent, sizeof sent, d, sizeof d), DONE(13));
+        expect("flag", d[5], 1);
+        expect("duplicate", pindrelo_receive(r, 8, held, sizeof held, d, 13, output, 4, ack, 10), DONE(0));
+        expect("fill mark again", r[PINDRELO_RECEIVER_FILLED], 3);
+        expect("datagrams", r[PINDRELO_RECEIVER_TOTAL], 3);
+        expect("accepted", pindrelo_acknowledge(s, 8, sent, sizeof sent, ack, 10), DONE(0));
+        expect("late", pindrelo_acknowledge(s, 8, sent, sizeof sent, ack, 10), PINDRELO_NOT_ACCEPTED);
+        expect("base", s[PINDRELO_SENDER_BASE], s[PINDRELO_SENDER_NEXT]);
+        pindrelo_write(PINDRELO_FIN_PACKET, 0xFFFFFFFF, 0, NULL, 0, d, sizeof d);
+        expect("Fin", pindrelo_receive(r, 8, held, sizeof held, d, 10, output, 4, ack, 10), DONE(0xFFFFFFFF));
+        pindrelo_write(PINDRELO_DATA_PACKET, 4294901760u, 0, NULL, 0, d, sizeof d);
+        expect("high", pindrelo_receive(r, 8, held, sizeof held, d, 10, output, 4, ack, 10), PINDRELO_NUMBERS);
+    }
+    expect("protocol 4", pindrelo_make_sender(4, 4, 1, s, 0, sent, 0), PINDRELO_SETUP);
+}
+
 int main(void)
 {
     packets();
     timers();
+    ends();
     if (!wrong)
         printf("calls: as expected\n");
     return wrong;

@@ -1,14 +1,15 @@
 /* pagelink: one file over UDP on loopback.
  *
- *     pagelink receive PORT FILE [OPTION..]        pagelink send PORT FILE [OPTION..]
+ *     pagelink receive PORT FILE [OPTION..]      PORT 0: any; the port is printed
+ *     pagelink send PORT FILE [OPTION..]
+ *     pagelink make BYTES FILE [seed=N]          a file of random bytes
  *
- * protocol=1..3 window=1..32, the same at both ends; seed=N loss=P dup=P swap=P flip=P impair what this process sends, P in
- * thousandths of its datagrams; flip turns one bit over, not in bytes 6 and 7. The receiver learns the file's length from
- * the first 8 bytes of the stream. Timers are the library's; the timeout is the example's own: a fixed one, doubled while
- * nothing comes back. */
+ * protocol=1..3 window=1..32, the same at both ends; seed=N loss=P dup=P swap=P flip=P impair what this process sends,
+ * P in thousandths of its datagrams (line.h). The receiver learns the file's length from the first 8 bytes of the
+ * stream. */
 #define _GNU_SOURCE
+#include "line.h"
 #include "pindrelo.h"
-#include <arpa/inet.h>
 #include <errno.h>
 #include <fcntl.h>
 #include <poll.h>
@@ -16,7 +17,6 @@
 #include <stdlib.h>
 #include <string.h>
 #include <sys/mman.h>
-#include <sys/socket.h>
 #include <sys/stat.h>
 #include <time.h>
 #include <unistd.h>
@@ -25,13 +25,23 @@
 #define LONGEST_TIMEOUT 240000000u
 #define GIVE_UP 10000000000u /* ns without progress */
 #define LINGER 1500000000u   /* ns of silence after the last byte: several times the longest timeout */
+#define SLOTS PINDRELO_MAX_WINDOW
 
 static unsigned protocol = PINDRELO_SELECTIVE_REPEAT, window = PINDRELO_MAX_WINDOW;
 
 static void die(const char *what, pindrelo_answer a)
 {
-    fprintf(stderr, "pagelink: %s: status %u, values %u %u (%s)\n", what, PINDRELO_STATUS(a), PINDRELO_FIRST(a), PINDRELO_SECOND(a), strerror(errno));
+    fprintf(stderr, "pagelink: %s: status %u, values %u %u (%s)\n", what, pindrelo_status(a), pindrelo_first(a),
+            pindrelo_second(a), strerror(errno));
     exit(1);
+}
+
+/* the value of a call that has to be done */
+static uint64_t done(const char *what, pindrelo_answer a)
+{
+    if (pindrelo_status(a) != PINDRELO_DONE)
+        die(what, a);
+    return pindrelo_value(a);
 }
 
 static uint64_t clock_ns(void)
@@ -42,252 +52,216 @@ static uint64_t clock_ns(void)
     uint64_t n = (uint64_t)t.tv_sec * 1000000000u + (uint64_t)t.tv_nsec;
     if (!start)
         start = n;
-    return n - start; /* the timers take at most 172,800 s */
+    return n - start; /* the timers take at most PINDRELO_MAX_TIME */
 }
 
-/* ---- a line that loses, repeats, swaps and flips, in front of sendto */
-
-struct held { uint8_t bytes[PINDRELO_MAX_DATAGRAM]; size_t length; int wait; };
-
-static struct {
-    int fd;
-    struct sockaddr_in to;
-    uint64_t seed;
-    unsigned loss, dup, swap, flip;
-    struct held held[16];
-    unsigned long sent, lost, doubled, swapped, flipped;
-} line;
-
-static unsigned roll(unsigned below)
-{
-    line.seed ^= line.seed << 13, line.seed ^= line.seed >> 7, line.seed ^= line.seed << 17;
-    return (unsigned)((line.seed * 0x2545F4914F6CDD1Du) >> 33) % below;
-}
-
-static void put(const uint8_t *d, size_t n)
-{
-    line.sent++;
-    while (sendto(line.fd, d, n, 0, (struct sockaddr *)&line.to, sizeof line.to) < 0)
-        if (errno == EAGAIN || errno == ENOBUFS)
-            poll(&(struct pollfd){.fd = line.fd, .events = POLLOUT}, 1, 10);
-        else if (errno != EINTR && errno != ECONNREFUSED)
-            die("sendto", 0);
-        else if (errno == ECONNREFUSED)
-            return;
-}
-
-static void release(int all)
-{
-    for (int i = 0; i < 16; i++)
-        if (line.held[i].length && (all || --line.held[i].wait <= 0)) {
-            size_t n = line.held[i].length;
-            line.held[i].length = 0;
-            put(line.held[i].bytes, n);
-        }
-}
-
-static void transmit(const uint8_t *datagram, size_t n)
-{
-    int copies = 1;
-    if (roll(1000) < line.loss) {
-        line.lost++;
-        return;
-    }
-    if (roll(1000) < line.dup)
-        copies = 2, line.doubled++;
-    while (copies--) {
-        uint8_t d[PINDRELO_MAX_DATAGRAM];
-        memcpy(d, datagram, n);
-        if (roll(1000) < line.flip) {
-            unsigned at = roll((unsigned)n - 2);
-            d[at < 6 ? at : at + 2] ^= (uint8_t)(1u << roll(8));
-            line.flipped++;
-        }
-        int slot = -1;
-        if (roll(1000) < line.swap)
-            for (int i = 0; i < 16 && slot < 0; i++)
-                if (!line.held[i].length)
-                    slot = i;
-        if (slot >= 0) {
-            memcpy(line.held[slot].bytes, d, n);
-            line.held[slot].length = n;
-            line.held[slot].wait = 1 + (int)roll(12);
-            line.swapped++;
-        } else
-            put(d, n);
-    }
-    release(0);
-}
+/* ---- the line */
 
 static void report(const char *who, uint64_t bytes, uint64_t ns)
 {
-    fprintf(stderr, "%s: %llu bytes in %.3f s, %.1f MB/s; datagrams %lu sent, %lu lost, %lu doubled, %lu swapped, %lu flipped\n", who,
-            (unsigned long long)bytes, (double)ns / 1e9, (double)bytes * 1e3 / (double)ns, line.sent, line.lost, line.doubled, line.swapped, line.flipped);
+    fprintf(stderr, "%s: %llu bytes in %.3f s, %.1f MB/s; datagrams %lu sent, %lu lost, %lu doubled, %lu swapped, "
+            "%lu flipped\n", who, (unsigned long long)bytes, (double)ns / 1e9, (double)bytes * 1e3 / (double)ns,
+            line.sent, line.lost, line.doubled, line.swapped, line.flipped);
 }
 
-/* ---- the sender */
+/* ---- the timeout: a fixed one, doubled when timers run out, until the next sample of a round trip */
 
-static uint64_t s[PINDRELO_STATE_WORDS];
-static uint8_t sender_store[PINDRELO_STORE_SIZE(PINDRELO_MAX_WINDOW)];
-static uint64_t t[PINDRELO_TIMERS_WORDS], deadlines[PINDRELO_MAX_WINDOW];
-static uint32_t keys[PINDRELO_MAX_WINDOW];
+static struct { uint64_t timeout, samples, sum; } rto = {FIRST_TIMEOUT, 0, 0};
 
-static void start_timer(uint64_t number, uint64_t now, uint64_t wait)
+static void sample(uint64_t round_trip)
 {
-    pindrelo_answer a = pindrelo_timer_start(t, PINDRELO_TIMERS_WORDS, keys, PINDRELO_MAX_WINDOW, deadlines,
-                                             PINDRELO_MAX_WINDOW, (uint32_t)number, now, wait);
-    if (PINDRELO_STATUS(a))
-        die("timer start", a);
+    rto.timeout = FIRST_TIMEOUT;
+    rto.samples++;
+    rto.sum += round_trip;
 }
 
-static void cancel_timer(uint64_t number)
+static void back_off(void)
 {
-    pindrelo_answer a = pindrelo_timer_cancel(t, PINDRELO_TIMERS_WORDS, keys, PINDRELO_MAX_WINDOW, deadlines,
-                                              PINDRELO_MAX_WINDOW, (uint32_t)number);
-    if (PINDRELO_STATUS(a))
-        die("timer cancel", a);
+    rto.timeout = 2 * rto.timeout < LONGEST_TIMEOUT ? 2 * rto.timeout : LONGEST_TIMEOUT;
 }
 
-/* datagrams that lie end to end */
-static void transmit_all(const uint8_t *d, uint64_t n)
+/* ---- the sender: its state, a timer for each outstanding number, and when and how often that was sent */
+
+#define SENDER s, PINDRELO_STATE_WORDS, sender_store, sizeof sender_store
+#define TIMERS t, PINDRELO_TIMERS_WORDS, keys, SLOTS, deadlines, SLOTS
+
+static uint64_t s[PINDRELO_STATE_WORDS], t[PINDRELO_TIMERS_WORDS], deadlines[SLOTS];
+static uint8_t sender_store[PINDRELO_STORE_SIZE(SLOTS)];
+static uint32_t keys[SLOTS];
+static struct { uint64_t at; int again; } notes[SLOTS];
+
+static void sent(uint64_t number, uint64_t now, int again)
 {
-    for (uint64_t at = 0; at < n;) {
-        size_t length = PINDRELO_HEADER_SIZE + (size_t)(d[at + 6] << 8 | d[at + 7]);
-        transmit(d + at, length);
-        at += length;
-    }
+    notes[number % SLOTS].at = now;
+    notes[number % SLOTS].again = again;
+    done("timer start", pindrelo_timer_start(TIMERS, (uint32_t)number, now, rto.timeout));
 }
 
-/* sends again what is due; true where something was due */
-static int timeouts(uint64_t now, uint64_t wait)
+/* an accepted ACK: true where it is a number's first. Go-Back-N's is of all numbers up to it, base being the lowest;
+ * the lowest is sampled, unless it was sent again */
+static int acknowledged(uint64_t base, uint64_t number, uint64_t now)
 {
-    static uint8_t out[PINDRELO_RESEND_SIZE(PINDRELO_MAX_WINDOW)];
-    uint32_t due[PINDRELO_MAX_WINDOW];
-    pindrelo_answer a = pindrelo_timer_pop(t, PINDRELO_TIMERS_WORDS, keys, PINDRELO_MAX_WINDOW, deadlines,
-                                           PINDRELO_MAX_WINDOW, now, due, PINDRELO_MAX_WINDOW);
-    if (PINDRELO_STATUS(a))
-        die("timer pop", a);
-    uint64_t count = PINDRELO_VALUE(a);
+    uint64_t lowest = protocol == PINDRELO_GO_BACK_N ? base : number, ran = 0;
+    for (uint64_t n = lowest; n <= number; n++)
+        ran |= done("timer cancel", pindrelo_timer_cancel(TIMERS, (uint32_t)n));
+    if (ran && !notes[lowest % SLOTS].again)
+        sample(now - notes[lowest % SLOTS].at);
+    return ran != 0;
+}
+
+/* sends again what is due */
+static void timeouts(uint64_t now)
+{
+    static uint8_t out[PINDRELO_RESEND_SIZE(SLOTS)];
+    uint32_t due[SLOTS];
+    uint64_t count = done("timer pop", pindrelo_timer_pop(TIMERS, now, due, SLOTS));
     int selective = protocol == PINDRELO_SELECTIVE_REPEAT;
-    for (uint64_t i = 0; i < (selective ? count : count > 0); i++) {
-        a = selective ? pindrelo_timeout_number(s, PINDRELO_STATE_WORDS, sender_store, sizeof sender_store, due[i], out, sizeof out)
-                      : pindrelo_timeout_all(s, PINDRELO_STATE_WORDS, sender_store, sizeof sender_store, out, sizeof out);
-        if (PINDRELO_REFUSED(a))
-            die("timeout", a);
-        if (PINDRELO_STATUS(a) == PINDRELO_NOTHING)
+    if (!count)
+        return;
+    back_off();
+    for (uint64_t i = 0; i < (selective ? count : 1); i++) {
+        pindrelo_answer a = selective ? pindrelo_timeout_number(SENDER, due[i], out, sizeof out)
+                                      : pindrelo_timeout_all(SENDER, out, sizeof out);
+        if (pindrelo_status(a) == PINDRELO_NOTHING)
             continue;
-        transmit_all(out, PINDRELO_VALUE(a));
-        if (selective)
-            start_timer(due[i], now, wait);
-        else
-            for (uint64_t n = s[PINDRELO_SENDER_BASE]; n < s[PINDRELO_SENDER_NEXT]; n++)
-                start_timer(n, now, wait);
+        uint64_t bytes = done("timeout", a);
+        for (uint64_t at = 0; at < bytes;) { /* datagrams that lie end to end */
+            size_t length = PINDRELO_HEADER_SIZE + (size_t)(out[at + 6] << 8 | out[at + 7]);
+            sent(pindrelo_packet_number(pindrelo_read(out + at, length)), now, 1);
+            transmit(out + at, length);
+            at += length;
+        }
     }
-    return count > 0;
+    release(1);
 }
 
-static int send_file(const char *path)
+/* until a datagram comes or the earliest timer is due */
+static void wait_for_ack(void)
 {
-    uint8_t d[PINDRELO_MAX_DATAGRAM];
-    pindrelo_answer a;
+    pindrelo_answer a = pindrelo_timer_earliest(TIMERS);
+    if (pindrelo_status(a) == PINDRELO_NOTHING)
+        return;
+    uint64_t until = done("timer earliest", a), now = clock_ns(), ns = until > now ? until - now : 0;
+    struct timespec limit = {(time_t)(ns / 1000000000u), (long)(ns % 1000000000u)};
+    ppoll(&(struct pollfd){.fd = line.fd, .events = POLLIN}, 1, &limit, NULL);
+}
+
+/* the file behind the 8 bytes of its length */
+static uint8_t *read_stream(const char *path, uint64_t *length)
+{
     int fd = open(path, O_RDONLY);
     struct stat st;
     if (fd < 0 || fstat(fd, &st) < 0)
         die(path, 0);
-    uint64_t size = (uint64_t)st.st_size, length = size + 8, at = 0;
-    uint8_t *stream = malloc(length);
+    *length = (uint64_t)st.st_size + 8;
+    uint8_t *stream = malloc(*length);
     if (!stream)
         die("malloc", 0);
     for (int i = 0; i < 8; i++)
-        stream[i] = (uint8_t)(size >> (56 - 8 * i));
-    for (uint64_t got = 8; got < length;) {
-        ssize_t n = read(fd, stream + got, length - got);
+        stream[i] = (uint8_t)((uint64_t)st.st_size >> (56 - 8 * i));
+    for (uint64_t got = 8; got < *length;) {
+        ssize_t n = read(fd, stream + got, *length - got);
         if (n <= 0)
             die("read", 0);
         got += (uint64_t)n;
     }
-    a = pindrelo_make_sender(protocol, window, UINT32_MAX, s, PINDRELO_STATE_WORDS, sender_store, sizeof sender_store);
-    if (PINDRELO_STATUS(a))
-        die("make sender", a);
-    a = pindrelo_make_timers(t, PINDRELO_TIMERS_WORDS, keys, PINDRELO_MAX_WINDOW, deadlines, PINDRELO_MAX_WINDOW);
-    if (PINDRELO_STATUS(a))
-        die("make timers", a);
+    close(fd);
+    return stream;
+}
 
-    uint64_t progress = clock_ns(), begun = progress, wait = FIRST_TIMEOUT, refused = 0, other = 0;
+static int send_file(const char *path)
+{
+    uint64_t length, at = 0;
+    uint8_t *stream = read_stream(path, &length), in[65536], d[PINDRELO_MAX_DATAGRAM];
+    done("make sender", pindrelo_make_sender(protocol, window, UINT32_MAX, SENDER));
+    done("make timers", pindrelo_make_timers(TIMERS));
+    uint64_t progress = clock_ns(), begun = progress, refused = 0, other = 0;
     while (at < length || s[PINDRELO_SENDER_BASE] != s[PINDRELO_SENDER_NEXT]) {
         while (at < length) { /* fill the window */
-            uint64_t n = length - at < PINDRELO_MAX_PAYLOAD ? length - at : PINDRELO_MAX_PAYLOAD, number = s[PINDRELO_SENDER_NEXT];
-            a = pindrelo_send(s, PINDRELO_STATE_WORDS, sender_store, sizeof sender_store, stream + at, n, d, sizeof d);
-            if (PINDRELO_STATUS(a) == PINDRELO_WINDOW_FULL)
+            uint64_t n = length - at < PINDRELO_MAX_PAYLOAD ? length - at : PINDRELO_MAX_PAYLOAD;
+            uint64_t number = s[PINDRELO_SENDER_NEXT];
+            pindrelo_answer a = pindrelo_send(SENDER, stream + at, n, d, sizeof d);
+            if (pindrelo_status(a) == PINDRELO_WINDOW_FULL)
                 break;
-            if (PINDRELO_STATUS(a))
-                die("send", a);
-            transmit(d, PINDRELO_VALUE(a));
+            uint64_t size = done("send", a);
+            sent(number, clock_ns(), 0);
+            transmit(d, size);
             at += n;
-            start_timer(number, clock_ns(), wait);
         }
-        poll(&(struct pollfd){.fd = line.fd, .events = POLLIN}, 1, 5);
-        uint8_t in[65536];
+        wait_for_ack();
         ssize_t n;
         while ((n = recv(line.fd, in, sizeof in, MSG_DONTWAIT)) >= 0) {
-            uint64_t base = s[PINDRELO_SENDER_BASE];
-            a = pindrelo_acknowledge(s, PINDRELO_STATE_WORDS, sender_store, sizeof sender_store, in, (size_t)n);
-            if (PINDRELO_FROM_LINE(a))
+            uint64_t base = s[PINDRELO_SENDER_BASE], now = clock_ns();
+            pindrelo_answer a = pindrelo_acknowledge(SENDER, in, (size_t)n);
+            if (pindrelo_from_line(a))
                 refused++; /* a damaged datagram: nothing changed */
-            else if (PINDRELO_REFUSED(a))
+            else if (pindrelo_refused(a))
                 die("acknowledge", a);
-            else if (PINDRELO_STATUS(a) == PINDRELO_NOT_ACCEPTED)
+            else if (pindrelo_status(a) != PINDRELO_DONE)
                 other++;
-            else {
-                uint64_t number = PINDRELO_VALUE(a); /* Go-Back-N's ACK is of all numbers up to it */
-                for (uint64_t k = protocol == PINDRELO_GO_BACK_N ? base : number; k <= number; k++)
-                    cancel_timer(k);
-                progress = clock_ns();
-                wait = FIRST_TIMEOUT;
-            }
+            else if (acknowledged(base, pindrelo_value(a), now))
+                progress = now;
         }
         uint64_t now = clock_ns();
-        if (timeouts(now, wait)) {
-            release(1);
-            wait = 2 * wait < LONGEST_TIMEOUT ? 2 * wait : LONGEST_TIMEOUT;
-        }
+        timeouts(now);
         if (now - progress > GIVE_UP) {
-            fprintf(stderr, "pagelink: no ACK for 10 s\n");
+            fprintf(stderr, "pagelink: no new ACK for 10 s\n");
             return 1;
         }
     }
-    report("sender", size, clock_ns() - begun);
-    fprintf(stderr, "sender: chunks %llu, datagrams %llu, again %llu, refused %llu, not accepted %llu\n",
-            (unsigned long long)s[PINDRELO_SENDER_NEXT], (unsigned long long)s[PINDRELO_SENDER_TOTAL_SENT],
-            (unsigned long long)s[PINDRELO_SENDER_RETRANSMISSIONS], (unsigned long long)refused, (unsigned long long)other);
+    report("sender", length - 8, clock_ns() - begun);
+    fprintf(stderr, "sender: chunks %llu, datagrams %llu, again %llu, refused %llu, not accepted %llu; round trips "
+            "sampled %llu, on average %.3f ms\n", (unsigned long long)s[PINDRELO_SENDER_NEXT],
+            (unsigned long long)s[PINDRELO_SENDER_TOTAL_SENT], (unsigned long long)s[PINDRELO_SENDER_RETRANSMISSIONS],
+            (unsigned long long)refused, (unsigned long long)other, (unsigned long long)rto.samples,
+            rto.samples ? (double)rto.sum / 1e6 / (double)rto.samples : 0.0);
+    free(stream);
     return 0;
 }
 
 /* ---- the receiver */
 
+static uint64_t length_at(const uint8_t *d)
+{
+    uint64_t n = 0;
+    for (int i = 0; i < 8; i++)
+        n = n << 8 | d[i];
+    return n;
+}
+
+/* what is newly delivered goes to the file; its pages aren't needed again */
+static void write_out(int fd, uint8_t *output, uint64_t from, uint64_t to)
+{
+    uint64_t page = ~(uint64_t)4095;
+    for (uint64_t at = from; at < to;) {
+        ssize_t n = write(fd, output + at, to - at);
+        if (n <= 0)
+            die("write", 0);
+        at += (uint64_t)n;
+    }
+    madvise(output + (from & page), (to & page) - (from & page), MADV_DONTNEED);
+}
+
 static int receive_file(const char *path)
 {
-    static uint8_t store[PINDRELO_STORE_SIZE(PINDRELO_MAX_WINDOW)];
+    static uint8_t store[PINDRELO_STORE_SIZE(SLOTS)];
     uint64_t r[PINDRELO_STATE_WORDS];
     uint8_t in[65536], ack[PINDRELO_ACK_SIZE];
     size_t capacity = (size_t)1 << 32; /* address space, not memory: pages come as they are written */
     uint8_t *output = mmap(NULL, capacity, PROT_READ | PROT_WRITE, MAP_PRIVATE | MAP_ANONYMOUS | MAP_NORESERVE, -1, 0);
-    pindrelo_answer a;
     int fd = open(path, O_WRONLY | O_CREAT | O_TRUNC, 0644);
     if (fd < 0 || output == MAP_FAILED)
         die(path, 0);
-    a = pindrelo_make_receiver(protocol, window, r, PINDRELO_STATE_WORDS, store, sizeof store);
-    if (PINDRELO_STATUS(a))
-        die("make receiver", a);
+    done("make receiver", pindrelo_make_receiver(protocol, window, r, PINDRELO_STATE_WORDS, store, sizeof store));
 
-    uint64_t written = 8, size = UINT64_MAX, refused = 0, silent = 0, done = 0, begun = 0, last = clock_ns();
+    uint64_t written = 8, length = UINT64_MAX, refused = 0, silent = 0, begun = 0, last = clock_ns();
     for (;;) {
-        int ready = poll(&(struct pollfd){.fd = line.fd, .events = POLLIN}, 1, 100);
-        if (ready == 0)
+        if (poll(&(struct pollfd){.fd = line.fd, .events = POLLIN}, 1, 100) == 0)
             release(1);
-        if (done && clock_ns() - last > LINGER)
+        int whole = r[PINDRELO_RECEIVER_FILLED] == length;
+        if (whole && clock_ns() - last > LINGER)
             break; /* the resendings have stopped: the sender has its ACKs, or will give up although all is here */
-        if (!done && clock_ns() - last > GIVE_UP) {
+        if (!whole && clock_ns() - last > GIVE_UP) {
             fprintf(stderr, "pagelink: nothing for 10 s\n");
             return 1;
         }
@@ -296,35 +270,28 @@ static int receive_file(const char *path)
         ssize_t n = recvfrom(line.fd, in, sizeof in, MSG_DONTWAIT, (struct sockaddr *)&from, &fromlen);
         if (n < 0)
             continue;
-        line.to = from;
-        last = clock_ns();
-        if (!begun)
-            begun = last;
-        a = pindrelo_receive(r, PINDRELO_STATE_WORDS, store, sizeof store, in, (size_t)n, output, capacity, ack, sizeof ack);
-        if (PINDRELO_FROM_LINE(a))
+        pindrelo_answer a = pindrelo_receive(r, PINDRELO_STATE_WORDS, store, sizeof store, in, (size_t)n, output,
+                                             capacity, ack, sizeof ack);
+        if (pindrelo_from_line(a))
             refused++; /* a damaged datagram: nothing changed */
-        else if (PINDRELO_REFUSED(a))
+        else if (pindrelo_refused(a))
             die("receive", a);
-        else if (PINDRELO_STATUS(a) == PINDRELO_SILENT)
+        else if (pindrelo_status(a) != PINDRELO_DONE)
             silent++;
-        else
+        else { /* a valid packet of this transfer: only such a one says where the sender is, and that it is there */
+            line.to = from;
+            last = clock_ns();
+            if (!begun)
+                begun = last;
             transmit(ack, sizeof ack);
-        uint64_t filled = r[PINDRELO_RECEIVER_FILLED];
-        if (!done && filled >= 8) {
-            if (size == UINT64_MAX) {
-                size = 0;
-                for (int i = 0; i < 8; i++)
-                    size = size << 8 | output[i];
-            }
-            if (filled == size + 8) {
-                done = 1;
-                report("receiver", size, last - begun + 1);
-            }
         }
+        uint64_t filled = r[PINDRELO_RECEIVER_FILLED];
+        if (length == UINT64_MAX && filled >= 8)
+            length = length_at(output) + 8;
+        if (filled == length && !whole)
+            report("receiver", length - 8, last - begun + 1);
         if (filled > written) {
-            if (write(fd, output + written, filled - written) != (ssize_t)(filled - written))
-                die("write", 0);
-            madvise(output + (written & ~(uint64_t)4095), (filled & ~(uint64_t)4095) - (written & ~(uint64_t)4095), MADV_DONTNEED); /* written out */
+            write_out(fd, output, written, filled);
             written = filled;
         }
     }
@@ -335,13 +302,40 @@ static int receive_file(const char *path)
     return 0;
 }
 
+static int make_file(unsigned long bytes, const char *path)
+{
+    FILE *f = fopen(path, "wb");
+    if (!f)
+        die(path, 0);
+    while (bytes--)
+        putc((int)roll(256), f);
+    return fclose(f) != 0;
+}
+
+/* the socket's own port, printed: the receiver is ready */
+static void open_port(struct sockaddr_in address)
+{
+    socklen_t length = sizeof address;
+    if (bind(line.fd, (struct sockaddr *)&address, sizeof address) < 0 ||
+        getsockname(line.fd, (struct sockaddr *)&address, &length) < 0)
+        die("bind", 0);
+    printf("%u\n", ntohs(address.sin_port));
+    fflush(stdout);
+}
+
+static int usage(void)
+{
+    fprintf(stderr, "usage: pagelink send|receive PORT FILE [protocol=N window=N seed=N loss=P dup=P swap=P flip=P]\n"
+            "       pagelink make BYTES FILE [seed=N]\n");
+    return 2;
+}
+
 int main(int argc, char **argv)
 {
-    if (argc < 4 || (strcmp(argv[1], "send") && strcmp(argv[1], "receive"))) {
-        fprintf(stderr, "usage: pagelink send|receive PORT FILE [protocol=N window=N seed=N loss=P dup=P swap=P flip=P]\n");
-        return 2;
-    }
-    line.seed = 88172645463325252u;
+    if (argc < 4)
+        return usage();
+    int receiving = !strcmp(argv[1], "receive");
+    line.seed = receiving ? 88172645463325252u : 2685821657736338717u;
     for (int i = 4; i < argc; i++) {
         unsigned v;
         if (sscanf(argv[i], "seed=%u", &v) == 1)
@@ -349,17 +343,21 @@ int main(int argc, char **argv)
         else if (sscanf(argv[i], "protocol=%u", &protocol) != 1 && sscanf(argv[i], "window=%u", &window) != 1 &&
                  sscanf(argv[i], "loss=%u", &line.loss) != 1 && sscanf(argv[i], "dup=%u", &line.dup) != 1 &&
                  sscanf(argv[i], "swap=%u", &line.swap) != 1 && sscanf(argv[i], "flip=%u", &line.flip) != 1)
-            die(argv[i], 0);
+            return usage();
     }
-    struct sockaddr_in address = {.sin_family = AF_INET, .sin_port = htons((uint16_t)atoi(argv[2])), .sin_addr.s_addr = htonl(INADDR_LOOPBACK)};
-    line.fd = socket(AF_INET, SOCK_DGRAM, 0);
+    if (!strcmp(argv[1], "make"))
+        return make_file(strtoul(argv[2], NULL, 10), argv[3]);
+    struct sockaddr_in address = {.sin_family = AF_INET, .sin_port = htons((uint16_t)atoi(argv[2])),
+                                  .sin_addr.s_addr = htonl(INADDR_LOOPBACK)};
     int big = 4 << 20;
+    line.fd = socket(AF_INET, SOCK_DGRAM, 0);
     setsockopt(line.fd, SOL_SOCKET, SO_RCVBUF, &big, sizeof big);
-    if (!strcmp(argv[1], "receive")) {
-        if (bind(line.fd, (struct sockaddr *)&address, sizeof address) < 0)
-            die("bind", 0);
+    if (receiving) {
+        open_port(address);
         return receive_file(argv[3]);
     }
+    if (strcmp(argv[1], "send"))
+        return usage();
     line.to = address;
     return send_file(argv[3]);
 }

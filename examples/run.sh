@@ -1,6 +1,6 @@
 #!/bin/bash
-# Packets and timers from C, then the example: a random file over UDP on loopback, two processes, by each protocol, with
-# loss, duplication, reordering and flips from a seed; the bytes are compared.
+# The example: a file over UDP on loopback, two processes, by each protocol, with loss, duplication, reordering and flips.
+# The file and what the line does come from the seed; the bytes are compared.
 # usage: bash examples/run.sh [BYTES [SEED [THOUSANDTHS]]]      after `rt staticlib pindrelo`
 set -u
 cd "$(dirname "$0")/.." || exit 2
@@ -10,24 +10,30 @@ library=target/staticlib/libpindrelo.a
 d=$(mktemp -d) || exit 2
 trap 'rm -rf "$d"' EXIT
 cc -std=c11 -O2 -Wall -Wextra -Werror -Iinclude examples/pagelink.c "$library" -o "$d/pagelink" || exit 2
+"$d/pagelink" make "$bytes" "$d/in" "seed=$seed" || exit 2
+limit=$((30 + bytes * (10 + rate) / 1000000))
 failed=0
-cc -std=c99 -Wall -Wextra -Werror -pedantic -Iinclude examples/calls.c "$library" -o "$d/calls" && "$d/calls" || failed=1
+
+outcome() { # STATUS
+  [ "$1" = 124 ] && echo "ran out of its $limit s" || echo "$1"
+}
+
 for protocol in 1 2 3; do
-  head -c "$bytes" /dev/urandom >"$d/in"
-  rm -f "$d/out"
-  port=$((20000 + ($$ + protocol * 97) % 20000))
+  rm -f "$d/out" "$d/port"
   options="protocol=$protocol window=16 seed=$seed loss=$rate dup=$rate swap=$rate flip=$rate"
-  timeout 60 "$d/pagelink" receive "$port" "$d/out" $options 2>"$d/receiver" &
+  # shellcheck disable=SC2086
+  timeout "$limit" "$d/pagelink" receive 0 "$d/out" $options >"$d/port" 2>"$d/receiver" &
   receiver=$!
-  sleep 0.2
-  timeout 60 "$d/pagelink" send "$port" "$d/in" $options 2>"$d/sender"
+  while [ ! -s "$d/port" ] && kill -0 "$receiver" 2>/dev/null; do sleep 0.02; done
+  # shellcheck disable=SC2086
+  timeout "$limit" "$d/pagelink" send "$(cat "$d/port")" "$d/in" $options 2>"$d/sender"
   sent=$?
   wait "$receiver"
   received=$?
   if [ $sent = 0 ] && [ $received = 0 ] && cmp -s "$d/in" "$d/out"; then
     echo "protocol $protocol: $bytes bytes, the same"
   else
-    echo "protocol $protocol: FAILED (send $sent, receive $received)"
+    echo "protocol $protocol: FAILED: send $(outcome $sent), receive $(outcome $received); $(cmp "$d/in" "$d/out" 2>&1)"
     failed=1
   fi
   cat "$d/sender" "$d/receiver"

@@ -12,6 +12,10 @@
 #include <stddef.h>
 #include <stdint.h>
 
+#if SIZE_MAX != UINT64_MAX
+#error "libpindrelo.a is for x86-64, where size_t has 64 bits"
+#endif
+
 #ifdef __cplusplus
 extern "C" {
 #endif
@@ -41,7 +45,10 @@ extern "C" {
  *
  * Which come from where: 1, 2, 3 and 6 of calls that are given a datagram, and 7 of receive, are the line's or another
  * program's doing: count them and go on. All others are the host's own: a state that was overwritten, memory too
- * small. The macros below name their argument more than once: give them a variable, not a call. */
+ * small.
+ *
+ * Below, "Done" says what a call did and what its value is, "Else" its ordinary status otherwise; the numbers at the
+ * end are its refusals, in the order in which they are tested. */
 
 typedef uint64_t pindrelo_answer;
 
@@ -64,22 +71,28 @@ enum {
     PINDRELO_INVALID = 20
 };
 
-#define PINDRELO_STATUS(a) ((unsigned)((a) & 0xff))
-#define PINDRELO_VALUE(a) ((uint64_t)(a) >> 8)
-#define PINDRELO_REFUSED(a) (PINDRELO_STATUS(a) >= 1 && PINDRELO_STATUS(a) <= 15)
-/* a refusal's values */
-#define PINDRELO_FIRST(a) ((unsigned)(PINDRELO_VALUE(a) & 0xffff))
-#define PINDRELO_SECOND(a) ((unsigned)(PINDRELO_VALUE(a) >> 16 & 0xffff))
+static inline unsigned pindrelo_status(pindrelo_answer a) { return (unsigned)(a & 0xff); }
+static inline uint64_t pindrelo_value(pindrelo_answer a) { return a >> 8; }
+static inline int pindrelo_refused(pindrelo_answer a) { return pindrelo_status(a) >= 1 && pindrelo_status(a) <= 15; }
+
 /* of acknowledge, receive and the readers of packets: the line's doing, not the host's */
-#define PINDRELO_FROM_LINE(a) \
-    (PINDRELO_REFUSED(a) && (PINDRELO_STATUS(a) <= 3 || PINDRELO_STATUS(a) == 6 || PINDRELO_STATUS(a) == 7))
+static inline int pindrelo_from_line(pindrelo_answer a)
+{
+    unsigned s = pindrelo_status(a);
+    return (s >= PINDRELO_SHORT && s <= PINDRELO_CUT) || s == PINDRELO_LONG || s == PINDRELO_NUMBERS;
+}
+
+/* a refusal's values */
+static inline unsigned pindrelo_first(pindrelo_answer a) { return (unsigned)(pindrelo_value(a) & 0xffff); }
+static inline unsigned pindrelo_second(pindrelo_answer a) { return (unsigned)(pindrelo_value(a) >> 16 & 0xffff); }
 
 /* ---- MEMORY
  *
  * A pointer is followed by its length: words (8 bytes, aligned) for a state, keys (4 bytes, aligned) and deadlines (8)
  * for a timer set, bytes for all else. Any length is answered, too short ones by 9 or 5, NULL only with length 0. What
  * C must keep, since no library can see it: a pointer is valid for its length, and no two slices of one call overlap.
- * Bytes past what a call writes stay as they are. */
+ * Bytes past what a call writes stay as they are. A datagram that comes goes into a call whole: read it into
+ * PINDRELO_MAX_DATAGRAM bytes at least. A line that carries less than that wants shorter chunks. */
 
 #define PINDRELO_HEADER_SIZE 10
 #define PINDRELO_MAX_PAYLOAD 1400
@@ -88,16 +101,21 @@ enum {
 #define PINDRELO_MAX_WINDOW 32
 #define PINDRELO_STATE_WORDS 8
 #define PINDRELO_TIMERS_WORDS 3
-/* a store's bytes: of a sender (Stop-and-Wait's window is 1) and of Selective Repeat's receiver; others have none */
+/* times, in nanoseconds from a start of the host's choice: 172,800 s and 86,400 s */
+#define PINDRELO_MAX_TIME UINT64_C(172800000000000)
+#define PINDRELO_MAX_DURATION UINT64_C(86400000000000)
+/* a store's bytes: of a sender and of Selective Repeat's receiver. Stop-and-Wait's sender has a window of 1, and the
+ * other receivers have no store: NULL, 0 */
 #define PINDRELO_STORE_SIZE(window) ((size_t)(window) * 1404)
 /* what a timeout of all can write */
 #define PINDRELO_RESEND_SIZE(window) ((size_t)(window) * PINDRELO_MAX_DATAGRAM)
 
 /* ---- STATES
  *
- * A state is its words, with its store and, of a receiver, the output up to the fill mark: copy or save all of it
- * and it goes on from there. Words are numbers in the machine's byte order. Word 0 has the kind and the version of
- * this layout; words of another version are a 9. A host may read these words, and writes none: */
+ * A state is its words, with its store and, of a receiver, the output up to the fill mark, of a timer set its keys and
+ * deadlines: copy or save all of it and it goes on from there, timers with the clock that they were set by. Words are
+ * numbers in the machine's byte order. Word 0 has the kind and the version of this layout; words of another version
+ * are a 9. A host may read these words, and writes none: */
 
 enum {
     PINDRELO_SENDER_WINDOW = 1,
@@ -120,6 +138,27 @@ enum {
 
 enum { PINDRELO_STOP_AND_WAIT = 1, PINDRELO_GO_BACK_N = 2, PINDRELO_SELECTIVE_REPEAT = 3 };
 
+/* ---- HOW A HOST USES IT                                       (examples/pagelink.c does so, over UDP)
+ *
+ * A receiver: pindrelo_make_receiver, then pindrelo_receive for each datagram that comes.
+ *     done                  send the ACK to where the datagram came from
+ *     SILENT                nothing is to be sent
+ *     pindrelo_from_line    count it: nothing has changed
+ *     any other             the host's own mistake, such as a file longer than the output
+ * The output up to word FILLED is what is delivered. How the end is known: WHAT THE HOST DECIDES, below.
+ *
+ * A sender: pindrelo_make_sender and pindrelo_make_timers; then, until all is sent and word BASE is word NEXT:
+ *  1  pindrelo_send, as long as there are chunks and the answer isn't WINDOW_FULL. Send the datagram, note the time for
+ *     its number, which was word NEXT, and start the number's timer.
+ *  2  Wait for a datagram, at most until pindrelo_timer_earliest.
+ *  3  pindrelo_acknowledge for each that came. Done: pindrelo_timer_cancel for its number; in Go-Back-N for all from
+ *     the old word BASE up to it. If one of them ran, that is progress, and the time since the note is a sample of the
+ *     round trip: of this number, in Go-Back-N of the old BASE, and only if it was sent once (Karn). If none ran, the
+ *     number was acknowledged before.
+ *  4  pindrelo_timer_pop. In Selective Repeat pindrelo_timeout_number for each key that was due; in the others one
+ *     pindrelo_timeout_all if any was. Send each datagram that is written, and start its number's timer again, with
+ *     twice the timeout until there is a sample. */
+
 /* ---- A SENDER
  *
  * Chunks are numbered from 0 in the order in which they are sent; a chunk has at most 1,400 bytes. Time is the
@@ -137,8 +176,7 @@ pindrelo_answer pindrelo_send(uint64_t *state, size_t words, uint8_t *store, siz
                               const uint8_t *payload, size_t length, uint8_t *out, size_t out_size);
 
 /* A datagram that came for the sender. Done: a valid ACK of an outstanding number, which is the value; Go-Back-N's
- * is of all numbers up to it. Selective Repeat accepts the ACK of a number above base again: stop the number's
- * timer, and take a sample of the round trip only if it ran and the number was sent once. Else NOT_ACCEPTED. 9, 8,
+ * is of all numbers up to it. Selective Repeat accepts the ACK of a number above base again. Else NOT_ACCEPTED. 9, 8,
  * 1, 2, 3, 6. */
 pindrelo_answer pindrelo_acknowledge(uint64_t *state, size_t words, uint8_t *store, size_t store_size,
                                      const uint8_t *datagram, size_t length);
@@ -180,10 +218,10 @@ pindrelo_answer pindrelo_receive(uint64_t *state, size_t words, uint8_t *store, 
 
 /* ---- A TIMER SET
  *
- * For Selective Repeat: a timer for each outstanding number, which is its key. The set is its words, its keys and its
- * deadlines, two slices of one length with an entry for each timer that may run; the window is enough. Times are
- * nanoseconds from a start of the host's choice, one for each transfer: at most 172,800 s, so not a clock that counts
- * from boot. A timer is due when now is at its deadline or past it. */
+ * A timer for each outstanding number, which is its key. The set is its words, its keys and its deadlines, two slices
+ * of one length with an entry for each timer that may run; the window is enough. Times are nanoseconds from a start of
+ * the host's choice, one for each transfer: at most 172,800 s, so not a clock that counts from boot. A timer is due
+ * when now is at its deadline or past it. */
 
 /* 9 slices of unequal length, 5 fewer than PINDRELO_TIMERS_WORDS words. All entries become zeros. */
 pindrelo_answer pindrelo_make_timers(uint64_t *state, size_t words, uint32_t *keys, size_t key_count,
@@ -216,11 +254,12 @@ pindrelo_answer pindrelo_timer_earliest(const uint64_t *state, size_t words, con
 
 enum { PINDRELO_DATA_PACKET = 1, PINDRELO_ACK_PACKET = 2, PINDRELO_FIN_PACKET = 3 };
 
-/* Done: number, kind and flags, for these macros. Bytes behind the payload are ignored. 1, 2, 3. */
+/* Done: number, kind and flags, for the three functions below. Bytes behind the payload are ignored. 1, 2, 3. */
 pindrelo_answer pindrelo_read(const uint8_t *datagram, size_t length);
-#define PINDRELO_PACKET_NUMBER(a) ((uint32_t)PINDRELO_VALUE(a))
-#define PINDRELO_PACKET_KIND(a) ((unsigned)(PINDRELO_VALUE(a) >> 32 & 0xff))
-#define PINDRELO_PACKET_FLAGS(a) ((unsigned)(PINDRELO_VALUE(a) >> 40))
+
+static inline uint32_t pindrelo_packet_number(pindrelo_answer a) { return (uint32_t)pindrelo_value(a); }
+static inline unsigned pindrelo_packet_kind(pindrelo_answer a) { return (unsigned)(pindrelo_value(a) >> 32 & 0xff); }
+static inline unsigned pindrelo_packet_flags(pindrelo_answer a) { return (unsigned)(pindrelo_value(a) >> 40 & 0xff); }
 
 /* Done: the checksum matches. Else INVALID. 1, 2, 3. */
 pindrelo_answer pindrelo_validate(const uint8_t *datagram, size_t length);

@@ -1,10 +1,11 @@
-//! A safe wrapper of pindrelo.h, without other crates: states own their words and stores, lent slices can't overlap,
-//! answers are `Result`s. Link libpindrelo.a: `-L native=target/staticlib -l static=pindrelo`.
+//! A safe wrapper of pindrelo.h, without other crates: states own their memory, lent slices can't overlap, answers are
+//! `Result`s. What each call does is said there. Link libpindrelo.a: `-L native=target/staticlib -l static=pindrelo`.
+#![allow(dead_code)]
 
 mod raw {
     extern "C" {
         pub fn pindrelo_make_sender(
-            protocol: u64, window: usize, max_retries: u32, state: *mut u64, words: usize, store: *mut u8, size: usize,
+            protocol: u64, window: usize, max_retries: u64, state: *mut u64, words: usize, store: *mut u8, size: usize,
         ) -> u64;
         pub fn pindrelo_send(
             state: *mut u64, words: usize, store: *mut u8, size: usize, payload: *const u8, length: usize,
@@ -20,7 +21,7 @@ mod raw {
             state: *mut u64, words: usize, store: *mut u8, size: usize, out: *mut u8, room: usize,
         ) -> u64;
         pub fn pindrelo_timeout_number(
-            state: *mut u64, words: usize, store: *mut u8, size: usize, number: u32, out: *mut u8, room: usize,
+            state: *mut u64, words: usize, store: *mut u8, size: usize, number: u64, out: *mut u8, room: usize,
         ) -> u64;
         pub fn pindrelo_can_send(state: *const u64, words: usize) -> u64;
         pub fn pindrelo_in_flight(state: *const u64, words: usize, store: *const u8, size: usize) -> u64;
@@ -31,6 +32,30 @@ mod raw {
             state: *mut u64, words: usize, store: *mut u8, size: usize, datagram: *const u8, length: usize,
             output: *mut u8, capacity: usize, ack: *mut u8, room: usize,
         ) -> u64;
+        pub fn pindrelo_make_timers(
+            state: *mut u64, words: usize, keys: *mut u32, key_count: usize, deadlines: *mut u64, count: usize,
+        ) -> u64;
+        pub fn pindrelo_timer_start(
+            state: *mut u64, words: usize, keys: *mut u32, key_count: usize, deadlines: *mut u64, count: usize,
+            key: u64, now: u64, duration: u64,
+        ) -> u64;
+        pub fn pindrelo_timer_cancel(
+            state: *mut u64, words: usize, keys: *mut u32, key_count: usize, deadlines: *mut u64, count: usize,
+            key: u64,
+        ) -> u64;
+        pub fn pindrelo_timer_pop(
+            state: *mut u64, words: usize, keys: *mut u32, key_count: usize, deadlines: *mut u64, count: usize,
+            now: u64, out: *mut u32, out_count: usize,
+        ) -> u64;
+        pub fn pindrelo_timer_earliest(
+            state: *const u64, words: usize, keys: *const u32, key_count: usize, deadlines: *const u64, count: usize,
+        ) -> u64;
+        pub fn pindrelo_read(datagram: *const u8, length: usize) -> u64;
+        pub fn pindrelo_validate(datagram: *const u8, length: usize) -> u64;
+        pub fn pindrelo_payload_length(datagram: *const u8, length: usize) -> u64;
+        pub fn pindrelo_write(
+            kind: u64, number: u64, flags: u64, payload: *const u8, length: usize, out: *mut u8, room: usize,
+        ) -> u64;
     }
 }
 
@@ -40,6 +65,10 @@ pub const MAX_DATAGRAM: usize = 1410;
 pub const ACK_SIZE: usize = 10;
 pub const MAX_WINDOW: usize = 32;
 pub const STATE_WORDS: usize = 8;
+pub const TIMERS_WORDS: usize = 3;
+/// Nanoseconds.
+pub const MAX_TIME: u64 = 172_800_000_000_000;
+pub const MAX_DURATION: u64 = 86_400_000_000_000;
 const SLOT_SIZE: usize = 1404;
 
 #[derive(Clone, Copy, Debug, PartialEq, Eq)]
@@ -62,11 +91,12 @@ pub enum Refusal {
     Counts,
     State,
     Time,
-    Roll,
+    /// A refusal that this wrapper has no word for.
+    Other { status: u8 },
 }
 
 impl Refusal {
-    /// Of `acknowledge` and `receive`: the line's doing (count it and go on), not the host's.
+    /// Of `acknowledge`, `receive` and the readers of packets: the line's doing (count it and go on), not the host's.
     pub fn from_line(self) -> bool {
         use Refusal::*;
         matches!(self, Short { .. } | Kind { .. } | Cut { .. } | Long | Numbers)
@@ -81,8 +111,8 @@ impl std::fmt::Display for Refusal {
 
 impl std::error::Error for Refusal {}
 
-/// The value of a call that was done; `None` where there was nothing to do.
-fn answer(a: u64) -> Result<Option<u64>, Refusal> {
+/// The value of a call that was done; `None` where there was nothing to do: 16 and above.
+pub(crate) fn answer(a: u64) -> Result<Option<u64>, Refusal> {
     let value = a >> 8;
     let (first, second) = (value as u16, (value >> 16) as u16);
     Err(match a as u8 {
@@ -97,37 +127,61 @@ fn answer(a: u64) -> Result<Option<u64>, Refusal> {
         8 => Refusal::Counts,
         9 => Refusal::State,
         10 => Refusal::Time,
-        11 => Refusal::Roll,
-        _ => return Ok(None),
+        status @ 11..=15 => Refusal::Other { status },
+        16.. => return Ok(None),
     })
+}
+
+/// A length that a call was done with.
+fn length(a: u64) -> Result<Option<usize>, Refusal> {
+    Ok(answer(a)?.map(|n| n as usize))
+}
+
+/// A store of so many slots; a window above the limit would be a 4 however long the store is.
+fn store_for(window: usize, slots: usize) -> Result<Vec<u8>, Refusal> {
+    if window > MAX_WINDOW {
+        return Err(Refusal::Setup);
+    }
+    Ok(vec![0; slots * SLOT_SIZE])
 }
 
 /// A sender. Its words and its store are its whole state: save and restore them together.
 #[derive(Clone, Debug, PartialEq, Eq)]
 pub struct Sender {
-    pub words: [u64; STATE_WORDS],
-    pub store: Vec<u8>,
+    words: [u64; STATE_WORDS],
+    store: Vec<u8>,
 }
 
 impl Sender {
     /// max_retries is Stop-and-Wait's alone.
     pub fn new(protocol: Protocol, window: usize, max_retries: u32) -> Result<Sender, Refusal> {
-        let slots = if protocol == Protocol::StopAndWait { 1 } else { window.min(MAX_WINDOW + 1) };
-        let mut s = Sender { words: [0; STATE_WORDS], store: vec![0; slots * SLOT_SIZE] };
-        let (words, store) = (s.words.as_mut_ptr(), s.store.as_mut_ptr());
-        let size = s.store.len();
+        let slots = if protocol == Protocol::StopAndWait { 1 } else { window };
+        let mut s = Sender { words: [0; STATE_WORDS], store: store_for(window, slots)? };
+        let (words, store, size) = s.lent();
         let a = unsafe {
-            raw::pindrelo_make_sender(protocol as u64, window, max_retries, words, STATE_WORDS, store, size)
+            raw::pindrelo_make_sender(protocol as u64, window, max_retries.into(), words, STATE_WORDS, store, size)
         };
         answer(a).map(|_| s)
+    }
+
+    /// A saved state; one that doesn't fit is refused by the calls.
+    pub fn restore(words: [u64; STATE_WORDS], store: Vec<u8>) -> Sender {
+        Sender { words, store }
+    }
+
+    pub fn words(&self) -> &[u64; STATE_WORDS] {
+        &self.words
+    }
+
+    pub fn store(&self) -> &[u8] {
+        &self.store
     }
 
     /// The length of the datagram at the start of out; `None`: the window is full.
     pub fn send(&mut self, payload: &[u8], out: &mut [u8]) -> Result<Option<usize>, Refusal> {
         let (words, store, size) = self.lent();
         let (p, o) = (payload.as_ptr(), out.as_mut_ptr());
-        let a = unsafe { raw::pindrelo_send(words, STATE_WORDS, store, size, p, payload.len(), o, out.len()) };
-        Ok(answer(a)?.map(|n| n as usize))
+        length(unsafe { raw::pindrelo_send(words, STATE_WORDS, store, size, p, payload.len(), o, out.len()) })
     }
 
     /// The number that the datagram acknowledges; `None`: it isn't the ACK of an outstanding number.
@@ -141,22 +195,20 @@ impl Sender {
     /// The bytes written to out, datagram after datagram; `None`: nothing to send again.
     pub fn timeout_all(&mut self, out: &mut [u8]) -> Result<Option<usize>, Refusal> {
         let (words, store, size) = self.lent();
-        let a = unsafe { raw::pindrelo_timeout_all(words, STATE_WORDS, store, size, out.as_mut_ptr(), out.len()) };
-        Ok(answer(a)?.map(|n| n as usize))
+        let o = out.as_mut_ptr();
+        length(unsafe { raw::pindrelo_timeout_all(words, STATE_WORDS, store, size, o, out.len()) })
     }
 
     pub fn timeout_earliest(&mut self, out: &mut [u8]) -> Result<Option<usize>, Refusal> {
         let (words, store, size) = self.lent();
         let o = out.as_mut_ptr();
-        let a = unsafe { raw::pindrelo_timeout_earliest(words, STATE_WORDS, store, size, o, out.len()) };
-        Ok(answer(a)?.map(|n| n as usize))
+        length(unsafe { raw::pindrelo_timeout_earliest(words, STATE_WORDS, store, size, o, out.len()) })
     }
 
     pub fn timeout_number(&mut self, number: u32, out: &mut [u8]) -> Result<Option<usize>, Refusal> {
         let (words, store, size) = self.lent();
-        let o = out.as_mut_ptr();
-        let a = unsafe { raw::pindrelo_timeout_number(words, STATE_WORDS, store, size, number, o, out.len()) };
-        Ok(answer(a)?.map(|n| n as usize))
+        let (n, o) = (number.into(), out.as_mut_ptr());
+        length(unsafe { raw::pindrelo_timeout_number(words, STATE_WORDS, store, size, n, o, out.len()) })
     }
 
     pub fn can_send(&self) -> Result<bool, Refusal> {
@@ -184,37 +236,176 @@ impl Sender {
     }
 }
 
-/// A receiver. Its words, its store and the output up to `filled` are its whole state.
+/// A receiver with its output. Its words, its store and what is delivered are its whole state.
 #[derive(Clone, Debug, PartialEq, Eq)]
 pub struct Receiver {
-    pub words: [u64; STATE_WORDS],
-    pub store: Vec<u8>,
+    words: [u64; STATE_WORDS],
+    store: Vec<u8>,
+    output: Vec<u8>,
 }
 
 impl Receiver {
-    pub fn new(protocol: Protocol, window: usize) -> Result<Receiver, Refusal> {
-        let slots = if protocol == Protocol::SelectiveRepeat { window.min(MAX_WINDOW + 1) } else { 0 };
-        let mut r = Receiver { words: [0; STATE_WORDS], store: vec![0; slots * SLOT_SIZE] };
-        let (words, store) = (r.words.as_mut_ptr(), r.store.as_mut_ptr());
-        let size = r.store.len();
+    /// All of output, up to its length, is for what is delivered.
+    pub fn new(protocol: Protocol, window: usize, output: Vec<u8>) -> Result<Receiver, Refusal> {
+        let slots = if protocol == Protocol::SelectiveRepeat { window } else { 0 };
+        let mut r = Receiver { words: [0; STATE_WORDS], store: store_for(window, slots)?, output };
+        let (words, store, size) = (r.words.as_mut_ptr(), r.store.as_mut_ptr(), r.store.len());
         let a = unsafe { raw::pindrelo_make_receiver(protocol as u64, window, words, STATE_WORDS, store, size) };
         answer(a).map(|_| r)
     }
 
-    /// The number of the ACK at the start of ack; `None`: nothing to send back. What is delivered stands in
-    /// `output[..filled()]`; output is the same memory in every call.
-    pub fn receive(&mut self, datagram: &[u8], output: &mut [u8], ack: &mut [u8]) -> Result<Option<u32>, Refusal> {
+    /// A saved state; one that doesn't fit is refused by the calls.
+    pub fn restore(words: [u64; STATE_WORDS], store: Vec<u8>, output: Vec<u8>) -> Receiver {
+        Receiver { words, store, output }
+    }
+
+    pub fn words(&self) -> &[u64; STATE_WORDS] {
+        &self.words
+    }
+
+    pub fn store(&self) -> &[u8] {
+        &self.store
+    }
+
+    /// The number of the ACK at the start of ack; `None`: nothing to send back.
+    pub fn receive(&mut self, datagram: &[u8], ack: &mut [u8]) -> Result<Option<u32>, Refusal> {
         let (words, store, size) = (self.words.as_mut_ptr(), self.store.as_mut_ptr(), self.store.len());
-        let (d, o, k) = (datagram.as_ptr(), output.as_mut_ptr(), ack.as_mut_ptr());
+        let (output, capacity) = (self.output.as_mut_ptr(), self.output.len());
+        let (d, k) = (datagram.as_ptr(), ack.as_mut_ptr());
         let a = unsafe {
             raw::pindrelo_receive(
-                words, STATE_WORDS, store, size, d, datagram.len(), o, output.len(), k, ack.len(),
+                words, STATE_WORDS, store, size, d, datagram.len(), output, capacity, k, ack.len(),
             )
         };
         Ok(answer(a)?.map(|n| n as u32))
     }
 
+    /// How many bytes are delivered.
     pub fn filled(&self) -> usize {
         self.words[3] as usize
     }
+
+    /// What is delivered, in order; nothing where a restored state says more than its output has.
+    pub fn delivered(&self) -> &[u8] {
+        self.output.get(..self.filled()).unwrap_or(&[])
+    }
+
+    pub fn into_output(self) -> Vec<u8> {
+        self.output
+    }
+}
+
+/// A timer set. Its words, keys and deadlines are its whole state.
+#[derive(Clone, Debug, PartialEq, Eq)]
+pub struct Timers {
+    words: [u64; TIMERS_WORDS],
+    keys: Vec<u32>,
+    deadlines: Vec<u64>,
+}
+
+impl Timers {
+    /// For at most so many timers at once.
+    pub fn new(count: usize) -> Result<Timers, Refusal> {
+        let mut t = Timers { words: [0; TIMERS_WORDS], keys: vec![0; count], deadlines: vec![0; count] };
+        let (words, keys, deadlines) = t.lent();
+        let a = unsafe { raw::pindrelo_make_timers(words, TIMERS_WORDS, keys, count, deadlines, count) };
+        answer(a).map(|_| t)
+    }
+
+    /// A saved state; one that doesn't fit is refused by the calls.
+    pub fn restore(words: [u64; TIMERS_WORDS], keys: Vec<u32>, deadlines: Vec<u64>) -> Timers {
+        Timers { words, keys, deadlines }
+    }
+
+    pub fn words(&self) -> &[u64; TIMERS_WORDS] {
+        &self.words
+    }
+
+    pub fn keys(&self) -> &[u32] {
+        &self.keys
+    }
+
+    pub fn deadlines(&self) -> &[u64] {
+        &self.deadlines
+    }
+
+    pub fn start(&mut self, key: u32, now: u64, duration: u64) -> Result<(), Refusal> {
+        let (n, m) = (self.keys.len(), self.deadlines.len());
+        let (words, keys, deadlines) = self.lent();
+        let a = unsafe {
+            raw::pindrelo_timer_start(words, TIMERS_WORDS, keys, n, deadlines, m, key.into(), now, duration)
+        };
+        answer(a).map(|_| ())
+    }
+
+    /// Whether the key's timer ran.
+    pub fn cancel(&mut self, key: u32) -> Result<bool, Refusal> {
+        let (n, m) = (self.keys.len(), self.deadlines.len());
+        let (words, keys, deadlines) = self.lent();
+        let a = unsafe { raw::pindrelo_timer_cancel(words, TIMERS_WORDS, keys, n, deadlines, m, key.into()) };
+        Ok(answer(a)? == Some(1))
+    }
+
+    /// How many keys were due: they stand at the start of due, ascending, and run no more.
+    pub fn pop(&mut self, now: u64, due: &mut [u32]) -> Result<usize, Refusal> {
+        let (n, m) = (self.keys.len(), self.deadlines.len());
+        let (words, keys, deadlines) = self.lent();
+        let (o, room) = (due.as_mut_ptr(), due.len());
+        let a = unsafe { raw::pindrelo_timer_pop(words, TIMERS_WORDS, keys, n, deadlines, m, now, o, room) };
+        Ok(answer(a)?.unwrap_or(0) as usize)
+    }
+
+    /// The earliest deadline; `None`: no timer runs.
+    pub fn earliest(&self) -> Result<Option<u64>, Refusal> {
+        let (words, keys, deadlines) = (self.words.as_ptr(), self.keys.as_ptr(), self.deadlines.as_ptr());
+        let (n, m) = (self.keys.len(), self.deadlines.len());
+        answer(unsafe { raw::pindrelo_timer_earliest(words, TIMERS_WORDS, keys, n, deadlines, m) })
+    }
+
+    fn lent(&mut self) -> (*mut u64, *mut u32, *mut u64) {
+        (self.words.as_mut_ptr(), self.keys.as_mut_ptr(), self.deadlines.as_mut_ptr())
+    }
+}
+
+#[derive(Clone, Copy, Debug, PartialEq, Eq)]
+pub enum PacketKind {
+    Data = 1,
+    Ack = 2,
+    Fin = 3,
+}
+
+#[derive(Clone, Copy, Debug, PartialEq, Eq)]
+pub struct Packet {
+    pub number: u32,
+    pub kind: PacketKind,
+    pub flags: u8,
+}
+
+/// A datagram's header. Bytes behind its payload are ignored.
+pub fn read(datagram: &[u8]) -> Result<Packet, Refusal> {
+    let value = answer(unsafe { raw::pindrelo_read(datagram.as_ptr(), datagram.len()) })?.unwrap_or(0);
+    let kind = match value >> 32 & 0xff {
+        1 => PacketKind::Data,
+        2 => PacketKind::Ack,
+        _ => PacketKind::Fin,
+    };
+    Ok(Packet { number: value as u32, kind, flags: (value >> 40) as u8 })
+}
+
+/// Whether the checksum matches.
+pub fn validate(datagram: &[u8]) -> Result<bool, Refusal> {
+    Ok(answer(unsafe { raw::pindrelo_validate(datagram.as_ptr(), datagram.len()) })?.is_some())
+}
+
+pub fn payload(datagram: &[u8]) -> Result<&[u8], Refusal> {
+    let n = length(unsafe { raw::pindrelo_payload_length(datagram.as_ptr(), datagram.len()) })?.unwrap_or(0);
+    Ok(&datagram[HEADER_SIZE..HEADER_SIZE + n])
+}
+
+/// The length of the datagram, with its checksum, at the start of out.
+pub fn write(packet: Packet, payload: &[u8], out: &mut [u8]) -> Result<usize, Refusal> {
+    let (kind, number, flags) = (packet.kind as u64, packet.number.into(), packet.flags.into());
+    let (p, o) = (payload.as_ptr(), out.as_mut_ptr());
+    let a = unsafe { raw::pindrelo_write(kind, number, flags, p, payload.len(), o, out.len()) };
+    Ok(length(a)?.unwrap_or(0))
 }

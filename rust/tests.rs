@@ -1,7 +1,7 @@
 //! `rustc --edition 2021 -O --test rust/tests.rs -L native=target/staticlib -l static=pindrelo -o target/rust_tests`
-#[allow(dead_code)]
 mod pindrelo;
-use pindrelo::{Protocol, Receiver, Refusal, Sender, ACK_SIZE, HEADER_SIZE, MAX_DATAGRAM, MAX_PAYLOAD, MAX_WINDOW};
+use pindrelo::{Packet, PacketKind, Protocol, Receiver, Refusal, Sender, Timers};
+use pindrelo::{ACK_SIZE, HEADER_SIZE, MAX_DATAGRAM, MAX_DURATION, MAX_PAYLOAD, MAX_TIME, MAX_WINDOW};
 
 const PROTOCOLS: [Protocol; 3] = [Protocol::StopAndWait, Protocol::GoBackN, Protocol::SelectiveRepeat];
 
@@ -35,9 +35,8 @@ fn impaired(rng: &mut Rng, line: &mut Vec<Vec<u8>>, d: &[u8]) {
 fn transfer(p: Protocol, window: usize, file: &[u8], seed: u64) -> Vec<u8> {
     let mut rng = Rng(seed | 1);
     let mut s = Sender::new(p, window, u32::MAX).unwrap();
-    let mut r = Receiver::new(p, window).unwrap();
-    let mut out = vec![0; MAX_WINDOW * MAX_DATAGRAM];
-    let (mut output, mut ack) = (vec![0; file.len()], [0; ACK_SIZE]);
+    let mut r = Receiver::new(p, window, vec![0; file.len()]).unwrap();
+    let (mut out, mut ack) = (vec![0; MAX_WINDOW * MAX_DATAGRAM], [0; ACK_SIZE]);
     let (mut there, mut back): (Vec<Vec<u8>>, Vec<Vec<u8>>) = (vec![], vec![]);
     let mut at = 0;
     while at < file.len() || s.base() != s.next() {
@@ -50,7 +49,7 @@ fn transfer(p: Protocol, window: usize, file: &[u8], seed: u64) -> Vec<u8> {
             at += n;
         }
         for d in std::mem::take(&mut there) {
-            if let Ok(Some(_)) = r.receive(&d, &mut output, &mut ack) {
+            if let Ok(Some(_)) = r.receive(&d, &mut ack) {
                 impaired(&mut rng, &mut back, &ack);
             }
         }
@@ -75,7 +74,8 @@ fn transfer(p: Protocol, window: usize, file: &[u8], seed: u64) -> Vec<u8> {
         }
     }
     assert_eq!(r.filled(), file.len());
-    output
+    assert_eq!(r.delivered(), r.clone().into_output());
+    r.into_output()
 }
 
 #[test]
@@ -90,31 +90,54 @@ fn files_come_over_whole() {
     }
 }
 
+/// One of the words changed, to a small or to any number.
+fn spoil(rng: &mut Rng, words: &mut [u64]) {
+    let i = rng.below(words.len());
+    words[i] = if rng.below(2) == 0 { rng.below(50) as u64 } else { (rng.below(1 << 30) as u64) << rng.below(34) };
+}
+
+fn number(e: Refusal) -> usize {
+    match e {
+        Refusal::Short { .. } => 1,
+        Refusal::Kind { .. } => 2,
+        Refusal::Cut { .. } => 3,
+        Refusal::Setup => 4,
+        Refusal::Full => 5,
+        Refusal::Long => 6,
+        Refusal::Numbers => 7,
+        Refusal::Counts => 8,
+        Refusal::State => 9,
+        Refusal::Time => 10,
+        Refusal::Other { status } => status as usize,
+    }
+}
+
+fn all_met(refused: &[u64], numbers: &[usize]) {
+    assert!(numbers.iter().all(|n| refused[*n] > 0), "{refused:?}");
+}
+
 /// Any words, stores, buffers and datagrams: a call that is refused or has nothing to do changes nothing.
 #[test]
 fn refused_changes_nothing() {
     let mut rng = Rng(11);
-    let mut refused = [0u64; 12];
+    let mut refused = [0u64; 16];
     for i in 0..300_000u64 {
-        let p = PROTOCOLS[rng.below(3)];
-        let mut s = Sender::new(p, [1, 4, 32][rng.below(3)], 2).unwrap();
+        let mut made = Sender::new(PROTOCOLS[rng.below(3)], [1, 4, 32][rng.below(3)], 2).unwrap();
         let mut out = vec![7u8; rng.below(40)];
         for _ in 0..rng.below(3) {
-            let _ = s.send(&[1, 2, 3], &mut [0; MAX_DATAGRAM]);
+            let _ = made.send(&[1, 2, 3], &mut [0; MAX_DATAGRAM]);
         }
-        match rng.below(6) {
-            0 => s.words[rng.below(8)] = rng.below(50) as u64,
-            1 => s.words[rng.below(8)] = (rng.below(1 << 30) as u64) << rng.below(34),
-            2 => {
-                let n = s.store.len().min(1404);
-                s.store[rng.below(n)] ^= 1 << rng.below(8)
+        let (mut words, mut store) = (*made.words(), made.store().to_vec());
+        match rng.below(4) {
+            0 => spoil(&mut rng, &mut words),
+            1 => {
+                let n = store.len().min(1404);
+                store[rng.below(n)] ^= 1 << rng.below(8)
             }
-            3 => {
-                let n = rng.below(s.store.len() + 1);
-                s.store.truncate(n)
-            }
+            2 => store.truncate(rng.below(store.len() + 1)),
             _ => {}
         }
+        let mut s = Sender::restore(words, store);
         let d: Vec<u8> = (0..rng.below(30)).map(|_| rng.below(4) as u8).collect();
         let before = (s.clone(), out.clone());
         let done = match i % 4 {
@@ -124,59 +147,148 @@ fn refused_changes_nothing() {
             _ => s.timeout_all(&mut out).map(|x| x.is_some()),
         };
         if let Err(e) = done {
-            refused[match e {
-                Refusal::Short { .. } => 1,
-                Refusal::Kind { .. } => 2,
-                Refusal::Cut { .. } => 3,
-                Refusal::Full => 5,
-                Refusal::Counts => 8,
-                Refusal::State => 9,
-                _ => 0,
-            }] += 1;
+            refused[number(e)] += 1;
         }
         if done != Ok(true) {
             assert!(before == (s, out), "{done:?}");
         }
     }
-    assert!([1, 2, 3, 5, 8, 9].iter().all(|n| refused[*n] > 0), "{refused:?}");
+    all_met(&refused, &[1, 2, 3, 5, 8, 9]);
 }
 
 #[test]
 fn refused_receive_changes_nothing() {
     let mut rng = Rng(13);
-    let mut refused = [0u64; 12];
+    let mut refused = [0u64; 16];
     for _ in 0..200_000 {
         let p = PROTOCOLS[rng.below(3)];
         let mut s = Sender::new(p, 4, 2).unwrap();
-        let mut r = Receiver::new(p, 4).unwrap();
-        let (mut d, mut output, mut ack) = ([0; MAX_DATAGRAM], vec![7u8; rng.below(4)], vec![7u8; rng.below(13)]);
+        let made = Receiver::new(p, 4, vec![]).unwrap();
+        let (mut d, mut ack) = ([0; MAX_DATAGRAM], vec![7u8; rng.below(13)]);
         let n = s.send(&[1, 2, 3][..rng.below(4)], &mut d).unwrap().unwrap();
-        match rng.below(6) {
-            0 => r.words[rng.below(8)] = rng.below(50) as u64,
-            1 => r.words[rng.below(8)] = (rng.below(1 << 30) as u64) << rng.below(34),
-            2 => {
-                let n = rng.below(r.store.len() + 1);
-                r.store.truncate(n)
-            }
-            3 => d[rng.below(n)] ^= 1 << rng.below(8),
+        let (mut words, mut store) = (*made.words(), made.store().to_vec());
+        match rng.below(4) {
+            0 => spoil(&mut rng, &mut words),
+            1 => store.truncate(rng.below(store.len() + 1)),
+            2 => d[rng.below(n)] ^= 1 << rng.below(8),
             _ => {}
         }
-        let before = (r.clone(), output.clone(), ack.clone());
+        let mut r = Receiver::restore(words, store, vec![7u8; rng.below(4)]);
+        let before = (r.clone(), ack.clone());
         let cut = if rng.below(4) == 0 { rng.below(n + 1) } else { n };
-        if let Err(e) = r.receive(&d[..cut], &mut output, &mut ack) {
-            assert!(before == (r, output, ack), "{e}");
-            refused[match e {
-                Refusal::Short { .. } => 1,
-                Refusal::Kind { .. } => 2,
-                Refusal::Cut { .. } => 3,
-                Refusal::Full => 5,
-                Refusal::Counts => 8,
-                Refusal::State => 9,
-                _ => 0,
-            }] += 1;
+        if let Err(e) = r.receive(&d[..cut], &mut ack) {
+            assert!(before == (r, ack), "{e}");
+            refused[number(e)] += 1;
         }
     }
-    assert!([1, 2, 3, 5, 8, 9].iter().all(|n| refused[*n] > 0), "{refused:?}");
+    all_met(&refused, &[1, 2, 3, 5, 8, 9]);
+}
+
+#[test]
+fn refused_timers_change_nothing() {
+    let mut rng = Rng(17);
+    let mut refused = [0u64; 16];
+    for _ in 0..200_000 {
+        let mut made = Timers::new(rng.below(4)).unwrap();
+        for key in 0..rng.below(4) {
+            let _ = made.start(2 * key as u32, 1, rng.below(5) as u64);
+        }
+        let (mut words, mut keys, mut deadlines) = (*made.words(), made.keys().to_vec(), made.deadlines().to_vec());
+        match rng.below(6) {
+            0 => spoil(&mut rng, &mut words),
+            1 => keys.push(9),
+            2 if !keys.is_empty() => keys[0] = 5,
+            3 if !deadlines.is_empty() => deadlines[0] = MAX_TIME + 1,
+            _ => {}
+        }
+        let mut t = Timers::restore(words, keys, deadlines);
+        let mut due = vec![7; rng.below(4)];
+        let now = [0, 3, 9, MAX_TIME, MAX_TIME + 1][rng.below(5)];
+        let before = (t.clone(), due.clone());
+        let done = match rng.below(4) {
+            0 => t.start(rng.below(8) as u32, now, [0, 9, MAX_DURATION, MAX_DURATION + 1][rng.below(4)]),
+            1 => t.cancel(rng.below(8) as u32).map(|_| ()),
+            2 => t.pop(now, &mut due).map(|_| ()),
+            _ => t.earliest().map(|_| ()),
+        };
+        if let Err(e) = done {
+            assert!(before == (t, due), "{e}");
+            refused[number(e)] += 1;
+        }
+    }
+    all_met(&refused, &[5, 9, 10]);
+}
+
+#[test]
+fn timers() {
+    let mut t = Timers::new(2).unwrap();
+    let mut due = [0; 2];
+    assert_eq!(t.earliest(), Ok(None));
+    assert_eq!(t.start(u32::MAX, 100, 20), Ok(()));
+    assert_eq!(t.start(4, 100, 50), Ok(()));
+    assert_eq!(t.start(5, 100, 50), Err(Refusal::Full));
+    assert_eq!(t.start(4, MAX_TIME + 1, 0), Err(Refusal::Time));
+    assert_eq!(t.start(4, 0, MAX_DURATION + 1), Err(Refusal::Time));
+    assert_eq!(t.earliest(), Ok(Some(120)));
+    assert_eq!(t.pop(119, &mut due), Ok(0));
+    assert_eq!(t.pop(120, &mut []), Err(Refusal::Full));
+    assert_eq!(t.pop(120, &mut due), Ok(1));
+    assert_eq!(due[0], u32::MAX);
+    assert_eq!(t.cancel(u32::MAX), Ok(false));
+    assert_eq!(t.cancel(4), Ok(true));
+    assert_eq!(t.earliest(), Ok(None));
+}
+
+#[test]
+fn packets() {
+    let mut d = [7; MAX_DATAGRAM];
+    let fin = Packet { number: u32::MAX, kind: PacketKind::Fin, flags: 0x81 };
+    assert_eq!(pindrelo::write(fin, b"abc", &mut d), Ok(13));
+    assert_eq!(pindrelo::read(&d), Ok(fin));
+    assert_eq!(pindrelo::validate(&d), Ok(true));
+    assert_eq!(pindrelo::payload(&d), Ok(&b"abc"[..]));
+    assert_eq!(pindrelo::payload(&d[..12]), Err(Refusal::Cut { declared: 3, present: 2 }));
+    assert_eq!(pindrelo::read(&d[..9]), Err(Refusal::Short { length: 9 }));
+    d[12] ^= 1;
+    assert_eq!(pindrelo::validate(&d), Ok(false));
+    assert_eq!(pindrelo::write(fin, &[0; MAX_PAYLOAD + 1], &mut d), Err(Refusal::Long));
+    assert_eq!(pindrelo::write(fin, b"abc", &mut d[..12]), Err(Refusal::Full));
+    d[4] = 4;
+    assert_eq!(pindrelo::read(&d), Err(Refusal::Kind { byte: 4 }));
+}
+
+/// A sender and a receiver that are saved and restored go on.
+#[test]
+fn saved_states() {
+    let (mut d, mut ack) = ([0; MAX_DATAGRAM], [0; ACK_SIZE]);
+    for p in PROTOCOLS {
+        let mut s = Sender::new(p, 2, 0).unwrap();
+        let mut r = Receiver::new(p, 2, vec![0; 4]).unwrap();
+        for (i, chunk) in [b"ab", b"cd"].into_iter().enumerate() {
+            s = Sender::restore(*s.words(), s.store().to_vec());
+            let n = s.send(chunk, &mut d).unwrap().unwrap();
+            let mut output = r.delivered().to_vec();
+            output.resize(4, 0);
+            r = Receiver::restore(*r.words(), r.store().to_vec(), output);
+            assert_eq!(r.receive(&d[..n], &mut ack), Ok(Some(i as u32)));
+            assert_eq!(s.in_flight(), Ok(1));
+            assert_eq!(s.acknowledge(&ack), Ok(Some(i as u32)));
+        }
+        assert_eq!(r.delivered(), b"abcd");
+    }
+}
+
+/// Of every status there is: done, refused, or nothing to do.
+#[test]
+fn statuses() {
+    assert_eq!(pindrelo::answer(3 << 8), Ok(Some(3)));
+    assert_eq!(pindrelo::answer(3 | 5 << 8 | 4 << 24), Err(Refusal::Cut { declared: 5, present: 4 }));
+    for status in 1..16 {
+        assert_eq!(pindrelo::answer(status).map_err(number), Err(status as usize));
+    }
+    for status in 16..256 {
+        assert_eq!(pindrelo::answer(status), Ok(None));
+    }
 }
 
 #[test]
@@ -185,16 +297,35 @@ fn states_that_are_none() {
     // zeros, another version, a receiver's words, numbers above 32 bits
     let made = Sender::new(Protocol::GoBackN, 4, 0).unwrap();
     for spoil in [
-        |s: &mut Sender| s.words = [0; 8],
-        |s: &mut Sender| s.words[0] += 256,
-        |s: &mut Sender| s.words = Receiver::new(Protocol::GoBackN, 4).unwrap().words,
-        |s: &mut Sender| (s.words[2], s.words[3]) = (1 << 32, 1 << 32),
+        |w: &mut [u64; 8]| *w = [0; 8],
+        |w: &mut [u64; 8]| w[0] += 256,
+        |w: &mut [u64; 8]| *w = *Receiver::new(Protocol::GoBackN, 4, vec![]).unwrap().words(),
+        |w: &mut [u64; 8]| (w[2], w[3]) = (1 << 32, 1 << 32),
     ] {
-        let mut s = made.clone();
-        spoil(&mut s);
+        let mut words = *made.words();
+        spoil(&mut words);
+        let mut s = Sender::restore(words, made.store().to_vec());
         assert_eq!(s.send(b"x", &mut out), Err(Refusal::State));
         assert_eq!(s.can_send(), Err(Refusal::State));
     }
-    assert_eq!(Sender::new(Protocol::SelectiveRepeat, 33, 0), Err(Refusal::Setup));
-    assert_eq!(Receiver::new(Protocol::GoBackN, 0), Err(Refusal::Setup));
+    // a fill mark above the output
+    let mut words = *Receiver::new(Protocol::GoBackN, 4, vec![]).unwrap().words();
+    words[3] = u64::MAX;
+    let mut r = Receiver::restore(words, vec![], vec![0; 9]);
+    assert_eq!(r.delivered(), b"");
+    assert_eq!(r.receive(&[], &mut []), Err(Refusal::State));
+}
+
+#[test]
+fn windows() {
+    for p in PROTOCOLS {
+        for window in [0, 33, 34, usize::MAX / 1404 + 2, usize::MAX] {
+            assert_eq!(Sender::new(p, window, 0), Err(Refusal::Setup));
+            assert_eq!(Receiver::new(p, window, vec![]), Err(Refusal::Setup));
+        }
+        for window in 1..=MAX_WINDOW {
+            assert_eq!(Sender::new(p, window, 0).unwrap().can_send(), Ok(true));
+            assert!(Receiver::new(p, window, vec![]).is_ok());
+        }
+    }
 }

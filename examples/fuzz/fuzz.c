@@ -1,0 +1,363 @@
+/* fuzz: every call of pindrelo.h with wild arguments, between calls that go on from one another.
+ *
+ *     fuzz [CALLS [SEED]]
+ *
+ * Lengths, words, stores, datagrams and times are random, boundary values or damaged (spoil.h); what is lent lies in
+ * guarded memory (guarded.h). Each answer is compared with the one worked out from the header (expected.h), and every
+ * lent byte that the call must not have written with what it was: after a refusal all of them. In a million calls or
+ * more each call has to have met every status that the header names for it. */
+#define _GNU_SOURCE
+#include "spoil.h"
+#include <signal.h>
+#include <stdio.h>
+#include <stdlib.h>
+#include <unistd.h>
+
+static unsigned long long calls, seed, met[32];
+static const char *name = "no call";
+static struct { const char *name; uint32_t statuses, met; } exports[24];
+
+static void fault(int number)
+{
+    char s[160];
+    int n = snprintf(s, sizeof s, "fuzz: signal %d in %s, call %llu of seed %llu\n", number, name, calls, seed);
+    if (write(2, s, (size_t)n) < 0)
+        _exit(2);
+    _exit(1);
+}
+
+static void fail(const char *what, pindrelo_answer a, pindrelo_answer expected)
+{
+    fprintf(stderr, "fuzz: %s: %s: answer %u with %llu, expected %u with %llu; call %llu of seed %llu\n", name, what,
+            pindrelo_status(a), (unsigned long long)pindrelo_value(a), pindrelo_status(expected),
+            (unsigned long long)pindrelo_value(expected), calls, seed);
+    exit(1);
+}
+
+/* ---- after a call */
+
+#define ONE(status) (1u << (status))
+#define HELD (ONE(0) | ONE(8) | ONE(9))
+#define READING (ONE(0) | ONE(1) | ONE(2) | ONE(3))
+#define TIMER (ONE(0) | ONE(9) | ONE(10))
+#define ANY UINT64_MAX
+
+/* true where the call was done; expected ANY: not worked out */
+static int check(pindrelo_answer a, pindrelo_answer expected, uint32_t statuses)
+{
+    unsigned status = pindrelo_status(a);
+    if (status > 20 || !(statuses >> status & 1))
+        fail("a status that the header doesn't name", a, expected);
+    if (expected != ANY && a != expected)
+        fail("another answer", a, expected);
+    for (int i = 0; i < REGIONS; i++) {
+        const struct region *r = &regions[i];
+        if (!r->lent)
+            continue;
+        int counting = status == PINDRELO_SILENT && i == STATE; /* words 4 to 6 */
+        if (!kept_outside(r, status ? counting ? 32 : 0 : r->from, status ? counting ? 56 : 0 : r->to))
+            fail("bytes changed that should have stayed", a, expected);
+        if (!border_kept(r))
+            fail("bytes beside what was lent changed", a, expected);
+    }
+    met[status]++;
+    int i = 0;
+    while (exports[i].name && exports[i].name != name)
+        i++;
+    exports[i].name = name;
+    exports[i].statuses = statuses;
+    exports[i].met |= ONE(status);
+    return status == PINDRELO_DONE;
+}
+
+static int all_met(void)
+{
+    int all = 1;
+    for (int i = 0; exports[i].name; i++)
+        for (int status = 0; status < 32; status++)
+            if ((exports[i].statuses & ~exports[i].met) >> status & 1) {
+                printf("fuzz: %s never answered %d\n", exports[i].name, status);
+                all = 0;
+            }
+    return all;
+}
+
+/* a state that a call has left becomes the one that later calls go on from */
+static void go_on(struct end *e)
+{
+    if (regions[STATE].length < 64 || regions[STORE].length > sizeof e->store)
+        return;
+    memcpy(e->words, regions[STATE].at, 64);
+    if (regions[STORE].length)
+        memcpy(e->store, regions[STORE].at, regions[STORE].length);
+}
+
+#define STATE_SLICE s, regions[STATE].length / 8
+#define STORE_SLICE store, regions[STORE].length
+#define IN_SLICE in, regions[IN].length
+#define OUT_SLICE out, regions[OUT].length
+
+/* ---- the calls */
+
+static void make_end(struct end *e, int sending)
+{
+    static const char *names[] = {"make_receiver", "make_sender"};
+    name = names[sending];
+    uint64_t protocol = wild ? boundary(2) : sender.words[0] - 256, max_retries = wild ? boundary(2) : below(4);
+    size_t window = wild ? boundary(16) : sender.words[1];
+    size_t slots = sending ? protocol == 1 ? 1 : window : protocol == 3 ? window : 0;
+    uint64_t *s = give_words(e->words, 8);
+    size_t n = slots <= PINDRELO_MAX_WINDOW ? PINDRELO_STORE_SIZE(slots) : 1404;
+    uint8_t *store = give(STORE, e->store, sizeof e->store, length(n, n + 100));
+    may_write(STATE, 0, 64);
+    may_write(STORE, 0, n);
+    uint64_t expected = expect_making(protocol, window, slots, regions[STATE].length / 8, regions[STORE].length);
+    pindrelo_answer a = sending ? pindrelo_make_sender(protocol, window, max_retries, STATE_SLICE, STORE_SLICE)
+                                : pindrelo_make_receiver(protocol, window, STATE_SLICE, STORE_SLICE);
+    if (sending && WIDE(max_retries))
+        expected = ANY;
+    if (check(a, expected, ONE(0) | ONE(4) | ONE(5) | ONE(9)))
+        go_on(e);
+}
+
+static void send(void)
+{
+    static uint8_t payload[2000];
+    static const size_t lengths[] = {0, 1, 3, 20, 700, 1399, 1400};
+    name = "send";
+    size_t n = length(lengths[below(7)], sizeof payload);
+    uint64_t *s = give_words(sender.words, 8 + below(2));
+    uint8_t *store = give_store(&sender), *in = give(IN, payload, sizeof payload, n), *out = give_out(OUT, 10 + n);
+    may_write(STATE, 8, 64);
+    may_write(STORE, 0, regions[STORE].length);
+    may_write(OUT, 0, 10 + n);
+    uint64_t expected = expect_send(state_lent(), lent(STORE), n, regions[OUT].length);
+    pindrelo_answer a = pindrelo_send(STATE_SLICE, STORE_SLICE, IN_SLICE, OUT_SLICE);
+    if (check(a, expected, HELD | ONE(5) | ONE(6) | ONE(7) | ONE(16))) {
+        if (checksum(out, 10 + n) != pair(out + 8) || number_in(out) + 1 != s[3] || memcmp(out + 10, payload, n))
+            fail("another datagram", a, expected);
+        remember(out, 10 + n);
+        go_on(&sender);
+    }
+}
+
+static void acknowledge(void)
+{
+    name = "acknowledge";
+    uint64_t *s = give_words(sender.words, 8);
+    uint8_t *store = give_store(&sender), *in = give_datagram();
+    may_write(STATE, 8, 64);
+    may_write(STORE, 0, regions[STORE].length);
+    uint64_t expected = expect_acknowledge(state_lent(), lent(STORE), lent(IN));
+    pindrelo_answer a = pindrelo_acknowledge(STATE_SLICE, STORE_SLICE, IN_SLICE);
+    if (check(a, expected, HELD | READING | ONE(6) | ONE(17)))
+        go_on(&sender);
+}
+
+static void timeout(void)
+{
+    int which = (int)below(3);
+    static const char *names[] = {"timeout_all", "timeout_earliest", "timeout_number"};
+    name = names[which];
+    uint64_t number = wild ? boundary(sender.words[2]) : sender.words[2] + below(3);
+    uint64_t *s = give_words(sender.words, 8);
+    uint8_t *store = give_store(&sender), *out = give_out(OUT, PINDRELO_RESEND_SIZE(slots_of(&sender)));
+    uint64_t expected = expect_timeout(state_lent(), lent(STORE), which, number, regions[OUT].length);
+    may_write(STATE, 8, 64);
+    may_write(STORE, 0, regions[STORE].length);
+    may_write(OUT, 0, pindrelo_value(expected));
+    if (which == NUMBER && WIDE(number)) {
+        may_write(OUT, 0, regions[OUT].length);
+        expected = ANY;
+    }
+    pindrelo_answer a = which == ALL        ? pindrelo_timeout_all(STATE_SLICE, STORE_SLICE, OUT_SLICE)
+                        : which == EARLIEST ? pindrelo_timeout_earliest(STATE_SLICE, STORE_SLICE, OUT_SLICE)
+                                            : pindrelo_timeout_number(STATE_SLICE, STORE_SLICE, number, OUT_SLICE);
+    if (!check(a, expected, HELD | ONE(5) | ONE(18)))
+        return;
+    for (size_t at = 0, n; at < pindrelo_value(a); at += n) {
+        n = 10 + (size_t)pair(out + at + 6);
+        if (checksum(out + at, n) != pair(out + at + 8) || !(out[at + 5] & 1))
+            fail("another datagram", a, expected);
+        remember(out + at, n);
+    }
+    go_on(&sender);
+}
+
+static void look(void)
+{
+    int flight = chance(2);
+    name = flight ? "in_flight" : "can_send";
+    uint64_t *s = give_words(sender.words, 8);
+    uint8_t *store = give_store(&sender);
+    if (flight)
+        check(pindrelo_in_flight(STATE_SLICE, STORE_SLICE), expect_in_flight(state_lent(), lent(STORE)), HELD);
+    else
+        check(pindrelo_can_send(STATE_SLICE), expect_can_send(state_lent()), HELD);
+}
+
+static void receive(void)
+{
+    name = "receive";
+    uint64_t *s = give_words(receiver.words, 8);
+    uint8_t *store = give_store(&receiver), *in = give_datagram(), *ack = give_out(OUT, 10 + below(3));
+    uint8_t *to = give(OUTPUT, output, CAPACITY, length(CAPACITY, CAPACITY + 100));
+    size_t filled = state_lent().n > 3 ? s[3] : 0;
+    uint64_t expected = expect_receive(state_lent(), lent(STORE), lent(IN), lent(OUTPUT).n, lent(OUT).n);
+    may_write(STATE, 8, 56);
+    may_write(STORE, 0, regions[STORE].length);
+    may_write(OUT, 0, 10);
+    may_write(OUTPUT, filled, regions[OUTPUT].length);
+    pindrelo_answer a = pindrelo_receive(STATE_SLICE, STORE_SLICE, IN_SLICE, to, regions[OUTPUT].length, ack,
+                                         regions[OUT].length);
+    int done = check(a, expected, HELD | READING | ONE(5) | ONE(6) | ONE(7) | ONE(19));
+    if (done) {
+        if (s[3] < filled || !kept_outside(&regions[OUTPUT], filled, s[3]))
+            fail("output past the fill mark changed", a, expected);
+        if (checksum(ack, 10) != pair(ack + 8) || ack[4] != 2 || number_in(ack) != pindrelo_value(a))
+            fail("another ACK", a, expected);
+        remember(ack, 10);
+    }
+    if ((done || pindrelo_status(a) == PINDRELO_SILENT) && regions[OUTPUT].length == CAPACITY) {
+        go_on(&receiver);
+        memcpy(output, to, CAPACITY);
+        if (CAPACITY - receiver.words[3] < below(3000)) /* a new output */
+            receiver.words[3] = 0;
+    }
+}
+
+static void packets(void)
+{
+    uint8_t *in = give_datagram();
+    switch (below(4)) {
+    case 0:
+        name = "read";
+        check(pindrelo_read(IN_SLICE), expect_read(lent(IN)), READING);
+        return;
+    case 1:
+        name = "validate";
+        check(pindrelo_validate(IN_SLICE), expect_validate(lent(IN)), READING | ONE(20));
+        return;
+    case 2:
+        name = "payload_length";
+        check(pindrelo_payload_length(IN_SLICE), expect_payload_length(lent(IN)), READING);
+        return;
+    }
+    name = "write";
+    uint64_t kind = wild ? boundary(3) : 1 + below(3), number = boundary(7), flags = wild ? boundary(1) : below(256);
+    size_t n = regions[IN].length;
+    uint8_t *out = give_out(OUT, 10 + n);
+    may_write(OUT, 0, 10 + n < regions[OUT].length ? 10 + n : regions[OUT].length);
+    int wide = kind > 255 || WIDE(number) || flags > 255;
+    uint64_t expected = wide ? ANY : expect_write(kind, n, regions[OUT].length);
+    pindrelo_answer a = pindrelo_write(kind, number, flags, IN_SLICE, OUT_SLICE);
+    if (check(a, expected, ONE(0) | ONE(2) | ONE(5) | ONE(6)) && !wide &&
+        (checksum(out, 10 + n) != pair(out + 8) || number_in(out) != number || out[4] != kind || out[5] != flags))
+        fail("another datagram", a, expected);
+}
+
+static void timers(void)
+{
+    int which = (int)below(5);
+    static const char *names[] = {"make_timers", "timer_start", "timer_cancel", "timer_pop", "timer_earliest"};
+    name = names[which];
+    uint64_t *s = give_words(timer_words, 3), key = wild ? boundary(3) : below(8);
+    uint32_t *k = give(KEYS, keys, sizeof keys, 4 * length(TIMERS, TIMERS + 2)), due[TIMERS] = {0};
+    uint64_t *d = give(DEADLINES, deadlines, sizeof deadlines, 8 * length(TIMERS, TIMERS + 2));
+    if (wild && chance(4) && regions[KEYS].length && regions[DEADLINES].length) {
+        regions[KEYS].at[0] = regions[KEYS].copy[0] = (uint8_t)any();
+        memcpy(regions[DEADLINES].at, (uint64_t[]){boundary(PINDRELO_MAX_TIME)}, 8);
+        memcpy(regions[DEADLINES].copy, regions[DEADLINES].at, 8);
+    }
+    uint32_t *out = give(OUT, due, sizeof due, 4 * length(TIMERS, TIMERS + 2));
+    size_t n = regions[KEYS].length / 4, m = regions[DEADLINES].length / 8, room = regions[OUT].length / 4;
+    struct timers t = {state_lent(), k, d, n, m};
+    uint64_t at = wild && chance(3) ? boundary(PINDRELO_MAX_TIME) : now, wait = wild ? boundary(9) : below(50);
+    uint64_t expected = which == 0 ? expect_make_timers(t) : which == 1 ? expect_start(t, key, at, wait)
+                      : which == 2 ? expect_cancel(t, key) : which == 3 ? expect_pop(t, at, room) : expect_earliest(t);
+    if (which < 4) {
+        may_write(STATE, 0, 24);
+        may_write(KEYS, 0, regions[KEYS].length);
+        may_write(DEADLINES, 0, regions[DEADLINES].length);
+    }
+    may_write(OUT, 0, which == 3 && !pindrelo_status(expected) ? 4 * pindrelo_value(expected) : 0);
+    pindrelo_answer a = which == 0   ? pindrelo_make_timers(STATE_SLICE, k, n, d, m)
+                        : which == 1 ? pindrelo_timer_start(STATE_SLICE, k, n, d, m, key, at, wait)
+                        : which == 2 ? pindrelo_timer_cancel(STATE_SLICE, k, n, d, m, key)
+                        : which == 3 ? pindrelo_timer_pop(STATE_SLICE, k, n, d, m, at, out, room)
+                                     : pindrelo_timer_earliest(STATE_SLICE, k, n, d, m);
+    if (WIDE(key) && (which == 1 || which == 2))
+        expected = ANY;
+    static const uint32_t statuses[] = {ONE(0) | ONE(5) | ONE(9), TIMER | ONE(5), TIMER, TIMER | ONE(5),
+                                        TIMER | ONE(18)};
+    if (check(a, expected, statuses[which]) && n == TIMERS && m == TIMERS) {
+        memcpy(timer_words, s, 24);
+        memcpy(keys, k, sizeof keys);
+        memcpy(deadlines, d, sizeof deadlines);
+        now += below(20);
+    }
+}
+
+/* new ends of one protocol and window, at times with high numbers or counters */
+static void begin(void)
+{
+    static const uint64_t windows[] = {1, 2, 3, 4, 5, 8, 16, 32};
+    wild = 0;
+    sender.words[0] = 257 + below(3);
+    sender.words[1] = windows[below(8)];
+    make_end(&receiver, 0);
+    take_back();
+    make_end(&sender, 1);
+    if (chance(2)) {
+        uint64_t number = chance(2) ? NUMBERS_END - below(40) : below(NUMBERS_END);
+        sender.words[2] = sender.words[3] = receiver.words[2] = number;
+    }
+    if (chance(8))
+        sender.words[4 + below(2)] = receiver.words[4 + below(3)] = COUNTS_END - below(40);
+    if (chance(8))
+        memset(timer_words, 0, sizeof timer_words);
+    if (chance(4) || timer_words[0] == 0) {
+        now = below(100);
+        pindrelo_make_timers(timer_words, 3, keys, TIMERS, deadlines, TIMERS);
+    }
+}
+
+static void one_call(void)
+{
+    switch (below(24)) {
+    case 0: make_end(&sender, 1); return;
+    case 1: make_end(&receiver, 0); return;
+    case 2: case 3: case 4: case 5: send(); return;
+    case 6: case 7: case 8: case 9: acknowledge(); return;
+    case 10: case 11: case 12: timeout(); return;
+    case 13: look(); return;
+    case 14: case 15: case 16: case 17: case 18: receive(); return;
+    case 19: case 20: packets(); return;
+    default: timers(); return;
+    }
+}
+
+int main(int argc, char **argv)
+{
+    unsigned long long count = argc > 1 ? strtoull(argv[1], NULL, 10) : 1000000;
+    seed = argc > 2 ? strtoull(argv[2], NULL, 10) : 1;
+    rng = seed * 0x9E3779B97F4A7C15u + 88172645463325252u;
+    if (!open_regions())
+        return 2;
+    signal(SIGSEGV, fault);
+    signal(SIGBUS, fault);
+    for (calls = 0; calls < count; calls++) {
+        take_back();
+        if (calls % 400 == 0)
+            begin();
+        take_back();
+        wild = chance(2);
+        one_call();
+    }
+    printf("fuzz: %llu calls of seed %llu as expected; by status:", count, seed);
+    for (int i = 0; i <= 20; i++)
+        if (met[i])
+            printf(" %d:%llu", i, met[i]);
+    printf("\n");
+    return count >= 1000000 && !all_met();
+}
