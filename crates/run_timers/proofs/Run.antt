@@ -6,34 +6,33 @@ use mathlib.Core.Bool.{Bool, true, false, not, true≢false, and-eq-true-iff}
 use mathlib.Core.Logic.{_⊎_, inl, inr, ⊎-elim}
 use mathlib.Core.List.{List, [], _∷_}
 use lib.Dec.{ltb, eqb}
-use borrow.Author.Tests.{lt-ltb, ltb-true, ltb-false, not-true}
+use borrow.Author.Tests.{lt-ltb, le-ltb, ltb-false, not-true}
 use Rattle.protocol.specs.declared.ProtocolType.{ProtocolType}
 use Rattle.protocol.specs.declared.ProtocolType.the-variants as protocol
-use Rattle.timer.specs.Timer.{active}
+use Rattle.timer.specs.Timer.{active, newTimer}
 use Rattle.timer.specs.declared.Deadline.the-variants.{Unset}
 use Rattle.multi_timer.specs.Map.{Entry, deadlinesOf, lookup, isSome, earliest}
 use Rattle.window.specs.State.{outstanding}
-use Rattle.window.specs.declared.SendWindow.{SendWindow}
 use Rattle.window.proofs.Laws.{Sound, sound}
 use Rattle.notes.specs.Notes.{newNotes}
 use Rattle.path.specs.Rolls.{Doubles}
 use Rattle.path.specs.Path.{isGoing, isEmpty}
-use Rattle.clock.specs.Clock.{ClockState, asDeadline}
+use Rattle.clock.specs.Clock.{timerOf, newClock, asDeadline}
 use Rattle.clock.specs.Clock as clock
 use Rattle.clock.specs.Estimator.{Factors}
+use Rattle.clock.specs.Timers.{HasTimer, GoodTimers}
 use Rattle.clock.specs.declared.Timing.{Timing}
 use Rattle.clock.specs.declared.Timing.the-variants.{Single, PerNumber, Edition}
 use Rattle.clock.proofs.Laws.{running}
-use Rattle.session.specs.Sending.{SenderEnd, windowOf, hasOutstanding, newSender}
+use Rattle.session.specs.Sending.{windowEnd, hasOutstanding, newSender}
 use Rattle.session.specs.GoodSender.{isSelective, senderBroken}
 use Rattle.session.proofs.Laws.{due-within}
 use Rattle.sending.proofs.Laws.{unused}
 use Rattle.timeouts.specs.Timeouts.{FireState}
 use Rattle.timeouts.specs.Good.{GoodFire}
-use Rattle.arrivals.specs.Arrivals.{ArrivalState, serveArrivals}
+use Rattle.arrivals.specs.Arrivals.{serveArrivals}
 use Rattle.departures.specs.Departures.{sendDue, CanSendDue}
 use Rattle.setup.specs.Setup.{CanStart}
-use Rattle.setup.specs.declared.ClockChoice.{ClockChoice}
 use Rattle.setup.specs.declared.ClockChoice.the-variants as choice
 use Rattle.setup.specs.declared.TransferConfig.{TransferConfig}
 use Rattle.step.specs.State.{Given, chunksFor, RunState, Lent, fireOf, withArrivals}
@@ -51,12 +50,12 @@ use Rattle.transfer.proofs.Laws.{start-plan, start-good}
 use Rattle.edition_clock.specs.AlongARun.{Reached}
 use Rattle.edition_clock.proofs.Senders.{NotSelective, LimitIs, new-limit, new-retries}
 use Rattle.run_ends.specs.Ended.{isIdle, nextTime, NothingToSend, EndedWhy}
-use Rattle.run_ends.specs.Ended.EndedWhy.{finished, resends-used, nothing-due, past-limit, rounds-used, not-later, moments-used}
+use Rattle.run_ends.specs.Ended.EndedWhy.{finished, resends-used, nothing-due, past-limit, rounds-used, timer-past, moments-used}
 use Rattle.run_ends.proofs.Laws.{transfer-ended-why}
-use Rattle.run_timers.specs.Timed.{windowIn, Timed, RetriesSuffice}
+use Rattle.run_timers.specs.Timed.{windowIn, Unacknowledged, Timed, RetriesSuffice}
 use Rattle.run_timers.specs.Stopped.{CeilingMet, AllAcknowledged}
-use Rattle.run_timers.specs.Stopped.CeilingMet.{resends-met, limit-met, rounds-met, time-stands, moments-met}
-use Rattle.run_timers.proofs.Due.{due-number, base-unmarked}
+use Rattle.run_timers.specs.Stopped.CeilingMet.{resends-met, limit-met, rounds-met, moments-met}
+use Rattle.run_timers.proofs.Due.{DueIn, due-in, is-due, base-unmarked}
 use Rattle.run_timers.proofs.Each.{Each, arrivals-each, departures-each}
 use Rattle.run_timers.proofs.Single.{Runs, arrivals-run, departures-run}
 use Rattle.run_timers.proofs.Steps.{Kept, At, Between, reached-between, Last, run-last-at}
@@ -113,11 +112,29 @@ module _ {p : Plan} {g : Given} (plan : GoodPlan p g) where
 some-left : (low high : ℕ) → low < high → 0 < high - low
 some-left low high h = omega arith
 
-single-timed : {limit : ℕ} (p : Plan) (s : RunState) → p .timing ≡ Single → At (SingleKept limit) s → Timed p s
-single-timed p s e q = record { single = λ i o. q .runs (lt-ltb 0 (outstanding (windowIn s)) (some-left _ _ o)); each = λ i. single-other e i }
+none-left : (low high : ℕ) → high ≤ low → high - low ≤ 0
+none-left low high h = omega arith
 
-each-timed : (p : Plan) (s : RunState) → p .timing ≡ PerNumber → At EachKept s → Timed p s
-each-timed p s e q = record { single = λ i. single-other i e; each = λ i n a b m. q .each n (due-number (s .arrivals .sender) n a b m) }
+record Held (p : Plan) (s : RunState) : Type 0 where
+  set : p .timing ≡ Single → windowIn s .«send_base» < windowIn s .«next_seq_num» → active (timerOf (s .arrivals .clock) .deadline) ≡ true
+  off : p .timing ≡ Single → windowIn s .«next_seq_num» ≤ windowIn s .«send_base» → active (timerOf (s .arrivals .clock) .deadline) ≡ false
+  each : p .timing ≡ PerNumber → (n : ℕ) → Unacknowledged s n → HasTimer (s .arrivals .clock) n
+
+single-held : {limit : ℕ} (p : Plan) (s : RunState) → p .timing ≡ Single → At (SingleKept limit) s → Held p s
+single-held p s e q =
+    record {
+      set = λ i o. q .runs ∙ lt-ltb 0 (outstanding (windowIn s)) (some-left (windowIn s .«send_base») (windowIn s .«next_seq_num») o);
+      off = λ i o. q .runs ∙ le-ltb 0 (outstanding (windowIn s)) (none-left (windowIn s .«send_base») (windowIn s .«next_seq_num») o);
+      each = λ i. single-other e i;
+    }
+
+each-held : (p : Plan) (s : RunState) → p .timing ≡ PerNumber → At EachKept s → Held p s
+each-held p s e q =
+    record { set = λ i. single-other i e; off = λ i. single-other i e; each = λ i n u. q .each n (is-due (windowEnd (s .arrivals .sender)) n (record { from = u .from; below = u .below; plain = u .plain })) }
+
+held-timed : (p : Plan) (s : RunState) → GoodTimers (p .timing) (s .arrivals .sender) (s .arrivals .clock) → Held p s → Timed p s
+held-timed p s g h =
+    record { set = h .set; off = h .off; each = h .each; only = λ i n t. let d = due-in (windowEnd (s .arrivals .sender)) n (g .due n t) in record { from = d .from; below = d .below; plain = d .plain } }
 
 -- ---- nothing is due only with nothing outstanding
 no-entries : (es : List Entry) (k : ℕ) → asDeadline (earliest (deadlinesOf es)) ≡ Unset → isSome (lookup k es) ≡ true → ⊥
@@ -125,14 +142,14 @@ unfolding deadlinesOf earliest lookup
 no-entries [] k e h = true≢false (sym h)
 no-entries (x ∷ es) k e h = let z : _≡_ {A = ℕ} 0 1 = cc in omega arith
 
-module _ (p : Plan) (s : RunState) (timed : Timed p s) (unbroken : senderBroken (s .arrivals .sender) ≡ false) (source : p .timing ≡ Edition → ⊥) where
+module _ (p : Plan) (s : RunState) (held : Held p s) (unbroken : senderBroken (s .arrivals .sender) ≡ false) (source : p .timing ≡ Edition → ⊥) where
   none-outstanding : nextTime p s ≡ Unset → windowIn s .«send_base» < windowIn s .«next_seq_num» → ⊥
   unfolding clock.nextDeadline
   none-outstanding e o = by-timing (p .timing) refl (no-deadline (p .timing) (s .arrivals .forward) (s .arrivals .inbound .reverse) (s .arrivals .clock) e .timer-none)
     where
       by-timing : (t : Timing) → p .timing ≡ t → clock.nextDeadline t (s .arrivals .clock) ≡ Unset → ⊥
-      by-timing Single i n = true≢false (sym (timed .single i o) ∙ ap active n)
-      by-timing PerNumber i n = no-entries (running (s .arrivals .clock)) (windowIn s .«send_base») n (timed .each i (windowIn s .«send_base») (omega arith) o (base-unmarked (s .arrivals .sender) unbroken))
+      by-timing Single i n = true≢false (sym (held .set i o) ∙ ap active n)
+      by-timing PerNumber i n = no-entries (running (s .arrivals .clock)) (windowIn s .«send_base») n (held .each i (windowIn s .«send_base») (record { from = omega arith; below = o; plain = base-unmarked (s .arrivals .sender) unbroken }))
       by-timing Edition i n = source i
 
   whole : Sound (isSelective (s .arrivals .sender .sender .state)) (windowIn s) (s .arrivals .sender .store)
@@ -164,13 +181,13 @@ module _ (p : Plan) (s : RunState) (timed : Timed p s) (unbroken : senderBroken 
       reached : {total : ℕ} (low high : ℕ) → total ≤ high → high - low ≤ 0 → total ≤ low
       reached low high h k = omega arith
 
-  pub ended-served : EndedWhy p s → AllAcknowledged p s ⊎ CeilingMet p s
+  ended-served : EndedWhy p s → AllAcknowledged p s ⊎ CeilingMet p s
   ended-served (finished c i) = inl (idle-all i)
   ended-served (resends-used h) = inr (resends-met h)
   ended-served (nothing-due n e) = inl (due-all n e)
   ended-served (past-limit n t e h) = inr (limit-met (record { deadline = t; next = e; past = h }))
   ended-served (rounds-used h) = inr (rounds-met h)
-  ended-served (not-later n t e h) = inr (time-stands t e h)
+  ended-served (timer-past n x) = absurd (true≢false (sym (ap active (x .set)) ∙ held .off (x .single) (x .none)))
   ended-served (moments-used n h e) = inr (moments-met h)
 
 -- ---- at the start
@@ -178,19 +195,19 @@ go-back-n-unlimited : (limit w retries : ℕ) (store : List ℕ) → LimitIs lim
 unfolding newSender
 go-back-n-unlimited limit w retries store = tt
 
-nothing-yet : (low high : ℕ) → low ≡ 0 → high ≡ 0 → 0 < high - low → ⊥
-nothing-yet low high e f h = omega arith
+nothing-yet : (low high : ℕ) → low ≡ 0 → high ≡ 0 → high - low ≤ 0
+nothing-yet low high e f = omega arith
 
 module _ (k : Ceilings) (c : TransferConfig) (g : Given) (l : Lent) (h : CanStart (startOf c g l)) (forward : Doubles (g .forwardRolls)) (reverse : Doubles (g .reverseRolls)) (factors : Factors (c .rto)) where
   single-begun : (limit : ℕ) → LimitIs limit (newSender (c .protocol) (c .«window_size») (k .retries) (l .senderStore) .sender .state) → Between (SingleKept limit) (planFor k c g) g (newRun k c l)
-  unfolding newRun newNotes
+  unfolding newRun newNotes newClock newTimer
   single-begun limit i =
       let u = unused (c .protocol) (c .«window_size») (k .retries) (l .senderStore) in
       record {
         good = start-good k c g l h forward reverse factors;
         kept = record {
           noted = sym (u .next);
-          runs = λ o. absurd (nothing-yet _ _ (u .base) (u .next) (ltb-true 0 _ o));
+          runs = sym (le-ltb 0 _ (nothing-yet _ _ (u .base) (u .next)));
           limit-is = i;
           retries = new-retries (c .protocol) (c .«window_size») (k .retries) (l .senderStore);
         };
@@ -205,7 +222,7 @@ module _ (k : Ceilings) (c : TransferConfig) (g : Given) (l : Lent) (h : CanStar
   -- ---- along the run, and at its end
   record Along : Type 0 where
     timed : {u : RunState} → Reached (planFor k c g) g (newRun k c l) u → Timed (planFor k c g) u
-    last : endOf (run (planFor k c g) g (newRun k c l) .course) ≡ end.Ended → Timed (planFor k c g) (run (planFor k c g) g (newRun k c l) .state) × (senderBroken (run (planFor k c g) g (newRun k c l) .state .arrivals .sender) ≡ false)
+    last : endOf (run (planFor k c g) g (newRun k c l) .course) ≡ end.Ended → Held (planFor k c g) (run (planFor k c g) g (newRun k c l) .state) × (senderBroken (run (planFor k c g) g (newRun k c l) .state .arrivals .sender) ≡ false)
     source : planFor k c g .timing ≡ Edition → ⊥
 
   along-single : (limit : ℕ) → c .«max_retransmissions» ≤ limit → planFor k c g .timing ≡ Single → LimitIs limit (newSender (c .protocol) (c .«window_size») (k .retries) (l .senderStore) .sender .state) → Along
@@ -213,8 +230,8 @@ module _ (k : Ceilings) (c : TransferConfig) (g : Given) (l : Lent) (h : CanStar
       let plan = start-plan k c g l h in
       let both = single-both plan limit enough e in
       record {
-        timed = λ {u} r. single-timed (planFor k c g) u e (reached-between (SingleKept limit) (planFor k c g) g plan both (newRun k c l) (single-begun limit i) r .kept);
-        last = λ o. let x = run-last-at (SingleKept limit) (planFor k c g) g plan both (newRun k c l) (single-begun limit i) o in (single-timed (planFor k c g) _ e (x .kept), x .unbroken);
+        timed = λ {u} r. let b = reached-between (SingleKept limit) (planFor k c g) g plan both (newRun k c l) (single-begun limit i) r in held-timed (planFor k c g) u (b .good .timers) (single-held (planFor k c g) u e (b .kept));
+        last = λ o. let x = run-last-at (SingleKept limit) (planFor k c g) g plan both (newRun k c l) (single-begun limit i) o in (single-held (planFor k c g) _ e (x .kept), x .unbroken);
         source = λ f. let z : _≡_ {A = ℕ} 0 1 = cc in omega arith;
       }
 
@@ -223,8 +240,8 @@ module _ (k : Ceilings) (c : TransferConfig) (g : Given) (l : Lent) (h : CanStar
       let plan = start-plan k c g l h in
       let both = each-both plan e in
       record {
-        timed = λ {u} r. each-timed (planFor k c g) u e (reached-between EachKept (planFor k c g) g plan both (newRun k c l) each-begun r .kept);
-        last = λ o. let x = run-last-at EachKept (planFor k c g) g plan both (newRun k c l) each-begun o in (each-timed (planFor k c g) _ e (x .kept), x .unbroken);
+        timed = λ {u} r. let b = reached-between EachKept (planFor k c g) g plan both (newRun k c l) each-begun r in held-timed (planFor k c g) u (b .good .timers) (each-held (planFor k c g) u e (b .kept));
+        last = λ o. let x = run-last-at EachKept (planFor k c g) g plan both (newRun k c l) each-begun o in (each-held (planFor k c g) _ e (x .kept), x .unbroken);
         source = λ f. let z : _≡_ {A = ℕ} 0 1 = cc in omega arith;
       }
 

@@ -1,21 +1,18 @@
 -- app/transfer.rs, `run_transfer`: a run on the source's timing ends with every chunk acknowledged, or at a ceiling. It
 -- never waits for nothing.
-use Prim.Native.Nat.{ℕ, _≤_}
+use Prim.Native.Nat.{_≤_}
 use mathlib.Core.Path.{_≡_}
-use Rattle.timer.specs.declared.Deadline.the-variants.{At}
 use Rattle.step.specs.State.{RunState}
 use Rattle.step.specs.declared.Plan.{Plan}
-use Rattle.run_ends.specs.Ended.{nextTime}
 use Rattle.run_ends.specs.Finish.{PastLimit}
 use Rattle.run_timers.specs.Timed.{windowIn}
 
 -- by the last state: as many packets sent again as may be; the next time past the limit; the rounds at this moment used
--- up, or a next time that isn't later; the moments used up
+-- up; the moments used up
 pub data CeilingMet (p : Plan) (s : RunState) : Type 0 where
   resends-met : p .«max_retransmissions» ≤ s .resends .«retx_submitted» → CeilingMet p s
   limit-met : PastLimit p s → CeilingMet p s
   rounds-met : s .rounds ≡ 0 → CeilingMet p s
-  time-stands : (t : ℕ) → nextTime p s ≡ At t → t ≤ s .time → CeilingMet p s
   moments-met : s .moves ≡ 0 → CeilingMet p s
 
 -- the sender's base is past the last chunk

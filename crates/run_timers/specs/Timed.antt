@@ -1,5 +1,5 @@
 -- app/transfer.rs, `arm_after_submit`, `arm_oldest`, `rearm_after_ack`: on the source's timing whatever is outstanding
--- has a timer.
+-- has a timer, and nothing else has one.
 use Prim.Native.Nat.{ℕ, _≤_, _<_}
 use mathlib.Core.Path.{_≡_}
 use mathlib.Core.Bool.{true, false}
@@ -20,13 +20,21 @@ use Rattle.transfer.specs.declared.Ceilings.{Ceilings}
 abbrev pub windowIn : RunState → SendWindow
 windowIn s = windowOf (s .arrivals .sender .sender)
 
--- Between steps. Stop-and-Wait and Go-Back-N: while a number is outstanding the timer is set. Selective Repeat: each
--- number that is outstanding and not acknowledged has a timer. A slot's mark 2 is `acknowledged`.
+-- Selective Repeat: number n is outstanding, and its slot doesn't have the mark 2 of an acknowledged one
+pub record Unacknowledged (s : RunState) (n : ℕ) : Type 0 where
+  pub from : windowIn s .«send_base» ≤ n
+  pub below : n < windowIn s .«next_seq_num»
+  pub plain : marked 2 (s .arrivals .sender .store) (windowIn s .«window_size») n ≡ false
+
+-- Between steps. Stop-and-Wait and Go-Back-N: the timer is set exactly while a number is outstanding. Selective Repeat:
+-- exactly the unacknowledged numbers have a timer each.
 pub record Timed (p : Plan) (s : RunState) : Type 0 where
-  pub single : p .timing ≡ Single → windowIn s .«send_base» < windowIn s .«next_seq_num»
+  pub set : p .timing ≡ Single → windowIn s .«send_base» < windowIn s .«next_seq_num»
       → active (timerOf (s .arrivals .clock) .deadline) ≡ true
-  pub each : p .timing ≡ PerNumber → (n : ℕ) → windowIn s .«send_base» ≤ n → n < windowIn s .«next_seq_num»
-      → marked 2 (s .arrivals .sender .store) (windowIn s .«window_size») n ≡ false → HasTimer (s .arrivals .clock) n
+  pub off : p .timing ≡ Single → windowIn s .«next_seq_num» ≤ windowIn s .«send_base»
+      → active (timerOf (s .arrivals .clock) .deadline) ≡ false
+  pub each : p .timing ≡ PerNumber → (n : ℕ) → Unacknowledged s n → HasTimer (s .arrivals .clock) n
+  pub only : p .timing ≡ PerNumber → (n : ℕ) → HasTimer (s .arrivals .clock) n → Unacknowledged s n
 
 -- Stop-and-Wait may send a packet again as often as a run may send packets again. Else it would come to wait without a
 -- timer, as the source's does.
