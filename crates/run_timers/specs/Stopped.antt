@@ -1,5 +1,5 @@
--- app/transfer.rs, `run_transfer`: a run on the source's timing ends with every chunk acknowledged, or at a ceiling. It
--- never waits for nothing.
+-- app/transfer.rs, `run_transfer`: a run that ended as the source's does has every chunk acknowledged, or met a ceiling.
+-- It never waits for nothing.
 use Prim.Native.Nat.{_≤_}
 use mathlib.Core.Path.{_≡_}
 use Rattle.step.specs.State.{RunState}
