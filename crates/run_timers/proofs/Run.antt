@@ -1,5 +1,5 @@
 -- Along every run whatever is outstanding has a timer, so that it ends with every chunk acknowledged or at a ceiling.
-use Prim.Native.Nat.{ℕ, _-_, _*_, _≤_, _<_}
+use Prim.Native.Nat.{ℕ, _+_, _-_, _*_, _≤_, _<_}
 use native.Mathlib.Omega.{arith}
 use mathlib.Core.Path.{_≡_, refl, sym, ap, _∙_, subst}
 use mathlib.Core.Bool.{Bool, true, false, not, true≢false, and-eq-true-iff}
@@ -58,12 +58,13 @@ use Rattle.run_ends.specs.Ended.{isIdle, nextTime, NothingToSend, EndedWhy}
 use Rattle.run_ends.specs.Ended.EndedWhy.{finished, resends-used, nothing-due, past-limit, rounds-used, timer-past, moments-used}
 use Rattle.run_ends.proofs.Laws.{transfer-ended-why}
 use Rattle.run_timers.specs.Timed.{windowIn, Unacknowledged, Timed, sufficesOn, RetriesSuffice}
-use Rattle.run_timers.specs.Stopped.{CeilingMet, AllAcknowledged}
+use Rattle.run_timers.specs.Stopped.{Went, CeilingMet, AllAcknowledged}
 use Rattle.run_timers.specs.Stopped.CeilingMet.{resends-met, limit-met, rounds-met, moments-met}
 use Rattle.run_timers.proofs.Due.{DueIn, due-in, is-due, base-unmarked}
 use Rattle.run_timers.proofs.Each.{Each, arrivals-each, departures-each}
 use Rattle.run_timers.proofs.Single.{Runs, arrivals-run, departures-run}
-use Rattle.run_timers.proofs.Steps.{Kept, At, step-last, at-last, Between, reached-between, run-last-at}
+use Rattle.run_timers.proofs.Steps.{Kept, At, ended-last, at-last, Between, reached-between, run-last-at}
+use Rattle.run_timers.proofs.Went.{reached-passed, step-last}
 
 -- ---- what is kept on each timing
 abbrev SingleKept : ℕ → Kept
@@ -161,6 +162,15 @@ unfolding deadlinesOf earliest lookup
 no-entries [] k e h = true≢false (sym h)
 no-entries (x ∷ es) k e h = let z : _≡_ {A = ℕ} 0 1 = cc in omega arith
 
+-- what the last state has left of rounds and moves tells how many were made
+record Spent (k : Ceilings) (p : Plan) (g : Given) (first last : RunState) : Type 0 where
+  before : RunState
+  moved : ℕ
+  turned : ℕ
+  went : Went p g first before moved turned
+  rounds-spent : last .rounds ≡ 0 → k .rounds ≤ turned + 1
+  moves-spent : last .moves ≡ 0 → k .steps ≤ moved + 1
+
 module _ (p : Plan) (s : RunState) (held : Held p s) (unbroken : senderBroken (s .arrivals .sender) ≡ false) where
   none-outstanding : nextTime p s ≡ Unset → windowIn s .«send_base» < windowIn s .«next_seq_num» → ⊥
   unfolding clock.nextDeadline
@@ -200,14 +210,14 @@ module _ (p : Plan) (s : RunState) (held : Held p s) (unbroken : senderBroken (s
       all-sent : {total : ℕ} (low high : ℕ) → total ≤ high → high - low ≤ 0 → total ≤ low
       all-sent low high h k = omega arith
 
-  ended-served : EndedWhy p s → AllAcknowledged p s ⊎ CeilingMet p s
-  ended-served (finished c i) = inl (idle-all i)
-  ended-served (resends-used h) = inr (resends-met h)
-  ended-served (nothing-due n e) = inl (due-all n e)
-  ended-served (past-limit n t e h) = inr (limit-met (record { deadline = t; next = e; past = h }))
-  ended-served (rounds-used h) = inr (rounds-met h)
-  ended-served (timer-past n x) = absurd (true≢false (sym (ap active (x .set)) ∙ held .off (x .single) (x .none)))
-  ended-served (moments-used n h e) = inr (moments-met h)
+  ended-served : {k : Ceilings} {g : Given} {first : RunState} → Spent k p g first s → EndedWhy p s → AllAcknowledged p s ⊎ CeilingMet k p g first s
+  ended-served x (finished c i) = inl (idle-all i)
+  ended-served x (resends-used h) = inr (resends-met h)
+  ended-served x (nothing-due n e) = inl (due-all n e)
+  ended-served x (past-limit n t e h) = inr (limit-met (record { deadline = t; next = e; past = h }))
+  ended-served x (rounds-used h) = inr (rounds-met (x .went) (x .rounds-spent h))
+  ended-served x (timer-past n y) = absurd (true≢false (sym (ap active (y .set)) ∙ held .off (y .single) (y .none)))
+  ended-served x (moments-used n h e) = inr (moments-met (x .went) (x .moves-spent h))
 
 -- ---- at the start
 go-back-n-unlimited : (limit w retries : ℕ) (store : List ℕ) → LimitIs limit (newSender protocol.GoBackN w retries store .sender .state)
@@ -270,9 +280,9 @@ module _ (k : Ceilings) (c : TransferConfig) (g : Given) (l : Lent) (h : CanStar
         timed = λ {u} r. let b = reached k c g l h e forward reverse factors patient r in held-timed p u (b .good .timers) (edition-held p u is (b .kept .runs));
         last = λ o.
             at-last p g (newRun k c l) (λ (u : RunState). Held p u × (senderBroken (u .arrivals .sender) ≡ false)) o
-            (λ u r over.
+            (λ u r over o.
             let b = reached k c g l h e forward reverse factors patient r in
-            let x = step-last EditionKept p g plan u (b .good) (b .kept .runs) (λ on. both (k .retries) patient is plan (b .good) (b .kept) on .kept .runs) over in
+            let x = ended-last EditionKept p g plan u (b .good) (b .kept .runs) (λ on. both (k .retries) patient is plan (b .good) (b .kept) on .kept .runs) over in
             (edition-held p _ is (x .kept), x .unbroken));
       }
 
@@ -304,8 +314,21 @@ module _ (k : Ceilings) (c : TransferConfig) (g : Given) (l : Lent) (h : CanStar
     pub transfer-timed : {u : RunState} → Reached (planFor k c g) g (newRun k c l) u → Timed (planFor k c g) u
     transfer-timed r = along .timed r
 
-    pub transfer-served : endOf (run (planFor k c g) g (newRun k c l) .course) ≡ end.Ended → AllAcknowledged (planFor k c g) (run (planFor k c g) g (newRun k c l) .state) ⊎ CeilingMet (planFor k c g) (run (planFor k c g) g (newRun k c l) .state)
-    transfer-served e = let x = along .last e in ended-served (planFor k c g) (run (planFor k c g) g (newRun k c l) .state) (x .0) (x .1) (transfer-ended-why k c g l e)
+    spent : endOf (run (planFor k c g) g (newRun k c l) .course) ≡ end.Ended → Spent k (planFor k c g) g (newRun k c l) (run (planFor k c g) g (newRun k c l) .state)
+    unfolding newRun
+    spent e =
+        at-last (planFor k c g) g (newRun k c l) (Spent k (planFor k c g) g (newRun k c l)) e
+        (λ u r over i.
+        let q = reached-passed refl r in
+        let x = step-last (planFor k c g) g u i in
+        let a = q .moves-left in
+        let b = q .rounds-left in
+        let m = x .moves in
+        let n = x .rounds in
+        record { before = u; moved = q .moved; turned = q .turned; went = q .went; rounds-spent = λ z. omega (arith, b, n, z); moves-spent = λ z. omega (arith, a, m, z) })
+
+    pub transfer-served : endOf (run (planFor k c g) g (newRun k c l) .course) ≡ end.Ended → AllAcknowledged (planFor k c g) (run (planFor k c g) g (newRun k c l) .state) ⊎ CeilingMet k (planFor k c g) g (newRun k c l) (run (planFor k c g) g (newRun k c l) .state)
+    transfer-served e = let x = along .last e in ended-served (planFor k c g) (run (planFor k c g) g (newRun k c l) .state) (x .0) (x .1) (spent e) (transfer-ended-why k c g l e)
 
 -- `run_transfer`'s own ceilings suffice for every setup that allows as many packets again as u32 holds
 pub default-suffices : (c : TransferConfig) → c .«max_retransmissions» ≤ defaultCeilings .retries → RetriesSuffice defaultCeilings c
