@@ -119,17 +119,17 @@ module _ (k : Ceilings) (c : TransferConfig) (g : Given) (l : Lent) (h : CanStar
 
   -- Doubles and Factors say what the doubles given are by their types; the retries that `run_transfer` allows are enough
   module _ (forward : Doubles (g .forwardRolls)) (reverse : Doubles (g .reverseRolls)) (factors : Factors (c .rto)) (patient : maxDuration < k .retries * minRto) where
-    timed : timingOf (c .protocol) (c .clock) ≡ Edition
+    pub timed : timingOf (c .protocol) (c .clock) ≡ Edition
     timed = timing-is (c .protocol) (c .clock) (setup .not-selective) e
 
-    record Between (u : RunState) : Type 0 where
-      good : GoodRun (planFor k c g) g u
-      kept : Kept (k .retries) (u .time) (ofRun u)
+    pub record Between (u : RunState) : Type 0 where
+      pub good : GoodRun (planFor k c g) g u
+      pub kept : Kept (k .retries) (u .time) (ofRun u)
 
     stepped : (u : RunState) → Between u → step (planFor k c g) g u .course ≡ course.Going → Stepped (k .retries) u (step (planFor k c g) g u .state)
     stepped u b = step-along (k .retries) patient timed (start-plan k c g l h) (b .good) (b .kept)
 
-    reached : {u : RunState} → Reached (planFor k c g) g (newRun k c l) u → Between u
+    pub reached : {u : RunState} → Reached (planFor k c g) g (newRun k c l) u → Between u
     unfolding newRun
     reached start = record { good = start-good k c g l h forward reverse factors; kept = start-kept }
     reached (next {u = u} r go) = record { good = step-good (start-plan k c g l h) (reached r .good) go; kept = stepped u (reached r) go .kept }

@@ -221,7 +221,7 @@ module _ (limit : ℕ) (patient : maxDuration < limit * minRto) {p : Plan} {g : 
   pub arrived : Along limit (s .time) (ofRun s) (ofRun after)
   arrived = arrivals-along limit (s .time) (ofRun s) (s .written) (s .resends .«retx_submitted») (p .timing) edition (g .reverseRolls) (p .«total_chunks») (s .arrivals) (can-arrive good) (along-start k (good .duplicates))
 
-  both : isGoing (bothExit p g s .stop) ≡ true → Along limit (s .time) (ofRun s) (ofRun (afterBoth p g s))
+  pub both : isGoing (bothExit p g s .stop) ≡ true → Along limit (s .time) (ofRun s) (ofRun (afterBoth p g s))
   both = on-clock (p .timing) edition (can-send-due (arrived-good good) plan) (good-fire (arrived-good good))
     where
       on-clock : (t : Timing) → t ≡ Edition → CanSendDue t (g .forwardRolls) (p .«chunk_size») (g .file) (p .«total_chunks») (s .time) (fireOf after) → GoodFire t (g .forwardRolls) (after .arrivals .received) (s .time) (fireOf after)

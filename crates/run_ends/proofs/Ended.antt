@@ -2,8 +2,8 @@
 use Prim.Native.Nat.{ℕ, zero, suc, _-_, _≤_}
 use native.Mathlib.Omega.{arith}
 use mathlib.Core.Path.{_≡_, refl, sym, ap, _∙_, subst}
-use mathlib.Core.Bool.{Bool, true, false, cond, not, true≢false, false≢true, _&&_, _||_, and-eq-true-iff}
-use mathlib.Core.Logic.{_⊎_, inl, inr}
+use mathlib.Core.Bool.{Bool, true, false, cond, true≢false, false≢true, _&&_, _||_, and-eq-true-iff}
+use mathlib.Core.Logic.{⊎-elim}
 use mathlib.Core.List.{List, [], _∷_}
 use lib.Dec.{eqb, leb, ltb}
 use lib.Ieee.{Float}
@@ -11,23 +11,24 @@ use lib.ListN.{length}
 use borrow.Author.Tests.{leb-true, ltb-true, ltb-false, eqb-true}
 use Rattle.timer.specs.declared.Deadline.{Deadline}
 use Rattle.timer.specs.declared.Deadline.the-variants as deadline
-use Rattle.path.specs.Path.{isGoing}
+use Rattle.schedule.specs.declared.ReadyAnswer.the-variants as ready
+use Rattle.path.specs.Path.{isGoing, takeReady, packetBuffer}
 use Rattle.path.specs.declared.Stop.{Stop}
 use Rattle.path.specs.declared.Stop.the-variants as stop
 use Rattle.rto.specs.Rto.{onTimeoutUnchecked}
-use Rattle.clock.specs.Clock.{cancelNumber}
+use Rattle.clock.specs.Clock.{cancelNumber, due}
+use Rattle.clock.specs.declared.Due.the-variants as ran
 use Rattle.clock.specs.declared.Timing.{Timing}
 use Rattle.clock.specs.declared.Timing.the-variants.{PerNumber}
 use Rattle.window.specs.State.{outstanding}
-use Rattle.session.specs.Sending.{windowOf, canSend, oldestOutstanding, resent}
-use Rattle.session.specs.declared.Sender.{Sender}
+use Rattle.session.specs.Sending.{SenderEnd, windowOf, hasOutstanding, oldestOutstanding, resent}
 use Rattle.session.specs.declared.Oldest.{Oldest}
 use Rattle.session.specs.declared.Timeout.{Timeout}
 use Rattle.session.specs.declared.Timeout.the-variants as timeout
 use Rattle.notes.specs.Notes.{isPremature}
 use Rattle.delivery.specs.Calls.{numberOf}
 use Rattle.submission.specs.Submission.{Outgoing}
-use Rattle.sending.specs.Sending.{PumpState, PumpExit, pumpExit, nextNumber, canPump, sendOne, progressed, pumpMost, pumpSends}
+use Rattle.sending.specs.Sending.{pumpSends}
 use Rattle.sending.specs.Retransmit.{RetransmitExit, retransmit, countedAgain, ceilingMet, retransmitAll}
 use Rattle.sending.specs.Retransmit as again
 use Rattle.sending.specs.declared.Resends.{Resends}
@@ -42,15 +43,16 @@ use Rattle.step.specs.declared.Plan.{Plan}
 use Rattle.step.specs.declared.End.{End}
 use Rattle.step.specs.declared.End.the-variants as end
 use Rattle.step.specs.declared.Course.the-variants.{Going, Over}
-use Rattle.step.proofs.Laws.{arrives, step-is, afterBoth, bothExit}
+use Rattle.step.proofs.Laws.{arrives, earliest, step-is, afterBoth, bothExit}
 use Rattle.setup.specs.declared.TransferConfig.{TransferConfig}
 use Rattle.transfer.specs.Start.{planFor, newRun}
 use Rattle.transfer.specs.Run.{isOver, runAtMostFor, runAtMost, runFor, run, stepsLeft}
 use Rattle.transfer.specs.Transfer.{endOf}
 use Rattle.transfer.specs.declared.Ceilings.{Ceilings}
 use Rattle.transfer.proofs.Laws.{not-over, run-over}
-use Rattle.run_ends.specs.Ended.{isIdle, nextTime, NothingToSend, EndedWhy}
-use Rattle.run_ends.specs.Ended.EndedWhy.{finished, resends-used, nothing-due, past-limit, rounds-used, not-later, moments-used}
+use Rattle.run_ends.specs.Ended.{isIdle, nextTime, NothingToSend, TimerPast, EndedWhy}
+use Rattle.run_ends.specs.Ended.EndedWhy.{finished, resends-used, nothing-due, past-limit, rounds-used, timer-past, moments-used}
+use Rattle.run_ends.proofs.Quiet.{NoneLeft, or-right, none-sent, Drained, arrivals-drained, line-later, SinglePast, timers-later}
 
 -- ---- exhausted only where the ceiling is met
 module _ (limit : ℕ) where
@@ -125,54 +127,6 @@ module _ (limit : ℕ) where
         by-test true = timers-spent t s q
         by-test false = timers-spent t s q
 
--- ---- a chunk that can be sent is sent: with nothing sent every chunk was, or the window has no space
-abbrev NoneLeft : ℕ → Sender → Type 0
-NoneLeft total s = (total ≤ windowOf s .«next_seq_num») ⊎ (windowOf s .«window_size» ≤ outstanding (windowOf s))
-
-not-free : (total : ℕ) (s : Sender) → canPump total s ≡ false → NoneLeft total s
-not-free total s e = by-tests (canSend s) (ltb (windowOf s .«next_seq_num») total) refl refl e
-  where
-    by-tests : (a b : Bool) → canSend s ≡ a → ltb (windowOf s .«next_seq_num») total ≡ b → (a && b) ≡ false → NoneLeft total s
-    by-tests true true p q e = absurd (true≢false e)
-    by-tests true false p q e = inl (ltb-false _ _ q)
-    by-tests false b p q e = inr (ltb-false _ _ p)
-
-or-right : (a b : Bool) → (a || b) ≡ false → b ≡ false
-or-right true b e = absurd (true≢false e)
-or-right false b e = e
-
-module _ (t : Timing) (rolls : List Float) (chunks : List (List ℕ)) (now : ℕ) where
-  none-pumped : (n rto : ℕ) (s : PumpState) → length chunks - nextNumber s ≤ n → pumpMost n t rolls chunks rto now s .progress ≡ false → NoneLeft (length chunks) (pumpMost n t rolls chunks rto now s .state .sender .sender)
-  unfolding pumpMost sendOne
-  none-pumped zero rto s h e = inl (omega (arith, h))
-  none-pumped (suc n) rto s h e = by-free (canPump (length chunks) (s .sender .sender)) refl e
-    where
-      one : PumpExit
-      one = sendOne t rolls chunks rto now s
-
-      sends : (b : Bool) → cond b (progressed (pumpMost n t rolls chunks rto now (one .state))) one .progress ≡ false → ⊥
-      sends true e = true≢false e
-      sends false e = true≢false e
-
-      by-free : (b : Bool) → canPump (length chunks) (s .sender .sender) ≡ b → cond b (cond (isGoing (one .stop)) (progressed (pumpMost n t rolls chunks rto now (one .state))) one) (pumpExit s false stop.Going) .progress ≡ false
-          → NoneLeft (length chunks) (cond b (cond (isGoing (one .stop)) (progressed (pumpMost n t rolls chunks rto now (one .state))) one) (pumpExit s false stop.Going) .state .sender .sender)
-      by-free true f e = absurd (sends (isGoing (one .stop)) e)
-      by-free false f e = not-free (length chunks) (s .sender .sender) f
-
-  none-sent : (limit : ℕ) (s : FireState) → let x = sendDue limit t rolls chunks now s in isGoing (x .stop) ≡ true → x .state .resends .exhausted ≡ false → x .progress ≡ false → NoneLeft (length chunks) (x .state .sender .sender)
-  unfolding sendDue
-  none-sent limit s = by-test (goesOn fired) refl
-    where
-      fired : FireExit
-      fired = fireTimers limit t rolls now s
-
-      sent : PumpExit
-      sent = pumpSends t rolls chunks (fired .state .estimator .«current_rto») now (pumpOf (fired .state))
-
-      by-test : (b : Bool) → goesOn fired ≡ b → let x = cond b (pumped fired sent) fired in isGoing (x .stop) ≡ true → x .state .resends .exhausted ≡ false → x .progress ≡ false → NoneLeft (length chunks) (x .state .sender .sender)
-      by-test true g on k e = none-pumped (length chunks - nextNumber (pumpOf (fired .state))) (fired .state .estimator .«current_rto») (pumpOf (fired .state)) (omega arith) (or-right (fired .progress) (sent .progress) e)
-      by-test false g on k e = absurd (true≢false (sym (ap (λ (b : Bool). b && not (fired .state .resends .exhausted)) on ∙ ap not k) ∙ g))
-
 -- ---- a step
 module _ (p : Plan) (g : Given) (whole : p .«total_chunks» ≡ length (chunksFor p g)) where
   abbrev SpentAt : RunState → Type 0
@@ -201,14 +155,33 @@ module _ (p : Plan) (g : Given) (whole : p .«total_chunks» ≡ length (chunksF
   either true x y h k = h refl
   either false x y h k = k refl
 
-  move-why : (u : RunState) (d : Deadline) → nextTime p u ≡ d → NothingToSend p u → SpentAt u → Why (moveTo p u d)
-  move-why u deadline.Unset e n q = over-why u (u .time) (nothing-due n e)
-  move-why u (deadline.At t) e n q =
-      either (leb t (u .time)) _ _ (λ h. over-why (exhausted u) (u .time) (not-later n t e (leb-true t (u .time) h)))
-      (λ h. either (ltb (p .«max_virtual_time») t) _ _ (λ k. over-why u (p .«max_virtual_time») (past-limit n t e (ltb-true (p .«max_virtual_time») t k)))
-      (λ k. either (eqb (u .moves) 0) _ _ (λ m. over-why (at u t (u .moves) (u .rounds)) t (moments-used n (eqb-true (u .moves) 0 m) e)) (λ m. going-why (at u t (u .moves - 1) (p .rounds)) q)))
+  -- nothing was sent, and nothing was due
+  record QuietAt (u : RunState) : Type 0 where
+    left : NothingToSend p u
+    drained : Drained (u .time) (u .arrivals)
+    not-due : due (p .timing) (u .arrivals .clock) (u .time) (hasOutstanding (u .arrivals .sender .sender)) ≡ ran.Nothing
 
-  settle-why : (u : RunState) → NothingToSend p u → SpentAt u → Why (settle p u)
+  past-why : (u : RunState) (t : ℕ) → nextTime p u ≡ deadline.At t → QuietAt u → t ≤ u .time → TimerPast p u
+  past-why u t e n h =
+      ⊎-elim (λ f. let l = line-later (u .arrivals .forward) (u .time) (n .drained .forward) f in absurd (omega (arith, h, l)))
+      (⊎-elim (λ f. let l = line-later (u .arrivals .inbound .reverse) (u .time) (n .drained .reverse) f in absurd (omega (arith, h, l)))
+      (λ f. ⊎-elim (λ l. absurd (omega (arith, h, l))) timer (timers-later (p .timing) (u .arrivals .clock) (u .time) (hasOutstanding (u .arrivals .sender .sender)) (n .not-due) t f)))
+      (earliest (p .timing) (u .arrivals .forward) (u .arrivals .inbound .reverse) (u .arrivals .clock) e .one)
+    where
+      timer : SinglePast (p .timing) (u .arrivals .clock) (hasOutstanding (u .arrivals .sender .sender)) t → TimerPast p u
+      timer x = let none = ltb-false 0 (outstanding (windowOf (u .arrivals .sender .sender))) (x .none) in record { single = x .single; none = omega (arith, none); deadline = t; set = x .at; past = h }
+
+  same : {u : RunState} → TimerPast p u → TimerPast p (exhausted u)
+  same x = record { single = x .single; none = x .none; deadline = x .deadline; set = x .set; past = x .past }
+
+  move-why : (u : RunState) (d : Deadline) → nextTime p u ≡ d → QuietAt u → SpentAt u → Why (moveTo p u d)
+  move-why u deadline.Unset e n q = over-why u (u .time) (nothing-due (n .left) e)
+  move-why u (deadline.At t) e n q =
+      either (leb t (u .time)) _ _ (λ h. over-why (exhausted u) (u .time) (timer-past (n .left) (same (past-why u t e n (leb-true t (u .time) h)))))
+      (λ h. either (ltb (p .«max_virtual_time») t) _ _ (λ k. over-why u (p .«max_virtual_time») (past-limit (n .left) t e (ltb-true (p .«max_virtual_time») t k)))
+      (λ k. either (eqb (u .moves) 0) _ _ (λ m. over-why (at u t (u .moves) (u .rounds)) t (moments-used (n .left) (eqb-true (u .moves) 0 m) e)) (λ m. going-why (at u t (u .moves - 1) (p .rounds)) q)))
+
+  settle-why : (u : RunState) → QuietAt u → SpentAt u → Why (settle p u)
   unfolding settle
   settle-why u n q =
       either (u .arrivals .inbound .side .completed && isIdle p u) _ _ (λ h. let w = and-eq-true-iff (u .arrivals .inbound .side .completed) (isIdle p u) .0 h in over-why u (u .time) (finished (w .0) (w .1)))
@@ -218,11 +191,17 @@ module _ (p : Plan) (g : Given) (whole : p .«total_chunks» ≡ length (chunksF
     both : SpentAt (afterBoth p g s)
     both = due-spent (p .«max_retransmissions») (g .forwardRolls) (s .time) (p .timing) (chunksFor p g) (fireOf (withArrivals (roundLess s) (arrives p g s .state))) q
 
-    -- no progress: nothing was sent
-    nothing-left : isGoing (bothExit p g s .stop) ≡ true → afterBoth p g s .resends .exhausted ≡ false → bothExit p g s .progress ≡ false → NothingToSend p (afterBoth p g s)
-    nothing-left on k e =
-        subst (λ (n : ℕ). NoneLeft n (afterBoth p g s .arrivals .sender .sender)) (sym whole)
-        (none-sent (p .timing) (g .forwardRolls) (chunksFor p g) (s .time) (p .«max_retransmissions») (fireOf (withArrivals (roundLess s) (arrives p g s .state))) on k e)
+    -- no progress: nothing was sent, and nothing was due
+    quiet : isGoing (arrives p g s .stop) ≡ true → isGoing (bothExit p g s .stop) ≡ true → afterBoth p g s .resends .exhausted ≡ false → bothExit p g s .progress ≡ false → QuietAt (afterBoth p g s)
+    quiet first on k e =
+        let n = none-sent (p .«max_retransmissions») (g .forwardRolls) (s .time) (p .timing) (chunksFor p g) (fireOf (withArrivals (roundLess s) (arrives p g s .state))) on k e in
+        let d = arrivals-drained (p .timing) (g .reverseRolls) (p .«total_chunks») (s .time) (s .arrivals) first in
+        record {
+          left = subst (λ (n : ℕ). NoneLeft n (afterBoth p g s .arrivals .sender .sender)) (sym whole) (subst (λ (v : SenderEnd). NoneLeft (length (chunksFor p g)) (v .sender)) (sym (n .sender)) (n .left));
+          drained = record { forward = subst (λ (o : Outgoing). takeReady (o .forward) (s .time) packetBuffer .result .answer ≡ ready.Nothing) (sym (n .outgoing)) (d .forward); reverse = d .reverse };
+          not-due = ap (λ (v : SenderEnd). due (p .timing) (afterBoth p g s .arrivals .clock) (s .time) (hasOutstanding (v .sender))) (n .sender)
+              ∙ ap (λ (o : Outgoing). due (p .timing) (o .clock) (s .time) (hasOutstanding (arrives p g s .state .sender .sender))) (n .outgoing) ∙ n .not-due;
+        }
 
     step-why : Why (step p g s)
     step-why =
@@ -232,7 +211,7 @@ module _ (p : Plan) (g : Given) (whole : p .«total_chunks» ≡ length (chunksF
         (λ i. unless (bothExit p g s .stop) (afterBoth p g s) _
         (λ on. either (afterBoth p g s .resends .exhausted) _ _ (λ k. over-why (afterBoth p g s) (s .time) (resends-used (both .met k)))
         (λ k. either (arrives p g s .progress || bothExit p g s .progress) _ _ (λ m. going-why (afterBoth p g s) both)
-        (λ m. settle-why (afterBoth p g s) (nothing-left on k (or-right (arrives p g s .progress) (bothExit p g s .progress) m)) both))))))
+        (λ m. settle-why (afterBoth p g s) (quiet i on k (or-right (arrives p g s .progress) (bothExit p g s .progress) m)) both))))))
 
   -- ---- the run
   most-why : (n : ℕ) (s : RunState) → SpentAt s → Why (runAtMost n p g s)

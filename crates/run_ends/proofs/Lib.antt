@@ -7,6 +7,7 @@ pub mod Steps
 pub mod Transfer
 pub mod Start
 pub mod Finish
+pub mod Quiet
 pub mod Ended
 pub mod Examples
 pub mod Laws

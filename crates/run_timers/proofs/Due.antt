@@ -32,17 +32,17 @@ use Rattle.session.proofs.Laws.{sent-window}
 use Rattle.timeouts.proofs.Laws.{markedAgain}
 
 -- ---- a window over a store
-record DueIn (v : slots.Sender) (k : ℕ) : Type 0 where
-  from : v .window .«send_base» ≤ k
-  below : k < v .window .«next_seq_num»
-  plain : marked 2 (v .store) (v .window .«window_size») k ≡ false
+pub record DueIn (v : slots.Sender) (k : ℕ) : Type 0 where
+  pub from : v .window .«send_base» ≤ k
+  pub below : k < v .window .«next_seq_num»
+  pub plain : marked 2 (v .store) (v .window .«window_size») k ≡ false
 
-due-in : (v : slots.Sender) (k : ℕ) → due v k ≡ true → DueIn v k
+pub due-in : (v : slots.Sender) (k : ℕ) → due v k ≡ true → DueIn v k
 due-in v k e =
     let within = selective-repeat.due-within v k e in
     record { from = within .0; below = within .1; plain = not-true _ (and-eq-true-iff (inWindow (v .window) k) _ .0 e .1) }
 
-is-due : (v : slots.Sender) (k : ℕ) → DueIn v k → due v k ≡ true
+pub is-due : (v : slots.Sender) (k : ℕ) → DueIn v k → due v k ≡ true
 is-due v k d = rw (le-leb _ _ (d .from), lt-ltb _ _ (d .below), d .plain)
 
 -- number k's slot is as it was
@@ -121,9 +121,6 @@ module _ {selective : Bool} (v : slots.Sender) (s : Sound selective (v .window) 
         (other, is-due v k (record { from = low; below = b; plain = sym (other-mark k other low b) ∙ plain }))
 
 -- ---- a session's sender
-pub due-number : (v : SenderEnd) (n : ℕ) → windowOf (v .sender) .«send_base» ≤ n → n < windowOf (v .sender) .«next_seq_num» → marked 2 (v .store) (windowOf (v .sender) .«window_size») n ≡ false → isDue v n ≡ true
-due-number v n a b e = is-due (windowEnd v) n (record { from = a; below = b; plain = e })
-
 pub sent-before : (v : SenderEnd) (payload out : List ℕ) → CanSendChunk v payload out → (k : ℕ) → (k ≡ windowOf (v .sender) .«next_seq_num» → ⊥) → isDue (sendChunk v payload out .after) k ≡ true → isDue v k ≡ true
 sent-before v payload out h k other e =
     held-before (windowEnd v) (sound _ (windowOf (v .sender)) (v .store) (h .unbroken .state)) payload k (ltb-true _ _ (h .free)) (h .short) other (ap (λ (u : slots.Sender). due u k) (sym (sent-window v payload out h)) ∙ e)

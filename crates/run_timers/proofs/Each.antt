@@ -84,9 +84,9 @@ module _ (now : ℕ) where
           subst OfAcks (sym (on-accepted-is PerNumber now raw u n seq))
           (record {
             each = λ k d.
-            let b = acknowledged-before (s .sender) n k (on .good .sender .state) selective i d in
-            ap (λ (es : List Entry). isSome (lookup k es)) (ack-entries (s .clock) (x .metas) (record { time = now; seq = n; rto = x .estimator .«current_rto»; oldest = oldestOutstanding (acknowledged (s .sender) n .sender) }) (on .good .clock .state))
-            ∙ removed-some n k (running (s .clock)) (b .0) (h .each k (b .1));
+                let b = acknowledged-before (s .sender) n k (on .good .sender .state) selective i d in
+                ap (λ (es : List Entry). isSome (lookup k es)) (ack-entries (s .clock) (x .metas) (record { time = now; seq = n; rto = x .estimator .«current_rto»; oldest = oldestOutstanding (acknowledged (s .sender) n .sender) }) (on .good .clock .state))
+                ∙ removed-some n k (running (s .clock)) (b .0) (h .each k (b .1));
           })
 
       by-test : (n : ℕ) → ackNumber (readDatagram raw) ≡ ack.Number n → (b : Bool) → inWindow (windowOf (s .sender .sender)) n ≡ b → OfAcks (onAck PerNumber now raw s)
@@ -146,8 +146,8 @@ module _ (top now : ℕ) (rolls : List Float) (samples : ℕ) where
           let can = can-resubmit can-resend (again .oldest) packet (datagram-short marked n (can-resend .sender) (can-resend .within)) in
           record {
             each = λ k e.
-            started-some n k _ _ _ (number-lookup rolls again packet (cancelled s n .outgoing) can (going-is _ on) k)
-            (λ other. cancelled-has (s .outgoing .clock) n k (g .outgoing .clock) other (h .each k (again-before (s .sender) (g .sender) n k e)));
+                started-some n k _ _ _ (number-lookup rolls again packet (cancelled s n .outgoing) can (going-is _ on) k)
+                (λ other. cancelled-has (s .outgoing .clock) n k (g .outgoing .clock) other (h .each k (again-before (s .sender) (g .sender) n k e)));
           }
 
     number-each : ceilingMet top (s .resends) ≡ false → isGoing (fireNumber top rolls now n s .stop) ≡ true → Of (fireNumber top rolls now n s .state)
@@ -195,8 +195,8 @@ module _ (top now : ℕ) (rolls : List Float) (samples : ℕ) where
     chunk-each s can free going h =
         record {
           each = λ k e.
-          started-some (nextNumber s) k _ _ _ (number-lookup rolls (given can free) (written can free) (s .outgoing) (can-submit-next can free) (going-is _ going) k)
-          (λ other. h .each k (sent-before (s .sender) (chunk can free) (blank can free) (can-send can free) k other e));
+              started-some (nextNumber s) k _ _ _ (number-lookup rolls (given can free) (written can free) (s .outgoing) (can-submit-next can free) (going-is _ going) k)
+              (λ other. h .each k (sent-before (s .sender) (chunk can free) (blank can free) (can-send can free) k other e));
         }
 
     pump-each : (s : PumpState) → CanPump PerNumber rolls size file total rto now s → OfPump s → isGoing (pumpSends PerNumber rolls (chunksOf size file) rto now s .stop) ≡ true → OfPump (pumpSends PerNumber rolls (chunksOf size file) rto now s .state)

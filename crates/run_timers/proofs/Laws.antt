@@ -1,3 +1,3 @@
 -- What crates above may cite of a run's timers.
-pub use Rattle.run_timers.proofs.Run.{transfer-timed, ended-served, transfer-served}
+pub use Rattle.run_timers.proofs.Run.{transfer-timed, transfer-served, default-suffices}
 pub use Rattle.run_timers.proofs.Transfer.{transfer-completes}

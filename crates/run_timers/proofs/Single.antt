@@ -1,4 +1,4 @@
--- The single timer of Stop-and-Wait and Go-Back-N: while a number is outstanding it is set.
+-- The single timer of Stop-and-Wait and Go-Back-N: it is set exactly while a number is outstanding.
 use Prim.Native.Nat.{ℕ, zero, suc, _+_, _-_, _≤_, _<_, min}
 use native.Mathlib.Omega.{arith}
 use mathlib.Core.Path.{_≡_, refl, sym, ap, _∙_, subst}
@@ -10,7 +10,7 @@ use lib.ListN.{take}
 use borrow.Author.Tests.{ltb-true, lt-ltb, leb-false, eqb-false}
 use Rattle.packet.specs.Reading.{readDatagram}
 use Rattle.protocol.specs.Runs.{upFrom}
-use Rattle.timer.specs.Timer.{active, expiredAt}
+use Rattle.timer.specs.Timer.{active, expiredAt, cancelledUnchecked}
 use Rattle.timer.specs.declared.RetransmissionTimer.{RetransmissionTimer}
 use Rattle.window.specs.State.{outstanding}
 use Rattle.window.specs.Slots as slots
@@ -72,10 +72,10 @@ isSet c = active (timerOf c .deadline)
 abbrev nextOf : SenderEnd → ℕ
 nextOf v = windowOf (v .sender) .«next_seq_num»
 
--- every number sent has its note, and the timer is set while one is outstanding; `limit` is Stop-and-Wait's on its retries, which are packets sent again
+-- every number sent has its note, and the timer is set while one isn't acknowledged; `limit` is Stop-and-Wait's on its retries, which are packets sent again
 pub record Runs (limit : ℕ) (v : SenderEnd) (c : ClockState) (count again : ℕ) : Type 0 where
   pub noted : count ≡ nextOf v
-  pub runs : hasOutstanding (v .sender) ≡ true → isSet c ≡ true
+  pub runs : isSet c ≡ hasOutstanding (v .sender)
   pub limit-is : LimitIs limit (v .sender .state)
   pub retries : retriesOf (v .sender .state) ≤ again
 
@@ -83,20 +83,24 @@ pub record Runs (limit : ℕ) (v : SenderEnd) (c : ClockState) (count again : �
 some-left : (low high : ℕ) → 0 < high - low → low < high
 some-left low high h = omega arith
 
-arm-set : (t : RetransmissionTimer) (m : SegMetas) (now : ℕ) (s : Sender) → windowOf s .«next_seq_num» ≤ m .notes .count → hasOutstanding s ≡ true → active (armOldest t m now (oldestOutstanding s) .deadline) ≡ true
-arm-set t m now s h o =
-    let base = windowOf s .«send_base» in
-    let low = some-left base (windowOf s .«next_seq_num») (ltb-true 0 (outstanding (windowOf s)) o) in
-    ap (λ (b : Bool). active (armOldest t m now (cond b (Number base) Nothing) .deadline)) o ∙ ap active (arm-oldest-deadline t m now base (omega (arith, low, h)))
+arm-is : (t : RetransmissionTimer) (m : SegMetas) (now : ℕ) (s : Sender) → windowOf s .«next_seq_num» ≤ m .notes .count → active (armOldest t m now (oldestOutstanding s) .deadline) ≡ hasOutstanding s
+unfolding armOldest cancelledUnchecked
+arm-is t m now s h = by-some (hasOutstanding s) refl
+  where
+    by-some : (b : Bool) → hasOutstanding s ≡ b → active (armOldest t m now (cond b (Number (windowOf s .«send_base»)) Nothing) .deadline) ≡ b
+    by-some true o =
+        let low = some-left (windowOf s .«send_base») (windowOf s .«next_seq_num») (ltb-true 0 (outstanding (windowOf s)) o) in
+        ap active (arm-oldest-deadline t m now (windowOf s .«send_base») (omega (arith, low, h)))
+    by-some false o = refl
 
 -- ---- an ACK
 module _ (limit now again : ℕ) where
   abbrev OfAcks : AckState → Type 0
   OfAcks s = Runs limit (s .sender) (s .clock) (s .metas .notes .count) again
 
-  accepted-set : (n seq : ℕ) (s : AckState) → let y = onAccepted Single now n seq s in y .metas .notes .count ≡ nextOf (y .sender) → hasOutstanding (y .sender .sender) ≡ true → isSet (y .clock) ≡ true
+  accepted-set : (n seq : ℕ) (s : AckState) → let y = onAccepted Single now n seq s in y .metas .notes .count ≡ nextOf (y .sender) → isSet (y .clock) ≡ hasOutstanding (y .sender .sender)
   unfolding onAccepted rearmAfterAck
-  accepted-set n seq s e o = arm-set (timerOf (s .clock)) (sampleRtt (s .estimator) (s .metas) seq now .metas) now (s .sender .sender) (omega (arith, e)) o
+  accepted-set n seq s e = arm-is (timerOf (s .clock)) (sampleRtt (s .estimator) (s .metas) seq now .metas) now (s .sender .sender) (omega (arith, e))
 
   accepted-sender : (n seq : ℕ) (s : AckState) → onAccepted Single now n seq s .sender ≡ s .sender
   unfolding onAccepted
@@ -167,7 +171,7 @@ module _ (rolls : List Float) (rto now : ℕ) (s : Sender) (some : hasOutstandin
   -- where the line carries it, the oldest number's timer is set
   armed-set : (c : ClockState) (m : SegMetas) (seq : ℕ) → windowOf s .«next_seq_num» ≤ m .notes .count → isSet (armAfterSubmit Single c m (again seq)) ≡ true
   unfolding armAfterSubmit
-  armed-set c m seq h = arm-set (timerOf c) m now s h some
+  armed-set c m seq h = arm-is (timerOf c) m now s h ∙ some
 
   carried-noted : (seq : ℕ) (o : Outgoing) (packet : List ℕ) → o .metas .notes .count ≡ windowOf s .«next_seq_num» → submit Single rolls (again seq) packet o .outgoing .metas .notes .count ≡ windowOf s .«next_seq_num»
   carried-noted seq o packet e = ap (λ (n : Notes). n .count) (submit-again-notes Single rolls (again seq) packet o refl) ∙ e
@@ -302,7 +306,7 @@ module _ (limit top now : ℕ) (rolls : List Float) (enough : top ≤ limit) whe
           let r = first .retries in
           let q = h .retries in
           let k = a .counted in
-          record { noted = a .noted; runs = λ z. a .runs; limit-is = first .limit-is; retries = omega (arith, r, q, k) }
+          record { noted = a .noted; runs = a .runs ∙ sym still; limit-is = first .limit-is; retries = omega (arith, r, q, k) }
 
   single-due : (c : ClockState) (b outstanding : Bool) → expiredAt (timerOf c .deadline) now ≡ b → singleDue b outstanding ran.Nothing ≡ due Single c now outstanding
   unfolding due
@@ -341,7 +345,7 @@ module _ (limit top now : ℕ) (rolls : List Float) (enough : top ≤ limit) whe
         first = ap (λ (y : Oldest). isOldest y (x .seq)) (e ∙ ap (λ (b : Bool). cond b (Number (windowOf v .«send_base»)) Nothing) o)
 
         by-oldest : (b : Bool) → isOldest (x .oldest) (x .seq) ≡ b → isSet (cond b (withTimer c (armOldest (timerOf c) m (x .time) (x .oldest))) c) ≡ true
-        by-oldest true i = ap (λ (y : Oldest). active (armOldest (timerOf c) m (x .time) y .deadline)) e ∙ arm-set (timerOf c) m (x .time) v n o
+        by-oldest true i = ap (λ (y : Oldest). active (armOldest (timerOf c) m (x .time) y .deadline)) e ∙ arm-is (timerOf c) m (x .time) v n ∙ o
         by-oldest false i = before (eqb-false _ _ (sym first ∙ i))
 
     chunk-runs : (s : PumpState) → CanPump Single rolls size file total rto now s → canPump total (s .sender .sender) ≡ true → isGoing (sendOne Single rolls (chunksOf size file) rto now s .stop) ≡ true → OfPump s
@@ -350,7 +354,7 @@ module _ (limit top now : ℕ) (rolls : List Float) (enough : top ≤ limit) whe
     chunk-runs s can free going h =
         record {
           noted = grown;
-          runs = λ o. ap (λ (y : Outgoing). isSet (y .clock)) is ∙ sent-set (s .outgoing .clock) (metasOf rolls (given can free) (s .outgoing)) (given can free) (v .sender) refl refl o (omega (arith, fits)) before;
+          runs = ap (λ (y : Outgoing). isSet (y .clock)) is ∙ sent-set (s .outgoing .clock) (metasOf rolls (given can free) (s .outgoing)) (given can free) (v .sender) refl refl some (omega (arith, fits)) before ∙ sym some;
           limit-is = f .limit-is;
           retries = let z = f .retries in omega (arith, z);
         }
@@ -370,12 +374,14 @@ module _ (limit top now : ℕ) (rolls : List Float) (enough : top ≤ limit) whe
         fits : metasOf rolls (given can free) (s .outgoing) .notes .count ≡ nextOf v
         fits = ap (λ (y : Outgoing). y .metas .notes .count) (sym is) ∙ grown
 
+        ordered : windowOf (s .sender .sender) .«send_base» ≤ nextNumber s
+        ordered = sound (isSelective (s .sender .sender .state)) (windowOf (s .sender .sender)) (s .sender .store) (can .good .sender) .ordered
+
+        some : hasOutstanding (v .sender) ≡ true
+        some = let b = sent-next can free .base in let n = sent-next can free .next in let o = ordered in lt-ltb 0 (outstanding (windowOf (v .sender))) (omega (arith, b, n, o))
+
         before : (windowOf (v .sender) .«send_base» ≡ nextNumber s → ⊥) → isSet (s .outgoing .clock) ≡ true
-        before other =
-            let w = windowOf (s .sender .sender) in
-            let b = sent-next can free .base in
-            let ordered = sound (isSelective (s .sender .sender .state)) (windowOf (s .sender .sender)) (s .sender .store) (can .good .sender) .ordered in
-            h .runs (lt-ltb 0 (outstanding (windowOf (s .sender .sender))) (more (w .«send_base») (nextNumber s) ordered (λ i. other (b ∙ i))))
+        before other = h .runs ∙ lt-ltb 0 (outstanding (windowOf (s .sender .sender))) (more (windowOf (s .sender .sender) .«send_base») (nextNumber s) ordered (λ i. other (sent-next can free .base ∙ i)))
           where
             more : (low high : ℕ) → low ≤ high → (low ≡ high → ⊥) → 0 < high - low
             more low high h n = omega arith

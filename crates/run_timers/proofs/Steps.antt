@@ -30,8 +30,9 @@ use Rattle.step.specs.declared.End.the-variants as end
 use Rattle.step.specs.declared.Course.{Course}
 use Rattle.step.specs.declared.Course.the-variants.{Going}
 use Rattle.step.proofs.Laws.{arrives, step-is, settle-cases, afterBoth, bothExit, arrived-good, good-fire, can-send-due, step-good}
-use Rattle.transfer.specs.Run.{run}
+use Rattle.transfer.specs.Run.{isOver, run}
 use Rattle.transfer.specs.Transfer.{endOf}
+use Rattle.transfer.proofs.Laws.{run-over}
 use Rattle.edition_clock.specs.AlongARun.{Reached, start, next}
 use Rattle.edition_clock.proofs.Run.{run-last}
 
@@ -79,6 +80,24 @@ module _ (Q : Kept) (p : Plan) (g : Given) where
       (λ on. either (afterBoth p g s .resends .exhausted) _ _ (λ i. both on)
       (either (arrives p g s .progress || bothExit p g s .progress) _ _ (λ i. both on) (settled (afterBoth p g s) (both on)))))))
 
+-- ---- the last step of a run
+pub record Last (Q : Kept) (u : RunState) : Type 0 where
+  pub kept : At Q u
+  pub unbroken : senderBroken (u .arrivals .sender) ≡ false
+
+pub ended-last : (Q : Kept) (p : Plan) (g : Given) → GoodPlan p g → (u : RunState) → GoodRun p g u → At Q u → (isGoing (bothExit p g u .stop) ≡ true → At Q (afterBoth p g u)) → endOf (step p g u .course) ≡ end.Ended → Last Q (step p g u .state)
+ended-last Q p g plan u good q both over =
+    record {
+      kept = step-at Q p g u q both over;
+      unbroken = step-at (λ a n. senderBroken (a .sender) ≡ false) p g u (good .sender) (λ on. sent-unbroken (p .«max_retransmissions») _ (can-send-due (arrived-good good) plan) (good-fire (arrived-good good))) over;
+    }
+
+-- the run's end is its last step's
+pub at-last : (p : Plan) (g : Given) (s : RunState) (P : RunState → Type 0) → endOf (run p g s .course) ≡ end.Ended → ((u : RunState) → Reached p g s u → endOf (step p g u .course) ≡ end.Ended → isOver (step p g u .course) ≡ true → P (step p g u .state)) → P (run p g s .state)
+at-last p g s P e f =
+    let x = run-last p g s in
+    subst (λ (y : StepExit). P (y .state)) (sym (x .last)) (f (x .before) (x .reached) (ap (λ (y : StepExit). endOf (y .course)) (sym (x .last)) ∙ e) (ap (λ (y : StepExit). isOver (y .course)) (sym (x .last)) ∙ run-over p g s))
+
 -- ---- a run
 pub record Between (Q : Kept) (p : Plan) (g : Given) (s : RunState) : Type 0 where
   pub good : GoodRun p g s
@@ -91,18 +110,5 @@ module _ (Q : Kept) (p : Plan) (g : Given) (plan : GoodPlan p g) (both : (s : Ru
       let b = reached-between r in
       record { good = step-good plan (b .good) go; kept = step-at Q p g u (b .kept) (both u (b .good) (b .kept)) (ap endOf go) }
 
-  pub record Last (u : RunState) : Type 0 where
-    pub kept : At Q u
-    pub unbroken : senderBroken (u .arrivals .sender) ≡ false
-
-  pub run-last-at : endOf (run p g s .course) ≡ end.Ended → Last (run p g s .state)
-  run-last-at e =
-      let x = run-last p g s in
-      let b = reached-between (x .reached) in
-      let u = x .before in
-      let over : endOf (step p g (x .before) .course) ≡ end.Ended = ap (λ (y : StepExit). endOf (y .course)) (sym (x .last)) ∙ e in
-      subst (λ (y : StepExit). Last (y .state)) (sym (x .last))
-      (record {
-        kept = step-at Q p g u (b .kept) (both u (b .good) (b .kept)) over;
-        unbroken = step-at (λ a n. senderBroken (a .sender) ≡ false) p g u (b .good .sender) (λ on. sent-unbroken (p .«max_retransmissions») _ (can-send-due (arrived-good (b .good)) plan) (good-fire (arrived-good (b .good)))) over;
-      })
+  pub run-last-at : endOf (run p g s .course) ≡ end.Ended → Last Q (run p g s .state)
+  run-last-at e = at-last p g s (Last Q) e (λ u r over i. let b = reached-between r in ended-last Q p g plan u (b .good) (b .kept) (both u (b .good) (b .kept)) over)

@@ -1,4 +1,4 @@
--- A run of `run_transfer` on the source's timing that ended is completed, or met a ceiling.
+-- A run of `run_transfer` that ended is completed, or met a ceiling.
 use Prim.Native.Nat.{ℕ, _≤_}
 use native.Mathlib.Nat.{le-trans}
 use mathlib.Core.Path.{_≡_}
@@ -8,7 +8,6 @@ use Rattle.octets.specs.Octets.{Octets}
 use Rattle.path.specs.Rolls.{Doubles}
 use Rattle.clock.specs.Estimator.{Factors}
 use Rattle.setup.specs.Setup.{CanStart}
-use Rattle.setup.specs.declared.ClockChoice.the-variants.{Source}
 use Rattle.setup.specs.declared.TransferConfig.{TransferConfig}
 use Rattle.completion.specs.Flips.{FlipsOutside}
 use Rattle.step.specs.State.{Given, Lent}
@@ -28,16 +27,16 @@ use Rattle.run_timers.specs.Stopped.{CeilingMet}
 use Rattle.run_timers.proofs.Run.{transfer-served}
 
 -- Octets, Doubles and Factors say what the lent bytes and doubles are by their types
-module _ (k : Ceilings) (c : TransferConfig) (g : Given) (l : Lent) (store : Octets (l .senderStore)) (file : Octets (g .file)) (forward : Doubles (g .forwardRolls)) (reverse : Doubles (g .reverseRolls)) (factors : Factors (c .rto)) (source : c .clock ≡ Source) (retries : RetriesSuffice k c) where
+module _ (k : Ceilings) (c : TransferConfig) (g : Given) (l : Lent) (store : Octets (l .senderStore)) (file : Octets (g .file)) (forward : Doubles (g .forwardRolls)) (reverse : Doubles (g .reverseRolls)) (factors : Factors (c .rto)) (retries : RetriesSuffice k c) where
   abbrev last : StepExit
   last = run (planFor k c g) g (newRun k c l)
 
   abbrev Completes : Outcome → Lent → Type 0
-  Completes o m = Delivered c g l o m → FlipsOutside (c .channel) (g .forwardRolls) (fileChunks c g) (eventsAt o m) → o .end ≡ Ended → (o .completed ≡ true) ⊎ CeilingMet (planFor k c g) (last .state)
+  Completes o m = Delivered c g l o m → FlipsOutside (c .channel) (g .forwardRolls) (fileChunks c g) (eventsAt o m) → o .end ≡ Ended → (o .completed ≡ true) ⊎ CeilingMet k (planFor k c g) g (newRun k c l) (last .state)
 
   completes : CanStart (startOf c g l) → Completes (outcomeOf last) (lentOf (last .state))
-  completes h d flips e = ⊎-elim (λ all. inl (d .said (le-trans all (d .first flips .not-negative)))) inr (transfer-served k c g l h forward reverse factors source retries e)
+  completes h d flips e = ⊎-elim (λ all. inl (d .said (le-trans all (d .first flips .not-negative)))) inr (transfer-served k c g l h forward reverse factors retries e)
 
   pub transfer-completes : (o : Outcome) → runTransfer k c g l .answer ≡ answer.Outcome o → FlipsOutside (c .channel) (g .forwardRolls) (fileChunks c g) (eventsAt o (runTransfer k c g l .lent)) → o .end ≡ Ended
-      → (o .completed ≡ true) ⊎ CeilingMet (planFor k c g) (last .state)
+      → (o .completed ≡ true) ⊎ CeilingMet k (planFor k c g) g (newRun k c l) (last .state)
   transfer-completes o e = by-outcome k c g l Completes completes o e (transfer-delivered k c g l store file forward reverse factors o e)

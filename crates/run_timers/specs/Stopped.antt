@@ -1,22 +1,32 @@
--- app/transfer.rs, `run_transfer`: a run on the source's timing ends with every chunk acknowledged, or at a ceiling. It
--- never waits for nothing.
-use Prim.Native.Nat.{ℕ, _≤_}
+-- app/transfer.rs, `run_transfer`: a run that ended as the source's does has every chunk acknowledged, or met a ceiling.
+-- It never waits for nothing.
+use Prim.Native.Nat.{ℕ, _+_, _≤_, _<_}
 use mathlib.Core.Path.{_≡_}
-use Rattle.timer.specs.declared.Deadline.the-variants.{At}
-use Rattle.step.specs.State.{RunState}
+use Rattle.step.specs.State.{Given, RunState}
+use Rattle.step.specs.Step.{step}
 use Rattle.step.specs.declared.Plan.{Plan}
-use Rattle.run_ends.specs.Ended.{nextTime}
+use Rattle.step.specs.declared.Course.the-variants.{Going}
+use Rattle.transfer.specs.declared.Ceilings.{Ceilings}
 use Rattle.run_ends.specs.Finish.{PastLimit}
 use Rattle.run_timers.specs.Timed.{windowIn}
 
--- by the last state: as many packets sent again as may be; the next time past the limit; the rounds at this moment used
--- up, or a next time that isn't later; the moments used up
-pub data CeilingMet (p : Plan) (s : RunState) : Type 0 where
-  resends-met : p .«max_retransmissions» ≤ s .resends .«retx_submitted» → CeilingMet p s
-  limit-met : PastLimit p s → CeilingMet p s
-  rounds-met : s .rounds ≡ 0 → CeilingMet p s
-  time-stands : (t : ℕ) → nextTime p s ≡ At t → t ≤ s .time → CeilingMet p s
-  moments-met : s .moves ≡ 0 → CeilingMet p s
+-- a run from s came to u by so many moves in time, and so many rounds at the moment it is at
+pub data Went (p : Plan) (g : Given) (s : RunState) : RunState → ℕ → ℕ → Type 0 where
+  start : Went p g s s 0 0
+  round : {u : RunState} {moves rounds : ℕ} → Went p g s u moves rounds → step p g u .course ≡ Going
+      → step p g u .state .time ≡ u .time → Went p g s (step p g u .state) moves (rounds + 1)
+  move : {u : RunState} {moves rounds : ℕ} → Went p g s u moves rounds → step p g u .course ≡ Going
+      → u .time < step p g u .state .time → Went p g s (step p g u .state) (moves + 1) 0
+
+-- As many packets sent again as may be; the next time past the limit; the rounds at one moment used up; the moments used
+-- up, the first of them without a move. `last` is the run's last state.
+pub data CeilingMet (k : Ceilings) (p : Plan) (g : Given) (s last : RunState) : Type 0 where
+  resends-met : p .«max_retransmissions» ≤ last .resends .«retx_submitted» → CeilingMet k p g s last
+  limit-met : PastLimit p last → CeilingMet k p g s last
+  rounds-met : {u : RunState} {moves rounds : ℕ} → Went p g s u moves rounds → k .rounds ≤ rounds + 1
+      → CeilingMet k p g s last
+  moments-met : {u : RunState} {moves rounds : ℕ} → Went p g s u moves rounds → k .steps ≤ moves + 1
+      → CeilingMet k p g s last
 
 -- the sender's base is past the last chunk
 abbrev pub AllAcknowledged : Plan → RunState → Type 0
