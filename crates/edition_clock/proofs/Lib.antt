@@ -1,6 +1,7 @@
 pub mod Rules
 pub mod Senders
 pub mod Expiry
+pub mod Estimates
 pub mod Moments
 pub mod Steps
 pub mod Ends

@@ -5,6 +5,7 @@ use native.Mathlib.Nat.{le-trans, mul-le-mul-right}
 use mathlib.Core.Path.{_≡_, refl, sym, ap, _∙_, subst}
 use mathlib.Core.Bool.{Bool, true, false, true≢false}
 use mathlib.Core.Logic.{_⊎_, inl, inr, ⊎-elim}
+use mathlib.Core.List.{List, [], _∷_, _++_}
 use lib.Dec.{leb}
 use borrow.Author.Tests.{leb-true, leb-false}
 use Rattle.timer.specs.Timer.{active, expiredAt}
@@ -13,10 +14,11 @@ use Rattle.timer.specs.declared.Deadline.the-variants.{Unset, At}
 use Rattle.rto.specs.declared.RtoEstimator.{RtoEstimator}
 use Rattle.clock.specs.Clock.{ClockState, timerOf}
 use Rattle.session.specs.Sending.{SenderEnd, hasOutstanding}
-use Rattle.edition_clock.specs.Section5.{RtoTimer, rtoTimer, minRto, maxRto, started, onSent, onNewAck, onExpiry, Follows, none, sent, acked, expired, idle}
+use Rattle.edition_clock.specs.Section5.{RtoTimer, rtoTimer, minRto, maxRto, started, onSent, onNewAck, onExpiry, Follows, none, sent, acked, sampled, expired, idle}
 use Rattle.edition_clock.specs.AlongARun.{timerWith}
 use Rattle.edition_clock.proofs.Senders.{retriesOf, LimitIs, Fresh}
 use Rattle.edition_clock.proofs.Expiry.{EditionLimits}
+use Rattle.edition_clock.proofs.Estimates.{Estimated, estimated-start, Unsampled, estimated-same, estimated-more, Sampling, without, with-sample}
 
 -- ---- deadlines
 same-time : {a b : ℕ} → At a ≡ At b → a ≡ b
@@ -89,7 +91,9 @@ pub record Chain (now : ℕ) (from m : Moment) : Type 0 where
   pub packets : ℕ
   pub resent : ℕ
   pub acks : ℕ
-  pub follows : Follows now (timerOn from) (timerOn m) packets resent acks
+  pub rtos : List ℕ
+  pub follows : Follows now (timerOn from) (timerOn m) packets resent acks rtos
+  pub estimated : Estimated now (from .estimator) (m .estimator) rtos
   pub written : m .written ≡ from .written + packets
   pub again : m .again ≡ from .again + resent
   pub acknowledged : m .received - m .duplicates ≡ from .received - from .duplicates + acks
@@ -100,7 +104,7 @@ pub record Along (limit now : ℕ) (from m : Moment) : Type 0 where
   pub chain : Chain now from m
 
 pub along-start : {limit now : ℕ} {m : Moment} → Kept limit now m → m .duplicates ≤ m .received → Along limit now m m
-along-start {m = m} k f = record { kept = k; chain = record { packets = 0; resent = 0; acks = 0; follows = none; written = omega arith; again = omega arith; acknowledged = omega arith; fewer = f } }
+along-start {now = now} {m = m} k f = record { kept = k; chain = record { packets = 0; resent = 0; acks = 0; rtos = []; follows = none; estimated = estimated-start now (m .estimator); written = omega arith; again = omega arith; acknowledged = omega arith; fewer = f } }
 
 -- ---- numbers
 no-retries : {n m : ℕ} → n ≡ 0 → n ≤ m
@@ -136,11 +140,10 @@ spaced-few r n m d now limit most f h i j k = by-test (leb limit r) refl
 module _ {limit now : ℕ} {from m : Moment} (a : Along limit now from m) where
   -- (5.3), and the departure from (5.2)
   pub ack-along : (v : SenderEnd) (e : RtoEstimator) (c : ClockState) → Fresh limit (v .sender .state) → EditionLimits (e .config) → minRto ≤ e .«current_rto» → e .«current_rto» ≤ maxRto
-      → (outstanding : Bool) → timerWith c (e .«current_rto») ≡ onNewAck outstanding now (e .«current_rto») → Along limit now from (moment v e c (m .written) (m .again) (m .received + 1) (m .duplicates))
-  ack-along v e c f l low high outstanding t =
+      → Sampling now (m .estimator) e → (outstanding : Bool) → timerWith c (e .«current_rto») ≡ onNewAck outstanding now (e .«current_rto») → Along limit now from (moment v e c (m .written) (m .again) (m .received + 1) (m .duplicates))
+  ack-along v e c f l low high how outstanding t =
       let rto = e .«current_rto» in
       let s : timerOf c .deadline ≡ At (now + e .«current_rto») = ap (λ (x : RtoTimer). x .deadline) (t ∙ ack-starts outstanding now (e .«current_rto»)) in
-      let h = a .chain in
       record {
         kept = record {
           limits = l;
@@ -154,17 +157,36 @@ module _ {limit now : ℕ} {from m : Moment} (a : Along limit now from m) where
           paced = a .kept .paced;
           spaced = set-least now rto s _ (next-spaced (m .again) minRto now rto (a .kept .paced) low);
         };
-        chain = record {
-          packets = h .packets;
-          resent = h .resent;
-          acks = h .acks + 1;
-          follows = subst (λ (x : RtoTimer). Follows now (timerOn from) x (h .packets) (h .resent) (h .acks + 1)) (sym t) (acked outstanding (e .«current_rto») low high (h .follows));
-          written = h .written;
-          again = h .again;
-          acknowledged = ack-more (m .received) (m .duplicates) (from .received) (from .duplicates) (h .acks) (h .acknowledged) (h .fewer);
-          fewer = let g = h .fewer in omega (arith, g);
-        };
+        chain = by-sampling how;
       }
+    where
+      then : Moment
+      then = moment v e c (m .written) (m .again) (m .received + 1) (m .duplicates)
+
+      chained : (rtos : List ℕ) → Follows now (timerOn from) (timerOn then) (a .chain .packets) (a .chain .resent) (a .chain .acks + 1) rtos → Estimated now (from .estimator) e rtos → Chain now from then
+      chained rtos follows estimated =
+          let h = a .chain in
+          record {
+            packets = h .packets;
+            resent = h .resent;
+            acks = h .acks + 1;
+            rtos = rtos;
+            follows = follows;
+            estimated = estimated;
+            written = h .written;
+            again = h .again;
+            acknowledged = ack-more (m .received) (m .duplicates) (from .received) (from .duplicates) (h .acks) (h .acknowledged) (h .fewer);
+            fewer = let g = h .fewer in omega (arith, g);
+          }
+
+      by-sampling : Sampling now (m .estimator) e → Chain now from then
+      by-sampling (without u r) =
+          let h = a .chain in
+          chained (h .rtos) (subst (λ (x : RtoTimer). Follows now (timerOn from) x (h .packets) (h .resent) (h .acks + 1) (h .rtos)) (sym (t ∙ ap (onNewAck outstanding now) r)) (acked outstanding (h .follows))) (estimated-same (h .estimated) u)
+      by-sampling (with-sample age l is) =
+          let h = a .chain in
+          chained (h .rtos ++ e .«current_rto» ∷ []) (subst (λ (x : RtoTimer). Follows now (timerOn from) x (h .packets) (h .resent) (h .acks + 1) (h .rtos ++ e .«current_rto» ∷ [])) (sym t) (sampled outstanding (e .«current_rto») (h .follows)))
+          (subst (λ (y : RtoEstimator). Estimated now (from .estimator) y (h .rtos ++ y .«current_rto» ∷ [])) (sym is) (estimated-more (h .estimated) age l))
 
   pub duplicate-along : Along limit now from (moment (m .sender) (m .estimator) (m .clock) (m .written) (m .again) (m .received + 1) (m .duplicates + 1))
   duplicate-along =
@@ -176,7 +198,9 @@ module _ {limit now : ℕ} {from m : Moment} (a : Along limit now from m) where
           packets = h .packets;
           resent = h .resent;
           acks = h .acks;
+          rtos = h .rtos;
           follows = h .follows;
+          estimated = h .estimated;
           written = h .written;
           again = h .again;
           acknowledged = ack-again (m .received) (m .duplicates) (from .received) (from .duplicates) (h .acks) (h .acknowledged) (h .fewer);
@@ -194,7 +218,9 @@ module _ {limit now : ℕ} {from m : Moment} (a : Along limit now from m) where
           packets = a .chain .packets + 1;
           resent = a .chain .resent;
           acks = a .chain .acks;
-          follows = subst (λ (x : RtoTimer). Follows now (timerOn from) x (a .chain .packets + 1) (a .chain .resent) (a .chain .acks)) (sym t) (sent (a .chain .follows));
+          rtos = a .chain .rtos;
+          follows = subst (λ (x : RtoTimer). Follows now (timerOn from) x (a .chain .packets + 1) (a .chain .resent) (a .chain .acks) (a .chain .rtos)) (sym t) (sent (a .chain .follows));
+          estimated = a .chain .estimated;
           written = plus-one (m .written) (from .written) (a .chain .packets) (a .chain .written) w;
           again = a .chain .again;
           acknowledged = a .chain .acknowledged;
@@ -243,9 +269,9 @@ module _ {limit now : ℕ} {from m : Moment} (a : Along limit now from m) where
 
   -- (5.4) to (5.6)
   pub expired-along : (v : SenderEnd) (e : RtoEstimator) (c : ClockState) (written again : ℕ) → expiredAt (timerOf (m .clock) .deadline) now ≡ true → LimitIs limit (v .sender .state)
-      → retriesOf (v .sender .state) ≤ retriesOf (m .sender .sender .state) + 1 → EditionLimits (e .config) → timerWith c (e .«current_rto») ≡ onExpiry now (timerOn m) → written ≡ m .written + 1 → again ≡ m .again + 1
+      → retriesOf (v .sender .state) ≤ retriesOf (m .sender .sender .state) + 1 → EditionLimits (e .config) → Unsampled (m .estimator) e → timerWith c (e .«current_rto») ≡ onExpiry now (timerOn m) → written ≡ m .written + 1 → again ≡ m .again + 1
       → Along limit now from (moment v e c written again (m .received) (m .duplicates))
-  expired-along v e c written again x i r l t w g =
+  expired-along v e c written again x i r l u t w g =
       let doubled = min (2 * m .estimator .«current_rto») maxRto in
       let rto : e .«current_rto» ≡ min (2 * m .estimator .«current_rto») maxRto = ap (λ (y : RtoTimer). y .rto) t in
       let s : timerOf c .deadline ≡ At (now + min (2 * m .estimator .«current_rto») maxRto) = ap (λ (y : RtoTimer). y .deadline) t in
@@ -269,7 +295,9 @@ module _ {limit now : ℕ} {from m : Moment} (a : Along limit now from m) where
           packets = a .chain .packets + 1;
           resent = a .chain .resent + 1;
           acks = a .chain .acks;
-          follows = subst (λ (y : RtoTimer). Follows now (timerOn from) y (a .chain .packets + 1) (a .chain .resent + 1) (a .chain .acks)) (sym t) (expired x (a .chain .follows));
+          rtos = a .chain .rtos;
+          follows = subst (λ (y : RtoTimer). Follows now (timerOn from) y (a .chain .packets + 1) (a .chain .resent + 1) (a .chain .acks) (a .chain .rtos)) (sym t) (expired x (a .chain .follows));
+          estimated = estimated-same (a .chain .estimated) u;
           written = plus-one (m .written) (from .written) (a .chain .packets) (a .chain .written) w;
           again = plus-one (m .again) (from .again) (a .chain .resent) (a .chain .again) g;
           acknowledged = a .chain .acknowledged;
@@ -300,7 +328,9 @@ module _ {limit now : ℕ} {from m : Moment} (a : Along limit now from m) where
           packets = h .packets;
           resent = h .resent;
           acks = h .acks;
-          follows = subst (λ (y : Deadline). Follows now (timerOn from) (rtoTimer y (m .estimator .«current_rto»)) (h .packets) (h .resent) (h .acks)) (sym u) (idle x (h .follows));
+          rtos = h .rtos;
+          follows = subst (λ (y : Deadline). Follows now (timerOn from) (rtoTimer y (m .estimator .«current_rto»)) (h .packets) (h .resent) (h .acks) (h .rtos)) (sym u) (idle x (h .follows));
+          estimated = h .estimated;
           written = h .written;
           again = h .again;
           acknowledged = h .acknowledged;

@@ -54,6 +54,7 @@ use Rattle.edition_clock.specs.AlongARun.{StepFollows}
 use Rattle.edition_clock.proofs.Rules.{timerAt, send-5-1, accepted-5-3}
 use Rattle.edition_clock.proofs.Senders.{LimitIs, retriesOf, sent-fresh, acknowledged-fresh, earliest-again}
 use Rattle.edition_clock.proofs.Expiry.{EditionLimits, not-expired, idle-expiry, expiry-is, expiry-written, expiry-resent, expiry-5-6}
+use Rattle.edition_clock.proofs.Estimates.{Unsampled, sampling, backed-unsampled}
 use Rattle.edition_clock.proofs.Moments.{Moment, moment, Kept, Chain, Along, along-start, ack-along, duplicate-along, sent-along, expired-along, idle-along, retries-left, kept-later}
 
 -- ---- the RTO after a sample is within the limits
@@ -107,7 +108,7 @@ module _ (limit now : ℕ) (from : Moment) (w a : ℕ) where
           let k = h .kept in
           let l = sampled (s .estimator) (s .metas) seq now (record { limits = k .limits; low = k .low; high = k .high }) in
           subst Is (sym (on-accepted-is Edition now raw u n seq))
-          (ack-along h v _ _ (acknowledged-fresh limit (s .sender) n (k .limit-is)) (l .limits) (l .low) (l .high) (isOutstanding (oldestOutstanding (v .sender)))
+          (ack-along h v _ _ (acknowledged-fresh limit (s .sender) n (k .limit-is)) (l .limits) (l .low) (l .high) (sampling (s .estimator) (s .metas) seq now) (isOutstanding (oldestOutstanding (v .sender)))
           (subst (λ (y : AckState). timerAt y ≡ onNewAck (isOutstanding (oldestOutstanding (v .sender))) now (y .estimator .«current_rto»)) (on-accepted-is Edition now raw u n seq) (accepted-5-3 now n seq u)))
 
       by-test : (n : ℕ) → ackNumber (readDatagram raw) ≡ ack.Number n → (b : Bool) → inWindow (windowOf (s .sender .sender)) n ≡ b → Is (onAck Edition now raw s)
@@ -156,6 +157,7 @@ module _ (limit now : ℕ) (from : Moment) (rolls : List Float) (received duplic
           (subst (λ (y : FireExit). LimitIs limit (y .state .sender .sender .state)) (sym eq) (a .limit-is))
           (subst (λ (y : FireExit). retriesOf (y .state .sender .sender .state) ≤ retriesOf (s .sender .sender .state) + 1) (sym eq) (a .retries))
           (subst (λ (y : FireExit). EditionLimits (y .state .estimator .config)) (sym eq) (backed-limits (s .estimator) (k .limits)))
+          (subst (λ (y : FireExit). Unsampled (s .estimator) (y .state .estimator)) (sym eq) (backed-unsampled (s .estimator)))
           (expiry-5-6 top rolls now s c x o a going (k .limits) (k .low)) (expiry-written top rolls now s c x o a going) (expiry-resent top rolls now s c x o a)
 
       by-outstanding : ceilingMet top (s .resends) ≡ false → expiredAt (timerOf (s .outgoing .clock) .deadline) now ≡ true → (b : Bool) → hasOutstanding (s .sender .sender) ≡ b → After
@@ -235,7 +237,7 @@ module _ (limit : ℕ) (patient : maxDuration < limit * minRto) {p : Plan} {g : 
           (subst (λ (t : Timing). GoodFire t (g .forwardRolls) (after .arrivals .received) (s .time) (fireOf after)) e f) arrived)
 
   chained : (u : RunState) (time moves rounds : ℕ) → Chain (s .time) (ofRun s) (ofRun u) → StepFollows s (at u time moves rounds)
-  chained u time moves rounds c = record { packets = c .packets; again = c .resent; acks = c .acks; follows = c .follows; written = c .written; resent = c .again; acknowledged = c .acknowledged }
+  chained u time moves rounds c = record { packets = c .packets; again = c .resent; acks = c .acks; rtos = c .rtos; follows = c .follows; written = c .written; resent = c .again; acknowledged = c .acknowledged; estimates = c .estimated .estimates; samples = c .estimated .counted }
 
   pub step-along : step p g s .course ≡ course.Going → Stepped limit s (step p g s .state)
   step-along =

@@ -2,7 +2,13 @@
 use Prim.Native.Nat.{ℕ, _+_, _-_, _*_, _≤_}
 use mathlib.Core.Path.{_≡_}
 use mathlib.Core.Bool.{true}
-use mathlib.Core.List.{[], _∷_, _++_}
+use mathlib.Core.List.{List, [], _∷_, _++_}
+use lib.ListN.{length}
+use Rattle.rto.specs.Rto.{limited, estimateFor}
+use Rattle.rto.specs.declared.RtoConfig.{RtoConfig}
+use Rattle.rto.specs.declared.RtoEstimator.{RtoEstimator}
+use Rattle.rto.specs.declared.MaybeDuration.{MaybeDuration}
+use Rattle.rto.specs.declared.MaybeDuration.the-variants.{Set}
 use Rattle.timer.specs.Timer.{active}
 use Rattle.timer.specs.declared.Deadline.the-variants.{At}
 use Rattle.events.specs.Events.{ForwardEvent, eventsOf}
@@ -29,15 +35,32 @@ timerIn s = timerWith (s .arrivals .clock) (s .arrivals .estimator .«current_rt
 abbrev pub newAcks : RunState → ℕ
 newAcks s = s .arrivals .received - s .arrivals .duplicates
 
--- A step from s to u: timer and RTO change by the rules alone, one for each packet sent and each ACK of new data.
+-- Section 2 at the moment `now`, with the setup c, from one SRTT and RTTVAR to others: the RTO of each sample, none
+-- older than the run, is that of (2.2) or (2.3), within its limits.
+pub data Estimates (now : ℕ) (c : RtoConfig) (srtt rttvar : MaybeDuration)
+    : MaybeDuration → MaybeDuration → List ℕ → Type 0 where
+  same : Estimates now c srtt rttvar srtt rttvar []
+  estimated : {s v : MaybeDuration} {rtos : List ℕ} (age : ℕ) → age ≤ now → Estimates now c srtt rttvar s v rtos
+      → Estimates now c srtt rttvar (Set (estimateFor c s v age .srtt)) (Set (estimateFor c s v age .rttvar))
+      (rtos ++ limited c (estimateFor c s v age .rto) ∷ [])
+
+abbrev pub estimatorIn : RunState → RtoEstimator
+estimatorIn s = s .arrivals .estimator
+
+-- A step from s to u: timer and RTO change by the rules alone, one for each packet sent and each ACK of new data; the
+-- RTOs of samples are section 2's, one for each that the estimator counts.
 pub record StepFollows (s u : RunState) : Type 0 where
   pub packets : ℕ
   pub again : ℕ
   pub acks : ℕ
-  pub follows : Follows (s .time) (timerIn s) (timerIn u) packets again acks
+  pub rtos : List ℕ
+  pub follows : Follows (s .time) (timerIn s) (timerIn u) packets again acks rtos
   pub written : u .written ≡ s .written + packets
   pub resent : u .resends .«retx_submitted» ≡ s .resends .«retx_submitted» + again
   pub acknowledged : newAcks u ≡ newAcks s + acks
+  pub estimates : Estimates (s .time) (estimatorIn s .config) (estimatorIn s .srtt) (estimatorIn s .rttvar)
+      (estimatorIn u .srtt) (estimatorIn u .rttvar) rtos
+  pub samples : estimatorIn u .stats .«sample_count» ≡ estimatorIn s .stats .«sample_count» + length rtos
 
 -- Between steps and at the end: the RTO is within its limits, and at most one packet a second was sent again.
 pub record WithinLimits (s : RunState) : Type 0 where

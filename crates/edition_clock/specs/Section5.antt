@@ -1,8 +1,9 @@
 -- RFC 6298, section 5, over what its rules speak of: the timer, which runs while it has a deadline, and the RTO. How an
 -- RTO comes of a sample is section 2's. Document 01, "The edition clock", departs from (5.2).
-use Prim.Native.Nat.{ℕ, _+_, _*_, _≤_, min}
+use Prim.Native.Nat.{ℕ, _+_, _*_, min}
 use mathlib.Core.Path.{_≡_}
 use mathlib.Core.Bool.{Bool, true, cond}
+use mathlib.Core.List.{List, [], _∷_, _++_}
 use Rattle.timer.specs.Timer.{active, expiredAt}
 use Rattle.timer.specs.declared.Deadline.{Deadline}
 use Rattle.timer.specs.declared.Deadline.the-variants.{Unset, At}
@@ -47,14 +48,20 @@ abbrev pub onIdleExpiry : RtoTimer → RtoTimer
 onIdleExpiry x = rtoTimer Unset (x .rto)
 
 -- The rules lead from x to another timer, all at the moment `now`, with so many packets sent, so many of them again by
--- (5.4), and so many ACKs of new data.
-pub data Follows (now : ℕ) (x : RtoTimer) : RtoTimer → ℕ → ℕ → ℕ → Type 0 where
-  none : Follows now x x 0 0 0
-  sent : {y : RtoTimer} {packets again acks : ℕ} → Follows now x y packets again acks
-      → Follows now x (onSent now y) (packets + 1) again acks
-  acked : {y : RtoTimer} {packets again acks : ℕ} (outstanding : Bool) (rto : ℕ) → minRto ≤ rto → rto ≤ maxRto
-      → Follows now x y packets again acks → Follows now x (onNewAck outstanding now rto) packets again (acks + 1)
-  expired : {y : RtoTimer} {packets again acks : ℕ} → expiredAt (y .deadline) now ≡ true
-      → Follows now x y packets again acks → Follows now x (onExpiry now y) (packets + 1) (again + 1) acks
-  idle : {y : RtoTimer} {packets again acks : ℕ} → expiredAt (y .deadline) now ≡ true
-      → Follows now x y packets again acks → Follows now x (onIdleExpiry y) packets again acks
+-- (5.4), so many ACKs of new data, and the RTOs that their samples gave, oldest first.
+pub data Follows (now : ℕ) (x : RtoTimer) : RtoTimer → ℕ → ℕ → ℕ → List ℕ → Type 0 where
+  none : Follows now x x 0 0 0 []
+  sent : {y : RtoTimer} {packets again acks : ℕ} {rtos : List ℕ} → Follows now x y packets again acks rtos
+      → Follows now x (onSent now y) (packets + 1) again acks rtos
+  -- without a sample, or with one that Karn's algorithm rejects
+  acked : {y : RtoTimer} {packets again acks : ℕ} {rtos : List ℕ} (outstanding : Bool)
+      → Follows now x y packets again acks rtos
+      → Follows now x (onNewAck outstanding now (y .rto)) packets again (acks + 1) rtos
+  sampled : {y : RtoTimer} {packets again acks : ℕ} {rtos : List ℕ} (outstanding : Bool) (rto : ℕ)
+      → Follows now x y packets again acks rtos
+      → Follows now x (onNewAck outstanding now rto) packets again (acks + 1) (rtos ++ rto ∷ [])
+  expired : {y : RtoTimer} {packets again acks : ℕ} {rtos : List ℕ} → expiredAt (y .deadline) now ≡ true
+      → Follows now x y packets again acks rtos
+      → Follows now x (onExpiry now y) (packets + 1) (again + 1) acks rtos
+  idle : {y : RtoTimer} {packets again acks : ℕ} {rtos : List ℕ} → expiredAt (y .deadline) now ≡ true
+      → Follows now x y packets again acks rtos → Follows now x (onIdleExpiry y) packets again acks rtos

@@ -1,18 +1,13 @@
 -- How every run of `run_transfer` ends.
 use Prim.Native.Nat.{ℕ, _+_, _-_}
 use native.Mathlib.Omega.{arith}
-use mathlib.Core.Path.{_≡_, refl, sym, ap, _∙_, subst}
+use mathlib.Core.Path.{_≡_, refl, sym, ap, _∙_}
 use mathlib.Core.Bool.{Bool, true, _||_}
 use mathlib.Core.Logic.{_⊎_, inl, inr, ⊎-elim}
 use mathlib.Core.List.{List}
 use lib.Dec.{ltb}
 use lib.Ieee.{Float}
 use lib.ListN.{length, take}
-use Rattle.refusal.specs.Order.{verdict}
-use Rattle.refusal.specs.declared.Refusal.{Refusal}
-use Rattle.refusal.specs.declared.Verdict.{Verdict}
-use Rattle.refusal.specs.declared.Verdict.the-variants.{Accepted, Refused}
-use Rattle.refusal.proofs.Laws.{on-accepted, on-refused}
 use Rattle.schedule.specs.Record.{freePlaces}
 use Rattle.schedule.specs.State.{placeCount, copies, lacksRoom}
 use Rattle.channel.specs.Faults.{deliveriesOf}
@@ -26,8 +21,7 @@ use Rattle.path.specs.declared.Stop.the-variants as stop
 use Rattle.path.proofs.Laws.{granted}
 use Rattle.clock.specs.Estimator.{Factors}
 use Rattle.sending.proofs.Laws.{unused}
-use Rattle.setup.specs.Setup.{CanStart, startChecks}
-use Rattle.setup.proofs.Laws.{start-accepted, start-accepts}
+use Rattle.setup.specs.Setup.{CanStart}
 use Rattle.setup.specs.declared.TransferConfig.{TransferConfig}
 use Rattle.step.specs.State.{Given, RunState, Lent}
 use Rattle.step.specs.Settle.{StepExit}
@@ -35,11 +29,12 @@ use Rattle.step.specs.declared.End.{End}
 use Rattle.step.specs.declared.End.the-variants as end
 use Rattle.transfer.specs.Start.{planFor, reverseConfig, newRun, startOf}
 use Rattle.transfer.specs.Run.{run}
-use Rattle.transfer.specs.Transfer.{endOf, outcomeOf, lentOf, RunExit, runExit, ended, runTransfer}
+use Rattle.transfer.specs.Transfer.{endOf, outcomeOf, lentOf, RunExit, runTransfer}
 use Rattle.transfer.specs.declared.Ceilings.{Ceilings}
 use Rattle.transfer.specs.declared.Outcome.{Outcome}
 use Rattle.transfer.specs.declared.RunAnswer.the-variants as answer
 use Rattle.transfer.proofs.Laws.{start-plan, start-good}
+pub use Rattle.transfer.proofs.Laws.{accepted-is, outcome-starts, by-outcome}
 use Rattle.run_ends.specs.Ends.{Line, forwardLine, reverseLine, rollsSpent, scheduleLeft, scheduleFull, Stopped, AllCarried, LastNotCarried, EndWhy, EndsSo, IsOutcome}
 use Rattle.run_ends.specs.Ends.EndWhy.{carried, forward-stopped, reverse-stopped}
 use Rattle.run_ends.proofs.Unique.{end-unique}
@@ -119,41 +114,13 @@ start-on k c g l =
 
 -- ---- of every call that isn't refused. Doubles and Factors say what the doubles given are by their types.
 module _ (k : Ceilings) (c : TransferConfig) (g : Given) (l : Lent) where
-  pub accepted-is : CanStart (startOf c g l) → runTransfer k c g l ≡ ended (run (planFor k c g) g (newRun k c l))
-  unfolding runTransfer
-  accepted-is h = on-accepted (λ (r : Refusal). runExit (answer.Refused r) l) (ended (run (planFor k c g) g (newRun k c l))) (start-accepts (startOf c g l) h)
-
-  refused-is : {r : Refusal} → verdict (startChecks (startOf c g l)) ≡ Refused r → runTransfer k c g l ≡ runExit (answer.Refused r) l
-  unfolding runTransfer
-  refused-is a = on-refused (λ (r : Refusal). runExit (answer.Refused r) l) (ended (run (planFor k c g) g (newRun k c l))) a
-
-  not-outcome : {r : Refusal} {o : Outcome} → answer.Refused r ≡ answer.Outcome o → ⊥
-  not-outcome e = let z : _≡_ {A = ℕ} 0 1 = cc in omega arith
-
-  -- an outcome is only of a run that could start
-  pub outcome-starts : {o : Outcome} → runTransfer k c g l .answer ≡ answer.Outcome o → CanStart (startOf c g l)
-  outcome-starts {o} = by-verdict (verdict (startChecks (startOf c g l))) refl
-    where
-      by-verdict : (v : Verdict) → verdict (startChecks (startOf c g l)) ≡ v → runTransfer k c g l .answer ≡ answer.Outcome o → CanStart (startOf c g l)
-      by-verdict Accepted a e = start-accepted (startOf c g l) a
-      by-verdict (Refused r) a e = absurd (not-outcome (sym (ap (λ (x : RunExit). x .answer) (refused-is a)) ∙ e))
-
-  -- and one that can start isn't refused
+  -- one that can start isn't refused
   pub never-refused : CanStart (startOf c g l) → IsOutcome (runTransfer k c g l .answer)
-  never-refused h = record { outcome = outcomeOf (run (planFor k c g) g (newRun k c l)); is = ap (λ (x : RunExit). x .answer) (accepted-is h) }
-
-  -- what holds of a run's end holds of the outcome
-  pub by-outcome : (P : Outcome → Lent → Type 0) → (CanStart (startOf c g l) → P (outcomeOf (run (planFor k c g) g (newRun k c l))) (lentOf (run (planFor k c g) g (newRun k c l) .state))) → (o : Outcome) → runTransfer k c g l .answer ≡ answer.Outcome o → P o (runTransfer k c g l .lent)
-  by-outcome P h o e =
-      let s = outcome-starts e in
-      let i = accepted-is s in
-      let same : answer.Outcome (outcomeOf (run (planFor k c g) g (newRun k c l))) ≡ answer.Outcome o = sym (ap (λ (x : RunExit). x .answer) i) ∙ e in
-      let is : outcomeOf (run (planFor k c g) g (newRun k c l)) ≡ o = cc in
-      subst (λ (x : RunExit). P o (x .lent)) (sym i) (subst (λ (y : Outcome). P y (lentOf (run (planFor k c g) g (newRun k c l) .state))) is (h s))
+  never-refused h = record { outcome = outcomeOf (run (planFor k c g) g (newRun k c l)); is = ap (λ (x : RunExit). x .answer) (accepted-is k c g l h) }
 
   pub transfer-ends : Doubles (g .forwardRolls) → Doubles (g .reverseRolls) → Factors (c .rto) → (o : Outcome) → runTransfer k c g l .answer ≡ answer.Outcome o → EndsSo c g o (runTransfer k c g l .lent)
   transfer-ends forward reverse factors =
-      by-outcome (λ o m. EndsSo c g o m)
+      by-outcome k c g l (λ o m. EndsSo c g o m)
       (λ h. so c g k (run (planFor k c g) g (newRun k c l)) (run-ends-at (c .channel) (reverseConfig (c .channel)) (planFor k c g) g (start-plan k c g l h) (newRun k c l) (start-good k c g l h forward reverse factors) (start-on k c g l)))
 
   -- and so in no other way: where the answer and the slices say why a run ended so, it ended so

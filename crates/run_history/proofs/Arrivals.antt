@@ -2,7 +2,7 @@
 use Prim.Native.Nat.{ℕ, _+_}
 use mathlib.Core.Path.{_≡_, refl, sym, ap, _∙_, subst}
 use mathlib.Core.Bool.{Bool, true, false, cond, _||_}
-use mathlib.Core.List.{List, [], _++_}
+use mathlib.Core.List.{List, [], _++_, append-nil}
 use lib.ListN.{take}
 use lib.Dec.{ltb}
 use Rattle.packet.specs.Format.{newPacket, made}
@@ -14,8 +14,7 @@ use Rattle.receiver.specs.declared.ReceiveAnswer.the-variants as receiveAnswer
 use Rattle.schedule.specs.declared.ReadyAnswer.the-variants as ready
 use Rattle.rto.specs.declared.RtoEstimator.{RtoEstimator}
 use Rattle.path.specs.Direction.{Direction}
-use Rattle.path.specs.Path.{isGoing, leftByTake, takeReady, CanCarry}
-use Rattle.path.specs.declared.Stop.the-variants as stop
+use Rattle.path.specs.Path.{isGoing, leftByTake, CanCarry}
 use Rattle.session.specs.Sending.{SenderEnd, windowOf}
 use Rattle.session.specs.Receiving.{base, isCumulative}
 use Rattle.session.specs.declared.Receiver.{Receiver}
@@ -23,7 +22,7 @@ use Rattle.receiving.specs.Receiving.{Inbound, ForwardExit, isData, gbnDuplicat
 use Rattle.receiving.specs.declared.ReceivingSide.{ReceivingSide}
 use Rattle.receiving.specs.Good.{CanOnForward}
 use Rattle.receiving.proofs.Laws.{Received, data-received, received-good, ack-submitted, markedMetas, submit-carries, forward-dropped, forward-silent, forward-refused, forward-acknowledged, nextTaken, nextExit, serve-turns}
-use Rattle.run_history.specs.Calls.{ends, arrival, Reply, reply, repliedBy}
+use Rattle.run_history.specs.Calls.{ends, arrival, Submission, Reply, reply, repliedBy}
 use native.Mathlib.Omega.{arith}
 use Rattle.packet.proofs.Laws.{made-length}
 use Rattle.channel.specs.declared.Channel.{Channel}
@@ -35,8 +34,8 @@ use Rattle.notes.specs.Notes.{SegMetas, markAckScheduled}
 use Rattle.sending.specs.declared.Resends.{Resends}
 use Rattle.run_history.specs.Premature.{covers}
 use Rattle.run_history.proofs.Noted.{noted-marked, any-more}
-use Rattle.run_history.proofs.Columns.{carry-replying}
-use Rattle.run_history.proofs.Tells.{Origin, Moment, moment, Told, Makes, Goes, still-told, by-call, Notes, no-trip, same-noted, same-chunked, none-sent, none-replied, no-more}
+use Rattle.run_history.proofs.Columns.{TakenFrom, taken-from, line-taken, carry-replying}
+use Rattle.run_history.proofs.Tells.{Origin, Moment, moment, Sent, Told, Makes, Goes, still-told, by-call, Notes, no-trip, same-noted, same-chunked, none-replied, no-more}
 
 absorbed-duplicates : (total now : ℕ) (x : ReceivingSide) → absorb total now x .«duplicate_data» ≡ x .«duplicate_data»
 unfolding absorb
@@ -54,22 +53,27 @@ module _ (b : Origin) (v : SenderEnd) (e : RtoEstimator) (acks duplicates : ℕ)
   abbrev pub Arrives : Direction → Inbound → Type 0
   Arrives f i = Told b (arriveMoment f i)
 
-  module _ (total now : ℕ) (raw : List ℕ) (f : Direction) (i : Inbound) (accepts : isData (readDatagram raw) ≡ true → isRefused (handled raw i .answer) ≡ false) where
+  module _ (total now : ℕ) (raw : List ℕ) (f left : Direction) (from : TakenFrom f left) (i : Inbound) (accepts : isData (readDatagram raw) ≡ true → isRefused (handled raw i .answer) ≡ false) where
     abbrev now-at : Moment
     now-at = arriveMoment f i
 
     abbrev then-at : Inbound → Moment
-    then-at x = arriveMoment f x
+    then-at x = arriveMoment left x
+
+    one-arrived : (xs : List Submission) (came : ℕ) → Sent b xs came now-at → Sent b (xs ++ []) (came + 1) (then-at i)
+    one-arrived xs came s =
+        subst (λ (l : List Submission). Sent b l (came + 1) (then-at i)) (sym (append-nil xs))
+        (record { again-are = s .again-are; written-are = s .written-are; line = line-taken f left from (s .line); events-are = s .events-are })
 
     -- what can't be read or is no Data
-    dropped : isData (readDatagram raw) ≡ false → Makes b (arrival raw true) now-at now-at
+    dropped : isData (readDatagram raw) ≡ false → Makes b (arrival raw true) now-at (then-at i)
     dropped h =
         record {
           not-refused = accepts;
           ends-are = rw h;
           chunks-are = same-chunked b now-at;
-          sending = none-sent b now-at;
-          replying = λ xs s. rw h (none-replied b now-at xs s);
+          sending = one-arrived;
+          replying = λ xs came s. rw h (none-replied b now-at xs came s);
           estimator-is = λ sampled again t. refl;
           taken = λ sampled again t. tt;
           datas-are = rw h (no-more (i .side .«data_received»));
@@ -95,8 +99,8 @@ module _ (b : Origin) (v : SenderEnd) (e : RtoEstimator) (acks duplicates : ℕ)
           not-refused = accepts;
           ends-are = rw h (after-data d);
           chunks-are = same-chunked b now-at;
-          sending = none-sent b now-at;
-          replying = λ xs s. rw (h, none, d .reverse, d .acks) (none-replied b now-at xs s);
+          sending = one-arrived;
+          replying = λ xs came s. rw (h, none, d .reverse, d .acks) (none-replied b now-at xs came s);
           estimator-is = λ sampled again t. refl;
           taken = λ sampled again t. tt;
           datas-are = rw h (sym (d .datas));
@@ -117,8 +121,8 @@ module _ (b : Origin) (v : SenderEnd) (e : RtoEstimator) (acks duplicates : ℕ)
           not-refused = accepts;
           ends-are = rw h (after-data d);
           chunks-are = same-chunked b now-at;
-          sending = none-sent b now-at;
-          replying = λ xs s. rw (h, a) (carry-replying {xs = xs} now n (windowOf (v .sender) .«next_seq_num») (isCumulative (handled raw i .receiver .receiver)) (made (newPacket n packetType.Ack) []) (received total now raw i .reverse) (rw (d .acks, d .reverse) s) going g);
+          sending = one-arrived;
+          replying = λ xs came s. rw (h, a, no-more came) (carry-replying {xs = xs} now n (windowOf (v .sender) .«next_seq_num») (isCumulative (handled raw i .receiver .receiver)) (made (newPacket n packetType.Ack) []) (received total now raw i .reverse) (rw (d .acks, d .reverse) s) going g);
           estimator-is = λ sampled again t. refl;
           taken = λ sampled again t. tt;
           datas-are = rw h (sym (d .datas));
@@ -179,11 +183,6 @@ module _ (b : Origin) (v : SenderEnd) (e : RtoEstimator) (acks duplicates : ℕ)
         by-reading true h = by-answer h (handled raw i .answer) refl
         by-reading false h = subst After (sym (forward-dropped (b .reverseRolls) total now raw i h)) (by-call q (dropped h) (λ g. refl) (λ g xs ys k. rw h (same-noted now-at xs ys k)))
 
-  -- taking a copy changes nothing that the calls make
-  taken : (now : ℕ) (f : Direction) (i : Inbound) (going : Bool) → Goes b (arriveMoment f i) going → Goes b (arriveMoment (leftByTake (nextTaken now f)) i) going
-  unfolding takeReady
-  taken now f i going q = q
-
   -- I: what the turns keep, and by which no Data is refused
   pub arrivals-told : (total now : ℕ) (I : Direction → Inbound → Type 0)
       → ((f : Direction) (i : Inbound) (n : ℕ) → nextTaken now f .result .answer ≡ ready.Packet n → I f i → I (leftByTake (nextTaken now f)) (nextExit (b .reverseRolls) total now f i n .inbound))
@@ -196,4 +195,4 @@ module _ (b : Origin) (v : SenderEnd) (e : RtoEstimator) (acks duplicates : ℕ)
     where
       turn : (f : Direction) (i : Inbound) (n : ℕ) → nextTaken now f .result .answer ≡ ready.Packet n → I f i → Arrives f i
           → Goes b (arriveMoment (leftByTake (nextTaken now f)) (nextExit (b .reverseRolls) total now f i n .inbound)) (isGoing (nextExit (b .reverseRolls) total now f i n .stop))
-      turn f i n e k q = taken now f (nextExit (b .reverseRolls) total now f i n .inbound) (isGoing (nextExit (b .reverseRolls) total now f i n .stop)) (arrival-told total now (take n (nextTaken now f .out)) f i (accepts f i n e k) (can f i n e k) q)
+      turn f i n e k q = arrival-told total now (take n (nextTaken now f .out)) f (leftByTake (nextTaken now f)) (taken-from now f n e) i (accepts f i n e k) (can f i n e k) q

@@ -107,30 +107,30 @@ resent-below v t unbroken =
 
 -- ---- datagrams again, until the ceiling is met or the run ends
 module _ (c : ChannelConfig) (rolls : List Float) (limit : ℕ) (t : Timing) (rto now : ℕ) (oldest : Oldest) where
-  abbrev Sends : List Submission → Resends → Outgoing → Type 0
-  Sends xs r o = Sending c rolls xs (r .«retx_submitted») (o .written) (lineOf (o .forward)) (eventsIn o)
+  abbrev Sends : List Submission → ℕ → Resends → Outgoing → Type 0
+  Sends xs came r o = Sending c rolls xs came (r .«retx_submitted») (o .written) (lineOf (o .forward)) (eventsIn o)
 
   record Resubmits (wires : List (List ℕ)) (r : Resends) (o : Outgoing) (y : RetransmitExit) : Type 0 where
     carried : List Bool
-    sending : (xs : List Submission) → Sends xs r o → Sends (xs ++ resubmissions carried wires) (y .resends) (y .outgoing)
+    sending : (xs : List Submission) (came : ℕ) → Sends xs came r o → Sends (xs ++ resubmissions carried wires) came (y .resends) (y .outgoing)
     whole : isGoing (y .stop) ≡ true → y .resends .exhausted ≡ false → carried ≡ replicate (length wires) true
     premature : (test : ℕ → Bool) → ((n : ℕ) → test n ≡ isPremature (o .metas) n) → r .premature + count (λ (x : Submission). test (x .seq)) (resubmissions carried wires) ≡ y .resends .premature
     noted : isGoing (y .stop) ≡ true → (xs : List Reply) (ys : List ℕ) (next : ℕ) → Below next wires → NotedBy (eventsIn o) xs ys next (o .metas) → NotedBy (eventsIn (y .outgoing)) xs ys next (y .outgoing .metas)
 
-  none-again : (wires : List (List ℕ)) (r : Resends) (o : Outgoing) (y : RetransmitExit) → ((xs : List Submission) → Sends xs r o → Sends xs (y .resends) (y .outgoing)) → (isGoing (y .stop) ≡ true → y .resends .exhausted ≡ false → [] ≡ replicate (length wires) true)
+  none-again : (wires : List (List ℕ)) (r : Resends) (o : Outgoing) (y : RetransmitExit) → ((xs : List Submission) (came : ℕ) → Sends xs came r o → Sends xs came (y .resends) (y .outgoing)) → (isGoing (y .stop) ≡ true → y .resends .exhausted ≡ false → [] ≡ replicate (length wires) true)
       → r .premature ≡ y .resends .premature → ((xs : List Reply) (ys : List ℕ) (next : ℕ) → NotedBy (eventsIn o) xs ys next (o .metas) → NotedBy (eventsIn (y .outgoing)) xs ys next (y .outgoing .metas)) → Resubmits wires r o y
   none-again wires r o y f w p k = record {
     carried = [];
-    sending = λ xs s. subst (λ (l : List Submission). Sends l (y .resends) (y .outgoing)) (sym (append-nil xs)) (f xs s);
+    sending = λ xs came s. subst (λ (l : List Submission). Sends l came (y .resends) (y .outgoing)) (sym (append-nil xs)) (f xs came s);
     whole = w;
     premature = λ test h. ap (λ (n : ℕ). r .premature + n) (count-none (λ (x : Submission). test (x .seq))) ∙ no-more (r .premature) ∙ p;
     noted = λ g xs ys next l. k xs ys next;
   }
 
-  one-again : (wire : List ℕ) (r : Resends) (o : Outgoing) (b : Bool) → isGoing (retransmit t rolls rto now oldest (numberOf wire) wire r o .stop) ≡ b → (xs : List Submission) → Sends xs r o
-      → Sends (xs ++ submission (numberOf wire) true wire b ∷ []) (retransmit t rolls rto now oldest (numberOf wire) wire r o .resends) (retransmit t rolls rto now oldest (numberOf wire) wire r o .outgoing)
+  one-again : (wire : List ℕ) (r : Resends) (o : Outgoing) (b : Bool) → isGoing (retransmit t rolls rto now oldest (numberOf wire) wire r o .stop) ≡ b → (xs : List Submission) (came : ℕ) → Sends xs came r o
+      → Sends (xs ++ submission (numberOf wire) true wire b ∷ []) came (retransmit t rolls rto now oldest (numberOf wire) wire r o .resends) (retransmit t rolls rto now oldest (numberOf wire) wire r o .outgoing)
   unfolding retransmit
-  one-again wire r o b g xs s = submit-sending t (record { time = now; seq = numberOf wire; rto = rto; retransmission = true; oldest = oldest }) wire o s refl b g
+  one-again wire r o b g xs came s = submit-sending t (record { time = now; seq = numberOf wire; rto = rto; retransmission = true; oldest = oldest }) wire o s refl b g
 
   abbrev again : List ℕ → Resends → Outgoing → RetransmitExit
   again wire r o = retransmit t rolls rto now oldest (numberOf wire) wire r o
@@ -172,7 +172,7 @@ module _ (c : ChannelConfig) (rolls : List Float) (limit : ℕ) (t : Timing) (rt
             let p = count-one (λ (x : Submission). test (x .seq)) (submission (numberOf wire) true wire true) (resubmissions (rest .carried) wires) in
             sum-more _ _ _ _ _ _ p c k;
         noted = λ on xs ys next l q. rest .noted on xs ys next (l .1) (again-noted wire r o g xs ys next (l .0) q);
-        sending = λ xs s. subst (λ (l : List Submission). Sends l (y .resends) (y .outgoing)) (append-assoc xs (submission (numberOf wire) true wire true ∷ []) (resubmissions (rest .carried) wires)) (rest .sending _ (one-again wire r o true g xs s));
+        sending = λ xs came s. subst (λ (l : List Submission). Sends l came (y .resends) (y .outgoing)) (append-assoc xs (submission (numberOf wire) true wire true ∷ []) (resubmissions (rest .carried) wires)) (rest .sending _ came (one-again wire r o true g xs came s));
       }
 
   last-count : (wire : List ℕ) (wires : List (List ℕ)) (r : Resends) (o : Outgoing) (test : ℕ → Bool) → ((n : ℕ) → test n ≡ isPremature (o .metas) n) → r .premature + count (λ (x : Submission). test (x .seq)) (resubmissions (false ∷ []) (wire ∷ wires)) ≡ again wire r o .resends .premature
@@ -181,9 +181,9 @@ module _ (c : ChannelConfig) (rolls : List Float) (limit : ℕ) (t : Timing) (rt
       ∙ sym (again-count wire r o test h)
 
   resubmits : (wires : List (List ℕ)) (r : Resends) (o : Outgoing) → Resubmits wires r o (retransmitAll limit t rolls rto now oldest wires r o)
-  resubmits [] r o = subst (Resubmits [] r o) (sym (all-none limit t rolls rto now oldest r o)) (none-again [] r o _ (λ xs s. s) (λ g x. refl) refl (λ xs ys next q. q))
+  resubmits [] r o = subst (Resubmits [] r o) (sym (all-none limit t rolls rto now oldest r o)) (none-again [] r o _ (λ xs came s. s) (λ g x. refl) refl (λ xs ys next q. q))
   resubmits (wire ∷ wires) r o =
-      all-by limit t rolls rto now oldest wire wires r o (Resubmits (wire ∷ wires) r o) refl (none-again (wire ∷ wires) r o _ (λ xs s. s) (λ g x. absurd (true≢false x)) refl (λ xs ys next q. q))
+      all-by limit t rolls rto now oldest wire wires r o (Resubmits (wire ∷ wires) r o) refl (none-again (wire ∷ wires) r o _ (λ xs came s. s) (λ g x. absurd (true≢false x)) refl (λ xs ys next q. q))
       (λ g. record { carried = false ∷ []; sending = one-again wire r o false g; whole = λ h x. absurd (true≢false (sym h ∙ g)); premature = λ test h. last-count wire wires r o test h; noted = λ h. absurd (true≢false (sym h ∙ g)) })
       (λ g. more-again wire wires r o _ g (resubmits wires (again wire r o .resends) (again wire r o .outgoing)))
 
@@ -227,7 +227,7 @@ module _ (b : Origin) (i : Inbound) (acks duplicates : ℕ) where
         not-refused = accepts;
         ends-are = refl;
         chunks-are = λ xs h. one-chunked b chunks same (nextNumber w) within (windowOf (x .after .sender) .«next_seq_num») grows xs h;
-        sending = λ xs s. submit-sending t given (bytesSent (x .answer) (x .out)) (w .outgoing) s (no-more (again .«retx_submitted»)) _ refl;
+        sending = λ xs came s. rw (no-more came) (submit-sending t given (bytesSent (x .answer) (x .out)) (w .outgoing) s (no-more (again .«retx_submitted»)) _ refl);
         replying = none-replied b (pumpMoment e again w);
         estimator-is = λ sampled again t. refl;
         taken = λ sampled again t. tt;
@@ -297,7 +297,7 @@ module _ (b : Origin) (i : Inbound) (acks duplicates : ℕ) where
           not-refused = timeout-not-refused (s .sender) of unbroken;
           ends-are = refl;
           chunks-are = none-chunked b (resent-as (s .sender) of unbroken .same .next);
-          sending = again .sending;
+          sending = λ xs came h. rw (no-more came) (again .sending xs came h);
           replying = none-replied b (fireMoment s);
           estimator-is = λ sampled again t. ap (foldl rto.step (s .estimator)) (back-off-once (resent (s .sender) of .packets) some) ∙ backed-off (s .estimator) good counts;
           taken = λ sampled again t. subst (Taken (s .estimator)) (sym (back-off-once (resent (s .sender) of .packets) some)) (timeout-taken (s .estimator) good counts, tt);

@@ -4,7 +4,7 @@ use native.Mathlib.Omega.{arith}
 use mathlib.Core.Path.{_≡_, refl, sym, ap, _∙_, subst}
 use mathlib.Core.Bool.{Bool, true, false, cond, not, true≢false, and-eq-true-iff}
 use mathlib.Core.Logic.{_⊎_, inl, inr, ⊎-elim}
-use mathlib.Core.List.{List, [], _∷_, _++_, foldl}
+use mathlib.Core.List.{List, [], _∷_, _++_, append-nil, foldl}
 use lib.Dec.{ltb, leb, eqb}
 use lib.ListN.{take}
 use borrow.Author.Tests.{ltb-true, leb-true}
@@ -24,7 +24,7 @@ use Rattle.clock.specs.Clock.{bySample, sampleRtt}
 use Rattle.clock.specs.declared.Timing.{Timing}
 use Rattle.clock.proofs.Laws.{can-sample}
 use Rattle.path.specs.Direction.{Direction}
-use Rattle.path.specs.Path.{leftByTake, takeReady}
+use Rattle.path.specs.Path.{leftByTake}
 use Rattle.window.specs.Acknowledgement.{inWindow, AckExit}
 use Rattle.delivery.specs.Ends.{isHandled}
 use Rattle.session.specs.Sending.{SenderEnd, windowIn, windowOf, handleAck, handleAckUnchecked, ackAnswerOf}
@@ -38,15 +38,15 @@ use Rattle.acks.specs.Good.{CanOnAck}
 use Rattle.acks.specs.Reverse.{serveReverse, CanServeReverse}
 use Rattle.acks.specs.declared.AckNumber.{AckNumber}
 use Rattle.acks.specs.declared.AckNumber.the-variants as ack
-use Rattle.acks.proofs.Laws.{acked, nextTaken, nextState, can-hand-over, turn-good, serve-reverse-invariant}
-use Rattle.events.specs.Events.{ForwardEvent}
+use Rattle.acks.proofs.Laws.{acked, nextTaken, can-hand-over, turn-good, serve-reverse-invariant}
 use Rattle.run_history.specs.Calls.{return, isNumber, one}
 use Rattle.sending.specs.declared.Resends.{Resends}
 use Rattle.run_history.specs.Calls.{Reply}
 use Rattle.run_history.specs.Samples.{roundTripBy, firstSample}
 use Rattle.run_history.specs.Answered.{Taken}
 use Rattle.run_history.proofs.Noted.{noted-sampled, any-more}
-use Rattle.run_history.proofs.Tells.{Origin, Moment, moment, NotedBy, Told, Tested, Makes, told-more, no-reply, same-noted, none-chunked, same-chunked, none-sent, none-replied, no-more}
+use Rattle.run_history.proofs.Columns.{TakenFrom, taken-from, line-taken}
+use Rattle.run_history.proofs.Tells.{Origin, Moment, moment, Replied, NotedBy, Told, Tested, Makes, told-more, no-reply, same-noted, none-chunked, same-chunked, none-sent, no-more}
 
 -- ---- the segment whose round trip an accepted ACK ends was sent
 base-or-number : (x : SenderState) (n : ℕ) → (sampleSeq x n ≡ windowIn x .«send_base») ⊎ (sampleSeq x n ≡ n)
@@ -81,16 +81,21 @@ module _ (b : Origin) (f : Direction) (i : Inbound) (again : Resends) (written :
   abbrev pub Returns : Direction → AckState → Type 0
   Returns d s = Told b (returnMoment d s)
 
-  module _ (timing : Timing) (now : ℕ) (raw : List ℕ) (d : Direction) (s : AckState) where
+  module _ (timing : Timing) (now : ℕ) (raw : List ℕ) (d left : Direction) (from : TakenFrom d left) (s : AckState) where
+    one-returned : (e : SenderEnd) (r : RtoEstimator) (m : SegMetas) (acks duplicates : ℕ) (xs : List Reply) (came : ℕ) → Replied b xs came (returnMoment d s)
+        → Replied b (xs ++ []) (came + 1) (moment f (inbound (i .side) (i .store) (i .output) m left) e r acks duplicates again written rows)
+    one-returned e r m acks duplicates xs came q =
+        subst (λ (l : List Reply). Replied b l (came + 1) (returnMoment left s)) (sym (append-nil xs)) (record { acks-are = q .acks-are; line = line-taken d left from (q .line) })
+
     -- no valid ACK
-    dropped : ackNumber (readDatagram raw) ≡ ack.Nothing → Makes b (return raw 0) (returnMoment d s) (returnMoment d s)
+    dropped : ackNumber (readDatagram raw) ≡ ack.Nothing → Makes b (return raw 0) (returnMoment d s) (returnMoment left s)
     dropped h =
         record {
           not-refused = λ t. absurd (true≢false (sym t ∙ ap isNumber h));
           ends-are = rw h;
           chunks-are = same-chunked b (returnMoment d s);
           sending = none-sent b (returnMoment d s);
-          replying = none-replied b (returnMoment d s);
+          replying = one-returned (s .sender) (s .estimator) (s .metas) (s .received) (s .duplicates);
           estimator-is = λ sampled again t. rw h;
           taken = λ sampled again t. rw h tt;
           datas-are = no-more _;
@@ -111,7 +116,7 @@ module _ (b : Origin) (f : Direction) (i : Inbound) (again : Resends) (written :
     module _ (u : SenderUnbroken (s .sender)) (n : ℕ) (h : ackNumber (readDatagram raw) ≡ ack.Number n) where
       -- with the sender after it, another estimator, other notes and another count of duplicates
       abbrev answered : RtoEstimator → SegMetas → ℕ → Moment
-      answered e m k = moment f (inbound (i .side) (i .store) (i .output) m d) (handleAck (s .sender) raw .after) e (s .received + 1) k again written rows
+      answered e m k = moment f (inbound (i .side) (i .store) (i .output) m left) (handleAck (s .sender) raw .after) e (s .received + 1) k again written rows
 
       abbrev trips : ℕ → List ℕ
       trips age = roundTripBy (returnMoment d s .ends) (return raw age)
@@ -125,7 +130,7 @@ module _ (b : Origin) (f : Direction) (i : Inbound) (again : Resends) (written :
             ends-are = rw h;
             chunks-are = none-chunked b (ack-keeps-sender (s .sender) raw .next);
             sending = none-sent b (returnMoment d s);
-            replying = none-replied b (returnMoment d s);
+            replying = one-returned (handleAck (s .sender) raw .after) e m (s .received + 1) k;
             estimator-is = λ sampled again t. est sampled again t .0;
             taken = λ sampled again t. est sampled again t .1;
             datas-are = no-more _;
@@ -195,7 +200,7 @@ module _ (b : Origin) (f : Direction) (i : Inbound) (again : Resends) (written :
         sample-taken Nothing e = (refl, tt)
         sample-taken (Rtt l re) e = let w = sample-within (s .metas) seq now l re e in (update-is l re w, (update-taken l re w, tt))
 
-        accepted-told : Returns d s → Returns d (onAccepted timing now n seq (counted s (handleAck (s .sender) raw .after)))
+        accepted-told : Returns d s → Returns left (onAccepted timing now n seq (counted s (handleAck (s .sender) raw .after)))
         unfolding onAccepted sampleRtt
         accepted-told q =
             let x = takeSample (s .metas) seq now in
@@ -205,25 +210,20 @@ module _ (b : Origin) (f : Direction) (i : Inbound) (again : Resends) (written :
             tt
             (λ xs ys k. rw one-trip (as-next (can .good .sender) n h (xs ++ []) (ys ++ seq ∷ []) (no-reply (returnMoment d s .events) xs (ys ++ seq ∷ []) (noted-sampled k seq sent-segment (λ j. any-more (eqb j) ys seq) now))))
 
-      pub return-told : Returns d s → Returns d (onAck timing now raw s)
+      pub return-told : Returns d s → Returns left (onAck timing now raw s)
       unfolding onAck
       return-told q = by-number (ackNumber (readDatagram raw)) refl
         where
           by-accepted : (n : ℕ) → ackNumber (readDatagram raw) ≡ ack.Number n → (t : Bool) → isAccepted (handleAck (s .sender) raw .answer) ≡ t
-              → Returns d (cond t (onAccepted timing now n (sampleSeq (s .sender .sender .state) n) (counted s (handleAck (s .sender) raw .after))) (duplicate (counted s (handleAck (s .sender) raw .after))))
+              → Returns left (cond t (onAccepted timing now n (sampleSeq (s .sender .sender .state) n) (counted s (handleAck (s .sender) raw .after))) (duplicate (counted s (handleAck (s .sender) raw .after))))
           by-accepted n h true a = accepted-told n h a q
           by-accepted n h false a = duplicate-told (can .good .sender) n h a q
 
-          by-number : (x : AckNumber) → ackNumber (readDatagram raw) ≡ x → Returns d (byNumber x timing now raw s)
+          by-number : (x : AckNumber) → ackNumber (readDatagram raw) ≡ x → Returns left (byNumber x timing now raw s)
           by-number ack.Nothing h = told-more q (dropped h) tt (λ xs ys k. rw h (same-noted (returnMoment d s) xs ys k))
           by-number (ack.Number n) h = by-accepted n h (isAccepted (handleAck (s .sender) raw .answer)) refl
-
-  -- taking a copy changes nothing that the calls make
-  taken : (now : ℕ) (d : Direction) (s : AckState) → Returns d s → Returns (leftByTake (nextTaken now d)) s
-  unfolding takeReady
-  taken now d s q = q
 
   pub returns-told : (timing : Timing) (now : ℕ) (d : Direction) (s : AckState) → CanServeReverse d s now → Returns d s → Returns (serveReverse timing now d s .reverse) (serveReverse timing now d s .state)
   returns-told timing now d s can q =
       serve-reverse-invariant timing now (λ (d : Direction) (s : AckState). CanServeReverse d s now × Returns d s)
-      (λ d s n e h. (turn-good timing now d s (h .0) n e, taken now d (nextState timing now d s n) (return-told timing now (take n (nextTaken now d .out)) d s (can-hand-over timing now d s (h .0) n e) (h .1)))) d s (can, q) .1
+      (λ d s n e h. (turn-good timing now d s (h .0) n e, return-told timing now (take n (nextTaken now d .out)) d (leftByTake (nextTaken now d)) (taken-from now d n e) s (can-hand-over timing now d s (h .0) n e) (h .1))) d s (can, q) .1

@@ -17,7 +17,7 @@ use Rattle.events.specs.Events.{ForwardEvent, eventsOf}
 use Rattle.session.specs.Sending.{SenderEnd}
 use Rattle.session.specs.Receiving.{receiverEnd}
 use Rattle.receiving.specs.Receiving.{Inbound}
-use Rattle.run_history.specs.Calls.{Call, Ends, ends, after, afterCalls, collect, total, chunkBy, nextNumber, Submission, submittedBy, Reply, repliedBy, dataIn, duplicateDataIn, acksIn, duplicateAcksIn}
+use Rattle.run_history.specs.Calls.{Call, Ends, ends, after, afterCalls, collect, total, chunkBy, nextNumber, Submission, submittedBy, Reply, repliedBy, arrivedIn, returnedIn, dataIn, duplicateDataIn, acksIn, duplicateAcksIn}
 use Rattle.rows.specs.Rows.{isSet}
 use Rattle.notes.specs.Notes.{SegMetas, metaAt, isPremature}
 use Rattle.sending.specs.declared.Resends.{Resends}
@@ -74,11 +74,12 @@ moment forward b v e acks duplicates again written rows = record {
   events = eventsOf written rows;
 }
 
-abbrev pub Sent : Origin → List Submission → Moment → Type 0
-Sent b xs m = Sending (b .forward) (b .forwardRolls) xs (m .again) (m .written) (m .forward) (m .events)
+-- with so many copies handed over
+abbrev pub Sent : Origin → List Submission → ℕ → Moment → Type 0
+Sent b xs came m = Sending (b .forward) (b .forwardRolls) xs came (m .again) (m .written) (m .forward) (m .events)
 
-abbrev pub Replied : Origin → List Reply → Moment → Type 0
-Replied b xs m = Replying (b .reverse) (b .reverseRolls) xs (m .replies) (m .reverse)
+abbrev pub Replied : Origin → List Reply → ℕ → Moment → Type 0
+Replied b xs came m = Replying (b .reverse) (b .reverseRolls) xs came (m .replies) (m .reverse)
 
 -- the chunks sent are the first ones
 abbrev pub Chunked : Origin → List (List ℕ) → Moment → Type 0
@@ -87,8 +88,8 @@ Chunked b xs m = xs ≡ take (nextNumber (m .ends)) (b .chunks)
 pub record Tells (b : Origin) (cs : List Call) (m : Moment) : Type 0 where
   pub ends-are : afterCalls (b .start) cs ≡ m .ends
   pub chunks-are : Chunked b (collect chunkBy (b .start) cs) m
-  pub sending : Sent b (collect submittedBy (b .start) cs) m
-  pub replying : Replied b (collect repliedBy (b .start) cs) m
+  pub sending : Sent b (collect submittedBy (b .start) cs) (total arrivedIn (b .start) cs) m
+  pub replying : Replied b (collect repliedBy (b .start) cs) (total returnedIn (b .start) cs) m
   pub estimator-is : rto.afterCalls (b .rto) (estimatedIn (b .start) [] cs) ≡ m .estimator
   pub taken : Taken (fresh (b .rto)) (estimatedIn (b .start) [] cs)
   pub datas-are : total dataIn (b .start) cs ≡ m .datas
@@ -130,8 +131,8 @@ pub record Makes (b : Origin) (c : Call) (m next : Moment) : Type 0 where
   pub not-refused : NotRefused (m .ends) c
   pub ends-are : after (m .ends) c ≡ next .ends
   pub chunks-are : (xs : List (List ℕ)) → Chunked b xs m → Chunked b (xs ++ chunkBy (m .ends) c) next
-  pub sending : (xs : List Submission) → Sent b xs m → Sent b (xs ++ submittedBy (m .ends) c) next
-  pub replying : (xs : List Reply) → Replied b xs m → Replied b (xs ++ repliedBy (m .ends) c) next
+  pub sending : (xs : List Submission) (came : ℕ) → Sent b xs came m → Sent b (xs ++ submittedBy (m .ends) c) (came + arrivedIn (m .ends) c) next
+  pub replying : (xs : List Reply) (came : ℕ) → Replied b xs came m → Replied b (xs ++ repliedBy (m .ends) c) (came + returnedIn (m .ends) c) next
   pub estimator-is : (sampled again : ℕ → Bool) → Tested sampled again m → foldl rto.step (m .estimator) (estimatedBy sampled again (m .ends) c) ≡ next .estimator
   pub taken : (sampled again : ℕ → Bool) → Tested sampled again m → Taken (m .estimator) (estimatedBy sampled again (m .ends) c)
   pub datas-are : m .datas + dataIn (m .ends) c ≡ next .datas
@@ -150,8 +151,11 @@ module _ {b : Origin} {c : Call} {m next : Moment} (q : Told b m) (h : Makes b c
   collected : {A : Type 0} (f : Ends → Call → List A) → collect f (b .start) (cs ++ c ∷ []) ≡ collect f (b .start) cs ++ f (m .ends) c
   collected {A} f = collect-more f (b .start) cs c ∙ ap (λ (l : List A). collect f (b .start) cs ++ l) (at-ends (λ (e : Ends). f e c))
 
+  totalled : (f : Ends → Call → ℕ) → total f (b .start) (cs ++ c ∷ []) ≡ total f (b .start) cs + f (m .ends) c
+  totalled f = total-more f (b .start) cs c ∙ ap (λ (x : ℕ). total f (b .start) cs + x) (at-ends (λ (u : Ends). f u c))
+
   summed : (f : Ends → Call → ℕ) {n k : ℕ} → total f (b .start) cs ≡ n → n + f (m .ends) c ≡ k → total f (b .start) (cs ++ c ∷ []) ≡ k
-  summed f {n} p e = total-more f (b .start) cs c ∙ ap (λ (x : ℕ). total f (b .start) cs + x) (at-ends (λ (u : Ends). f u c)) ∙ ap (λ (x : ℕ). x + f (m .ends) c) p ∙ e
+  summed f {n} p e = totalled f ∙ ap (λ (x : ℕ). x + f (m .ends) c) p ∙ e
 
   abbrev test : ℕ → Bool
   test = isPrematureAfter (b .forward) (b .forwardRolls) (b .start) cs
@@ -180,8 +184,8 @@ module _ {b : Origin} {c : Call} {m next : Moment} (q : Told b m) (h : Makes b c
       record {
         ends-are = after-more (b .start) cs c ∙ at-ends (λ (e : Ends). after e c) ∙ h .ends-are;
         chunks-are = subst (λ (xs : List (List ℕ)). Chunked b xs next) (sym (collected chunkBy)) (h .chunks-are _ (t .chunks-are));
-        sending = subst (λ (xs : List Submission). Sent b xs next) (sym (collected submittedBy)) (h .sending _ (t .sending));
-        replying = subst (λ (xs : List Reply). Replied b xs next) (sym (collected repliedBy)) (h .replying _ (t .replying));
+        sending = rw (collected submittedBy, totalled arrivedIn) (h .sending _ _ (t .sending));
+        replying = rw (collected repliedBy, totalled returnedIn) (h .replying _ _ (t .replying));
         estimator-is =
             ap (foldl rto.step (fresh (b .rto))) estimates ∙ foldl-append rto.step (fresh (b .rto)) (estimatedIn (b .start) [] cs) (estimatedBy sampled again (m .ends) c)
             ∙ ap (λ (e : RtoEstimator). foldl rto.step e (estimatedBy sampled again (m .ends) c)) (t .estimator-is) ∙ h .estimator-is sampled again tested;
@@ -211,12 +215,15 @@ module _ {b : Origin} {c : Call} {m next : Moment} (q : Told b m) (h : Makes b c
   pub over-more : Over b next
   over-more = record { calls = cs ++ c ∷ []; tells = tells-more; not-refused = refused-none; whole = subst (Each Whole (b .start)) (sym (drop-last-more cs c)) (q .whole) }
 
--- a call that hands nothing to a line
-pub none-sent : (b : Origin) (m : Moment) (xs : List Submission) → Sent b xs m → Sent b (xs ++ []) m
-none-sent b m xs s = subst (λ (l : List Submission). Sent b l m) (sym (append-nil xs)) s
+-- a call that hands nothing to a line, and takes nothing from it
+pub no-more : (n : ℕ) → n + 0 ≡ n
+no-more n = omega arith
 
-pub none-replied : (b : Origin) (m : Moment) (xs : List Reply) → Replied b xs m → Replied b (xs ++ []) m
-none-replied b m xs s = subst (λ (l : List Reply). Replied b l m) (sym (append-nil xs)) s
+pub none-sent : (b : Origin) (m : Moment) (xs : List Submission) (came : ℕ) → Sent b xs came m → Sent b (xs ++ []) (came + 0) m
+none-sent b m xs came s = rw (append-nil xs, no-more came) s
+
+pub none-replied : (b : Origin) (m : Moment) (xs : List Reply) (came : ℕ) → Replied b xs came m → Replied b (xs ++ []) (came + 0) m
+none-replied b m xs came s = rw (append-nil xs, no-more came) s
 
 -- a call that sends no chunk
 pub none-chunked : (b : Origin) {n k : ℕ} → k ≡ n → (xs : List (List ℕ)) → xs ≡ take n (b .chunks) → xs ++ [] ≡ take k (b .chunks)
@@ -224,9 +231,6 @@ none-chunked b e xs h = append-nil xs ∙ h ∙ ap (λ (n : ℕ). take n (b .chu
 
 pub same-chunked : (b : Origin) (m : Moment) (xs : List (List ℕ)) → Chunked b xs m → Chunked b (xs ++ []) m
 same-chunked b m xs h = append-nil xs ∙ h
-
-pub no-more : (n : ℕ) → n + 0 ≡ n
-no-more n = omega arith
 
 -- after a part of a step: told where the run goes on, over where it may not
 abbrev pub Goes : Origin → Moment → Bool → Type 0

@@ -65,8 +65,8 @@ module _ (k : Ceilings) (c : TransferConfig) (g : Given) (l : Lent) where
         tells = record {
           ends-are = refl;
           chunks-are = ap (λ (n : ℕ). take n (chunksOf (c .«chunk_size») (g .file))) (sym (unused (c .protocol) (c .«window_size») (k .retries) (l .senderStore) .next));
-          sending = record { again-are = refl; written-are = refl; line = record { used-is = refl; channel-is = refl }; events-are = sym (events-none (replicate (length (l .events)) vacant)) };
-          replying = record { acks-are = refl; line = record { used-is = refl; channel-is = refl } };
+          sending = record { again-are = refl; written-are = refl; line = record { used-is = refl; channel-is = refl; all-come = refl }; events-are = sym (events-none (replicate (length (l .events)) vacant)) };
+          replying = record { acks-are = refl; line = record { used-is = refl; channel-is = refl; all-come = refl } };
           estimator-is = refl;
           taken = tt;
           datas-are = refl;
@@ -140,6 +140,8 @@ module _ (k : Ceilings) (c : TransferConfig) (g : Given) (l : Lent) where
               chunks-are = t .chunks-are;
               forward-is = ap (λ (x : Channel). x .stats) (sym (t .sending .line .channel-is));
               reverse-is = ap (λ (x : Channel). x .stats) (sym (t .replying .line .channel-is));
+              arrivals-few = let e = t .sending .line .all-come in omega (arith, e);
+              returns-few = let e = t .replying .line .all-come in omega (arith, e);
               estimator-is = t .estimator-is;
               estimates-taken = t .taken;
               counts-are = rw (t .sending .again-are, t .premature-are, t .datas-are, t .replying .acks-are, t .acks-are, t .repeats-are, t .duplicates-are, t .sending .written-are);

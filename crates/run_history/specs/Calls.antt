@@ -143,7 +143,20 @@ repliedBy e (arrival raw carried) =
     cond (readsAsData raw) (reply (x .answer) (isCumulative (x .receiver .receiver)) (nextNumber e) carried) []
 repliedBy e (return raw age) = []
 
--- ---- counts: copies that read as Data, copies that read as valid ACKs, those of them that the sender didn't accept
+-- ---- counts: copies that each line handed over
+abbrev pub arrivedIn : Ends → Call → ℕ
+arrivedIn e (chunk payload carried) = 0
+arrivedIn e (timeout t carried) = 0
+arrivedIn e (arrival raw carried) = 1
+arrivedIn e (return raw age) = 0
+
+abbrev pub returnedIn : Ends → Call → ℕ
+returnedIn e (chunk payload carried) = 0
+returnedIn e (timeout t carried) = 0
+returnedIn e (arrival raw carried) = 0
+returnedIn e (return raw age) = 1
+
+-- copies that read as Data, copies that read as valid ACKs, those of them that the sender didn't accept
 abbrev pub one : Bool → ℕ
 one true = 1
 one false = 0

@@ -1,4 +1,5 @@
 -- Document 01, "Links that would ruin a book" (demand 2): the answer of `run_transfer` from the history of its calls.
+use Prim.Native.Nat.{_≤_}
 use mathlib.Core.Path.{_≡_}
 use mathlib.Core.List.{List, [], dropLast}
 use lib.ListN.{length, take}
@@ -17,7 +18,7 @@ use Rattle.transfer.specs.declared.DriverCounts.{DriverCounts}
 use Rattle.transfer.specs.declared.Outcome.{Outcome}
 use Rattle.run_history.specs.Calls.{Call, Ends, ends, afterCalls, collect, total, chunkBy}
 use Rattle.run_history.specs.Calls.{Submission, submittedBy, repliedBy}
-use Rattle.run_history.specs.Calls.{dataIn, duplicateDataIn, acksIn, duplicateAcksIn}
+use Rattle.run_history.specs.Calls.{arrivedIn, returnedIn, dataIn, duplicateDataIn, acksIn, duplicateAcksIn}
 use Rattle.run_history.specs.Lines.{count, carriedOf, forwardWires, reverseWires, packets, eventsFrom}
 use Rattle.run_history.specs.Samples.{estimatedIn}
 use Rattle.run_history.specs.Answered.{Each, NotRefused, Taken, Whole}
@@ -54,11 +55,15 @@ pub record Tell (c : TransferConfig) (g : Given) (e : Ends) (cs : List Call) (o 
   -- the chunks sent are the file's first
   pub chunks-are : collect chunkBy e cs
       ≡ take (windowOf (o .sender) .«next_seq_num») (chunksOf (c .«chunk_size») (g .file))
-  -- what was handed to the lines leads to the channels' counters, the estimator's calls to the estimator
+  -- what was handed to the lines leads to the channels' counters
   pub forward-is : channel.tallies (c .channel) (packets (g .forwardRolls) (forwardWires (collect submittedBy e cs)))
       ≡ o .forward
   pub reverse-is : channel.tallies (reverseConfig (c .channel))
       (packets (g .reverseRolls) (reverseWires (collect repliedBy e cs))) ≡ o .reverse
+  -- no more copies came than the channels granted
+  pub arrivals-few : total arrivedIn e cs ≤ o .forward .«copies_delivered»
+  pub returns-few : total returnedIn e cs ≤ o .reverse .«copies_delivered»
+  -- the estimator's calls lead to the estimator, which refuses none
   pub estimator-is : rto.afterCalls (c .rto) (estimatedIn e [] cs) ≡ o .estimator
   pub estimates-taken : Taken (fresh (c .rto)) (estimatedIn e [] cs)
   -- the driver's counts are those of the list, the events those of the packets carried forward, in order

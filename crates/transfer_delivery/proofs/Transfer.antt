@@ -4,52 +4,39 @@ use native.Mathlib.Omega.{arith}
 use mathlib.Core.Path.{_≡_, refl, sym, ap, _∙_, subst}
 use mathlib.Core.Bool.{Bool, true, false, not}
 use mathlib.Core.List.{List, [], _∷_}
-use lib.Ieee.{Float}
 use lib.ListN.{length, replicate}
 use borrow.Author.Tests.{le-ltb}
 use Rattle.bounds.specs.Bounds.{slotSize}
 use Rattle.rows.specs.Rows.{vacant}
-use Rattle.refusal.specs.Order.{verdict}
-use Rattle.refusal.specs.declared.Refusal.{Refusal}
-use Rattle.refusal.proofs.Laws.{on-accepted, on-refused}
-use Rattle.refusal.specs.declared.Verdict.{Verdict}
-use Rattle.refusal.specs.declared.Verdict.the-variants.{Accepted, Refused}
 use Rattle.protocol.specs.declared.ProtocolType.{ProtocolType}
 use Rattle.protocol.specs.declared.ProtocolType.the-variants.{StopAndWait, GoBackN, SelectiveRepeat}
 use Rattle.window.specs.State.{storeShort}
 use Rattle.octets.specs.Octets.{Octets}
-use Rattle.channel.specs.declared.ChannelConfig.{ChannelConfig}
-use Rattle.channel.proofs.NoFaults.{zero, NoFaults}
 use Rattle.path.specs.Rolls.{Doubles}
-use Rattle.chunks.specs.Chunks.{chunksOf}
-use Rattle.chunks.proofs.Laws.{count-empty, chunks-count}
+use Rattle.chunks.proofs.Laws.{chunks-some}
 use Rattle.delivery.specs.Ends.{ReceivingRoom}
 use Rattle.clock.specs.Estimator.{Factors}
 use Rattle.session.specs.Sending.{slotCount}
 use Rattle.session.specs.Receiving.{newReceiver, base}
-use Rattle.setup.specs.Setup.{CanStart, startChecks}
-use Rattle.setup.proofs.Laws.{start-accepted}
+use Rattle.setup.specs.Setup.{CanStart}
 use Rattle.setup.specs.declared.TransferConfig.{TransferConfig}
 use Rattle.completion.proofs.Laws.{Start, chunksIn, Begun, window-fits, new-sender-slots, new-receiver-slots, runs-start, runs-delivered, runs-completed}
 use Rattle.prefixes.proofs.Laws.{prefixed-start, prefixed-written, prefixed-completed}
 use Rattle.receiving.proofs.Laws.{new-completed-is}
-use Rattle.step.specs.State.{Given, RunState, Lent}
+use Rattle.step.specs.State.{Given, Lent}
 use Rattle.step.specs.Settle.{StepExit}
 use Rattle.transfer.specs.Start.{planFor, reverseConfig, newRun, startOf}
 use Rattle.transfer.specs.Run.{run}
-use Rattle.transfer.specs.Transfer.{outcomeOf, lentOf, RunExit, runExit, ended, runTransfer}
+use Rattle.transfer.specs.Transfer.{outcomeOf, lentOf, runTransfer}
 use Rattle.transfer.specs.declared.Ceilings.{Ceilings}
 use Rattle.transfer.specs.declared.Outcome.{Outcome}
 use Rattle.transfer.specs.declared.RunAnswer.the-variants as answer
-use Rattle.transfer.proofs.Starts.{start-plan, start-good, sender-window, sender-store}
+use Rattle.transfer.proofs.Laws.{reverse-no-faults, start-plan, start-good, sender-window, sender-store, by-outcome}
 use Rattle.transfer_delivery.specs.Delivered.{Delivered}
 use Rattle.transfer_delivery.proofs.Steps.{At, run-keeps}
 use Rattle.transfer_delivery.proofs.Holds.{begins, Holds, step-holds}
 
 -- ---- at the start
-no-faults : (c : ChannelConfig) → NoFaults (reverseConfig c)
-no-faults c = record { loss = zero false; duplicate = zero false; reorder = zero false; corrupt = zero false }
-
 receiving-room : (p : ProtocolType) (w : ℕ) (store : List ℕ) → (p ≡ SelectiveRepeat → w * slotSize ≤ length store) → ReceivingRoom p (slotCount p w) store
 unfolding storeShort
 receiving-room StopAndWait w store h = tt
@@ -61,13 +48,6 @@ unfolding newReceiver
 new-base StopAndWait w store = refl
 new-base GoBackN w store = refl
 new-base SelectiveRepeat w store = refl
-
-some-chunk : (size : ℕ) (file : List ℕ) → 0 < size → 0 < length (chunksOf size file)
-some-chunk size [] h = let e = count-empty size [] refl in omega (arith, e)
-some-chunk size (x ∷ file) h = let e = chunks-count size x file h in more (length file / size) (length (chunksOf size (x ∷ file))) e
-  where
-    more : (n m : ℕ) → m ≡ n + 1 → 0 < m
-    more n m e = omega arith
 
 module _ (k : Ceilings) (c : TransferConfig) (g : Given) (l : Lent) (h : CanStart (startOf c g l)) (store : Octets (l .senderStore)) (file : Octets (g .file)) where
   abbrev ends : Start
@@ -92,10 +72,10 @@ module _ (k : Ceilings) (c : TransferConfig) (g : Given) (l : Lent) (h : CanStar
   start-holds =
       let p = c .protocol in
       let w = c .«window_size» in
-      let r = runs-start begun (c .channel) (reverseConfig (c .channel)) (g .forwardRolls) (l .forwardRecords) (l .reverseRecords) (l .forwardPlaces) (l .reversePlaces) (replicate (length (l .events)) vacant) (no-faults (c .channel)) in
+      let r = runs-start begun (c .channel) (reverseConfig (c .channel)) (g .forwardRolls) (l .forwardRecords) (l .reverseRecords) (l .forwardPlaces) (l .reversePlaces) (replicate (length (l .events)) vacant) (reverse-no-faults (c .channel)) in
       let q = prefixed-start begun (c .channel) (l .forwardRecords) (l .forwardPlaces) in
       let n = new-base p w (l .receiverStore) in
-      let m = some-chunk (c .«chunk_size») (g .file) (begun .some) in
+      let m = chunks-some (c .«chunk_size») (g .file) (begun .some) in
       record {
         runs = rw (← new-sender-slots p w (k .retries) (l .senderStore), ← new-receiver-slots p w (l .receiverStore)) r;
         prefixed = rw (← new-sender-slots p w (k .retries) (l .senderStore), ← new-receiver-slots p w (l .receiverStore)) q;
@@ -126,26 +106,6 @@ module _ (k : Ceilings) (c : TransferConfig) (g : Given) (l : Lent) (h : CanStar
 
 -- ---- of every call that isn't refused. Octets, Doubles and Factors say what the lent bytes and doubles are by their types.
 module _ (k : Ceilings) (c : TransferConfig) (g : Given) (l : Lent) where
-  accepted-is : verdict (startChecks (startOf c g l)) ≡ Accepted → runTransfer k c g l ≡ ended (run (planFor k c g) g (newRun k c l))
-  unfolding runTransfer
-  accepted-is a = on-accepted (λ (r : Refusal). runExit (answer.Refused r) l) (ended (run (planFor k c g) g (newRun k c l))) a
-
-  refused-is : {r : Refusal} → verdict (startChecks (startOf c g l)) ≡ Refused r → runTransfer k c g l ≡ runExit (answer.Refused r) l
-  unfolding runTransfer
-  refused-is a = on-refused (λ (r : Refusal). runExit (answer.Refused r) l) (ended (run (planFor k c g) g (newRun k c l))) a
-
-  of-outcome : (o : Outcome) (x : StepExit) → Delivered c g l (outcomeOf x) (lentOf (x .state)) → answer.Outcome (outcomeOf x) ≡ answer.Outcome o → Delivered c g l o (lentOf (x .state))
-  of-outcome o x h e = let same : outcomeOf x ≡ o = cc in subst (λ (y : Outcome). Delivered c g l y (lentOf (x .state))) same h
-
-  not-outcome : {r : Refusal} {o : Outcome} → answer.Refused r ≡ answer.Outcome o → ⊥
-  not-outcome e = let z : _≡_ {A = ℕ} 0 1 = cc in omega arith
-
   pub transfer-delivered : Octets (l .senderStore) → Octets (g .file) → Doubles (g .forwardRolls) → Doubles (g .reverseRolls) → Factors (c .rto) → (o : Outcome) → runTransfer k c g l .answer ≡ answer.Outcome o
       → Delivered c g l o (runTransfer k c g l .lent)
-  transfer-delivered store file forward reverse factors o = by-verdict (verdict (startChecks (startOf c g l))) refl
-    where
-      by-verdict : (v : Verdict) → verdict (startChecks (startOf c g l)) ≡ v → runTransfer k c g l .answer ≡ answer.Outcome o → Delivered c g l o (runTransfer k c g l .lent)
-      by-verdict Accepted a =
-          subst (λ (x : RunExit). x .answer ≡ answer.Outcome o → Delivered c g l o (x .lent)) (sym (accepted-is a))
-          (of-outcome o (run (planFor k c g) g (newRun k c l)) (run-delivered k c g l (start-accepted (startOf c g l) a) store file forward reverse factors))
-      by-verdict (Refused r) a = subst (λ (x : RunExit). x .answer ≡ answer.Outcome o → Delivered c g l o (x .lent)) (sym (refused-is a)) (λ e. absurd (not-outcome e))
+  transfer-delivered store file forward reverse factors = by-outcome k c g l (Delivered c g l) (λ h. run-delivered k c g l h store file forward reverse factors)
