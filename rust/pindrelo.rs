@@ -1,6 +1,12 @@
 //! A safe wrapper of pindrelo.h, without other crates: states own their memory, lent slices can't overlap, answers are
 //! `Result`s. What each call does is said there. Link libpindrelo.a: `-L native=target/staticlib -l static=pindrelo`.
-#![allow(dead_code)]
+#![allow(dead_code, unused_imports)]
+
+mod packets;
+mod timers;
+
+pub use packets::{payload, read, validate, write, Packet, PacketKind};
+pub use timers::{Timers, TIMERS_WORDS};
 
 mod raw {
     extern "C" {
@@ -32,30 +38,6 @@ mod raw {
             state: *mut u64, words: usize, store: *mut u8, size: usize, datagram: *const u8, length: usize,
             output: *mut u8, capacity: usize, ack: *mut u8, room: usize,
         ) -> u64;
-        pub fn pindrelo_make_timers(
-            state: *mut u64, words: usize, keys: *mut u32, key_count: usize, deadlines: *mut u64, count: usize,
-        ) -> u64;
-        pub fn pindrelo_timer_start(
-            state: *mut u64, words: usize, keys: *mut u32, key_count: usize, deadlines: *mut u64, count: usize,
-            key: u64, now: u64, duration: u64,
-        ) -> u64;
-        pub fn pindrelo_timer_cancel(
-            state: *mut u64, words: usize, keys: *mut u32, key_count: usize, deadlines: *mut u64, count: usize,
-            key: u64,
-        ) -> u64;
-        pub fn pindrelo_timer_pop(
-            state: *mut u64, words: usize, keys: *mut u32, key_count: usize, deadlines: *mut u64, count: usize,
-            now: u64, out: *mut u32, out_count: usize,
-        ) -> u64;
-        pub fn pindrelo_timer_earliest(
-            state: *const u64, words: usize, keys: *const u32, key_count: usize, deadlines: *const u64, count: usize,
-        ) -> u64;
-        pub fn pindrelo_read(datagram: *const u8, length: usize) -> u64;
-        pub fn pindrelo_validate(datagram: *const u8, length: usize) -> u64;
-        pub fn pindrelo_payload_length(datagram: *const u8, length: usize) -> u64;
-        pub fn pindrelo_write(
-            kind: u64, number: u64, flags: u64, payload: *const u8, length: usize, out: *mut u8, room: usize,
-        ) -> u64;
     }
 }
 
@@ -65,7 +47,6 @@ pub const MAX_DATAGRAM: usize = 1410;
 pub const ACK_SIZE: usize = 10;
 pub const MAX_WINDOW: usize = 32;
 pub const STATE_WORDS: usize = 8;
-pub const TIMERS_WORDS: usize = 3;
 /// Nanoseconds.
 pub const MAX_TIME: u64 = 172_800_000_000_000;
 pub const MAX_DURATION: u64 = 86_400_000_000_000;
@@ -159,7 +140,7 @@ impl Sender {
         let mut s = Sender { words: [0; STATE_WORDS], store: store_for(window, slots)? };
         let (words, store, size) = s.lent();
         let a = unsafe {
-            raw::pindrelo_make_sender(protocol as u64, window, max_retries.into(), words, STATE_WORDS, store, size)
+            raw::pindrelo_make_sender(protocol as u64, window, max_retries as u64, words, STATE_WORDS, store, size)
         };
         answer(a).map(|_| s)
     }
@@ -207,8 +188,9 @@ impl Sender {
 
     pub fn timeout_number(&mut self, number: u32, out: &mut [u8]) -> Result<Option<usize>, Refusal> {
         let (words, store, size) = self.lent();
-        let (n, o) = (number.into(), out.as_mut_ptr());
-        length(unsafe { raw::pindrelo_timeout_number(words, STATE_WORDS, store, size, n, o, out.len()) })
+        let o = out.as_mut_ptr();
+        let a = unsafe { raw::pindrelo_timeout_number(words, STATE_WORDS, store, size, number as u64, o, out.len()) };
+        Ok(answer(a)?.map(|n| n as usize))
     }
 
     pub fn can_send(&self) -> Result<bool, Refusal> {
@@ -293,119 +275,4 @@ impl Receiver {
     pub fn into_output(self) -> Vec<u8> {
         self.output
     }
-}
-
-/// A timer set. Its words, keys and deadlines are its whole state.
-#[derive(Clone, Debug, PartialEq, Eq)]
-pub struct Timers {
-    words: [u64; TIMERS_WORDS],
-    keys: Vec<u32>,
-    deadlines: Vec<u64>,
-}
-
-impl Timers {
-    /// For at most so many timers at once.
-    pub fn new(count: usize) -> Result<Timers, Refusal> {
-        let mut t = Timers { words: [0; TIMERS_WORDS], keys: vec![0; count], deadlines: vec![0; count] };
-        let (words, keys, deadlines) = t.lent();
-        let a = unsafe { raw::pindrelo_make_timers(words, TIMERS_WORDS, keys, count, deadlines, count) };
-        answer(a).map(|_| t)
-    }
-
-    /// A saved state; one that doesn't fit is refused by the calls.
-    pub fn restore(words: [u64; TIMERS_WORDS], keys: Vec<u32>, deadlines: Vec<u64>) -> Timers {
-        Timers { words, keys, deadlines }
-    }
-
-    pub fn words(&self) -> &[u64; TIMERS_WORDS] {
-        &self.words
-    }
-
-    pub fn keys(&self) -> &[u32] {
-        &self.keys
-    }
-
-    pub fn deadlines(&self) -> &[u64] {
-        &self.deadlines
-    }
-
-    pub fn start(&mut self, key: u32, now: u64, duration: u64) -> Result<(), Refusal> {
-        let (n, m) = (self.keys.len(), self.deadlines.len());
-        let (words, keys, deadlines) = self.lent();
-        let a = unsafe {
-            raw::pindrelo_timer_start(words, TIMERS_WORDS, keys, n, deadlines, m, key.into(), now, duration)
-        };
-        answer(a).map(|_| ())
-    }
-
-    /// Whether the key's timer ran.
-    pub fn cancel(&mut self, key: u32) -> Result<bool, Refusal> {
-        let (n, m) = (self.keys.len(), self.deadlines.len());
-        let (words, keys, deadlines) = self.lent();
-        let a = unsafe { raw::pindrelo_timer_cancel(words, TIMERS_WORDS, keys, n, deadlines, m, key.into()) };
-        Ok(answer(a)? == Some(1))
-    }
-
-    /// How many keys were due: they stand at the start of due, ascending, and run no more.
-    pub fn pop(&mut self, now: u64, due: &mut [u32]) -> Result<usize, Refusal> {
-        let (n, m) = (self.keys.len(), self.deadlines.len());
-        let (words, keys, deadlines) = self.lent();
-        let (o, room) = (due.as_mut_ptr(), due.len());
-        let a = unsafe { raw::pindrelo_timer_pop(words, TIMERS_WORDS, keys, n, deadlines, m, now, o, room) };
-        Ok(answer(a)?.unwrap_or(0) as usize)
-    }
-
-    /// The earliest deadline; `None`: no timer runs.
-    pub fn earliest(&self) -> Result<Option<u64>, Refusal> {
-        let (words, keys, deadlines) = (self.words.as_ptr(), self.keys.as_ptr(), self.deadlines.as_ptr());
-        let (n, m) = (self.keys.len(), self.deadlines.len());
-        answer(unsafe { raw::pindrelo_timer_earliest(words, TIMERS_WORDS, keys, n, deadlines, m) })
-    }
-
-    fn lent(&mut self) -> (*mut u64, *mut u32, *mut u64) {
-        (self.words.as_mut_ptr(), self.keys.as_mut_ptr(), self.deadlines.as_mut_ptr())
-    }
-}
-
-#[derive(Clone, Copy, Debug, PartialEq, Eq)]
-pub enum PacketKind {
-    Data = 1,
-    Ack = 2,
-    Fin = 3,
-}
-
-#[derive(Clone, Copy, Debug, PartialEq, Eq)]
-pub struct Packet {
-    pub number: u32,
-    pub kind: PacketKind,
-    pub flags: u8,
-}
-
-/// A datagram's header. Bytes behind its payload are ignored.
-pub fn read(datagram: &[u8]) -> Result<Packet, Refusal> {
-    let value = answer(unsafe { raw::pindrelo_read(datagram.as_ptr(), datagram.len()) })?.unwrap_or(0);
-    let kind = match value >> 32 & 0xff {
-        1 => PacketKind::Data,
-        2 => PacketKind::Ack,
-        _ => PacketKind::Fin,
-    };
-    Ok(Packet { number: value as u32, kind, flags: (value >> 40) as u8 })
-}
-
-/// Whether the checksum matches.
-pub fn validate(datagram: &[u8]) -> Result<bool, Refusal> {
-    Ok(answer(unsafe { raw::pindrelo_validate(datagram.as_ptr(), datagram.len()) })?.is_some())
-}
-
-pub fn payload(datagram: &[u8]) -> Result<&[u8], Refusal> {
-    let n = length(unsafe { raw::pindrelo_payload_length(datagram.as_ptr(), datagram.len()) })?.unwrap_or(0);
-    Ok(&datagram[HEADER_SIZE..HEADER_SIZE + n])
-}
-
-/// The length of the datagram, with its checksum, at the start of out.
-pub fn write(packet: Packet, payload: &[u8], out: &mut [u8]) -> Result<usize, Refusal> {
-    let (kind, number, flags) = (packet.kind as u64, packet.number.into(), packet.flags.into());
-    let (p, o) = (payload.as_ptr(), out.as_mut_ptr());
-    let a = unsafe { raw::pindrelo_write(kind, number, flags, p, payload.len(), o, out.len()) };
-    Ok(length(a)?.unwrap_or(0))
 }
