@@ -1,4 +1,4 @@
-/* calls: packets and timers from C, each answer compared; prints a line for each that is wrong. */
+/* calls: senders, packets and timers from C, each answer compared; prints a line for each that is wrong. */
 #include "pindrelo.h"
 #include <stdio.h>
 #include <string.h>
@@ -14,6 +14,24 @@ static void expect(const char *what, uint64_t got, uint64_t wanted)
 }
 
 #define DONE(value) ((uint64_t)(value) << 8)
+
+static void senders(void)
+{
+    uint64_t protocol, s[PINDRELO_STATE_WORDS];
+    uint8_t store[PINDRELO_STORE_SIZE(1)], d[100];
+    const uint8_t chunk[5] = {1, 2, 3, 4, 5};
+
+    for (protocol = PINDRELO_STOP_AND_WAIT; protocol <= PINDRELO_SELECTIVE_REPEAT; protocol++) {
+        expect("make", pindrelo_make_sender(protocol, 1, 0, s, 8, store, sizeof store), PINDRELO_DONE);
+        expect("none in flight", pindrelo_in_flight(s, 8, store, sizeof store), DONE(0));
+        expect("in flight, no store", pindrelo_in_flight(s, 8, NULL, 0), PINDRELO_STATE);
+        expect("send", pindrelo_send(s, 8, store, sizeof store, chunk, 5, d, sizeof d), DONE(15));
+        expect("one in flight", pindrelo_in_flight(s, 8, store, sizeof store), DONE(1));
+        expect("in flight, a short store", pindrelo_in_flight(s, 8, store, sizeof store - 1), PINDRELO_STATE);
+        store[2] = 3;
+        expect("in flight, a mark of 3", pindrelo_in_flight(s, 8, store, sizeof store), PINDRELO_STATE);
+    }
+}
 
 static void packets(void)
 {
@@ -70,6 +88,7 @@ static void timers(void)
 
 int main(void)
 {
+    senders();
     packets();
     timers();
     if (!wrong)

@@ -159,7 +159,7 @@ pindrelo_answer pindrelo_timeout_number(uint64_t *state, size_t words, uint8_t *
 /* Done: 1 where the window is free, else 0. The store isn't looked at. 9, 8. */
 pindrelo_answer pindrelo_can_send(const uint64_t *state, size_t words);
 
-/* Done: how many numbers are outstanding and not acknowledged. Only Selective Repeat looks at the store. 9, 8. */
+/* Done: how many numbers are outstanding and not acknowledged. 9, 8. */
 pindrelo_answer pindrelo_in_flight(const uint64_t *state, size_t words, const uint8_t *store, size_t store_size);
 
 /* ---- A RECEIVER

@@ -7,6 +7,7 @@ ghost use Rattle.session.specs.Receiving.{receiverSlotCount};
 ghost use Rattle.host_ends.specs.Answers.{callExit, sendCode, ackCode, timeoutCode, receiveCode};
 ghost use Rattle.host_ends.specs.Sender.{send, numberOf, acknowledge, timeout, canSendIn, canSend, inFlightIn};
 ghost use Rattle.host_ends.specs.Sender.{inFlight};
+ghost use Rattle.host_ends.specs.Internal.{unlessRefused};
 ghost use Rattle.host_ends.specs.Receiver.{receive};
 ghost use Rattle.host_ends.specs.Making.{makeSenderOf, makeReceiverOf, makeSender, makeReceiver};
 use host_words::HeldReceiver;
@@ -24,6 +25,7 @@ use session::Timeout;
 use window::AckAnswer;
 use window::SendAnswer;
 use window::TimeoutAnswer;
+use window::TimeoutDecision;
 
 // A sender of protocol 1 Stop-and-Wait, 2 Go-Back-N or 3 Selective Repeat; max_retries is Stop-and-Wait's.
 pub fn make_sender(
@@ -255,9 +257,27 @@ fn in_flight_in(state: SenderState, store: &[u8]) -> u64
     ensures { λ r. ⌜ r ≡ inFlightIn state (now (store .entry)) ⌝ }
 {
     match state {
-        SenderState::StopAndWait(s) => host_answer::test_answer(s.is_waiting_for_ack()),
-        SenderState::GoBackN(s) => host_answer::count_answer(s.in_flight_count()),
+        SenderState::StopAndWait(s) => {
+            let answer = host_answer::test_answer(s.is_waiting_for_ack());
+            unless_refused(s.decide_timeout(store), answer)
+        }
+        SenderState::GoBackN(s) => {
+            let window = s.window;
+            let answer = host_answer::count_answer(s.in_flight_count());
+            unless_refused(window.decide_timeout(store, 0), answer)
+        }
         SenderState::SelectiveRepeat(s) => host_answer::count_answer(s.in_flight_count(store)),
+    }
+}
+
+// The answer, unless the state was refused.
+fn unless_refused(decision: TimeoutDecision, answer: u64) -> u64
+    ensures { λ r. ⌜ r ≡ unlessRefused decision answer ⌝ }
+{
+    match decision {
+        TimeoutDecision::Refused(r) => host_answer::refusal_answer(r),
+        TimeoutDecision::Nothing => answer,
+        TimeoutDecision::Resend { first: _, count: _ } => answer,
     }
 }
 
