@@ -30,7 +30,13 @@ static void senders(void)
         expect("in flight, a short store", pindrelo_in_flight(s, 8, store, sizeof store - 1), PINDRELO_STATE);
         store[2] = 3;
         expect("in flight, a mark of 3", pindrelo_in_flight(s, 8, store, sizeof store), PINDRELO_STATE);
+        expect("retries", pindrelo_make_sender(protocol, 1, 1ull << 32, s, 8, store, sizeof store), PINDRELO_SETUP);
     }
+    pindrelo_make_sender(PINDRELO_SELECTIVE_REPEAT, 1, 0, s, 8, store, sizeof store);
+    pindrelo_send(s, 8, store, sizeof store, chunk, 5, d, sizeof d);
+    expect("number 2^32", pindrelo_timeout_number(s, 8, store, sizeof store, 1ull << 32, d, sizeof d),
+           PINDRELO_NOTHING);
+    expect("number 0", pindrelo_timeout_number(s, 8, store, sizeof store, 0, d, sizeof d), DONE(15));
 }
 
 static void packets(void)
@@ -60,6 +66,9 @@ static void packets(void)
 
     memcpy(before, d, sizeof d);
     expect("write no kind", pindrelo_write(9, 0, 0, a, 1, d, sizeof d), PINDRELO_KIND | DONE(9));
+    expect("write kind 257", pindrelo_write(257, 0, 0, a, 1, d, sizeof d), PINDRELO_KIND | DONE(255));
+    expect("write number 2^32", pindrelo_write(1, 1ull << 32, 0, a, 1, d, sizeof d), PINDRELO_NUMBERS);
+    expect("write flags 256", pindrelo_write(1, 0, 256, a, 1, d, sizeof d), PINDRELO_NUMBERS);
     expect("write a short buffer", pindrelo_write(1, 0, 0, a, 1, d, 10), PINDRELO_FULL);
     expect("nothing written", (uint64_t)memcmp(before, d, sizeof d), 0);
 }
@@ -83,6 +92,8 @@ static void timers(void)
     expect("pop 9", pindrelo_timer_pop(t, 3, keys, 2, at, 2, 120, due, 2), DONE(1));
     expect("due", due[0], 9);
     expect("cancel 9", pindrelo_timer_cancel(t, 3, keys, 2, at, 2, 9), DONE(0));
+    expect("start 2^32", pindrelo_timer_start(t, 3, keys, 2, at, 2, 1ull << 32, 100, 50), PINDRELO_FULL);
+    expect("cancel 2^32 + 4", pindrelo_timer_cancel(t, 3, keys, 2, at, 2, (1ull << 32) + 4), DONE(0));
     expect("cancel 4", pindrelo_timer_cancel(t, 3, keys, 2, at, 2, 4), DONE(1));
 }
 

@@ -4,7 +4,7 @@
 mod raw {
     extern "C" {
         pub fn pindrelo_make_sender(
-            protocol: u64, window: usize, max_retries: u32, state: *mut u64, words: usize, store: *mut u8, size: usize,
+            protocol: u64, window: usize, max_retries: u64, state: *mut u64, words: usize, store: *mut u8, size: usize,
         ) -> u64;
         pub fn pindrelo_send(
             state: *mut u64, words: usize, store: *mut u8, size: usize, payload: *const u8, length: usize,
@@ -20,7 +20,7 @@ mod raw {
             state: *mut u64, words: usize, store: *mut u8, size: usize, out: *mut u8, room: usize,
         ) -> u64;
         pub fn pindrelo_timeout_number(
-            state: *mut u64, words: usize, store: *mut u8, size: usize, number: u32, out: *mut u8, room: usize,
+            state: *mut u64, words: usize, store: *mut u8, size: usize, number: u64, out: *mut u8, room: usize,
         ) -> u64;
         pub fn pindrelo_can_send(state: *const u64, words: usize) -> u64;
         pub fn pindrelo_in_flight(state: *const u64, words: usize, store: *const u8, size: usize) -> u64;
@@ -117,7 +117,7 @@ impl Sender {
         let (words, store) = (s.words.as_mut_ptr(), s.store.as_mut_ptr());
         let size = s.store.len();
         let a = unsafe {
-            raw::pindrelo_make_sender(protocol as u64, window, max_retries, words, STATE_WORDS, store, size)
+            raw::pindrelo_make_sender(protocol as u64, window, max_retries as u64, words, STATE_WORDS, store, size)
         };
         answer(a).map(|_| s)
     }
@@ -155,7 +155,7 @@ impl Sender {
     pub fn timeout_number(&mut self, number: u32, out: &mut [u8]) -> Result<Option<usize>, Refusal> {
         let (words, store, size) = self.lent();
         let o = out.as_mut_ptr();
-        let a = unsafe { raw::pindrelo_timeout_number(words, STATE_WORDS, store, size, number, o, out.len()) };
+        let a = unsafe { raw::pindrelo_timeout_number(words, STATE_WORDS, store, size, number as u64, o, out.len()) };
         Ok(answer(a)?.map(|n| n as usize))
     }
 

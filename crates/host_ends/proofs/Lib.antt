@@ -1,3 +1,4 @@
 pub mod Calls
 pub mod Unchanged
 pub mod Fits
+pub mod Numbers
