@@ -1,4 +1,4 @@
-/* calls: packets and timers from C, each answer compared; prints a line for each that is wrong. */
+/* calls: senders, packets and timers from C, each answer compared; prints a line for each that is wrong. */
 #include "pindrelo.h"
 #include <stdio.h>
 #include <string.h>
@@ -14,6 +14,30 @@ static void expect(const char *what, uint64_t got, uint64_t wanted)
 }
 
 #define DONE(value) ((uint64_t)(value) << 8)
+
+static void senders(void)
+{
+    uint64_t protocol, s[PINDRELO_STATE_WORDS];
+    uint8_t store[PINDRELO_STORE_SIZE(1)], d[100];
+    const uint8_t chunk[5] = {1, 2, 3, 4, 5};
+
+    for (protocol = PINDRELO_STOP_AND_WAIT; protocol <= PINDRELO_SELECTIVE_REPEAT; protocol++) {
+        expect("make", pindrelo_make_sender(protocol, 1, 0, s, 8, store, sizeof store), PINDRELO_DONE);
+        expect("none in flight", pindrelo_in_flight(s, 8, store, sizeof store), DONE(0));
+        expect("in flight, no store", pindrelo_in_flight(s, 8, NULL, 0), PINDRELO_STATE);
+        expect("send", pindrelo_send(s, 8, store, sizeof store, chunk, 5, d, sizeof d), DONE(15));
+        expect("one in flight", pindrelo_in_flight(s, 8, store, sizeof store), DONE(1));
+        expect("in flight, a short store", pindrelo_in_flight(s, 8, store, sizeof store - 1), PINDRELO_STATE);
+        store[2] = 3;
+        expect("in flight, a mark of 3", pindrelo_in_flight(s, 8, store, sizeof store), PINDRELO_STATE);
+        expect("retries", pindrelo_make_sender(protocol, 1, 1ull << 32, s, 8, store, sizeof store), PINDRELO_SETUP);
+    }
+    pindrelo_make_sender(PINDRELO_SELECTIVE_REPEAT, 1, 0, s, 8, store, sizeof store);
+    pindrelo_send(s, 8, store, sizeof store, chunk, 5, d, sizeof d);
+    expect("number 2^32", pindrelo_timeout_number(s, 8, store, sizeof store, 1ull << 32, d, sizeof d),
+           PINDRELO_NOTHING);
+    expect("number 0", pindrelo_timeout_number(s, 8, store, sizeof store, 0, d, sizeof d), DONE(15));
+}
 
 static void packets(void)
 {
@@ -42,6 +66,9 @@ static void packets(void)
 
     memcpy(before, d, sizeof d);
     expect("write no kind", pindrelo_write(9, 0, 0, a, 1, d, sizeof d), PINDRELO_KIND | DONE(9));
+    expect("write kind 257", pindrelo_write(257, 0, 0, a, 1, d, sizeof d), PINDRELO_KIND | DONE(255));
+    expect("write number 2^32", pindrelo_write(1, 1ull << 32, 0, a, 1, d, sizeof d), PINDRELO_NUMBERS);
+    expect("write flags 256", pindrelo_write(1, 0, 256, a, 1, d, sizeof d), PINDRELO_NUMBERS);
     expect("write a short buffer", pindrelo_write(1, 0, 0, a, 1, d, 10), PINDRELO_FULL);
     expect("nothing written", (uint64_t)memcmp(before, d, sizeof d), 0);
 }
@@ -65,6 +92,8 @@ static void timers(void)
     expect("pop 9", pindrelo_timer_pop(t, 3, keys, 2, at, 2, 120, due, 2), DONE(1));
     expect("due", due[0], 9);
     expect("cancel 9", pindrelo_timer_cancel(t, 3, keys, 2, at, 2, 9), DONE(0));
+    expect("start 2^32", pindrelo_timer_start(t, 3, keys, 2, at, 2, 1ull << 32, 100, 50), PINDRELO_FULL);
+    expect("cancel 2^32 + 4", pindrelo_timer_cancel(t, 3, keys, 2, at, 2, (1ull << 32) + 4), DONE(0));
     expect("cancel 4", pindrelo_timer_cancel(t, 3, keys, 2, at, 2, 4), DONE(1));
 }
 
@@ -114,6 +143,7 @@ static void ends(void)
 
 int main(void)
 {
+    senders();
     packets();
     timers();
     ends();

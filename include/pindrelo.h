@@ -28,10 +28,10 @@ extern "C" {
  *      1  short     a datagram under 10 bytes; its length
  *      2  kind      byte 4 of a datagram is not 1 to 3; the byte
  *      3  cut       a datagram declares more payload than follows; declared and present
- *      4  setup     protocol or window out of bounds, at making
+ *      4  setup     protocol, window or max_retries out of bounds, at making
  *      5  full      a lent buffer is shorter than this call writes
  *      6  long      a payload above 1,400 bytes
- *      7  numbers   the numbers are used up: 4,294,901,760
+ *      7  numbers   the numbers are used up: 4,294,901,760; of write, a number above 32 bits or flags above 8
  *      8  counts    a counter stands at 2^60 or more
  *      9  state     words, store or output that don't fit: zeros, another kind, fewer words, another version, an
  *                   output shorter than its fill mark. It is no check of integrity: other words may pass
@@ -164,10 +164,10 @@ enum { PINDRELO_STOP_AND_WAIT = 1, PINDRELO_GO_BACK_N = 2, PINDRELO_SELECTIVE_RE
  * Chunks are numbered from 0 in the order in which they are sent; a chunk has at most 1,400 bytes. Time is the
  * host's: it keeps when each number was sent, and calls a timeout when its timer has run out. */
 
-/* protocol 1 to 3, window 1 to 32 (a 4 else in every protocol; Stop-and-Wait then runs with 1), max_retries of
- * Stop-and-Wait alone. The store's slots become zeros. An unknown protocol is a 4 before all else; then 9 store too
- * short, 4, 5 fewer than PINDRELO_STATE_WORDS words. */
-pindrelo_answer pindrelo_make_sender(uint64_t protocol, size_t window, uint32_t max_retries,
+/* protocol 1 to 3, window 1 to 32, max_retries of 32 bits (a 4 else in every protocol; Stop-and-Wait then runs with a
+ * window of 1, and it alone has retries). The store's slots become zeros. An unknown protocol is a 4 before all else;
+ * then 9 store too short, 4, 5 fewer than PINDRELO_STATE_WORDS words. */
+pindrelo_answer pindrelo_make_sender(uint64_t protocol, size_t window, uint64_t max_retries,
                                      uint64_t *state, size_t words, uint8_t *store, size_t store_size);
 
 /* A chunk: its datagram to the start of out. Done: the datagram's length; its number was word NEXT before the
@@ -192,12 +192,12 @@ pindrelo_answer pindrelo_timeout_all(uint64_t *state, size_t words, uint8_t *sto
 pindrelo_answer pindrelo_timeout_earliest(uint64_t *state, size_t words, uint8_t *store, size_t store_size,
                                           uint8_t *out, size_t out_size);
 pindrelo_answer pindrelo_timeout_number(uint64_t *state, size_t words, uint8_t *store, size_t store_size,
-                                        uint32_t number, uint8_t *out, size_t out_size);
+                                        uint64_t number, uint8_t *out, size_t out_size);
 
 /* Done: 1 where the window is free, else 0. The store isn't looked at. 9, 8. */
 pindrelo_answer pindrelo_can_send(const uint64_t *state, size_t words);
 
-/* Done: how many numbers are outstanding and not acknowledged. Only Selective Repeat looks at the store. 9, 8. */
+/* Done: how many numbers are outstanding and not acknowledged. 9, 8. */
 pindrelo_answer pindrelo_in_flight(const uint64_t *state, size_t words, const uint8_t *store, size_t store_size);
 
 /* ---- A RECEIVER
@@ -227,14 +227,14 @@ pindrelo_answer pindrelo_receive(uint64_t *state, size_t words, uint8_t *store, 
 pindrelo_answer pindrelo_make_timers(uint64_t *state, size_t words, uint32_t *keys, size_t key_count,
                                      uint64_t *deadlines, size_t deadline_count);
 
-/* Sets or restarts the timer of a key. 9, 10, 5 where the key is new and no entry is unused. */
+/* Sets or restarts the timer of a key. 9, 10, 5 where the key is new and no entry is unused, or is above 32 bits. */
 pindrelo_answer pindrelo_timer_start(uint64_t *state, size_t words, uint32_t *keys, size_t key_count,
                                      uint64_t *deadlines, size_t deadline_count,
-                                     uint32_t key, uint64_t now, uint64_t duration);
+                                     uint64_t key, uint64_t now, uint64_t duration);
 
 /* Done: 1 where the key's timer ran, else 0; it runs no more. 9, 10. */
 pindrelo_answer pindrelo_timer_cancel(uint64_t *state, size_t words, uint32_t *keys, size_t key_count,
-                                      uint64_t *deadlines, size_t deadline_count, uint32_t key);
+                                      uint64_t *deadlines, size_t deadline_count, uint64_t key);
 
 /* Done: how many keys were due; they stand at the start of out, ascending, and run no more. 9, 10, 5. */
 pindrelo_answer pindrelo_timer_pop(uint64_t *state, size_t words, uint32_t *keys, size_t key_count,
@@ -267,8 +267,8 @@ pindrelo_answer pindrelo_validate(const uint8_t *datagram, size_t length);
 /* Done: the payload's length; it starts at byte PINDRELO_HEADER_SIZE. 1, 2, 3. */
 pindrelo_answer pindrelo_payload_length(const uint8_t *datagram, size_t length);
 
-/* A datagram with its checksum to the start of out. Done: its length. 2, 6, 5. */
-pindrelo_answer pindrelo_write(uint8_t kind, uint32_t number, uint8_t flags, const uint8_t *payload, size_t length,
+/* A datagram with its checksum to the start of out. Done: its length. 2 (its value at most 255), 6, 7, 5. */
+pindrelo_answer pindrelo_write(uint64_t kind, uint64_t number, uint64_t flags, const uint8_t *payload, size_t length,
                                uint8_t *out, size_t out_size);
 
 /* ---- WHAT THE HOST DECIDES

@@ -1,10 +1,20 @@
--- Laws of the packed answers, for crates above to cite: status and value are read back; which answers refuse.
+-- Laws of the packed answers, for crates above to cite: status and value are read back; which answers refuse; what
+-- survives the packing.
 use Prim.Native.Nat.{ℕ, _+_, _*_, _/_, _%_, _≤_, _<_}
 use mathlib.Core.Path.{_≡_, refl, sym, ap, _∙_}
 use mathlib.Core.Bool.{Bool, true, false, cond}
+use mathlib.Core.List.{List}
 use native.Mathlib.Omega.{arith}
 use Rattle.refusal.specs.Refusal.{entryOf}
 use Rattle.refusal.specs.declared.Refusal.{Refusal}
+use Rattle.refusal.specs.declared.Verdict.{Verdict}
+use Rattle.refusal.specs.declared.Verdict.the-variants.{Accepted, Refused}
+use Rattle.refusal.specs.declared.TestAnswer.{TestAnswer}
+use Rattle.refusal.specs.declared.TestAnswer.the-variants as test
+use Rattle.refusal.specs.declared.CountAnswer.{CountAnswer}
+use Rattle.refusal.specs.declared.CountAnswer.the-variants as count
+use Rattle.refusal.specs.Order.{Check, verdict, decide}
+use Rattle.refusal.proofs.Laws.{NoneTrue, accepted-none-true, EachRefusal, refused-one-of}
 use Rattle.refusal.specs.declared.Refusal.the-variants.{Short, Kind, Cut, Setup, Full, Long, Numbers, Counts, State, Time, Roll}
 use Rattle.host_answer.specs.Answer.{statusLimit, valueLimit, packed, statusIn, valueIn, wordLimit, firstValue, secondValue, refusalAnswer, Refusing, ValuesFit}
 
@@ -71,3 +81,42 @@ done-not-refusing value h = let e = status-back 0 value (omega arith) in let fro
 
 pub ordinary-not-refusing : (status value : ℕ) → 12 ≤ status → status < statusLimit → Refusing (packed status value) → ⊥
 ordinary-not-refusing status value h k refusing = let e = status-back status value k in let to = refusing .to in omega arith
+
+-- ---- what the answers hold survives the packing
+-- what holds of each check's refusal and of the accepted answer holds of the answer
+module _ {A : Type 0} (P : A → Type 0) (cs : List Check) (f : Refusal → A) (a : A) (each : EachRefusal (λ r. P (f r)) cs) (ok : NoneTrue cs → P a) where
+  by-verdict : (v : Verdict) → verdict cs ≡ v → P (decide v f a)
+  unfolding decide
+  by-verdict Accepted e = ok (accepted-none-true cs e)
+  by-verdict (Refused r) e = refused-one-of (λ (s : Refusal). P (f s)) r cs each e
+
+  pub of-answer : P (decide (verdict cs) f a)
+  of-answer = by-verdict (verdict cs) refl
+
+-- refusals without values
+pub full-fits : ValuesFit Full
+full-fits = record { first = omega arith; second = omega arith }
+
+pub long-fits : ValuesFit Long
+long-fits = record { first = omega arith; second = omega arith }
+
+pub numbers-fits : ValuesFit Numbers
+numbers-fits = record { first = omega arith; second = omega arith }
+
+pub counts-fits : ValuesFit Counts
+counts-fits = record { first = omega arith; second = omega arith }
+
+pub state-fits : ValuesFit State
+state-fits = record { first = omega arith; second = omega arith }
+
+pub time-fits : ValuesFit Time
+time-fits = record { first = omega arith; second = omega arith }
+
+-- of an answer that is a test or a count
+abbrev pub TestFits : TestAnswer → Type 0
+TestFits (test.Is b) = Unit {0}
+TestFits (test.Refused r) = ValuesFit r
+
+abbrev pub CountFits : CountAnswer → Type 0
+CountFits (count.Count n) = n < valueLimit
+CountFits (count.Refused r) = ValuesFit r

@@ -1,21 +1,23 @@
 -- The values of the answers survive the packing: a refusal's fit in 16 bits each, lengths and numbers in 56.
-use Prim.Native.Nat.{ℕ, zero, suc, _+_, _-_, _*_, _≤_, _<_, min}
-use mathlib.Core.Path.{_≡_, refl, sym, ap, _∙_}
+use Prim.Native.Nat.{ℕ, zero, suc, _+_, _-_, _≤_, _<_, min}
+use mathlib.Core.Path.{_≡_, refl}
 use mathlib.Core.Bool.{Bool, true, false, cond, not, _&&_}
 use mathlib.Core.List.{List, [], _∷_, _++_}
 use native.Mathlib.Omega.{arith}
 use borrow.Author.Tests.{ltb-false, ltb-true, leb-true}
-use lib.ListN.{length, getD, drop}
+use lib.ListN.{length, drop}
 use lib.Dec.{ltb, leb, eqb}
 use Rattle.bounds.specs.Bounds.{headerSize, maxPayload}
 use Rattle.octets.specs.Octets.{Octets}
 use Rattle.refusal.specs.declared.Refusal.{Refusal}
-use Rattle.refusal.specs.declared.Refusal.the-variants.{Short, Kind, Cut, Full, Long, Numbers, Counts, State}
+use Rattle.refusal.specs.declared.Refusal.the-variants.{Counts, State}
 use Rattle.refusal.specs.declared.Verdict.{Verdict}
 use Rattle.refusal.specs.declared.Verdict.the-variants.{Accepted, Refused}
-use Rattle.refusal.specs.Order.{Check, check, order, orElse, numbered, firstOf, verdict, decide, heldChecks}
-use Rattle.refusal.proofs.Laws.{NoneTrue, accepted-none-true, EachRefusal, refused-one-of}
-use Rattle.packet.specs.Reading.{isType, declared, present, readChecks, headerOf, payloadOf, fromBytes, givenChecks, readDatagram, readingChecks}
+use Rattle.refusal.specs.declared.TestAnswer.the-variants as test
+use Rattle.refusal.specs.declared.CountAnswer.the-variants as count
+use Rattle.refusal.specs.Order.{check, verdict, decide, heldChecks}
+use Rattle.refusal.proofs.Laws.{EachRefusal}
+use Rattle.packet.specs.Reading.{readChecks, headerOf, payloadOf, fromBytes, givenChecks, readDatagram, readingChecks}
 use Rattle.packet.specs.Format.{matches}
 use Rattle.packet.specs.declared.Packet.{Packet}
 use Rattle.packet.specs.declared.PacketAnswer.{PacketAnswer}
@@ -33,77 +35,46 @@ use Rattle.window.specs.declared.AckDecision.{AckDecision}
 use Rattle.window.specs.declared.AckDecision.the-variants as decision
 use Rattle.window.specs.declared.TimeoutAnswer.{TimeoutAnswer}
 use Rattle.window.specs.declared.TimeoutAnswer.the-variants as timeoutAnswer
-use Rattle.window.specs.State.{outstanding, stateBroken, countsBroken}
+use Rattle.window.specs.State.{outstanding, numbersBroken, stateBroken, countsBroken}
 use Rattle.window.specs.Slots as slots
-use Rattle.window.specs.Sending as window
+use Rattle.window.specs.Outstanding as window
+use Rattle.window.specs.Outstanding.{unlessBroken}
+use Rattle.window.specs.Sending as sending
 use Rattle.window.specs.Sending.{SendExit, sendExit, sendChecks, windowFree}
-use Rattle.window.specs.Acknowledgement.{inWindow, byType, byReading, ackDecision, AckExit, byDecision}
+use Rattle.window.specs.Acknowledgement.{inWindow, byType, byReading, ackDecision, byDecision}
 use Rattle.window.specs.Resending.{TimeoutExit, timeoutExit, resend, sentAgain, markFrom}
-use Rattle.window.proofs.Laws.{sound}
+use Rattle.window.proofs.Laws.{numbers, numbers-not-broken, sound, sound-numbers}
 use Rattle.delivery.proofs.Progress.{again-within}
 use Rattle.store.specs.Numbers.{marked}
-use Rattle.receiver.specs.Receive as receiver
-use Rattle.receiver.specs.Receive.{ReceiveExit, Reception, receiveChecks, refusedExit, receivedExit}
-use Rattle.receiver.specs.Reply.{answerOf}
-use Rattle.receiver.specs.declared.Reply.{Reply}
-use Rattle.receiver.specs.declared.Reply.the-variants as reply
-use Rattle.receiver.specs.declared.ReceiveAnswer.{ReceiveAnswer}
-use Rattle.receiver.specs.declared.ReceiveAnswer.the-variants as receiveAnswer
+use Rattle.store.proofs.Numbers.{count-within}
 use Rattle.stop_and_wait.specs.Sender as stopAndWait
+use Rattle.selective_repeat.specs.Sender as selectiveRepeat
 use Rattle.session.specs.declared.SenderState.{SenderState}
 use Rattle.session.specs.declared.SenderState.the-variants as senderState
-use Rattle.session.specs.declared.ReceiverState.{ReceiverState}
-use Rattle.session.specs.declared.ReceiverState.the-variants as receiverState
 use Rattle.session.specs.declared.Timeout.{Timeout}
 use Rattle.session.specs.declared.Timeout.the-variants as timeouts
 use Rattle.session.specs.Sending.{SenderEnd, sendChunkIn, sendChunk, handleAckIn, handleAck, goBackNTimeout, timeoutNumber, handleTimeoutIn, handleTimeout}
-use Rattle.session.specs.Receiving.{ReceiverEnd, handlePacketIn, handlePacket}
-use Rattle.host_answer.specs.Answer.{valueLimit, wordLimit, ValuesFit}
-use Rattle.host_ends.specs.Sender.{numberIn, numberOf}
+use Rattle.host_answer.specs.Answer.{valueLimit, ValuesFit}
+use Rattle.host_answer.proofs.Laws.{of-answer, full-fits, long-fits, numbers-fits, counts-fits, state-fits, TestFits, CountFits}
+use Rattle.host_packet.proofs.Fits.{number-low, given-values}
+use Rattle.host_ends.specs.Sender.{numberIn, numberOf, canSendIn}
 
--- what holds of each check's refusal and of the accepted answer holds of the answer
-module _ {A : Type 0} (P : A → Type 0) (cs : List Check) (f : Refusal → A) (a : A) (each : EachRefusal (λ r. P (f r)) cs) (ok : NoneTrue cs → P a) where
-  by-verdict : (v : Verdict) → verdict cs ≡ v → P (decide v f a)
-  unfolding decide
-  by-verdict Accepted e = ok (accepted-none-true cs e)
-  by-verdict (Refused r) e = refused-one-of (λ (s : Refusal). P (f s)) r cs each e
-
-  of-answer : P (decide (verdict cs) f a)
-  of-answer = by-verdict (verdict cs) refl
-
--- ---- a datagram's refusals
-four : (short kind cut long : Bool) (n b d p : ℕ) (r : Refusal)
-    → verdict (check long Long ∷ check short (Short n) ∷ check kind (Kind b) ∷ check cut (Cut d p) ∷ []) ≡ Refused r
-    → (short ≡ true → n < headerSize) → b < 256 → d < wordLimit → (cut ≡ true → p < d) → ValuesFit r
-unfolding verdict firstOf numbered orElse order
-four true kind cut long n b d p r e hn hb hd hp =
-    let same : Short n ≡ r = cc in let m = hn refl in rw (← same) (record { first = omega arith; second = omega arith })
-four false true cut long n b d p r e hn hb hd hp =
-    let same : Kind b ≡ r = cc in rw (← same) (record { first = omega arith; second = omega arith })
-four false false true long n b d p r e hn hb hd hp =
-    let same : Cut d p ≡ r = cc in let m = hp refl in rw (← same) (record { first = omega arith; second = omega arith })
-four false false false true n b d p r e hn hb hd hp =
-    let same : Long ≡ r = cc in rw (← same) (record { first = omega arith; second = omega arith })
-four false false false false n b d p r e hn hb hd hp = let z : _≡_ {A = ℕ} 0 1 = cc in absurd (omega arith)
-
-abbrev ReadingFits : DatagramReading → Type 0
-ReadingFits (reading.Valid p) = Unit {0}
+-- ---- a datagram: its refusals, and the number of a valid one
+abbrev pub ReadingFits : DatagramReading → Type 0
+ReadingFits (reading.Valid p) = p .«seq_num» < valueLimit
 ReadingFits (reading.Corrupted p) = Unit {0}
 ReadingFits (reading.Refused r) = ValuesFit r
 
-either-fits : (b : Bool) (p : Packet) → ReadingFits (cond b (reading.Valid p) (reading.Corrupted p))
-either-fits true p = tt
-either-fits false p = tt
+either-fits : (b : Bool) (p : Packet) → p .«seq_num» < valueLimit → ReadingFits (cond b (reading.Valid p) (reading.Corrupted p))
+either-fits true p h = h
+either-fits false p h = tt
 
 reading-cases : (raw : List ℕ) → Octets raw → (v : Verdict) → verdict (givenChecks raw) ≡ v
     → ReadingFits (decide v reading.Refused (cond (matches (headerOf raw) (payloadOf raw)) (reading.Valid (headerOf raw)) (reading.Corrupted (headerOf raw))))
-unfolding decide readChecks
-reading-cases raw o Accepted e = either-fits (matches (headerOf raw) (payloadOf raw)) (headerOf raw)
-reading-cases raw o (Refused r) e =
-    let high = o .at 6 in
-    let low = o .at 7 in
-    four (ltb (length raw) headerSize) (not (isType (getD raw 4 0))) (ltb (present raw) (declared raw)) (ltb maxPayload (length (payloadOf raw))) (length raw) (getD raw 4 0) (declared raw) (present raw) r e
-    (λ h. ltb-true _ _ h) (o .at 4) (omega arith) (λ h. ltb-true _ _ h)
+unfolding decide
+reading-cases raw o Accepted e =
+    let low = number-low raw o in either-fits (matches (headerOf raw) (payloadOf raw)) (headerOf raw) (omega (arith, low))
+reading-cases raw o (Refused r) e = given-values raw o r e
 
 pub reading-fits : (raw : List ℕ) → Octets raw → ReadingFits (readDatagram raw)
 unfolding readDatagram
@@ -115,27 +86,12 @@ SendFits (sendAnswer.Sent n) = n < valueLimit
 SendFits sendAnswer.WindowFull = Unit {0}
 SendFits (sendAnswer.Refused r) = ValuesFit r
 
-state-fits : ValuesFit State
-state-fits = record { first = omega arith; second = omega arith }
-
-counts-fits : ValuesFit Counts
-counts-fits = record { first = omega arith; second = omega arith }
-
-full-fits : ValuesFit Full
-full-fits = record { first = omega arith; second = omega arith }
-
-long-fits : ValuesFit Long
-long-fits = record { first = omega arith; second = omega arith }
-
-numbers-fits : ValuesFit Numbers
-numbers-fits = record { first = omega arith; second = omega arith }
-
 sent-fits : (b : Bool) (v w : slots.Sender) (out o : List ℕ) (n : ℕ) → n < valueLimit → SendFits (cond b (sendExit (sendAnswer.Sent n) w o) (sendExit sendAnswer.WindowFull v out) .answer)
 sent-fits true v w out o n h = h
 sent-fits false v w out o n h = tt
 
-window-fits : (selective : Bool) (v : slots.Sender) (payload out : List ℕ) → SendFits (window.sendChunk selective v payload out .answer)
-unfolding window.sendChunk sendChecks
+window-fits : (selective : Bool) (v : slots.Sender) (payload out : List ℕ) → SendFits (sending.sendChunk selective v payload out .answer)
+unfolding sending.sendChunk sendChecks
 window-fits selective v payload out =
     of-answer (λ (x : SendExit slots.Sender). SendFits (x .answer)) _ (λ r. sendExit (sendAnswer.Refused r) v out) _
     (state-fits, (counts-fits, (long-fits, (numbers-fits, (full-fits, tt)))))
@@ -152,17 +108,14 @@ send-fits v payload out = send-fits-in (v .sender .state) (v .store) payload out
 
 -- ---- ACKs
 number-cases : (a : PacketAnswer) (raw : List ℕ) → Octets raw → fromBytes raw ≡ a → numberIn a < valueLimit
-unfolding numberIn fromBytes decide headerOf
+unfolding numberIn fromBytes decide
 number-cases (packetAnswer.Refused r) raw o e = omega arith
 number-cases (packetAnswer.Packet p) raw o e = read-number (verdict (readChecks raw)) e where
   read-number : (v : Verdict) → decide v packetAnswer.Refused (packetAnswer.Packet (headerOf raw)) ≡ packetAnswer.Packet p → p .«seq_num» < valueLimit
   read-number Accepted f =
       let same : headerOf raw ≡ p = cc in
-      let a = o .at 0 in
-      let b = o .at 1 in
-      let c = o .at 2 in
-      let d = o .at 3 in
-      rw (← same) (omega arith)
+      let low = number-low raw o in
+      rw (← same) (omega (arith, low))
   read-number (Refused r) f = let z : _≡_ {A = ℕ} 0 1 = cc in absurd (omega arith)
 
 pub number-fits : (raw : List ℕ) → Octets raw → numberOf raw < valueLimit
@@ -289,33 +242,38 @@ pub timeout-fits : (v : SenderEnd) (t : Timeout) (out : List ℕ) → TimeoutFit
 unfolding handleTimeout
 timeout-fits v t out = timeout-fits-in (v .sender .state) (v .store) t out
 
--- ---- receiving
-abbrev pub ReceiveFits : ReceiveAnswer → Type 0
-ReceiveFits (receiveAnswer.Ack n) = Unit {0}
-ReceiveFits receiveAnswer.Silent = Unit {0}
-ReceiveFits (receiveAnswer.Refused r) = ValuesFit r
+-- ---- the calls that only read
+unless-fits : {A : Type 0} (P : A → Type 0) (s : SendWindow) (f : Refusal → A) (a : A) → P (f State) → P (f Counts) → (numbersBroken s ≡ false → P a) → P (unlessBroken s f a)
+unfolding unlessBroken
+unless-fits P s f a state counts ok = of-answer P (check (numbersBroken s) State ∷ check (countsBroken s) Counts ∷ []) f a (state, (counts, tt)) (λ none. ok (none .0))
 
-reply-fits : (y : Reply) → ReceiveFits (answerOf y)
-reply-fits (reply.Ack n) = tt
-reply-fits reply.Silent = tt
+few-fit : (s : SendWindow) → numbersBroken s ≡ false → outstanding s < valueLimit
+few-fit s e =
+    let n = numbers s e in
+    let few = n .few in
+    let small = n .small in
+    omega (arith, few, small)
 
-given-fit : (x : DatagramReading) (a b : Bool) → ReadingFits x → EachRefusal (λ r. ReceiveFits (receiveAnswer.Refused r)) (readingChecks x ++ heldChecks a b)
-given-fit (reading.Valid p) a b h = (state-fits, (counts-fits, tt))
-given-fit (reading.Corrupted p) a b h = (state-fits, (counts-fits, tt))
-given-fit (reading.Refused r) a b h = (h, (state-fits, (counts-fits, tt)))
+pub can-send-fits : (x : SenderState) → TestFits (canSendIn x)
+unfolding canSendIn
+can-send-fits (senderState.StopAndWait s) = unless-fits TestFits (stopAndWait.windowOf s) test.Refused _ state-fits counts-fits (λ e. tt)
+can-send-fits (senderState.GoBackN s) = unless-fits TestFits (s .window) test.Refused _ state-fits counts-fits (λ e. tt)
+can-send-fits (senderState.SelectiveRepeat s) = unless-fits TestFits (s .window) test.Refused _ state-fits counts-fits (λ e. tt)
 
-receive-fits : {R : Type 0} (x : Reception R) (raw output ack : List ℕ) → Octets raw → ReceiveFits (receiver.receive x raw output ack .answer)
-unfolding receiver.receive
-receive-fits {R} x raw output ack o =
-    of-answer (λ (y : ReceiveExit R). ReceiveFits (y .answer)) (receiveChecks x raw output ack) (λ r. refusedExit x output ack (receiveAnswer.Refused r)) (receivedExit x output ack)
-    (full-fits, (numbers-fits, given-fit (readDatagram raw) (x .stateBroken) (x .countsBroken) (reading-fits raw o))) (λ none. reply-fits (x .decision .reply))
+-- what a sender of each protocol counts, where the store isn't refused
+abbrev pub InFlightFits : SenderState → List ℕ → Type 0
+InFlightFits (senderState.StopAndWait s) store = TestFits (stopAndWait.isWaitingForAck s)
+InFlightFits (senderState.GoBackN s) store = CountFits (window.inFlightCount (s .window))
+InFlightFits (senderState.SelectiveRepeat s) store = CountFits (selectiveRepeat.inFlightCount (slots.sender (s .window) store))
 
-packet-fits-in : (x : ReceiverState) (store raw output ack : List ℕ) → Octets raw → ReceiveFits (handlePacketIn x store raw output ack .answer)
-packet-fits-in (receiverState.StopAndWait r) store raw output ack o = receive-fits _ raw output ack o
-packet-fits-in (receiverState.GoBackN r) store raw output ack o = receive-fits _ raw output ack o
-packet-fits-in (receiverState.SelectiveRepeat r) store raw output ack o = receive-fits _ raw output ack o
-
--- its refusals; the number of an ACK is one of 32 bits by its type
-pub packet-fits : (v : ReceiverEnd) (raw output ack : List ℕ) → Octets raw → ReceiveFits (handlePacket v raw output ack .answer)
-unfolding handlePacket
-packet-fits v raw output ack o = packet-fits-in (v .receiver .state) (v .store) raw output ack o
+pub in-flight-fits : (x : SenderState) (store : List ℕ) → InFlightFits x store
+unfolding selectiveRepeat.inFlightCount
+in-flight-fits (senderState.StopAndWait s) store = unless-fits TestFits (stopAndWait.windowOf s) test.Refused _ state-fits counts-fits (λ e. tt)
+in-flight-fits (senderState.GoBackN s) store = unless-fits CountFits (s .window) count.Refused _ state-fits counts-fits (few-fit (s .window))
+in-flight-fits (senderState.SelectiveRepeat s) store =
+    let w = s .window in
+    of-answer CountFits (heldChecks (stateBroken true w store) (countsBroken w)) count.Refused (count.Count (selectiveRepeat.inFlightCountUnchecked (slots.sender w store))) (state-fits, (counts-fits, tt))
+    (λ none.
+    let most = count-within 1 store (w .«window_size») (w .«send_base») (outstanding w) in
+    let low = few-fit w (numbers-not-broken w (sound-numbers (sound true w store (none .0)))) in
+    omega (arith, most, low))

@@ -1,3 +1,5 @@
 pub mod Calls
 pub mod Unchanged
 pub mod Fits
+pub mod ReceiveFits
+pub mod Numbers

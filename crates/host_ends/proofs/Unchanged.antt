@@ -21,7 +21,7 @@ use Rattle.window.specs.declared.AckDecision.{AckDecision}
 use Rattle.window.specs.declared.AckDecision.the-variants as decision
 use Rattle.window.specs.declared.TimeoutAnswer.{TimeoutAnswer}
 use Rattle.window.specs.declared.TimeoutAnswer.the-variants as timeoutAnswer
-use Rattle.window.specs.State.{windowBroken, storeShort}
+use Rattle.window.specs.State.{storeShort}
 use Rattle.window.specs.Slots as slots
 use Rattle.window.specs.Sending as window
 use Rattle.window.specs.Sending.{SendExit, sendExit, sendChecks, windowFree}
@@ -246,10 +246,10 @@ module _ (state store : List ℕ) where
   abbrev MakeKept : CallExit → Type 0
   MakeKept x = Refusing (x .answer) → x .lent ≡ state ∷ store ∷ []
 
-  make-kept : (slots window : ℕ) (words made : List ℕ) → MakeKept (makeUnless slots window state store (madeExit words made))
+  make-kept : (slots : ℕ) (setup : Bool) (words made : List ℕ) → MakeKept (makeUnless slots setup state store (madeExit words made))
   unfolding makeUnless
-  make-kept slots window words made =
-      either-answer MakeKept (verdict (check (storeShort store slots) State ∷ check (windowBroken window) Setup ∷ check (ltb (length state) stateWords) Full ∷ []))
+  make-kept slots setup words made =
+      either-answer MakeKept (verdict (check (storeShort store slots) State ∷ check setup Setup ∷ check (ltb (length state) stateWords) Full ∷ []))
       (λ r. callExit (refusalAnswer r) (state ∷ store ∷ [])) (madeExit words made) (λ r h. refl) (λ e h. absurd (done-not-refusing 0 h))
 
   protocol-kept : (a b c : Bool) (make : ProtocolType → CallExit) → ((p : ProtocolType) → MakeKept (make p))
@@ -261,11 +261,11 @@ module _ (state store : List ℕ) where
 
   sender-of-kept : (window limit : ℕ) (p : ProtocolType) → MakeKept (makeSenderOf p window limit state store)
   unfolding makeSenderOf
-  sender-of-kept window limit p = make-kept _ window _ _
+  sender-of-kept window limit p = make-kept _ _ _ _
 
   receiver-of-kept : (window : ℕ) (p : ProtocolType) → MakeKept (makeReceiverOf p window state store)
   unfolding makeReceiverOf
-  receiver-of-kept window p = make-kept _ window _ _
+  receiver-of-kept window p = make-kept _ _ _ _
 
   pub make-sender-refused : (n window limit : ℕ) → Refusing (makeSender n window limit state store .answer) → makeSender n window limit state store .lent ≡ state ∷ store ∷ []
   unfolding byProtocol

@@ -1,10 +1,12 @@
 -- Making, by a protocol's number: 1 Stop-and-Wait, 2 Go-Back-N, 3 Selective Repeat, any other a 4. Document 01, "Turned
--- away": 9 a store shorter than its slots, 4 the window out of bounds, 5 fewer words than the state has.
+-- away": 9 a store shorter than its slots, 4 the window out of bounds or a limit of retries above 32 bits, 5 fewer words
+-- than the state has.
 use Prim.Native.Nat.{ℕ}
 use mathlib.Core.List.{List, [], _∷_}
-use mathlib.Core.Bool.{cond}
+use mathlib.Core.Bool.{Bool, cond}
 use lib.ListN.{length}
 use lib.Dec.{ltb, eqb}
+use Rattle.refusal.specs.Clauses.{anyOf}
 use Rattle.refusal.specs.declared.Refusal.the-variants.{State, Setup, Full}
 use Rattle.refusal.specs.Order.{check, verdict, decide}
 use Rattle.protocol.specs.declared.ProtocolType.{ProtocolType}
@@ -13,14 +15,14 @@ use Rattle.window.specs.State.{windowBroken, storeShort}
 use Rattle.session.specs.Sending.{SenderEnd, slotCount, newSender}
 use Rattle.session.specs.Receiving.{ReceiverEnd, receiverSlotCount, newReceiver}
 use Rattle.host_answer.specs.Answer.{packed, doneStatus, refusalAnswer}
-use Rattle.host_words.specs.Words.{stateWords, senderWord, receiverWord, withKind, withSender, withReceiver}
+use Rattle.host_words.specs.Words.{stateWords, senderWord, receiverWord, wide, withKind, withSender, withReceiver}
 use Rattle.host_ends.specs.Answers.{CallExit, callExit}
 
 -- the checks of making an end with so many slots
-unfoldable pub makeUnless : ℕ → ℕ → List ℕ → List ℕ → CallExit → CallExit
-makeUnless slots window state store made =
+unfoldable pub makeUnless : ℕ → Bool → List ℕ → List ℕ → CallExit → CallExit
+makeUnless slots setupBroken state store made =
     decide
-    (verdict (check (storeShort store slots) State ∷ check (windowBroken window) Setup
+    (verdict (check (storeShort store slots) State ∷ check setupBroken Setup
     ∷ check (ltb (length state) stateWords) Full ∷ []))
     (λ r. callExit (refusalAnswer r) (state ∷ store ∷ []))
     made
@@ -31,10 +33,14 @@ madeExit words store = callExit (packed doneStatus 0) (words ∷ store ∷ [])
 abbrev pub senderMade : ProtocolType → List ℕ → SenderEnd → CallExit
 senderMade p state v = madeExit (withSender (withKind state (senderWord p)) (v .sender .state)) (v .store)
 
--- limit: Stop-and-Wait's greatest number of retries
+-- limit: Stop-and-Wait's greatest number of retries, in every protocol one of 32 bits
+abbrev pub senderBroken : ℕ → ℕ → Bool
+senderBroken window limit = anyOf (windowBroken window ∷ wide limit ∷ [])
+
 unfoldable pub makeSenderOf : ProtocolType → ℕ → ℕ → List ℕ → List ℕ → CallExit
 makeSenderOf p window limit state store =
-    makeUnless (slotCount p window) window state store (senderMade p state (newSender p window limit store))
+    makeUnless (slotCount p window) (senderBroken window limit) state store
+    (senderMade p state (newSender p window limit store))
 
 abbrev pub receiverMade : ProtocolType → List ℕ → ReceiverEnd → CallExit
 receiverMade p state v =
@@ -42,7 +48,8 @@ receiverMade p state v =
 
 unfoldable pub makeReceiverOf : ProtocolType → ℕ → List ℕ → List ℕ → CallExit
 makeReceiverOf p window state store =
-    makeUnless (receiverSlotCount p window) window state store (receiverMade p state (newReceiver p window store))
+    makeUnless (receiverSlotCount p window) (windowBroken window) state store
+    (receiverMade p state (newReceiver p window store))
 
 -- by the protocol's number
 unfoldable pub byProtocol : ℕ → List ℕ → List ℕ → (ProtocolType → CallExit) → CallExit

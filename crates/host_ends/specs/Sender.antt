@@ -1,16 +1,20 @@
 -- The calls of a sender over lent words: the protocol's own on the sender that the words hold.
 use Prim.Native.Nat.{ℕ}
 use mathlib.Core.List.{List, [], _∷_}
+use mathlib.Core.Bool.{false}
 use Rattle.refusal.specs.declared.Refusal.the-variants.{State}
+use Rattle.refusal.specs.Order.{verdict, decide, heldChecks}
 use Rattle.packet.specs.Reading.{fromBytes}
 use Rattle.packet.specs.declared.PacketAnswer.{PacketAnswer}
 use Rattle.packet.specs.declared.PacketAnswer.the-variants as packetAnswer
 use Rattle.refusal.specs.declared.TestAnswer.{TestAnswer}
+use Rattle.window.specs.State.{stateBroken, countsBroken}
 use Rattle.window.specs.Slots as slots
 use Rattle.window.specs.Outstanding as window
 use Rattle.window.specs.Sending.{SendExit}
 use Rattle.window.specs.Acknowledgement.{AckExit}
 use Rattle.window.specs.Resending.{TimeoutExit}
+use Rattle.window.specs.declared.SendWindow.{SendWindow}
 use Rattle.stop_and_wait.specs.Sender as stopAndWait
 use Rattle.selective_repeat.specs.Sender as selectiveRepeat
 use Rattle.session.specs.Sending.{SenderEnd, senderEnd, sendChunk, handleAck, handleTimeout}
@@ -79,10 +83,17 @@ canSendHeld heldSenders.Broken = refusalAnswer State
 abbrev pub canSend : List ℕ → ℕ
 canSend state = canSendHeld (heldSender state)
 
+-- 9 and 8 of the window and its store
+abbrev pub unlessBroken : SendWindow → List ℕ → ℕ → ℕ
+unlessBroken w store answer =
+    decide (verdict (heldChecks (stateBroken false w store) (countsBroken w))) refusalAnswer answer
+
 -- how many numbers are outstanding; of Selective Repeat those not acknowledged
 unfoldable pub inFlightIn : SenderState → List ℕ → ℕ
-inFlightIn (senderState.StopAndWait s) store = testAnswer (stopAndWait.isWaitingForAck s)
-inFlightIn (senderState.GoBackN s) store = countAnswer (window.inFlightCount (s .window))
+inFlightIn (senderState.StopAndWait s) store =
+    unlessBroken (stopAndWait.windowOf s) store (testAnswer (stopAndWait.isWaitingForAck s))
+inFlightIn (senderState.GoBackN s) store =
+    unlessBroken (s .window) store (countAnswer (window.inFlightCount (s .window)))
 inFlightIn (senderState.SelectiveRepeat s) store =
     countAnswer (selectiveRepeat.inFlightCount (slots.sender (s .window) store))
 

@@ -2,11 +2,13 @@
 // any words; those that hold no such end are a 9.
 ghost use mathlib.Core.Path.{_≡_};
 ghost use mathlib.Core.List.{[], _∷_};
+ghost use Prim.Native.Nat.{min};
 ghost use Rattle.session.specs.Sending.{slotCount};
 ghost use Rattle.session.specs.Receiving.{receiverSlotCount};
 ghost use Rattle.host_ends.specs.Answers.{callExit, sendCode, ackCode, timeoutCode, receiveCode};
 ghost use Rattle.host_ends.specs.Sender.{send, numberOf, acknowledge, timeout, canSendIn, canSend, inFlightIn};
 ghost use Rattle.host_ends.specs.Sender.{inFlight};
+ghost use Rattle.host_ends.specs.Internal.{unlessRefused};
 ghost use Rattle.host_ends.specs.Receiver.{receive};
 ghost use Rattle.host_ends.specs.Making.{makeSenderOf, makeReceiverOf, makeSender, makeReceiver};
 use host_words::HeldReceiver;
@@ -24,12 +26,15 @@ use session::Timeout;
 use window::AckAnswer;
 use window::SendAnswer;
 use window::TimeoutAnswer;
+use window::TimeoutDecision;
+
+const MAX_U32: u64 = 4_294_967_295;
 
 // A sender of protocol 1 Stop-and-Wait, 2 Go-Back-N or 3 Selective Repeat; max_retries is Stop-and-Wait's.
 pub fn make_sender(
     protocol: u64,
     window_size: usize,
-    max_retries: u32,
+    max_retries: u64,
     state: &mut [u64],
     store: &mut [u8],
 ) -> u64
@@ -119,6 +124,14 @@ pub fn timeout(state: &mut [u64], store: &mut [u8], which: Timeout, out: &mut [u
     }
 }
 
+// A timeout of a number, as above; one above 32 bits isn't outstanding.
+pub fn timeout_number(state: &mut [u64], store: &mut [u8], seq_num: u64, out: &mut [u8]) -> u64
+    ensures { λ r. ⌜ callExit r (now (state .exit) ∷ now (store .exit) ∷ now (out .exit) ∷ [])
+        ≡ timeout (now (state .entry)) (now (store .entry)) (Timeout.Number «seq_num») (now (out .entry)) ⌝ }
+{
+    timeout(state, store, Timeout::Number(at_most_u32(seq_num)), out)
+}
+
 // Whether the window is free: done with 1 or 0, or refused.
 pub fn can_send(state: &[u64]) -> u64
     ensures { λ r. ⌜ r ≡ canSend (now (state .entry)) ⌝ }
@@ -173,7 +186,7 @@ pub fn receive(
 fn make_sender_of(
     protocol: ProtocolType,
     window_size: usize,
-    max_retries: u32,
+    max_retries: u64,
     state: &mut [u64],
     store: &mut [u8],
 ) -> u64
@@ -187,10 +200,13 @@ fn make_sender_of(
     if window::window_broken(window_size) {
         return host_answer::refusal_answer(Refusal::Setup);
     }
+    if MAX_U32 < max_retries {
+        return host_answer::refusal_answer(Refusal::Setup);
+    }
     if state.len() < host_words::STATE_WORDS {
         return host_answer::refusal_answer(Refusal::Full);
     }
-    let sender = Sender::new_unchecked(protocol, window_size, max_retries, store);
+    let sender = Sender::new_unchecked(protocol, window_size, max_retries as u32, store);
     host_words::put_kind_unchecked(state, host_words::sender_word(protocol));
     host_words::put_sender_unchecked(state, sender);
     host_answer::pack_unchecked(host_answer::DONE, 0)
@@ -255,10 +271,37 @@ fn in_flight_in(state: SenderState, store: &[u8]) -> u64
     ensures { λ r. ⌜ r ≡ inFlightIn state (now (store .entry)) ⌝ }
 {
     match state {
-        SenderState::StopAndWait(s) => host_answer::test_answer(s.is_waiting_for_ack()),
-        SenderState::GoBackN(s) => host_answer::count_answer(s.in_flight_count()),
+        SenderState::StopAndWait(s) => {
+            let answer = host_answer::test_answer(s.is_waiting_for_ack());
+            unless_refused(s.decide_timeout(store), answer)
+        }
+        SenderState::GoBackN(s) => {
+            let window = s.window;
+            let answer = host_answer::count_answer(s.in_flight_count());
+            unless_refused(window.decide_timeout(store, 0), answer)
+        }
         SenderState::SelectiveRepeat(s) => host_answer::count_answer(s.in_flight_count(store)),
     }
+}
+
+// The answer, unless the state was refused.
+fn unless_refused(decision: TimeoutDecision, answer: u64) -> u64
+    ensures { λ r. ⌜ r ≡ unlessRefused decision answer ⌝ }
+{
+    match decision {
+        TimeoutDecision::Refused(r) => host_answer::refusal_answer(r),
+        TimeoutDecision::Nothing => answer,
+        TimeoutDecision::Resend { first: _, count: _ } => answer,
+    }
+}
+
+fn at_most_u32(n: u64) -> u32
+    ensures { λ r. ⌜ r ≡ min n 4294967295 ⌝ }
+{
+    if MAX_U32 < n {
+        return 4_294_967_295;
+    }
+    n as u32
 }
 
 // A datagram's number, 0 where it can't be read.

@@ -1,9 +1,15 @@
 -- Packets for a host: what a datagram reads as, whether it is valid, how long its payload is, and a datagram written.
-use Prim.Native.Nat.{ℕ, _+_, _*_}
-use mathlib.Core.List.{List}
+use Prim.Native.Nat.{ℕ, _+_, _*_, min}
+use mathlib.Core.List.{List, [], _∷_}
+use mathlib.Core.Bool.{Bool}
 use lib.ListN.{length}
-use Rattle.packet.specs.Format.{byteOf, withChecksum}
+use lib.Dec.{ltb}
+use Rattle.refusal.specs.Clauses.{anyOf}
+use Rattle.refusal.specs.declared.Refusal.the-variants.{Numbers}
+use Rattle.refusal.specs.Order.{check, verdict, decide}
+use Rattle.packet.specs.Format.{byteOf, withChecksum, checkLong}
 use Rattle.packet.specs.Reading.{tryFrom, fromBytes, payloadOf, validity}
+use Rattle.packet.specs.Writing as writing
 use Rattle.packet.specs.Writing.{Written, toBytes}
 use Rattle.packet.specs.declared.Packet.{Packet}
 use Rattle.packet.specs.declared.PacketType.{PacketType}
@@ -16,6 +22,9 @@ use Rattle.packet.specs.declared.ValidityAnswer.the-variants as validityAnswer
 use Rattle.packet.specs.declared.LengthAnswer.{LengthAnswer}
 use Rattle.packet.specs.declared.LengthAnswer.the-variants as lengthAnswer
 use Rattle.host_answer.specs.Answer.{packed, doneStatus, invalidStatus, refusalAnswer}
+
+abbrev pub maxByte : ℕ
+maxByte = 255
 
 -- number in the lowest 32 bits of the value, the kind's byte in the next 8, the flags in the next 8
 abbrev pub headerValue : Packet → ℕ
@@ -62,12 +71,21 @@ written w = writeExit (lengthCode (w .answer)) (w .out)
 abbrev pub packetOf : ℕ → PacketType → ℕ → Packet
 packetOf n t flags = record { «seq_num» = n; «pkt_type» = t; flags = flags; checksum = 0 }
 
--- the datagram with its checksum computed
-unfoldable pub writeOf : PacketTypeAnswer → ℕ → ℕ → List ℕ → List ℕ → WriteExit
-writeOf (typeAnswer.Type t) n flags payload out =
-    written (toBytes (withChecksum (packetOf n t flags) payload) payload out)
-writeOf (typeAnswer.Refused r) n flags payload out = writeExit (refusalAnswer r) out
+-- a number that the header's four bytes can't hold, or flags that its one can't
+abbrev pub unwritable : ℕ → ℕ → Bool
+unwritable n flags = anyOf (ltb 4294967295 n ∷ ltb maxByte flags ∷ [])
 
--- by the kind's byte: 1 Data, 2 Ack, 3 Fin, any other a 2
+-- the datagram with its checksum computed; 7 where number or flags have no place in it
+unfoldable pub writeOf : PacketTypeAnswer → ℕ → ℕ → List ℕ → List ℕ → Written
+writeOf (typeAnswer.Type t) n flags payload out =
+    decide (verdict (checkLong payload ∷ check (unwritable n flags) Numbers ∷ []))
+    (λ r. writing.written (lengthAnswer.Refused r) out)
+    (toBytes (withChecksum (packetOf n t flags) payload) payload out)
+writeOf (typeAnswer.Refused r) n flags payload out = writing.written (lengthAnswer.Refused r) out
+
+-- by the kind's byte: 1 Data, 2 Ack, 3 Fin, any other a 2; a kind above 255 is answered as 255
+abbrev pub writeAny : ℕ → ℕ → ℕ → List ℕ → List ℕ → Written
+writeAny kind n flags payload out = writeOf (tryFrom (min kind maxByte)) n flags payload out
+
 abbrev pub write : ℕ → ℕ → ℕ → List ℕ → List ℕ → WriteExit
-write kind n flags payload out = writeOf (tryFrom kind) n flags payload out
+write kind n flags payload out = written (writeAny kind n flags payload out)

@@ -1,9 +1,9 @@
 // Packets for a host outside Rattle.
 ghost use mathlib.Core.Path.{_≡_};
-ghost use Rattle.packet.specs.Format.{withChecksum};
-ghost use Rattle.packet.specs.Writing.{toBytes};
+ghost use Prim.Native.Nat.{min};
+ghost use Rattle.packet.specs.declared.PacketTypeAnswer.the-variants as typeAnswer;
 ghost use Rattle.host_packet.specs.Packet.{headerValue, read, validate, payloadLength, lengthCode, writeExit};
-ghost use Rattle.host_packet.specs.Packet.{written, packetOf, write};
+ghost use Rattle.host_packet.specs.Packet.{written, maxByte, writeOf, write};
 use packet::LengthAnswer;
 use packet::Packet;
 use packet::PacketAnswer;
@@ -11,6 +11,10 @@ use packet::PacketType;
 use packet::PacketTypeAnswer;
 use packet::ValidityAnswer;
 use refusal::Refusal;
+
+const MAX_U32: u64 = 4_294_967_295;
+
+const MAX_BYTE: u64 = 255;
 
 // The header: done with number, kind and flags, or refused.
 pub fn read(raw: &[u8]) -> u64
@@ -47,38 +51,53 @@ pub fn payload_length(raw: &[u8]) -> u64
 }
 
 // A datagram with its checksum to the start of out: done with its length, or refused.
-pub fn write(kind: u8, seq_num: u32, flags: u8, payload: &[u8], out: &mut [u8]) -> u64
+pub fn write(kind: u64, seq_num: u64, flags: u64, payload: &[u8], out: &mut [u8]) -> u64
     ensures { λ r. ⌜ writeExit r (now (out .exit))
         ≡ write kind «seq_num» flags (now (payload .entry)) (now (out .entry)) ⌝ }
 {
-    match PacketType::try_from(kind) {
+    match PacketType::try_from(kind_byte(kind)) {
         PacketTypeAnswer::Type(pkt_type) => write_packet(seq_num, pkt_type, flags, payload, out),
         PacketTypeAnswer::Refused(r) => host_answer::refusal_answer(r),
     }
 }
 
 fn write_packet(
-    seq_num: u32,
+    seq_num: u64,
     pkt_type: PacketType,
-    flags: u8,
+    flags: u64,
     payload: &[u8],
     out: &mut [u8],
 ) -> u64
     ensures { λ r. ⌜ writeExit r (now (out .exit))
-        ≡ written (toBytes (withChecksum (packetOf «seq_num» «pkt_type» flags) (now (payload .entry)))
+        ≡ written (writeOf (typeAnswer.Type «pkt_type») «seq_num» flags
         (now (payload .entry)) (now (out .entry))) ⌝ }
 {
     if Packet::MAX_PAYLOAD_SIZE < payload.len() {
         return host_answer::refusal_answer(Refusal::Long);
     }
+    if MAX_U32 < seq_num {
+        return host_answer::refusal_answer(Refusal::Numbers);
+    }
+    if MAX_BYTE < flags {
+        return host_answer::refusal_answer(Refusal::Numbers);
+    }
     let p = Packet {
-        seq_num,
+        seq_num: seq_num as u32,
         pkt_type,
-        flags,
+        flags: flags as u8,
         checksum: 0,
     };
     let p = p.compute_and_set_checksum_unchecked(payload);
     length_code(p.to_bytes(payload, out))
+}
+
+fn kind_byte(kind: u64) -> u8
+    ensures { λ r. ⌜ r ≡ min kind maxByte ⌝ }
+{
+    if MAX_BYTE < kind {
+        return 255;
+    }
+    kind as u8
 }
 
 fn length_code(a: LengthAnswer) -> u64

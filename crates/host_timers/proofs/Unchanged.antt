@@ -1,7 +1,7 @@
 -- A refused call changes nothing: where the status of an answer is 1 to 11, words, keys and deadlines are as they were.
 use Prim.Native.Nat.{ℕ, _+_}
 use mathlib.Core.Path.{_≡_, refl, ap, _∙_}
-use mathlib.Core.Bool.{Bool, not}
+use mathlib.Core.Bool.{Bool, true, false, cond, not}
 use mathlib.Core.List.{List, [], _∷_}
 use lib.ListN.{length}
 use lib.Dec.{ltb, eqb}
@@ -23,7 +23,7 @@ use Rattle.host_answer.proofs.Laws.{done-not-refusing}
 use Rattle.host_timers.specs.declared.HeldTimers.{HeldTimers}
 use Rattle.host_timers.specs.declared.HeldTimers.the-variants as held
 use Rattle.host_timers.specs.Timers as host
-use Rattle.host_timers.specs.Timers.{timersWords, heldTimers, WordsExit, wordsExit, made, makeTimers, startCode, startHeld, start, cancelCode, cancelHeld, cancel, popCode, popHeld, pop}
+use Rattle.host_timers.specs.Timers.{timersWords, wide, heldTimers, WordsExit, wordsExit, made, makeTimers, startCode, startHeld, start, cancelCode, cancelHeld, cancel, popCode, popHeld, pop}
 use Rattle.host_timers.proofs.Calls.{timers-back}
 
 -- the exit of a call that changed nothing, with its answer
@@ -52,8 +52,12 @@ module _ (state ks ds : List ℕ) where
       ap (answering (host.started state)) (start-kept t key now duration r) ∙ ap (λ (w : List ℕ). timersExit (wordsExit (startCode (startTimerAt t ks ds key now duration .answer .answer)) w) ks ds) (timers-back state e)
   start-same held.Broken key now duration e r = refl
 
+  either-same : (b : Bool) (answer : ℕ) (x : TimersExit WordsExit) → Same state ks ds x → Same state ks ds (cond b (timersExit (wordsExit answer state) ks ds) x)
+  either-same true answer x k h = refl
+  either-same false answer x k h = k h
+
   pub start-refused : (key now duration : ℕ) → Same state ks ds (start state ks ds key now duration)
-  start-refused key now duration = start-same (heldTimers state) key now duration refl
+  start-refused key now duration = either-same (wide key) _ _ (start-same (heldTimers state) key now duration refl)
 
   abbrev CancelKept : MultiTimer → TimersExit CancelResult → Type 0
   CancelKept t x = Refusing (cancelCode (x .answer .answer)) → x ≡ timersExit (cancelResult t (x .answer .answer)) ks ds
@@ -71,7 +75,7 @@ module _ (state ks ds : List ℕ) where
   cancel-same held.Broken key e r = refl
 
   pub cancel-refused : (key : ℕ) → Same state ks ds (cancel state ks ds key)
-  cancel-refused key = cancel-same (heldTimers state) key refl
+  cancel-refused key = either-same (wide key) _ _ (cancel-same (heldTimers state) key refl)
 
   abbrev PopKept : MultiTimer → List ℕ → PopExit PopResult → Type 0
   PopKept t out x = Refusing (popCode (x .rest .answer .answer)) → x ≡ popExit (timersExit (popResult t (x .rest .answer .answer)) ks ds) out

@@ -6,10 +6,11 @@ use mathlib.Core.Bool.{Bool, cond, not}
 use lib.ListN.{length, getD, set}
 use lib.Dec.{ltb, eqb}
 use Rattle.refusal.specs.Clauses.{anyOf}
-use Rattle.refusal.specs.declared.Refusal.the-variants.{State, Full}
+use Rattle.refusal.specs.declared.Refusal.the-variants.{State, Time, Full}
 use Rattle.refusal.specs.Order.{check, verdict, decide}
+use Rattle.multi_timer.specs.MultiTimer as multi
 use Rattle.multi_timer.specs.MultiTimer.{TimersExit, timersExit, answering, timers, newUnchecked, startTimerAt}
-use Rattle.multi_timer.specs.MultiTimer.{cancelTimer, PopExit, popExit, popExpiredAt, earliestDeadline}
+use Rattle.multi_timer.specs.MultiTimer.{startTooLate, heldChecks, cancelTimer, PopExit, popExit, popExpiredAt, earliestDeadline}
 use Rattle.multi_timer.specs.declared.MultiTimer.{MultiTimer}
 use Rattle.multi_timer.specs.declared.StartAnswer.{StartAnswer}
 use Rattle.multi_timer.specs.declared.StartAnswer.the-variants as startAnswer
@@ -67,6 +68,10 @@ makeTimers state ks ds =
     (λ r. timersExit (wordsExit (refusalAnswer r) state) ks ds)
     (answering (made state) (newUnchecked ks ds))
 
+-- a key above 32 bits, which no lent key is: no timer runs for it, and no entry can hold it
+abbrev pub wide : ℕ → Bool
+wide key = ltb 4294967295 key
+
 -- a start; the generation is word 2
 unfoldable pub startCode : StartAnswer → ℕ
 startCode (startAnswer.Id g) = packed doneStatus 0
@@ -80,8 +85,21 @@ startHeld (held.Timers t) state ks ds key now duration =
     answering (started state) (startTimerAt t ks ds key now duration)
 startHeld held.Broken state ks ds key now duration = timersExit (broken state) ks ds
 
+abbrev pub startKey : List ℕ → List ℕ → List ℕ → ℕ → ℕ → ℕ → TimersExit WordsExit
+startKey state ks ds key now duration = startHeld (heldTimers state) state ks ds key now duration
+
+-- of a wide key 9 and 10 as of any, and then 5
+unfoldable pub startWide : HeldTimers → List ℕ → List ℕ → ℕ → ℕ → ℕ
+startWide (held.Timers t) ks ds now duration =
+    decide
+    (verdict (check (multi.broken (t .count) ks ds) State ∷ check (startTooLate (t .count) ds now duration) Time ∷ []))
+    refusalAnswer (refusalAnswer Full)
+startWide held.Broken ks ds now duration = refusalAnswer State
+
 abbrev pub start : List ℕ → List ℕ → List ℕ → ℕ → ℕ → ℕ → TimersExit WordsExit
-start state ks ds key now duration = startHeld (heldTimers state) state ks ds key now duration
+start state ks ds key now duration =
+    cond (wide key) (timersExit (wordsExit (startWide (heldTimers state) ks ds now duration) state) ks ds)
+    (startKey state ks ds key now duration)
 
 -- a cancel: 1 where the key had a timer
 unfoldable pub cancelCode : CancelAnswer → ℕ
@@ -95,8 +113,18 @@ unfoldable pub cancelHeld : HeldTimers → List ℕ → List ℕ → List ℕ �
 cancelHeld (held.Timers t) state ks ds key = answering (cancelled state) (cancelTimer t ks ds key)
 cancelHeld held.Broken state ks ds key = timersExit (broken state) ks ds
 
+abbrev pub cancelKey : List ℕ → List ℕ → List ℕ → ℕ → TimersExit WordsExit
+cancelKey state ks ds key = cancelHeld (heldTimers state) state ks ds key
+
+-- a wide key has none
+unfoldable pub cancelWide : HeldTimers → List ℕ → List ℕ → ℕ
+cancelWide (held.Timers t) ks ds = decide (verdict (heldChecks t ks ds)) refusalAnswer (packed doneStatus 0)
+cancelWide held.Broken ks ds = refusalAnswer State
+
 abbrev pub cancel : List ℕ → List ℕ → List ℕ → ℕ → TimersExit WordsExit
-cancel state ks ds key = cancelHeld (heldTimers state) state ks ds key
+cancel state ks ds key =
+    cond (wide key) (timersExit (wordsExit (cancelWide (heldTimers state) ks ds) state) ks ds)
+    (cancelKey state ks ds key)
 
 -- the keys that are due, ascending, to the start of out; how many
 unfoldable pub popCode : PopAnswer → ℕ

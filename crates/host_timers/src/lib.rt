@@ -4,19 +4,23 @@ ghost use Prim.Native.Nat.{_≤_};
 ghost use lib.ListN.{length};
 ghost use Rattle.multi_timer.specs.MultiTimer.{timersExit, popExit};
 ghost use Rattle.host_timers.specs.Timers.{timersWords, heldTimers, withTimers, wordsExit, makeTimers};
-ghost use Rattle.host_timers.specs.Timers.{startCode, start, cancelCode, cancel, popCode, pop, earliestCode};
-ghost use Rattle.host_timers.specs.Timers.{earliest};
+ghost use Rattle.host_timers.specs.Timers.{startCode, startKey, startWide, start, cancelCode, cancelKey};
+ghost use Rattle.host_timers.specs.Timers.{cancelWide, cancel, popCode, pop, earliestCode, earliest};
+ghost use Rattle.host_timers.specs.Internal.{noneRan};
 use multi_timer::CancelAnswer;
 use multi_timer::EarliestAnswer;
 use multi_timer::MultiTimer;
 use multi_timer::PopAnswer;
 use multi_timer::StartAnswer;
 use refusal::Refusal;
+use refusal::TestAnswer;
 
 // Word 0: the layout's version times 256 and the kind.
 const TIMERS: u64 = 263;
 
 pub const TIMERS_WORDS: usize = 3;
+
+const MAX_U32: u64 = 4_294_967_295;
 
 // What the words of a timer set hold.
 pub enum HeldTimers {
@@ -45,12 +49,29 @@ pub fn start(
     state: &mut [u64],
     keys: &mut [u32],
     deadlines: &mut [u64],
-    key: u32,
+    key: u64,
     now: u64,
     duration: u64,
 ) -> u64
     ensures { λ r. ⌜ timersExit (wordsExit r (state .exit .now)) (keys .exit .now) (deadlines .exit .now)
         ≡ start (state .entry .now) (keys .entry .now) (deadlines .entry .now) key now duration ⌝ }
+{
+    if MAX_U32 < key {
+        return start_wide(state, keys, deadlines, now, duration);
+    }
+    start_key(state, keys, deadlines, key as u32, now, duration)
+}
+
+fn start_key(
+    state: &mut [u64],
+    keys: &mut [u32],
+    deadlines: &mut [u64],
+    key: u32,
+    now: u64,
+    duration: u64,
+) -> u64
+    ensures { λ r. ⌜ timersExit (wordsExit r (state .exit .now)) (keys .exit .now) (deadlines .exit .now)
+        ≡ startKey (state .entry .now) (keys .entry .now) (deadlines .entry .now) key now duration ⌝ }
 {
     match held_timers(state) {
         HeldTimers::Timers(t) => {
@@ -64,10 +85,53 @@ pub fn start(
     }
 }
 
+fn start_wide(state: &[u64], keys: &[u32], deadlines: &[u64], now: u64, duration: u64) -> u64
+    ensures { λ r. ⌜ r ≡ startWide (heldTimers (state .entry .now)) (keys .entry .now) (deadlines .entry .now)
+        now duration ⌝ }
+{
+    match held_timers(state) {
+        HeldTimers::Timers(t) => refuse_start(t, keys, deadlines, now, duration),
+        HeldTimers::Broken => host_answer::refusal_answer(Refusal::State),
+    }
+}
+
+fn refuse_start(t: MultiTimer, keys: &[u32], deadlines: &[u64], now: u64, duration: u64) -> u64
+    ensures { λ r. ⌜ r ≡ startWide (HeldTimers.Timers t) (keys .entry .now) (deadlines .entry .now) now duration ⌝ }
+{
+    match t.is_expired_at(keys, deadlines, 0, now) {
+        TestAnswer::Is(_) => {
+            if duration::start_late(now, duration) {
+                return host_answer::refusal_answer(Refusal::Time);
+            }
+            host_answer::refusal_answer(Refusal::Full)
+        }
+        TestAnswer::Refused(r) => host_answer::refusal_answer(r),
+    }
+}
+
 // Stops the timer of a key: done with 1 where it ran, else 0; or refused.
-pub fn cancel(state: &mut [u64], keys: &mut [u32], deadlines: &mut [u64], key: u32) -> u64
+pub fn cancel(state: &mut [u64], keys: &mut [u32], deadlines: &mut [u64], key: u64) -> u64
     ensures { λ r. ⌜ timersExit (wordsExit r (now (state .exit))) (now (keys .exit)) (now (deadlines .exit))
         ≡ cancel (now (state .entry)) (now (keys .entry)) (now (deadlines .entry)) key ⌝ }
+{
+    if MAX_U32 < key {
+        return cancel_wide(state, keys, deadlines);
+    }
+    cancel_key(state, keys, deadlines, key as u32)
+}
+
+fn cancel_wide(state: &[u64], keys: &[u32], deadlines: &[u64]) -> u64
+    ensures { λ r. ⌜ r ≡ cancelWide (heldTimers (now (state .entry))) (now (keys .entry)) (now (deadlines .entry)) ⌝ }
+{
+    match held_timers(state) {
+        HeldTimers::Timers(t) => none_ran(t.earliest_deadline(keys, deadlines)),
+        HeldTimers::Broken => host_answer::refusal_answer(Refusal::State),
+    }
+}
+
+fn cancel_key(state: &mut [u64], keys: &mut [u32], deadlines: &mut [u64], key: u32) -> u64
+    ensures { λ r. ⌜ timersExit (wordsExit r (now (state .exit))) (now (keys .exit)) (now (deadlines .exit))
+        ≡ cancelKey (now (state .entry)) (now (keys .entry)) (now (deadlines .entry)) key ⌝ }
 {
     match held_timers(state) {
         HeldTimers::Timers(t) => {
@@ -135,6 +199,16 @@ fn cancel_code(a: CancelAnswer) -> u64
             host_answer::pack_unchecked(host_answer::DONE, 0)
         }
         CancelAnswer::Refused(r) => host_answer::refusal_answer(r),
+    }
+}
+
+fn none_ran(a: EarliestAnswer) -> u64
+    ensures { λ r. ⌜ r ≡ noneRan a ⌝ }
+{
+    match a {
+        EarliestAnswer::Nothing => host_answer::pack_unchecked(host_answer::DONE, 0),
+        EarliestAnswer::At(_) => host_answer::pack_unchecked(host_answer::DONE, 0),
+        EarliestAnswer::Refused(r) => host_answer::refusal_answer(r),
     }
 }
 

@@ -1,6 +1,6 @@
 -- What is known of words that hold an end; and to put back what words hold changes no word.
 use Prim.Native.Nat.{ℕ, _+_, _≤_, _<_}
-use mathlib.Core.Path.{_≡_, refl, sym, ap, _∙_}
+use mathlib.Core.Path.{_≡_, refl, sym, ap, _∙_, subst}
 use mathlib.Core.Bool.{Bool, true, false, cond, not, _&&_}
 use mathlib.Core.List.{List, [], _∷_}
 use native.Mathlib.Omega.{arith}
@@ -10,7 +10,9 @@ use lib.Dec.{ltb, eqb}
 use lib.Seq.{set-getD}
 use Rattle.refusal.proofs.Laws.{none-of}
 use Rattle.protocol.specs.declared.ProtocolType.the-variants as protocol
+use Rattle.window.specs.declared.SendWindow.{SendWindow}
 use Rattle.stop_and_wait.specs.Sender as stopAndWait
+use Rattle.session.specs.Sending as session
 use Rattle.session.specs.declared.Sender.{Sender}
 use Rattle.session.specs.declared.Receiver.{Receiver}
 use Rattle.session.specs.declared.SenderState.{SenderState}
@@ -94,6 +96,25 @@ held-readable s false x other e p = sender-readable s e
 pub sender-long : (s : List ℕ) {x : Sender} → heldSender s ≡ heldSenders.Sender x → stateWords ≤ length s
 unfolding heldSender
 sender-long s {x} e = held-readable s (senderUnreadable s) x _ refl e .long
+
+-- the next number that words hold is of 32 bits
+abbrev NextFits : HeldSender → Type 0
+NextFits (heldSenders.Sender x) = session.windowIn (x .state) .«next_seq_num» ≤ 4294967295
+NextFits heldSenders.Broken = Unit {0}
+
+next-cases : (s : List ℕ) (a b c d t : Bool) → senderUnreadable s ≡ a → notSingle s ≡ t
+    → NextFits (cond a heldSenders.Broken (cond b (held (senderState.SelectiveRepeat (record { window = windowIn s }))) (cond c (held (senderState.GoBackN (record { window = windowIn s }))) (cond d (cond t heldSenders.Broken (held (senderState.StopAndWait (stopAndWaitIn s)))) heldSenders.Broken))))
+next-cases s true b c d t r e = tt
+next-cases s false true c d t r e = sender-readable s r .next
+next-cases s false false true d t r e = sender-readable s r .next
+next-cases s false false false true true r e = tt
+next-cases s false false false true false r e =
+    subst (λ (w : SendWindow). w .«next_seq_num» ≤ 4294967295) (sym (single-window s e)) (sender-readable s r .next)
+next-cases s false false false false t r e = tt
+
+pub sender-next : (s : List ℕ) {x : Sender} → heldSender s ≡ heldSenders.Sender x → session.windowOf x .«next_seq_num» ≤ 4294967295
+unfolding heldSender
+sender-next s e = subst NextFits e (next-cases s (senderUnreadable s) (eqb (getD s 0 0) (senderWord protocol.SelectiveRepeat)) (eqb (getD s 0 0) (senderWord protocol.GoBackN)) (eqb (getD s 0 0) (senderWord protocol.StopAndWait)) (notSingle s) refl refl)
 
 pub sender-length : (s : List ℕ) (x : SenderState) → length (withSender s x) ≡ length s
 unfolding withSender withStopAndWait withWindow

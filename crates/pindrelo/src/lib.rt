@@ -16,7 +16,7 @@ use session::Timeout;
 pub extern "C" fn pindrelo_make_sender(
     protocol: u64,
     window: usize,
-    max_retries: u32,
+    max_retries: u64,
     state: &mut [u64],
     store: &mut [u8],
 ) -> u64
@@ -71,13 +71,13 @@ pub extern "C" fn pindrelo_timeout_earliest(
 pub extern "C" fn pindrelo_timeout_number(
     state: &mut [u64],
     store: &mut [u8],
-    seq_num: u32,
+    seq_num: u64,
     out: &mut [u8],
 ) -> u64
     ensures { λ r. ⌜ callExit r (now (state .exit) ∷ now (store .exit) ∷ now (out .exit) ∷ [])
         ≡ sender.timeout (now (state .entry)) (now (store .entry)) (timeouts.Number «seq_num») (now (out .entry)) ⌝ }
 {
-    host_ends::timeout(state, store, Timeout::Number(seq_num), out)
+    host_ends::timeout_number(state, store, seq_num, out)
 }
 
 #[no_mangle]
@@ -146,9 +146,9 @@ pub extern "C" fn pindrelo_payload_length(raw: &[u8]) -> u64
 
 #[no_mangle]
 pub extern "C" fn pindrelo_write(
-    kind: u8,
-    seq_num: u32,
-    flags: u8,
+    kind: u64,
+    seq_num: u64,
+    flags: u64,
     payload: &[u8],
     out: &mut [u8],
 ) -> u64
@@ -175,7 +175,7 @@ pub extern "C" fn pindrelo_timer_start(
     state: &mut [u64],
     keys: &mut [u32],
     deadlines: &mut [u64],
-    key: u32,
+    key: u64,
     now: u64,
     duration: u64,
 ) -> u64
@@ -190,7 +190,7 @@ pub extern "C" fn pindrelo_timer_cancel(
     state: &mut [u64],
     keys: &mut [u32],
     deadlines: &mut [u64],
-    key: u32,
+    key: u64,
 ) -> u64
     ensures { λ r. ⌜ timersExit (timers.wordsExit r (now (state .exit))) (now (keys .exit)) (now (deadlines .exit))
         ≡ timers.cancel (now (state .entry)) (now (keys .entry)) (now (deadlines .entry)) key ⌝ }

@@ -1,30 +1,10 @@
-use mathlib.Core.Path.{sym, ap, _∙_}
-use Rattle.host_timers.proofs.Calls.{timers-long, on-cancelled}
-use Rattle.host_timers.specs.Timers.{cancelHeld}
+use borrow.Author.Tests.{lt-ltb, le-ltb}
 use borrow.Author.Needs.{needs}
 use Rattle.host_timers.proofs.cancel.Statement.{statement}
 use Rattle.host_timers.proofs.cancel.Tie as tie
 
-held-timers-requires : tie.Need-held-timers-requires
-held-timers-requires c κs = search needs
-
-enum-known-t : tie.Need-enum-known-t
-enum-known-t c = search needs
-
-cancel-timer-requires : tie.Need-cancel-timer-requires
-cancel-timer-requires c κs = search needs
-
-put-timers-requires : tie.Need-put-timers-requires
-put-timers-requires c κs = timers-long (c .before .before .before .before .before .before .before .before .before .before .before .before .before .before .before .before .before .args .state .now) (sym (c .before .before .before .before .before .before .before .before .before .before .before .before .held-timers .ensures) ∙ c .before .before .before .before .before .before .before .before .before .before .t .given .1)
-
-cancel-code-requires : tie.Need-cancel-code-requires
-cancel-code-requires c κs = search needs
-
-enum-told : tie.Need-enum-told
-enum-told c = search needs
-
-refusal-answer-requires : tie.Need-refusal-answer-requires
-refusal-answer-requires c κs = search needs
+cancel-wide-requires : tie.Need-cancel-wide-requires
+cancel-wide-requires c κs = search needs
 
 same-length : tie.Need-same-length
 same-length c = search needs
@@ -36,29 +16,38 @@ same-length-3 : tie.Need-same-length-3
 same-length-3 c = search needs
 
 returns : tie.Need-returns
-returns c = on-cancelled (c .before .before .before .before .before .before .before .before .before .before .before .before .before .before .before .before .before .before .before .before .before .args .state .now) (c .before .before .before .before .before .before .before .before .before .before .before .before .before .before .before .before .before .before .before .before .before .args .keys .now) (c .before .before .before .before .before .before .before .before .before .before .before .before .before .before .before .before .before .before .before .before .before .args .deadlines .now) (c .before .before .before .before .before .before .before .before .before .before .before .before .before .before .before .before .before .before .before .before .before .args .key) (sym (c .before .before .before .before .before .before .before .before .before .before .before .before .before .before .before .before .held-timers .ensures) ∙ c .before .before .before .before .before .before .before .before .before .before .before .before .before .before .t .given .1) (c .before .before .before .before .before .before .before .before .before .before .cancel-timer .ensures) (c .before .before .before .put-timers .ensures) (c .cancel-code .ensures)
+returns c = rw (lt-ltb _ _ (c .before .before .before .before .if1 .taken), c .cancel-wide .ensures)
+
+cast-cancel-key : tie.Need-cast-cancel-key
+cast-cancel-key c = search needs
+
+cancel-key-requires : tie.Need-cancel-key-requires
+cancel-key-requires c κs = search needs
 
 same-length-4 : tie.Need-same-length-4
 same-length-4 c = search needs
 
+same-length-5 : tie.Need-same-length-5
+same-length-5 c = search needs
+
+same-length-6 : tie.Need-same-length-6
+same-length-6 c = search needs
+
 returns-2 : tie.Need-returns-2
-unfolding cancelHeld
-returns-2 c = rw ((sym (c .before .before .before .held-timers .ensures) ∙ c .before .enum-told .given .1), c .refusal-answer .ensures)
+returns-2 c = rw (le-ltb _ _ (c .before .before .before .before .before .before .before .before .before .before .if1 .left)) (c .before .before .before .before .before .before .cancel-key .ensures)
 
 pub cancel-spec : {M : Type 1} → statement M
 cancel-spec =
     tie.close
     (tie.spec
-    held-timers-requires
-    enum-known-t
-    cancel-timer-requires
-    put-timers-requires
-    cancel-code-requires
-    enum-told
-    refusal-answer-requires
+    cancel-wide-requires
     same-length
     same-length-2
     same-length-3
     returns
+    cast-cancel-key
+    cancel-key-requires
     same-length-4
+    same-length-5
+    same-length-6
     returns-2)
