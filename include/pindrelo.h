@@ -165,8 +165,8 @@ pindrelo_answer pindrelo_in_flight(const uint64_t *state, size_t words, const ui
 /* ---- A RECEIVER
  *
  * Payloads go to the output in order, from the fill mark on; the output has the same length in every call, and the
- * file must fit in it. Bytes below the fill mark are never read or written again. A 5 leaves all as it was: the
- * sender's next copy will do. */
+ * file must fit in it, unless it is drained (see DRAINING). Bytes below the fill mark are never read or written again.
+ * A 5 leaves all as it was: the sender's next copy will do. */
 
 /* protocol and window as the sender's. Only Selective Repeat's store is looked at and cleared. 9, 4, 5. */
 pindrelo_answer pindrelo_make_receiver(uint64_t protocol, size_t window,
@@ -232,6 +232,18 @@ pindrelo_answer pindrelo_payload_length(const uint8_t *datagram, size_t length);
 pindrelo_answer pindrelo_write(uint8_t kind, uint32_t number, uint8_t flags, const uint8_t *payload, size_t length,
                                uint8_t *out, size_t out_size);
 
+/* ---- DRAINING
+ *
+ * A host that writes a file away as it comes needs no output of the file's length. A drain takes what was delivered:
+ * the first bytes of the output, as many as its value says, are the next of the file, and the fill mark is 0 then. They
+ * stand there until the next receive, which writes from the start: write them away before that, or lend another output.
+ * All bytes drained, joined, and the output up to its fill mark are what was delivered. One receive delivers at most
+ * window chunks. */
+
+/* The store and the output are those of the last receive, and are only read. Done: how many bytes. 9, 8. */
+pindrelo_answer pindrelo_drain(uint64_t *state, size_t words, const uint8_t *store, size_t store_size,
+                               const uint8_t *output, size_t output_size);
+
 /* ---- WHAT THE HOST DECIDES
  *
  * The line may lose, repeat, delay and reorder datagrams and turn over one bit of a copy, but not in bytes 6 and
@@ -244,10 +256,10 @@ pindrelo_answer pindrelo_write(uint8_t kind, uint32_t number, uint8_t flags, con
  *
  * At most window x 1,400 bytes are on their way at once, and nothing here slows a sender down for a busy line.
  *
- * The end of a file is the host's: send its length first, or in another way. It is whole when the fill mark is its
- * length, with what was sent before it counted too. Then the receiver goes on answering for several times the sender's
- * longest timeout: its last ACKs may have been lost. A sender that hears nothing for longer gives up, and cannot know
- * whether all has arrived. */
+ * The end of a file is the host's: send its length first, or in another way. It is whole when the fill mark, and what
+ * was drained before, is its length, with what was sent before it counted too. Then the receiver goes on answering for
+ * several times the sender's longest timeout: its last ACKs may have been lost. A sender that hears nothing for longer
+ * gives up, and cannot know whether all has arrived. */
 
 #ifdef __cplusplus
 }

@@ -10,6 +10,8 @@ ghost use Rattle.host_ends.specs.Making.{makeSender, makeReceiver};
 ghost use Rattle.host_packet.specs.Packet as packets;
 ghost use Rattle.multi_timer.specs.MultiTimer.{timersExit, popExit};
 ghost use Rattle.host_timers.specs.Timers as timers;
+ghost use Rattle.host_answer.specs.Exit.{wordsExit};
+ghost use Rattle.host_drain.specs.Drain.{drain};
 use session::Timeout;
 
 #[no_mangle]
@@ -218,4 +220,12 @@ pub extern "C" fn pindrelo_timer_earliest(state: &[u64], keys: &[u32], deadlines
     ensures { λ r. ⌜ r ≡ timers.earliest (now (state .entry)) (now (keys .entry)) (now (deadlines .entry)) ⌝ }
 {
     host_timers::earliest(state, keys, deadlines)
+}
+
+#[no_mangle]
+pub extern "C" fn pindrelo_drain(state: &mut [u64], store: &[u8], output: &[u8]) -> u64
+    ensures { λ r. ⌜ wordsExit r (now (state .exit))
+        ≡ drain (now (state .entry)) (now (store .entry)) (now (output .entry)) ⌝ }
+{
+    host_drain::drain(state, store, output)
 }
