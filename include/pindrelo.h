@@ -244,6 +244,41 @@ pindrelo_answer pindrelo_write(uint8_t kind, uint32_t number, uint8_t flags, con
 pindrelo_answer pindrelo_drain(uint64_t *state, size_t words, const uint8_t *store, size_t store_size,
                                const uint8_t *output, size_t output_size);
 
+/* ---- A SINGLE TIMER
+ *
+ * For Stop-and-Wait and Go-Back-N: one timer for the earliest outstanding number. Times are those of the timer set. A
+ * start and a cancel raise the generation, which stands in a word; an event kept with the generation of its start is
+ * stale once that has changed. */
+
+#define PINDRELO_SINGLE_TIMER_WORDS 4
+
+enum {
+    PINDRELO_SINGLE_TIMER_SET = 1,      /* 1 where it runs, else 0 */
+    PINDRELO_SINGLE_TIMER_DEADLINE = 2, /* 0 where it doesn't run */
+    PINDRELO_SINGLE_TIMER_GENERATION = 3
+};
+
+/* A timer that doesn't run, of generation 0. 5 fewer than PINDRELO_SINGLE_TIMER_WORDS words. */
+pindrelo_answer pindrelo_make_single_timer(uint64_t *state, size_t words);
+
+/* Starts or restarts it: it is due at now + duration. 9, 10. */
+pindrelo_answer pindrelo_single_timer_start(uint64_t *state, size_t words, uint64_t now, uint64_t duration);
+
+/* It runs no more. 9, 10. */
+pindrelo_answer pindrelo_single_timer_cancel(uint64_t *state, size_t words);
+
+/* Done: 1 where it runs, else 0. 9, 10. */
+pindrelo_answer pindrelo_single_timer_is_active(const uint64_t *state, size_t words);
+
+/* Done: the nanoseconds until its deadline, 0 at it and past it. Else NOTHING: it doesn't run. 9, 10. */
+pindrelo_answer pindrelo_single_timer_remaining(const uint64_t *state, size_t words, uint64_t now);
+
+/* Done: 1 where now is at its deadline or past it, else 0; the second also answers 0 where the generation is another.
+ * 9, 10. */
+pindrelo_answer pindrelo_single_timer_is_expired(const uint64_t *state, size_t words, uint64_t now);
+pindrelo_answer pindrelo_single_timer_is_expired_for(const uint64_t *state, size_t words, uint64_t generation,
+                                                     uint64_t now);
+
 /* ---- WHAT THE HOST DECIDES
  *
  * The line may lose, repeat, delay and reorder datagrams and turn over one bit of a copy, but not in bytes 6 and

@@ -12,6 +12,7 @@ ghost use Rattle.multi_timer.specs.MultiTimer.{timersExit, popExit};
 ghost use Rattle.host_timers.specs.Timers as timers;
 ghost use Rattle.host_answer.specs.Exit.{wordsExit};
 ghost use Rattle.host_drain.specs.Drain.{drain};
+ghost use Rattle.host_single_timer.specs.SingleTimer as single;
 use session::Timeout;
 
 #[no_mangle]
@@ -228,4 +229,57 @@ pub extern "C" fn pindrelo_drain(state: &mut [u64], store: &[u8], output: &[u8])
         ≡ drain (now (state .entry)) (now (store .entry)) (now (output .entry)) ⌝ }
 {
     host_drain::drain(state, store, output)
+}
+
+#[no_mangle]
+pub extern "C" fn pindrelo_make_single_timer(state: &mut [u64]) -> u64
+    ensures { λ r. ⌜ wordsExit r (now (state .exit)) ≡ single.makeTimer (now (state .entry)) ⌝ }
+{
+    host_single_timer::make_timer(state)
+}
+
+#[no_mangle]
+pub extern "C" fn pindrelo_single_timer_start(state: &mut [u64], now: u64, duration: u64) -> u64
+    ensures { λ r. ⌜ wordsExit r (state .exit .now) ≡ single.start (state .entry .now) now duration ⌝ }
+{
+    host_single_timer::start(state, now, duration)
+}
+
+#[no_mangle]
+pub extern "C" fn pindrelo_single_timer_cancel(state: &mut [u64]) -> u64
+    ensures { λ r. ⌜ wordsExit r (now (state .exit)) ≡ single.cancel (now (state .entry)) ⌝ }
+{
+    host_single_timer::cancel(state)
+}
+
+#[no_mangle]
+pub extern "C" fn pindrelo_single_timer_is_active(state: &[u64]) -> u64
+    ensures { λ r. ⌜ r ≡ single.active (now (state .entry)) ⌝ }
+{
+    host_single_timer::is_active(state)
+}
+
+#[no_mangle]
+pub extern "C" fn pindrelo_single_timer_remaining(state: &[u64], now: u64) -> u64
+    ensures { λ r. ⌜ r ≡ single.remaining (state .entry .now) now ⌝ }
+{
+    host_single_timer::remaining(state, now)
+}
+
+#[no_mangle]
+pub extern "C" fn pindrelo_single_timer_is_expired(state: &[u64], now: u64) -> u64
+    ensures { λ r. ⌜ r ≡ single.expired (state .entry .now) now ⌝ }
+{
+    host_single_timer::is_expired(state, now)
+}
+
+#[no_mangle]
+pub extern "C" fn pindrelo_single_timer_is_expired_for(
+    state: &[u64],
+    generation: u64,
+    now: u64,
+) -> u64
+    ensures { λ r. ⌜ r ≡ single.expiredFor (state .entry .now) generation now ⌝ }
+{
+    host_single_timer::is_expired_for(state, generation, now)
 }
