@@ -24,7 +24,7 @@ extern "C" {
  *      1  short     a datagram under 10 bytes; its length
  *      2  kind      byte 4 of a datagram is not 1 to 3; the byte
  *      3  cut       a datagram declares more payload than follows; declared and present
- *      4  setup     protocol or window out of bounds, at making
+ *      4  setup     protocol, window or another number out of bounds, at making
  *      5  full      a lent buffer is shorter than this call writes
  *      6  long      a payload above 1,400 bytes
  *      7  numbers   the numbers are used up: 4,294,901,760
@@ -278,6 +278,60 @@ pindrelo_answer pindrelo_single_timer_remaining(const uint64_t *state, size_t wo
 pindrelo_answer pindrelo_single_timer_is_expired(const uint64_t *state, size_t words, uint64_t now);
 pindrelo_answer pindrelo_single_timer_is_expired_for(const uint64_t *state, size_t words, uint64_t generation,
                                                      uint64_t now);
+
+/* ---- AN RTO ESTIMATOR
+ *
+ * RFC 6298 with the setup's numbers: the time to wait for an ACK, from samples of the round trip. Its state is words
+ * and doubles, two slices; all durations are nanoseconds. Give it a sample for each number once, where the ACK came for
+ * a datagram sent once (say retransmitted else: Karn's algorithm); call timeout once for each batch of timers that have
+ * run out. The RTO is a word; SRTT, RTTVAR and the least, greatest and latest sample are two words each, 1 and the
+ * duration, or 0 and 0 where there is none yet. */
+
+#define PINDRELO_ESTIMATOR_WORDS 24
+#define PINDRELO_ESTIMATOR_DOUBLES 5
+
+enum {
+    PINDRELO_ESTIMATOR_SRTT = 5,
+    PINDRELO_ESTIMATOR_RTTVAR = 7,
+    PINDRELO_ESTIMATOR_RTO = 9,
+    PINDRELO_ESTIMATOR_IN_BACKOFF = 11, /* 1 after a timeout, 0 after a sample */
+    PINDRELO_ESTIMATOR_CONSECUTIVE_TIMEOUTS = 12,
+    PINDRELO_ESTIMATOR_SAMPLES = 13,
+    PINDRELO_ESTIMATOR_REJECTED = 14, /* samples of datagrams sent again */
+    PINDRELO_ESTIMATOR_TIMEOUTS = 15,
+    PINDRELO_ESTIMATOR_MIN_RTT = 17,
+    PINDRELO_ESTIMATOR_MAX_RTT = 19,
+    PINDRELO_ESTIMATOR_LATEST_RTT = 21,
+    PINDRELO_ESTIMATOR_MAX_CONSECUTIVE_TIMEOUTS = 23
+};
+
+/* An estimator without samples, its RTO the initial one. 4: a duration above 86,400 s, a granularity above 1 s, min_rto
+ * above max_rto, alpha or beta not 0 to 1, k or the multiplier not 0 to 16; then 5 too few words or doubles. The
+ * default setup: 1 s, 200 ms, 60 s, 1 ms; 1/8, 1/4, 4, 1. */
+pindrelo_answer pindrelo_make_estimator(uint64_t *state, size_t words, double *doubles, size_t double_count,
+                                        uint64_t initial_rto, uint64_t min_rto, uint64_t max_rto,
+                                        uint64_t granularity, double alpha, double beta, double k,
+                                        double rto_multiplier);
+pindrelo_answer pindrelo_make_default_estimator(uint64_t *state, size_t words, double *doubles, size_t double_count);
+
+/* A sample of the round trip; retransmitted: not 0 where the datagram was sent again. Done: 1 where the sample was
+ * used, else 0. The RTO is from SRTT and RTTVAR then, within its limits. 9, 8, 10 (a sample above 86,400 s). */
+pindrelo_answer pindrelo_estimator_sample(uint64_t *state, size_t words, double *doubles, size_t double_count,
+                                          uint64_t sample, uint64_t retransmitted);
+
+/* A timeout: the RTO is doubled, within its limits. Done: the RTO. 9, 8, 10. */
+pindrelo_answer pindrelo_estimator_timeout(uint64_t *state, size_t words, double *doubles, size_t double_count);
+
+/* Back to the RTO from before the timeouts. 9, 8, 10. */
+pindrelo_answer pindrelo_estimator_reset_backoff(uint64_t *state, size_t words, double *doubles, size_t double_count);
+
+/* Done: 1 where max_retries timeouts or more came since the last sample, else 0. 9, 8, 10. */
+pindrelo_answer pindrelo_estimator_exceeded(const uint64_t *state, size_t words, const double *doubles,
+                                            size_t double_count, uint64_t max_retries);
+
+/* The mean of the samples used, in milliseconds, to the first of out; 0 without samples. 9, 8, 10, 5. */
+pindrelo_answer pindrelo_estimator_mean(const uint64_t *state, size_t words, const double *doubles,
+                                        size_t double_count, double *out, size_t out_count);
 
 /* ---- WHAT THE HOST DECIDES
  *

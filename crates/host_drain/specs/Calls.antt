@@ -56,7 +56,8 @@ abbrev pub emptiedEnd : (p : ProtocolType) → ends p .Receiver → List ℕ →
 emptiedEnd StopAndWait r output = withOutput (stopAndWait.withMark (r .receiver) 0) output
 emptiedEnd GoBackN r output = withOutput (goBackN.withMark (r .receiver) 0) output
 emptiedEnd SelectiveRepeat r output =
-    withOutput (selectiveRepeat.receiver (selectiveRepeat.withFilled (r .receiver .state) 0) (r .receiver .store)) output
+    withOutput (selectiveRepeat.receiver (selectiveRepeat.withFilled (r .receiver .state) 0) (r .receiver .store))
+    output
 
 abbrev pub drainAnswer : (p : ProtocolType) → ends p .Receiver → CountAnswer
 drainAnswer p r = drainReceiver (receiverOf p [] r) (outputOf p r) .answer
@@ -97,7 +98,8 @@ DrainAdmissible p v [] = Unit {0}
 DrainAdmissible p v (call c ∷ cs) = Allowed v c × DrainAdmissible p (drainStep p v (call c)) cs
 DrainAdmissible p v (drain output ∷ cs) = DrainAdmissible p (drainStep p v (drain output)) cs
 
-unfoldable pub drainFed : (p : ProtocolType) → World (drainable (ends p)) → List (DrainCall (ends p .Timeout)) → List Fed
+unfoldable pub drainFed : (p : ProtocolType) → World (drainable (ends p)) → List (DrainCall (ends p .Timeout))
+    → List Fed
 drainFed p v [] = []
 drainFed p v (call c ∷ cs) = fedBy (drainable (ends p)) v c ∷ drainFed p (drainStep p v (call c)) cs
 drainFed p v (drain output ∷ cs) = drainFed p (drainStep p v (drain output)) cs

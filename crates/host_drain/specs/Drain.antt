@@ -35,7 +35,8 @@ emptied r = record { state = emptiedIn (r .state) }
 -- 9 and 8 as in receiving
 unfoldable pub drainReceiver : ReceiverEnd → List ℕ → DrainResult
 drainReceiver v output =
-    decide (verdict (heldChecks (brokenIn (v .receiver .state) (v .store) output) (countsBrokenIn (v .receiver .state))))
+    decide
+    (verdict (heldChecks (brokenIn (v .receiver .state) (v .store) output) (countsBrokenIn (v .receiver .state))))
     (λ r. drainResult (v .receiver) (count.Refused r))
     (drainResult (emptied (v .receiver)) (count.Count (filled (v .receiver))))
 
