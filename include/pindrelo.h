@@ -28,7 +28,7 @@ extern "C" {
  *      1  short     a datagram under 10 bytes; its length
  *      2  kind      byte 4 of a datagram is not 1 to 3; the byte
  *      3  cut       a datagram declares more payload than follows; declared and present
- *      4  setup     protocol, window or max_retries out of bounds, at making
+ *      4  setup     protocol, window or another number out of bounds, at making
  *      5  full      a lent buffer is shorter than this call writes
  *      6  long      a payload above 1,400 bytes
  *      7  numbers   the numbers are used up: 4,294,901,760; of write, a number above 32 bits or flags above 8
@@ -203,8 +203,8 @@ pindrelo_answer pindrelo_in_flight(const uint64_t *state, size_t words, const ui
 /* ---- A RECEIVER
  *
  * Payloads go to the output in order, from the fill mark on; the output has the same length in every call, and the
- * file must fit in it. Bytes below the fill mark are never read or written again. A 5 leaves all as it was: the
- * sender's next copy will do. */
+ * file must fit in it, unless it is drained (see DRAINING). Bytes below the fill mark are never read or written again.
+ * A 5 leaves all as it was: the sender's next copy will do. */
 
 /* protocol and window as the sender's. Only Selective Repeat's store is looked at and cleared. 9, 4, 5. */
 pindrelo_answer pindrelo_make_receiver(uint64_t protocol, size_t window,
@@ -271,6 +271,107 @@ pindrelo_answer pindrelo_payload_length(const uint8_t *datagram, size_t length);
 pindrelo_answer pindrelo_write(uint64_t kind, uint64_t number, uint64_t flags, const uint8_t *payload, size_t length,
                                uint8_t *out, size_t out_size);
 
+/* ---- DRAINING
+ *
+ * A host that writes a file away as it comes needs no output of the file's length. A drain takes what was delivered:
+ * the first bytes of the output, as many as its value says, are the next of the file, and the fill mark is 0 then. They
+ * stand there until the next receive, which writes from the start: write them away before that, or lend another output.
+ * All bytes drained, joined, and the output up to its fill mark are what was delivered. One receive delivers at most
+ * window chunks. */
+
+/* The store and the output are those of the last receive, and are only read. Done: how many bytes. 9, 8. */
+pindrelo_answer pindrelo_drain(uint64_t *state, size_t words, const uint8_t *store, size_t store_size,
+                               const uint8_t *output, size_t output_size);
+
+/* ---- A SINGLE TIMER
+ *
+ * For Stop-and-Wait and Go-Back-N: one timer for the earliest outstanding number. Times are those of the timer set. A
+ * start and a cancel raise the generation, which stands in a word; an event kept with the generation of its start is
+ * stale once that has changed. */
+
+#define PINDRELO_SINGLE_TIMER_WORDS 4
+
+enum {
+    PINDRELO_SINGLE_TIMER_SET = 1,      /* 1 where it runs, else 0 */
+    PINDRELO_SINGLE_TIMER_DEADLINE = 2, /* 0 where it doesn't run */
+    PINDRELO_SINGLE_TIMER_GENERATION = 3
+};
+
+/* A timer that doesn't run, of generation 0. 5 fewer than PINDRELO_SINGLE_TIMER_WORDS words. */
+pindrelo_answer pindrelo_make_single_timer(uint64_t *state, size_t words);
+
+/* Starts or restarts it: it is due at now + duration. 9, 10. */
+pindrelo_answer pindrelo_single_timer_start(uint64_t *state, size_t words, uint64_t now, uint64_t duration);
+
+/* It runs no more. 9, 10. */
+pindrelo_answer pindrelo_single_timer_cancel(uint64_t *state, size_t words);
+
+/* Done: 1 where it runs, else 0. 9, 10. */
+pindrelo_answer pindrelo_single_timer_is_active(const uint64_t *state, size_t words);
+
+/* Done: the nanoseconds until its deadline, 0 at it and past it. Else NOTHING: it doesn't run. 9, 10. */
+pindrelo_answer pindrelo_single_timer_remaining(const uint64_t *state, size_t words, uint64_t now);
+
+/* Done: 1 where now is at its deadline or past it, else 0; the second also answers 0 where the generation is another.
+ * 9, 10. */
+pindrelo_answer pindrelo_single_timer_is_expired(const uint64_t *state, size_t words, uint64_t now);
+pindrelo_answer pindrelo_single_timer_is_expired_for(const uint64_t *state, size_t words, uint64_t generation,
+                                                     uint64_t now);
+
+/* ---- AN RTO ESTIMATOR
+ *
+ * RFC 6298 with the setup's numbers: the time to wait for an ACK, from samples of the round trip. Its state is words
+ * and doubles, two slices; all durations are nanoseconds. Give it a sample for each number once, where the ACK came for
+ * a datagram sent once (say retransmitted else: Karn's algorithm); call timeout once for each batch of timers that have
+ * run out. The RTO is a word; SRTT, RTTVAR and the least, greatest and latest sample are two words each, 1 and the
+ * duration, or 0 and 0 where there is none yet. */
+
+#define PINDRELO_ESTIMATOR_WORDS 24
+#define PINDRELO_ESTIMATOR_DOUBLES 5
+
+enum {
+    PINDRELO_ESTIMATOR_SRTT = 5,
+    PINDRELO_ESTIMATOR_RTTVAR = 7,
+    PINDRELO_ESTIMATOR_RTO = 9,
+    PINDRELO_ESTIMATOR_IN_BACKOFF = 11, /* 1 after a timeout, 0 after a sample */
+    PINDRELO_ESTIMATOR_CONSECUTIVE_TIMEOUTS = 12,
+    PINDRELO_ESTIMATOR_SAMPLES = 13,
+    PINDRELO_ESTIMATOR_REJECTED = 14, /* samples of datagrams sent again */
+    PINDRELO_ESTIMATOR_TIMEOUTS = 15,
+    PINDRELO_ESTIMATOR_MIN_RTT = 17,
+    PINDRELO_ESTIMATOR_MAX_RTT = 19,
+    PINDRELO_ESTIMATOR_LATEST_RTT = 21,
+    PINDRELO_ESTIMATOR_MAX_CONSECUTIVE_TIMEOUTS = 23
+};
+
+/* An estimator without samples, its RTO the initial one. 4: a duration above 86,400 s, a granularity above 1 s, min_rto
+ * above max_rto, alpha or beta not 0 to 1, k or the multiplier not 0 to 16; then 5 too few words or doubles. The
+ * default setup: 1 s, 200 ms, 60 s, 1 ms; 1/8, 1/4, 4, 1. */
+pindrelo_answer pindrelo_make_estimator(uint64_t *state, size_t words, double *doubles, size_t double_count,
+                                        uint64_t initial_rto, uint64_t min_rto, uint64_t max_rto,
+                                        uint64_t granularity, double alpha, double beta, double k,
+                                        double rto_multiplier);
+pindrelo_answer pindrelo_make_default_estimator(uint64_t *state, size_t words, double *doubles, size_t double_count);
+
+/* A sample of the round trip; retransmitted: not 0 where the datagram was sent again. Done: 1 where the sample was
+ * used, else 0. The RTO is from SRTT and RTTVAR then, within its limits. 9, 8, 10 (a sample above 86,400 s). */
+pindrelo_answer pindrelo_estimator_sample(uint64_t *state, size_t words, double *doubles, size_t double_count,
+                                          uint64_t sample, uint64_t retransmitted);
+
+/* A timeout: the RTO is doubled, within its limits. Done: the RTO. 9, 8, 10. */
+pindrelo_answer pindrelo_estimator_timeout(uint64_t *state, size_t words, double *doubles, size_t double_count);
+
+/* Back to the RTO from before the timeouts. 9, 8, 10. */
+pindrelo_answer pindrelo_estimator_reset_backoff(uint64_t *state, size_t words, double *doubles, size_t double_count);
+
+/* Done: 1 where max_retries timeouts or more came since the last sample, else 0. 9, 8, 10. */
+pindrelo_answer pindrelo_estimator_exceeded(const uint64_t *state, size_t words, const double *doubles,
+                                            size_t double_count, uint64_t max_retries);
+
+/* The mean of the samples used, in milliseconds, to the first of out; 0 without samples. 9, 8, 10, 5. */
+pindrelo_answer pindrelo_estimator_mean(const uint64_t *state, size_t words, const double *doubles,
+                                        size_t double_count, double *out, size_t out_count);
+
 /* ---- WHAT THE HOST DECIDES
  *
  * The line may lose, repeat, delay and reorder datagrams and turn over one bit of a copy, but not in bytes 6 and
@@ -283,10 +384,10 @@ pindrelo_answer pindrelo_write(uint64_t kind, uint64_t number, uint64_t flags, c
  *
  * At most window x 1,400 bytes are on their way at once, and nothing here slows a sender down for a busy line.
  *
- * The end of a file is the host's: send its length first, or in another way. It is whole when the fill mark is its
- * length, with what was sent before it counted too. Then the receiver goes on answering for several times the sender's
- * longest timeout: its last ACKs may have been lost. A sender that hears nothing for longer gives up, and cannot know
- * whether all has arrived. */
+ * The end of a file is the host's: send its length first, or in another way. It is whole when the fill mark, and what
+ * was drained before, is its length, with what was sent before it counted too. Then the receiver goes on answering for
+ * several times the sender's longest timeout: its last ACKs may have been lost. A sender that hears nothing for longer
+ * gives up, and cannot know whether all has arrived. */
 
 #ifdef __cplusplus
 }

@@ -2,6 +2,8 @@
 // contract.
 ghost use mathlib.Core.Path.{_≡_};
 ghost use mathlib.Core.List.{[], _∷_};
+ghost use mathlib.Core.Bool.{not};
+ghost use lib.Dec.{eqb};
 ghost use Rattle.session.specs.declared.Timeout.the-variants as timeouts;
 ghost use Rattle.host_ends.specs.Answers.{callExit};
 ghost use Rattle.host_ends.specs.Sender as sender;
@@ -10,6 +12,12 @@ ghost use Rattle.host_ends.specs.Making.{makeSender, makeReceiver};
 ghost use Rattle.host_packet.specs.Packet as packets;
 ghost use Rattle.multi_timer.specs.MultiTimer.{timersExit, popExit};
 ghost use Rattle.host_timers.specs.Timers as timers;
+ghost use Rattle.host_answer.specs.Exit.{wordsExit};
+ghost use Rattle.host_drain.specs.Drain.{drain};
+ghost use Rattle.host_single_timer.specs.SingleTimer as single;
+ghost use Rattle.rto.specs.Rto.{defaultConfig};
+ghost use Rattle.host_estimator.specs.Estimator as estimators;
+use rto::RtoConfig;
 use session::Timeout;
 
 #[no_mangle]
@@ -218,4 +226,154 @@ pub extern "C" fn pindrelo_timer_earliest(state: &[u64], keys: &[u32], deadlines
     ensures { λ r. ⌜ r ≡ timers.earliest (now (state .entry)) (now (keys .entry)) (now (deadlines .entry)) ⌝ }
 {
     host_timers::earliest(state, keys, deadlines)
+}
+
+#[no_mangle]
+pub extern "C" fn pindrelo_drain(state: &mut [u64], store: &[u8], output: &[u8]) -> u64
+    ensures { λ r. ⌜ wordsExit r (now (state .exit))
+        ≡ drain (now (state .entry)) (now (store .entry)) (now (output .entry)) ⌝ }
+{
+    host_drain::drain(state, store, output)
+}
+
+#[no_mangle]
+pub extern "C" fn pindrelo_make_single_timer(state: &mut [u64]) -> u64
+    ensures { λ r. ⌜ wordsExit r (now (state .exit)) ≡ single.makeTimer (now (state .entry)) ⌝ }
+{
+    host_single_timer::make_timer(state)
+}
+
+#[no_mangle]
+pub extern "C" fn pindrelo_single_timer_start(state: &mut [u64], now: u64, duration: u64) -> u64
+    ensures { λ r. ⌜ wordsExit r (state .exit .now) ≡ single.start (state .entry .now) now duration ⌝ }
+{
+    host_single_timer::start(state, now, duration)
+}
+
+#[no_mangle]
+pub extern "C" fn pindrelo_single_timer_cancel(state: &mut [u64]) -> u64
+    ensures { λ r. ⌜ wordsExit r (now (state .exit)) ≡ single.cancel (now (state .entry)) ⌝ }
+{
+    host_single_timer::cancel(state)
+}
+
+#[no_mangle]
+pub extern "C" fn pindrelo_single_timer_is_active(state: &[u64]) -> u64
+    ensures { λ r. ⌜ r ≡ single.active (now (state .entry)) ⌝ }
+{
+    host_single_timer::is_active(state)
+}
+
+#[no_mangle]
+pub extern "C" fn pindrelo_single_timer_remaining(state: &[u64], now: u64) -> u64
+    ensures { λ r. ⌜ r ≡ single.remaining (state .entry .now) now ⌝ }
+{
+    host_single_timer::remaining(state, now)
+}
+
+#[no_mangle]
+pub extern "C" fn pindrelo_single_timer_is_expired(state: &[u64], now: u64) -> u64
+    ensures { λ r. ⌜ r ≡ single.expired (state .entry .now) now ⌝ }
+{
+    host_single_timer::is_expired(state, now)
+}
+
+#[no_mangle]
+pub extern "C" fn pindrelo_single_timer_is_expired_for(
+    state: &[u64],
+    generation: u64,
+    now: u64,
+) -> u64
+    ensures { λ r. ⌜ r ≡ single.expiredFor (state .entry .now) generation now ⌝ }
+{
+    host_single_timer::is_expired_for(state, generation, now)
+}
+
+#[no_mangle]
+pub extern "C" fn pindrelo_make_estimator(
+    state: &mut [u64],
+    doubles: &mut [f64],
+    initial_rto: u64,
+    min_rto: u64,
+    max_rto: u64,
+    granularity: u64,
+    alpha: f64,
+    beta: f64,
+    k: f64,
+    rto_multiplier: f64,
+) -> u64
+    ensures { λ r. ⌜ estimators.estimatorExit r (now (state .exit)) (now (doubles .exit))
+        ≡ estimators.makeEstimator (now (state .entry)) (now (doubles .entry))
+        (estimators.configOf «initial_rto» «min_rto» «max_rto» granularity alpha beta k «rto_multiplier») ⌝ }
+{
+    host_estimator::make_estimator(
+        state,
+        doubles,
+        RtoConfig {
+            initial_rto,
+            min_rto,
+            max_rto,
+            granularity,
+            alpha,
+            beta,
+            k,
+            rto_multiplier,
+        },
+    )
+}
+
+#[no_mangle]
+pub extern "C" fn pindrelo_make_default_estimator(state: &mut [u64], doubles: &mut [f64]) -> u64
+    ensures { λ r. ⌜ estimators.estimatorExit r (now (state .exit)) (now (doubles .exit))
+        ≡ estimators.makeEstimator (now (state .entry)) (now (doubles .entry)) defaultConfig ⌝ }
+{
+    host_estimator::make_default_estimator(state, doubles)
+}
+
+#[no_mangle]
+pub extern "C" fn pindrelo_estimator_sample(
+    state: &mut [u64],
+    doubles: &mut [f64],
+    sample: u64,
+    retransmitted: u64,
+) -> u64
+    ensures { λ r. ⌜ estimators.estimatorExit r (now (state .exit)) (now (doubles .exit))
+        ≡ estimators.update (now (state .entry)) (now (doubles .entry)) sample (not (eqb retransmitted 0)) ⌝ }
+{
+    host_estimator::update_rtt(state, doubles, sample, retransmitted != 0)
+}
+
+#[no_mangle]
+pub extern "C" fn pindrelo_estimator_timeout(state: &mut [u64], doubles: &mut [f64]) -> u64
+    ensures { λ r. ⌜ estimators.estimatorExit r (now (state .exit)) (now (doubles .exit))
+        ≡ estimators.timeout (now (state .entry)) (now (doubles .entry)) ⌝ }
+{
+    host_estimator::on_timeout(state, doubles)
+}
+
+#[no_mangle]
+pub extern "C" fn pindrelo_estimator_reset_backoff(state: &mut [u64], doubles: &mut [f64]) -> u64
+    ensures { λ r. ⌜ estimators.estimatorExit r (now (state .exit)) (now (doubles .exit))
+        ≡ estimators.reset (now (state .entry)) (now (doubles .entry)) ⌝ }
+{
+    host_estimator::reset_backoff(state, doubles)
+}
+
+#[no_mangle]
+pub extern "C" fn pindrelo_estimator_exceeded(
+    state: &[u64],
+    doubles: &[f64],
+    max_retries: u64,
+) -> u64
+    ensures { λ r. ⌜ r ≡ estimators.exceeded (now (state .entry)) (now (doubles .entry)) «max_retries» ⌝ }
+{
+    host_estimator::has_exceeded_retry_limit(state, doubles, max_retries)
+}
+
+#[no_mangle]
+pub extern "C" fn pindrelo_estimator_mean(state: &[u64], doubles: &[f64], out: &mut [f64]) -> u64
+    ensures { λ r. ⌜ estimators.meanExit r (now (out .exit))
+        ≡ estimators.mean (now (state .entry)) (now (doubles .entry)) (now (out .entry)) ⌝ }
+{
+    host_estimator::mean_rtt_ms(state, doubles, out)
 }

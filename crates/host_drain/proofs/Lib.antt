@@ -1,0 +1,4 @@
+pub mod Calls
+pub mod Unchanged
+pub mod Follow
+pub mod Delivered

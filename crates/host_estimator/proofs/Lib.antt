@@ -1,0 +1,4 @@
+pub mod Held
+pub mod Calls
+pub mod Unchanged
+pub mod Fits
