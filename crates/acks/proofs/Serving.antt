@@ -1,19 +1,19 @@
 -- The loop over what is due on the reverse line: its turns, and that what is left of it makes of the present what the whole makes of the start.
-use Prim.Native.Nat.{ℕ, zero, suc, _+_, _≤_, _<_}
-use mathlib.Core.Path.{_≡_, refl, sym, ap, _∙_}
+use Prim.Native.Nat.{ℕ, zero, suc, _+_, _-_, _*_, _<_}
+use mathlib.Core.Path.{_≡_, refl, sym, ap, subst, _∙_}
 use mathlib.Core.Bool.{Bool, true, false, cond}
 use mathlib.Core.List.{List}
 use native.Mathlib.Omega.{arith}
-use lib.ListN.{length, take}
-use lib.Seq.{length-take-le}
-use Rattle.bounds.specs.Bounds.{maxDatagram}
-use Rattle.refusal.specs.declared.Refusal.{Refusal}
-use Rattle.schedule.specs.declared.ReadyAnswer.{ReadyAnswer}
+use lib.ListN.{length, take, drop}
+use Rattle.bounds.specs.Bounds.{placeSize}
+use Rattle.schedule.specs.Schedule.{firstDue}
+use Rattle.schedule.specs.declared.FirstDue.{FirstDue}
+use Rattle.schedule.specs.declared.FirstDue.the-variants as first
 use Rattle.schedule.specs.declared.ReadyAnswer.the-variants as ready
 use Rattle.path.specs.Direction.{Direction, direction}
-use Rattle.path.specs.Path.{TakeExit, takeExit, leftByTake, takeReady, packetBuffer}
-use Rattle.path.specs.declared.TakeResult.{TakeResult}
-use Rattle.path.proofs.Laws.{take-count, take-leaves, take-idle, take-never-refused, take-short}
+use Rattle.path.specs.Path.{TakeExit, leftByTake, takeReady, removeFirst, packetBuffer}
+use Rattle.path.specs.declared.Path.{Path}
+use Rattle.path.proofs.Laws.{TakesPlace, take-count, take-leaves, take-not-due, take-place}
 use Rattle.clock.specs.declared.Timing.{Timing}
 use Rattle.acks.specs.Acks.{AckState, onAck}
 use Rattle.acks.specs.Good.{CanOnAck}
@@ -92,39 +92,34 @@ over-progressed : (progress : Bool) (x : ServeExit) → progressed x ≡ leftOve
 over-progressed true x = refl
 over-progressed false x = refl
 
-module _ {timing : Timing} {now : ℕ} {f g : Direction} {u v : AckState} {progress : Bool} {rs : List (List ℕ)} {ps out : List ℕ} {t : TakeResult} (l : Left timing now f g u v progress) (e : takeExit rs ps out t ≡ takeReady g now packetBuffer) where
-  answer-is : {a : ReadyAnswer} → t .answer ≡ a → takeReady g now packetBuffer .result .answer ≡ a
-  answer-is q = ap (λ (x : TakeExit). x .result .answer) (sym e) ∙ q
+module _ {timing : Timing} {now : ℕ} {f g : Direction} {u v : AckState} {progress : Bool} {a : FirstDue} (l : Left timing now f g u v progress) (e : a ≡ firstDue (g .path .scheduler .count) (g .records) now) where
+  pub left-idle : a ≡ first.Nothing → serveExit g v progress ≡ serveReverse timing now f u
+  left-idle q = over-idle progress g v ∙ ap (leftOver progress) (sym (serve-reverse-idle timing now g v (take-not-due g now packetBuffer (sym e ∙ q)))) ∙ l .eq
 
-  pub left-idle : t .answer ≡ ready.Nothing → serveExit (direction rs ps (g .path)) v progress ≡ serveReverse timing now f u
-  left-idle q =
-      let same : takeExit rs ps out t ≡ _ = e ∙ take-idle g now packetBuffer (answer-is q) in
-      ap (λ (x : TakeExit). serveExit (direction (x .records) (x .places) (g .path)) v progress) same
-      ∙ over-idle progress g v ∙ ap (leftOver progress) (sym (serve-reverse-idle timing now g v (answer-is q))) ∙ l .eq
+  module _ {place len : ℕ} (q : a ≡ first.Packet place len) where
+    pub left-takes : TakesPlace g now packetBuffer place len
+    left-takes = take-place g now packetBuffer place len (l .can .sound) (sym e ∙ q)
 
-  pub left-refused : (r : Refusal) → t .answer ≡ ready.Refused r → serveExit (direction rs ps (g .path)) v progress ≡ serveReverse timing now f u
-  left-refused r q = absurd (take-never-refused g now packetBuffer r (answer-is q))
-
-  module _ {n : ℕ} (q : t .answer ≡ ready.Packet n) where
     pub left-can : CanOnAck v now
-    left-can = can-hand-over timing now g v (l .can) n (answer-is q)
+    left-can = can-hand-over timing now g v (l .can) len (left-takes .answer)
 
-    -- the copy stands in the buffer
-    module _ (size : length out ≡ maxDatagram) where
-      pub left-short : n ≤ length out
-      left-short = rw size (take-short g now packetBuffer (l .can .sound) n (answer-is q))
+    -- with the copy taken out
+    module _ {rs : List (List ℕ)} {ps : List ℕ} {p : Path} (r : direction rs ps p ≡ removeFirst g) where
+      removed-is : direction rs ps p ≡ leftByTake (nextTaken now g)
+      removed-is = r ∙ sym (left-takes .left)
 
-      pub left-cut : length (take n out) ≡ n
-      left-cut = length-take-le n out left-short
+      pub left-less : p .scheduler .count < g .path .scheduler .count
+      left-less = let k = ap (λ (d : Direction). d .path .scheduler .count) removed-is in let h = take-count g now packetBuffer len (left-takes .answer) in omega (arith, k, h)
 
-    pub left-less : t .path .scheduler .count < g .path .scheduler .count
-    left-less = let h = rw (← e) at (take-count g now packetBuffer n (answer-is q)) in omega (arith, h)
-
-    pub left-next : {w : AckState} → w ≡ onAck timing now (take n out) v → Same u w f (direction rs ps (t .path)) → Left timing now f (direction rs ps (t .path)) u w true
-    left-next k m =
-        let h = serve-reverse-next timing now g v n (answer-is q) in
-        record {
-          eq = rw (← e, ← k) at (over-progressed progress (progressed (serveReverse timing now (leftByTake (takeReady g now packetBuffer)) (nextState timing now g v n))) ∙ ap (leftOver progress) (sym h) ∙ l .eq);
-          can = rw (← e, ← k) at (turn-good timing now g v (l .can) n (answer-is q));
-          same = m;
-        }
+      pub left-next : {w : AckState} → w ≡ onAck timing now (take (place * placeSize + len - place * placeSize) (drop (place * placeSize) (g .places))) v → Same u w f (direction rs ps p) → Left timing now f (direction rs ps p) u w true
+      left-next {w} k m =
+          let state-is : w ≡ nextState timing now g v len = k ∙ ap (λ (raw : List ℕ). onAck timing now raw v) (sym (left-takes .bytes)) in
+          record {
+            eq =
+                ap (λ (d : Direction). progressed (serveReverse timing now d w)) removed-is
+                ∙ ap (λ (x : AckState). progressed (serveReverse timing now (leftByTake (nextTaken now g)) x)) state-is
+                ∙ over-progressed progress (progressed (serveReverse timing now (leftByTake (nextTaken now g)) (nextState timing now g v len)))
+                ∙ ap (leftOver progress) (sym (serve-reverse-next timing now g v len (left-takes .answer))) ∙ l .eq;
+            can = subst (λ (d : Direction). CanServeReverse d w now) (sym removed-is) (subst (λ (x : AckState). CanServeReverse (leftByTake (nextTaken now g)) x now) (sym state-is) (turn-good timing now g v (l .can) len (left-takes .answer)));
+            same = m;
+          }

@@ -11,7 +11,7 @@ ghost use Rattle.acks.specs.Acks.{ackState, ofType, ackNumber, sampleSeq
 ghost use Rattle.acks.specs.Good.{CanOnAck};
 ghost use Rattle.acks.specs.Internal.{CanAccept};
 ghost use Rattle.acks.specs.Reverse.{serveExit, serveReverse, CanServeReverse};
-use bounds::MAX_DATAGRAM_SIZE;
+use bounds::PLACE_SIZE;
 use clock::Clock;
 use clock::Timing;
 use notes::Note;
@@ -21,7 +21,7 @@ use packet::Packet;
 use packet::PacketType;
 use path::Path;
 use rto::RtoEstimator;
-use schedule::ReadyAnswer;
+use schedule::FirstDue;
 use schedule::ScheduledRow;
 use session::Sender;
 use session::SenderState;
@@ -79,37 +79,29 @@ pub fn serve_reverse_unchecked(
     let mut side = side;
     let mut progress = false;
     loop {
-        let mut raw = [0u8; MAX_DATAGRAM_SIZE];
-        let taken = reverse.take_unchecked(records, places, now, &mut raw);
-        let answer = taken.answer;
-        match answer {
-            ReadyAnswer::Nothing => {
+        match reverse.first_due_unchecked(records, now) {
+            FirstDue::Nothing => {
                 return ServeResult {
                     reverse,
                     side,
                     progress,
                 };
             }
-            ReadyAnswer::Refused(_) => {
-                return ServeResult {
-                    reverse,
-                    side,
-                    progress,
-                };
-            }
-            ReadyAnswer::Packet(len) => {
+            FirstDue::Packet(place, len) => {
+                let from = place * PLACE_SIZE;
+                let end = from + len;
                 let after = on_ack_unchecked(
                     side,
                     timing,
                     notes,
                     now,
-                    &raw[..len],
+                    &places[from..end],
                     store,
                     rows,
                     keys,
                     deadlines,
                 );
-                reverse = taken.path;
+                reverse = reverse.remove_first_unchecked(records, places);
                 side = after;
                 progress = true;
             }

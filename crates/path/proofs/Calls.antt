@@ -3,7 +3,7 @@ use mathlib.Core.Path.{_≡_, refl, sym, _∙_, ap}
 use Prim.Native.Nat.{ℕ, _+_, _-_, _<_, _≤_}
 use native.Mathlib.Omega.{arith}
 use native.Mathlib.Numerals.{add-one}
-use mathlib.Core.Bool.{Bool, true, false, not, _||_}
+use mathlib.Core.Bool.{Bool, true, false, cond, not, _||_}
 use mathlib.Core.List.{List}
 use lib.ListN.{length, drop, drop-of-length-le}
 use lib.Seq.{drop-cons}
@@ -12,15 +12,17 @@ use lib.Ieee.{Float, nan}
 use borrow.Author.Tests.{ltb-true, ltb-false, lt-ltb, le-ltb}
 use Rattle.float.specs.Roll.{rollInBounds}
 use Rattle.schedule.specs.State.{Schedule, schedule}
-use Rattle.schedule.specs.Schedule.{newSchedule, popExit, popUnchecked}
+use Rattle.schedule.specs.Record.{recordLength, placeOf}
+use Rattle.schedule.specs.Schedule.{newSchedule, firstRecord, due, firstDue, withoutFirst}
+use Rattle.schedule.specs.declared.FirstDue.{FirstDue}
+use Rattle.schedule.specs.declared.FirstDue.the-variants as first
 use Rattle.schedule.specs.declared.ChannelScheduler.{ChannelScheduler}
-use Rattle.schedule.specs.declared.PopResult.{PopResult}
 use Rattle.channel.specs.Process.{newChannelUnchecked}
 use Rattle.channel.specs.declared.Channel.{Channel}
 use Rattle.channel.specs.declared.ChannelConfig.{ChannelConfig}
 use Rattle.path.specs.Rolls.{packetRolls, rollAt, rollsBroken}
 use Rattle.path.specs.Direction.{Direction, direction, scheduleOf}
-use Rattle.path.specs.Path.{pathOf, onPath, newPath, takeExit, onTake, takeReady}
+use Rattle.path.specs.Path.{pathOf, onPath, newPath, removeFirst}
 
 -- ---- all rolls
 cons-broken : (l : List Float) (i : ℕ) → i < length l → rollsBroken (drop i l) ≡ (not (rollInBounds (rollAt l i)) || rollsBroken (drop (i + 1) l))
@@ -52,8 +54,20 @@ pub new-law : (c : ChannelConfig) (rs : List (List ℕ)) (ps : List ℕ) {ch : C
 unfolding newPath
 new-law c rs ps {ch} e p = ap (λ (m : Schedule). onPath m ch 0) e ∙ ap (λ (x : Channel). onPath (newSchedule rs ps) x 0) p
 
--- ---- taking
-pub take-law : (d : Direction) (now : ℕ) (out : List ℕ) {rs : List (List ℕ)} {ps o : List ℕ} {r : PopResult} → popExit rs ps o r ≡ popUnchecked (scheduleOf d) now out
-    → takeExit rs ps o (record { path = pathOf (d .path .channel) (r .scheduler) (d .path .used); answer = r .answer }) ≡ takeReady d now out
-unfolding takeReady
-take-law d now out e = ap (onTake (d .path)) e
+-- ---- whether a copy is due
+abbrev isPacket : FirstDue → Bool
+isPacket (first.Packet place len) = true
+isPacket first.Nothing = false
+
+pub due-law : (count : ℕ) (rs : List (List ℕ)) (now : ℕ) {a b : FirstDue} → a ≡ firstDue count rs now → a ≡ b → isPacket b ≡ due count rs now
+unfolding firstDue
+due-law count rs now p q = ap isPacket (sym q ∙ p) ∙ go (due count rs now)
+  where
+    go : (t : Bool) → isPacket (cond t (first.Packet (placeOf (firstRecord rs)) (recordLength (firstRecord rs))) first.Nothing) ≡ t
+    go true = refl
+    go false = refl
+
+-- ---- removing
+pub remove-law : (d : Direction) {rs : List (List ℕ)} {ps : List ℕ} {s : ChannelScheduler} → schedule rs ps s ≡ withoutFirst (scheduleOf d)
+    → direction rs ps (pathOf (d .path .channel) s (d .path .used)) ≡ removeFirst d
+remove-law d e = ap (λ (m : Schedule). onPath m (d .path .channel) (d .path .used)) e

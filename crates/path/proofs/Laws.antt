@@ -1,23 +1,26 @@
 -- What crates above may cite: a direction is good from its making on, what its calls answer, and what they mean for the list of copies that wait.
 use mathlib.Core.Path.{_≡_, refl, sym, _∙_, ap, subst}
-use Prim.Native.Nat.{ℕ, zero, suc, _+_, _*_, _≤_, _<_}
+use Prim.Native.Nat.{ℕ, zero, suc, _+_, _-_, _*_, _≤_, _<_}
 use native.Mathlib.Omega.{arith}
-use native.Mathlib.Nat.{add-zero}
+use native.Mathlib.Nat.{add-zero, add-sub-cancel-left}
 use mathlib.Core.Bool.{Bool, true, false, cond, _&&_}
 use mathlib.Core.List.{List, [], _∷_, _++_}
-use lib.ListN.{length, drop, replicate}
+use lib.ListN.{length, take, drop, length-drop}
+use lib.Seq.{take-at, length-take-le}
 use lib.Dec.{ltb, leb, eqb}
 use lib.Ieee.{Float}
 use borrow.Author.Tests.{ltb-true, ltb-false, le-ltb}
-use Rattle.bounds.specs.Bounds.{maxDatagram, maxTime}
+use Rattle.bounds.specs.Bounds.{maxDatagram, maxTime, placeSize}
 use Rattle.refusal.specs.declared.Refusal.{Refusal}
 use Rattle.schedule.specs.State.{waitingRecords, stateBroken, heldLate, copies}
-use Rattle.schedule.specs.Record.{timeOf, recordLength}
-use Rattle.schedule.specs.Schedule.{firstRecord, due, popFirst, popUnchecked, popReadyAt, onPop, withoutFirst}
+use Rattle.schedule.specs.Record.{timeOf}
+use Rattle.schedule.specs.Schedule.{firstRecord, due, popFirst, popUnchecked, popReadyAt, onPop, firstDue, withoutFirst}
 use Rattle.schedule.specs.Waiting.{WaitingCopy, waiting, putCopies, popCopies, nothing, leaves, firstDeadline}
+use Rattle.schedule.specs.declared.FirstDue.{FirstDue}
+use Rattle.schedule.specs.declared.FirstDue.the-variants as first
 use Rattle.schedule.specs.declared.ReadyAnswer.{ReadyAnswer}
 use Rattle.schedule.specs.declared.ReadyAnswer.the-variants as ready
-use Rattle.schedule.proofs.Laws.{new-sound, new-times, schedule-waits, schedule-leaves, Leaves, pop-leaves, waits-count, first-time-is, count-within, pop-packet, pop-nothing, pop-idle, pop-never-refused, can-pop, pop-accepts, pop-accepted}
+use Rattle.schedule.proofs.Laws.{new-sound, new-times, schedule-waits, schedule-leaves, Leaves, pop-leaves, waits-count, first-time-is, count-within, pop-packet, pop-nothing, pop-idle, pop-never-refused, can-pop, pop-accepts, pop-accepted, popBy, pop-by-first, first-packet}
 use Rattle.channel.specs.Bounds.{configBroken}
 use Rattle.channel.specs.Faults.{deliveriesOf}
 use Rattle.channel.specs.Process.{countedStats}
@@ -27,7 +30,7 @@ use Rattle.channel.specs.declared.Rolls.{Rolls}
 use Rattle.channel.proofs.Laws.{granted-le, carried-length, counted-rises}
 use Rattle.path.specs.Rolls.{packetRolls, rollsBroken, Doubles}
 use Rattle.path.specs.Direction.{Direction, scheduleOf, Counted, Good}
-use Rattle.path.specs.Path.{newPath, leftByCarry, carry, onTake, leftByTake, takeReady, nextDeadline, deadlineOf, isEmpty, CanCarry, CanTake}
+use Rattle.path.specs.Path.{newPath, leftByCarry, carry, TakeExit, onTake, leftByTake, takeReady, removeFirst, nextDeadline, deadlineOf, isEmpty, CanCarry, CanRemove}
 use Rattle.path.specs.declared.NextDeadline.the-variants as deadline
 use Rattle.path.proofs.Packets.{orders-below, can-put}
 pub use Rattle.path.proofs.Packets.{rolls-left, rolls-fine, rolls-doubles}
@@ -147,6 +150,38 @@ module _ (d : Direction) (now : ℕ) (out : List ℕ) where
       go true false h e = let z : _≡_ {A = ℕ} 0 1 = cc in absurd (omega arith)
       go false u h e = let z : _≡_ {A = ℕ} 0 1 = cc in absurd (omega arith)
 
+  -- by the copy that leaves first
+  take-by : {a : FirstDue} → firstDue (d .path .scheduler .count) (d .records) now ≡ a → takeReady d now out ≡ onTake (d .path) (popBy a (scheduleOf d) out)
+  unfolding takeReady
+  take-by e = ap (onTake (d .path)) (pop-by-first (scheduleOf d) now out) ∙ ap (λ (a : FirstDue). onTake (d .path) (popBy a (scheduleOf d) out)) e
+
+  pub take-not-due : firstDue (d .path .scheduler .count) (d .records) now ≡ first.Nothing → takeReady d now out .result .answer ≡ ready.Nothing
+  take-not-due e = ap (λ (x : TakeExit). x .result .answer) (take-by e)
+
+  -- what is taken lies in its place, and removing it leaves the same
+  pub record TakesPlace (place len : ℕ) : Type 0 where
+    pub can : CanRemove d
+    pub inside : place * placeSize + len ≤ length (d .places)
+    pub answer : takeReady d now out .result .answer ≡ ready.Packet len
+    pub bytes : take len (takeReady d now out .out) ≡ take (place * placeSize + len - place * placeSize) (drop (place * placeSize) (d .places))
+    pub left : leftByTake (takeReady d now out) ≡ removeFirst d
+
+  pub take-place : (place len : ℕ) → stateBroken (scheduleOf d) ≡ false → firstDue (d .path .scheduler .count) (d .records) now ≡ first.Packet place len → TakesPlace place len
+  take-place place len sound e =
+      let p = first-packet (scheduleOf d) now place len sound e in
+      let t = take-by e in
+      let rest = drop (place * placeSize) (d .places) in
+      record {
+        can = record { sound = sound; some = p .some };
+        inside = omega (arith, p .inside, p .short);
+        answer = ap (λ (x : TakeExit). x .result .answer) t;
+        bytes =
+            ap (λ (x : TakeExit). take len (x .out)) t
+            ∙ take-at (take len rest) (drop len out) len (length-take-le len rest (rw length-drop (omega (arith, p .inside, p .short))))
+            ∙ ap (λ (n : ℕ). take n rest) (sym (add-sub-cancel-left (place * placeSize) len));
+        left = ap leftByTake t;
+      }
+
   module _ (sound : stateBroken (scheduleOf d) ≡ false) where
     -- no copy is due: all is as it was
     pub take-none : popCopies now (waiting (scheduleOf d)) ≡ nothing → takeReady d now out ≡ onTake (d .path) (onPop (scheduleOf d) out ready.Nothing)
@@ -161,15 +196,6 @@ module _ (d : Direction) (now : ℕ) (out : List ℕ) where
     pub take-first : (c : WaitingCopy) (cs : List WaitingCopy) → popCopies now (waiting (scheduleOf d)) ≡ leaves c cs → TakesFirst c cs
     unfolding takeReady
     take-first c cs h = let p = pop-packet (scheduleOf d) now out c cs sound h in record { answer = ap (onTake (d .path)) (p .answer); rest = rw (p .answer) (p .rest) }
-
-    -- what is taken is no longer than a datagram
-    pub take-short : (n : ℕ) → takeReady d now out .result .answer ≡ ready.Packet n → n ≤ maxDatagram
-    unfolding takeReady popUnchecked
-    take-short n = go (due (d .path .scheduler .count) (d .records) now) (can-pop (scheduleOf d) now (replicate maxDatagram 0) sound (omega arith) .room)
-      where
-        go : (t : Bool) → (t && ltb maxDatagram (recordLength (firstRecord (d .records)))) ≡ false → cond t (popFirst (scheduleOf d) out) (onPop (scheduleOf d) out ready.Nothing) .result .answer ≡ ready.Packet n → n ≤ maxDatagram
-        go true h e = let k : recordLength (firstRecord (d .records)) ≡ n = cc in rw (← k) (ltb-false maxDatagram (recordLength (firstRecord (d .records))) h)
-        go false h e = let z : _≡_ {A = ℕ} 0 1 = cc in absurd (omega arith)
 
     -- the schedule stays sound, and its times within bounds
     pub take-leaves : heldLate (waitingRecords (scheduleOf d)) ≡ false → Leaves (scheduleOf d) (scheduleOf (leftByTake (takeReady d now out))) 0
@@ -205,10 +231,6 @@ module _ (d : Direction) (now : ℕ) (out : List ℕ) where
     pub pop-is : now ≤ maxTime → maxDatagram ≤ length out → takeReady d now out ≡ onTake (d .path) (popReadyAt (scheduleOf d) now out)
     unfolding takeReady
     pop-is t h = ap (onTake (d .path)) (sym (pop-accepted (scheduleOf d) now out (pop-accepts (scheduleOf d) now out (can-pop (scheduleOf d) now out (good .sound) h) (orders-below d rolls good) (le-ltb maxTime now t) (good .times))))
-
--- a buffer for a datagram has room
-pub can-take : {d : Direction} (out : List ℕ) → stateBroken (scheduleOf d) ≡ false → length out ≡ maxDatagram → CanTake d out
-can-take out sound size = record { sound = sound; room = omega (arith, size) }
 
 -- whatever holds where nothing is due, and before a copy is taken if it holds after it, holds; `next` is what the copy of n bytes makes of s
 pub by-takes : {S : Type 0} (now : ℕ) (out : List ℕ) (next : Direction → S → ℕ → S) (R : Direction → S → Type 0)

@@ -1,6 +1,6 @@
 -- Document 01, `app/transfer.rs` (`process`, `schedule_at`, `fold_bytes`, `pop_ready_at`, `next_deadline`) and "Turned
 -- away", the ends of a run: what each call on one direction of the line answers and leaves behind.
-use Prim.Native.Nat.{ℕ, _+_, _≤_}
+use Prim.Native.Nat.{ℕ, _+_, _≤_, _<_}
 use mathlib.Core.Path.{_≡_}
 use mathlib.Core.Bool.{Bool, true, false, cond, not}
 use mathlib.Core.List.{List, []}
@@ -11,6 +11,7 @@ use Rattle.bounds.specs.Bounds.{maxDatagram, maxDuration}
 use Rattle.octets.specs.Fold.{foldBytes}
 use Rattle.schedule.specs.State.{Schedule, stateBroken, copies, lacksRoom}
 use Rattle.schedule.specs.Schedule.{newSchedule, scheduleAtUnchecked, PopExit, popUnchecked, firstTime}
+use Rattle.schedule.specs.Schedule.{due, withoutFirst}
 use Rattle.schedule.specs.declared.ChannelScheduler.{ChannelScheduler}
 use Rattle.schedule.specs.declared.Deliveries.{Deliveries}
 use Rattle.schedule.specs.declared.Deliveries.the-variants.{Lost, One, Two}
@@ -29,7 +30,6 @@ use Rattle.path.specs.declared.Carriage.the-variants.{RollsSpent, Events
 use Rattle.path.specs.declared.Stop.{Stop}
 use Rattle.path.specs.declared.Stop.the-variants as stop
 use Rattle.path.specs.declared.CarryResult.{CarryResult}
-use Rattle.path.specs.declared.TakeResult.{TakeResult}
 use Rattle.path.specs.declared.NextDeadline.{NextDeadline}
 use Rattle.path.specs.declared.NextDeadline.the-variants as deadline
 
@@ -102,6 +102,10 @@ isGoing stop.EventsFull = false
 isGoing stop.ScheduleFull = false
 
 -- the earliest copy that is due
+pub record TakeResult : Type 0 where
+  pub path : Path
+  pub answer : ReadyAnswer
+
 pub record TakeExit : Type 0 where
   pub records : List (List ℕ)
   pub places : List ℕ
@@ -136,6 +140,14 @@ takenBytes (ready.Packet len) out = take len out
 takenBytes ready.Nothing out = []
 takenBytes (ready.Refused r) out = []
 
+-- whether a copy is due
+abbrev pub isDue : Path → List (List ℕ) → ℕ → Bool
+isDue p rs now = due (p .scheduler .count) rs now
+
+-- the copy that leaves first is taken out
+abbrev pub removeFirst : Direction → Direction
+removeFirst d = onPath (withoutFirst (scheduleOf d)) (d .path .channel) (d .path .used)
+
 -- when the next copy leaves; `firstTime` refuses nothing
 unfoldable pub deadlineOf : DeadlineAnswer → NextDeadline
 deadlineOf (answered.At t) = deadline.At t
@@ -148,12 +160,12 @@ nextDeadline p rs = deadlineOf (firstTime (p .scheduler .count) rs)
 abbrev pub isEmpty : Path → Bool
 isEmpty p = eqb (p .scheduler .count) 0
 
--- what the calls ask: a good path, a time within a run, a packet that fits a place; a sound schedule, room for a packet
+-- what the calls ask: a good path, a time within a run, a packet that fits a place; a sound schedule, a copy that waits
 pub record CanCarry (d : Direction) (rolls : List Float) (now : ℕ) (wire : List ℕ) : Type 0 where
   pub good : Good d rolls
   pub in-time : now ≤ maxDuration
   pub short : length wire ≤ maxDatagram
 
-pub record CanTake (d : Direction) (out : List ℕ) : Type 0 where
+pub record CanRemove (d : Direction) : Type 0 where
   pub sound : stateBroken (scheduleOf d) ≡ false
-  pub room : maxDatagram ≤ length out
+  pub some : 0 < d .path .scheduler .count

@@ -3,10 +3,11 @@
 ghost use mathlib.Core.Path.{_≡_};
 ghost use Prim.Native.Nat.{_+_, _≤_};
 ghost use lib.ListN.{length};
+ghost use Rattle.schedule.specs.Schedule.{firstDue};
 ghost use Rattle.path.specs.Rolls.{packetRolls, rollsAt, rollsBroken, Doubles};
 ghost use Rattle.path.specs.Direction.{direction};
 ghost use Rattle.path.specs.Path.{newPath, rollsSpent, copyFold, carryExit, carry, CanCarry};
-ghost use Rattle.path.specs.Path.{stopOf, isGoing, takeExit, takeReady, CanTake, nextDeadline, isEmpty};
+ghost use Rattle.path.specs.Path.{stopOf, isGoing, removeFirst, CanRemove, isDue, nextDeadline, isEmpty};
 use bounds::MAX_DATAGRAM_SIZE;
 use channel::Channel;
 use channel::ChannelConfig;
@@ -14,7 +15,7 @@ use channel::Rolls;
 use schedule::ChannelScheduler;
 use schedule::DeadlineAnswer;
 use schedule::Deliveries;
-use schedule::ReadyAnswer;
+use schedule::FirstDue;
 use schedule::ScheduledRow;
 use schedule::copies_of;
 
@@ -47,11 +48,6 @@ pub enum Stop {
 pub struct CarryResult {
     pub path: Path,
     pub answer: Carriage,
-}
-
-pub struct TakeResult {
-    pub path: Path,
-    pub answer: ReadyAnswer,
 }
 
 // When a copy leaves next.
@@ -169,30 +165,36 @@ impl Path {
         }
     }
 
-    // The earliest copy that is due, at the front of `out`.
-    pub fn take_unchecked(
-        self,
-        records: &mut [ScheduledRow],
-        places: &mut [u8],
-        now: u64,
-        out: &mut [u8],
-    ) -> TakeResult
-        requires { ⌜ CanTake (direction (records .now) (places .now) self) (out .now) ⌝ }
-        ensures { λ r. ⌜ takeExit (records .exit .now) (places .exit .now) (out .exit .now) r
-            ≡ takeReady (direction (records .entry .now) (places .entry .now) self) now (out .entry .now) ⌝ }
+    // Of the copy that leaves first, if it is due, the place and the length.
+    pub fn first_due_unchecked(self, records: &[ScheduledRow], now: u64) -> FirstDue
+        requires { ⌜ self .scheduler .count ≤ length (records .now) ⌝ }
+        ensures { λ r. ⌜ r ≡ firstDue (self .scheduler .count) (records .entry .now) now ⌝ }
     {
         let scheduler = self.scheduler;
-        let popped = scheduler.pop_ready_at_unchecked(records, places, now, out);
-        let next = popped.scheduler;
-        let answer = popped.answer;
-        let channel = self.channel;
-        TakeResult {
-            path: Path {
-                channel,
-                scheduler: next,
-                used: self.used,
-            },
-            answer,
+        scheduler.first_due_unchecked(records, now)
+    }
+
+    // The copy that leaves first is taken out.
+    pub fn remove_first_unchecked(self, records: &mut [ScheduledRow], places: &mut [u8]) -> Self
+        requires { ⌜ CanRemove (direction (now records) (now places) self) ⌝ }
+        ensures { λ r. ⌜ direction (now (records .exit)) (now (places .exit)) r
+            ≡ removeFirst (direction (now (records .entry)) (now (places .entry)) self) ⌝ }
+    {
+        let scheduler = self.scheduler;
+        let next = scheduler.remove_first_unchecked(records, places);
+        let mut path = self;
+        path.scheduler = next;
+        path
+    }
+
+    // Whether a copy is due.
+    pub fn is_due_unchecked(self, records: &[ScheduledRow], now: u64) -> bool
+        requires { ⌜ self .scheduler .count ≤ length (records .now) ⌝ }
+        ensures { λ r. ⌜ r ≡ isDue self (records .entry .now) now ⌝ }
+    {
+        match self.first_due_unchecked(records, now) {
+            FirstDue::Packet(_, _) => true,
+            FirstDue::Nothing => false,
         }
     }
 

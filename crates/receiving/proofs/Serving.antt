@@ -1,22 +1,22 @@
 -- The loop over what is due on the forward line: its turns, and that what is left of it makes of the present what the whole makes of the start.
-use Prim.Native.Nat.{ℕ, zero, suc, _+_, _≤_, _<_}
-use mathlib.Core.Path.{_≡_, refl, sym, ap, _∙_}
+use Prim.Native.Nat.{ℕ, zero, suc, _+_, _-_, _*_, _<_}
+use mathlib.Core.Path.{_≡_, refl, sym, ap, subst, _∙_}
 use mathlib.Core.Bool.{Bool, true, false, cond, not}
 use mathlib.Core.List.{List}
 use native.Mathlib.Omega.{arith}
-use lib.ListN.{length, take}
-use lib.Seq.{length-take-le}
+use lib.ListN.{length, take, drop}
 use lib.Ieee.{Float}
-use Rattle.bounds.specs.Bounds.{maxDatagram}
-use Rattle.refusal.specs.declared.Refusal.{Refusal}
-use Rattle.schedule.specs.declared.ReadyAnswer.{ReadyAnswer}
+use Rattle.bounds.specs.Bounds.{placeSize}
+use Rattle.schedule.specs.Schedule.{firstDue}
+use Rattle.schedule.specs.declared.FirstDue.{FirstDue}
+use Rattle.schedule.specs.declared.FirstDue.the-variants as first
 use Rattle.schedule.specs.declared.ReadyAnswer.the-variants as ready
 use Rattle.path.specs.Direction.{Direction, direction}
-use Rattle.path.specs.Path.{isGoing, TakeExit, takeExit, leftByTake, takeReady, packetBuffer}
+use Rattle.path.specs.Path.{isGoing, TakeExit, leftByTake, takeReady, removeFirst, packetBuffer}
+use Rattle.path.specs.declared.Path.{Path}
 use Rattle.path.specs.declared.Stop.{Stop}
 use Rattle.path.specs.declared.Stop.the-variants as stop
-use Rattle.path.specs.declared.TakeResult.{TakeResult}
-use Rattle.path.proofs.Laws.{take-count, take-leaves, take-idle, take-never-refused, take-short}
+use Rattle.path.proofs.Laws.{TakesPlace, take-count, take-leaves, take-not-due, take-place}
 use Rattle.receiving.specs.Receiving.{Inbound, ForwardExit, forwardExit, onForward, ServeForwardExit, serveForwardExit, progressed, serveAtMost, serveForward}
 use Rattle.receiving.specs.Good.{CanOnForward, CanServeForward}
 use Rattle.receiving.proofs.Kept.{forward-good, forward-counts}
@@ -109,48 +109,47 @@ over-progressed : (progress : Bool) (x : ServeForwardExit) → progressed x ≡ 
 over-progressed true x = refl
 over-progressed false x = refl
 
-module _ {rolls : List Float} {total now : ℕ} {f g : Direction} {u v : Inbound} {progress : Bool} {rs : List (List ℕ)} {ps out : List ℕ} {t : TakeResult} (l : Left rolls total now f g u v progress) (e : takeExit rs ps out t ≡ takeReady g now packetBuffer) where
-  answer-is : {a : ReadyAnswer} → t .answer ≡ a → takeReady g now packetBuffer .result .answer ≡ a
-  answer-is q = ap (λ (x : TakeExit). x .result .answer) (sym e) ∙ q
+module _ {rolls : List Float} {total now : ℕ} {f g : Direction} {u v : Inbound} {progress : Bool} {a : FirstDue} (l : Left rolls total now f g u v progress) (e : a ≡ firstDue (g .path .scheduler .count) (g .records) now) where
+  pub left-idle : a ≡ first.Nothing → serveForwardExit g v progress stop.Going ≡ serveForward rolls total now f u
+  left-idle q = over-idle progress g v ∙ ap (leftOver progress) (sym (serve-idle rolls total now g v (take-not-due g now packetBuffer (sym e ∙ q)))) ∙ l .eq
 
-  pub left-idle : t .answer ≡ ready.Nothing → serveForwardExit (direction rs ps (g .path)) v progress stop.Going ≡ serveForward rolls total now f u
-  left-idle q =
-      let same : takeExit rs ps out t ≡ _ = e ∙ take-idle g now packetBuffer (answer-is q) in
-      ap (λ (x : TakeExit). serveForwardExit (direction (x .records) (x .places) (g .path)) v progress stop.Going) same
-      ∙ over-idle progress g v ∙ ap (leftOver progress) (sym (serve-idle rolls total now g v (answer-is q))) ∙ l .eq
+  module _ {place len : ℕ} (q : a ≡ first.Packet place len) where
+    pub left-takes : TakesPlace g now packetBuffer place len
+    left-takes = take-place g now packetBuffer place len (l .can .sound) (sym e ∙ q)
 
-  pub left-refused : (r : Refusal) → t .answer ≡ ready.Refused r → serveForwardExit (direction rs ps (g .path)) v progress stop.Going ≡ serveForward rolls total now f u
-  left-refused r q = absurd (take-never-refused g now packetBuffer r (answer-is q))
-
-  module _ {n : ℕ} (q : t .answer ≡ ready.Packet n) where
     pub left-can : CanOnForward v rolls now
-    left-can = can-hand-over rolls total now g v (l .can) n (answer-is q)
+    left-can = can-hand-over rolls total now g v (l .can) len (left-takes .answer)
 
-    -- the copy stands in the buffer
-    module _ (size : length out ≡ maxDatagram) where
-      pub left-short : n ≤ length out
-      left-short = rw size (take-short g now packetBuffer (l .can .sound) n (answer-is q))
+    -- with the copy taken out
+    module _ {rs : List (List ℕ)} {ps : List ℕ} {p : Path} (r : direction rs ps p ≡ removeFirst g) where
+      removed-is : direction rs ps p ≡ leftByTake (nextTaken now g)
+      removed-is = r ∙ sym (left-takes .left)
 
-      pub left-cut : length (take n out) ≡ n
-      left-cut = length-take-le n out left-short
+      pub left-less : p .scheduler .count < g .path .scheduler .count
+      left-less = let k = ap (λ (d : Direction). d .path .scheduler .count) removed-is in let h = take-count g now packetBuffer len (left-takes .answer) in omega (arith, k, h)
 
-    pub left-less : t .path .scheduler .count < g .path .scheduler .count
-    left-less = let h = rw (← e) at (take-count g now packetBuffer n (answer-is q)) in omega (arith, h)
+      module _ {w : Inbound} {s : Stop} {going : Bool} (k : forwardExit w s ≡ onForward rolls total now (take (place * placeSize + len - place * placeSize) (drop (place * placeSize) (g .places))) v) (i : going ≡ isGoing s) where
+        exit-is : forwardExit w s ≡ nextExit rolls total now g v len
+        exit-is = k ∙ ap (λ (raw : List ℕ). onForward rolls total now raw v) (sym (left-takes .bytes))
 
-    module _ {w : Inbound} {s : Stop} {going : Bool} (k : forwardExit w s ≡ onForward rolls total now (take n out) v) (i : going ≡ isGoing s) where
-      exit-is : forwardExit w s ≡ nextExit rolls total now g v n
-      exit-is = k ∙ ap (λ (x : TakeExit). onForward rolls total now (take n (x .out)) v) e
+        stop-is : {t : Bool} → not going ≡ t → isGoing (nextExit rolls total now g v len .stop) ≡ not t
+        stop-is {t} j = ap (λ (x : ForwardExit). isGoing (x .stop)) (sym exit-is) ∙ sym i ∙ turned going t j
 
-      pub left-stops : not going ≡ true → serveForwardExit (direction rs ps (t .path)) w true s ≡ serveForward rolls total now f u
-      left-stops j =
-          let h = serve-stops rolls total now g v n (answer-is q) (ap (λ (x : ForwardExit). isGoing (x .stop)) (sym exit-is) ∙ sym i ∙ turned going true j) in
-          rw (← e, ← k) at (over-progressed progress (serveForwardExit (leftByTake (takeReady g now packetBuffer)) (nextExit rolls total now g v n .inbound) true (nextExit rolls total now g v n .stop)) ∙ ap (leftOver progress) (sym h) ∙ l .eq)
+        pub left-stops : not going ≡ true → serveForwardExit (direction rs ps p) w true s ≡ serveForward rolls total now f u
+        left-stops j =
+            ap (λ (d : Direction). serveForwardExit d w true s) removed-is
+            ∙ ap (λ (x : ForwardExit). serveForwardExit (leftByTake (nextTaken now g)) (x .inbound) true (x .stop)) exit-is
+            ∙ over-progressed progress (serveForwardExit (leftByTake (nextTaken now g)) (nextExit rolls total now g v len .inbound) true (nextExit rolls total now g v len .stop))
+            ∙ ap (leftOver progress) (sym (serve-stops rolls total now g v len (left-takes .answer) (stop-is j))) ∙ l .eq
 
-      pub left-next : not going ≡ false → Same u w f (direction rs ps (t .path)) → Left rolls total now f (direction rs ps (t .path)) u w true
-      left-next j m =
-          let h = serve-going rolls total now g v n (answer-is q) (ap (λ (x : ForwardExit). isGoing (x .stop)) (sym exit-is) ∙ sym i ∙ turned going false j) in
-          record {
-            eq = rw (← e, ← k) at (over-progressed progress (progressed (serveForward rolls total now (leftByTake (takeReady g now packetBuffer)) (nextExit rolls total now g v n .inbound))) ∙ ap (leftOver progress) (sym h) ∙ l .eq);
-            can = rw (← e, ← k) at (turn-good rolls total now g v (l .can) n (answer-is q));
-            same = m;
-          }
+        pub left-next : not going ≡ false → Same u w f (direction rs ps p) → Left rolls total now f (direction rs ps p) u w true
+        left-next j m =
+            record {
+              eq =
+                  ap (λ (d : Direction). progressed (serveForward rolls total now d w)) removed-is
+                  ∙ ap (λ (x : ForwardExit). progressed (serveForward rolls total now (leftByTake (nextTaken now g)) (x .inbound))) exit-is
+                  ∙ over-progressed progress (progressed (serveForward rolls total now (leftByTake (nextTaken now g)) (nextExit rolls total now g v len .inbound)))
+                  ∙ ap (leftOver progress) (sym (serve-going rolls total now g v len (left-takes .answer) (stop-is j))) ∙ l .eq;
+              can = subst (λ (d : Direction). CanServeForward d w rolls now) (sym removed-is) (subst (λ (x : ForwardExit). CanServeForward (leftByTake (nextTaken now g)) (x .inbound) rolls now) (sym exit-is) (turn-good rolls total now g v (l .can) len (left-takes .answer)));
+              same = m;
+            }

@@ -16,7 +16,7 @@ ghost use Rattle.receiving.specs.Receiving.{serveForwardExit, serveForwa
 ghost use Rattle.receiving.specs.Good.{CanOnForward, CanServeForward};
 ghost use Rattle.receiving.specs.Internal.{dataArrival, arrivalOf};
 use bounds::HEADER_SIZE;
-use bounds::MAX_DATAGRAM_SIZE;
+use bounds::PLACE_SIZE;
 use notes::Note;
 use notes::Notes;
 use packet::DatagramReading;
@@ -26,7 +26,7 @@ use path::Carriage;
 use path::Path;
 use path::Stop;
 use receiver::ReceiveAnswer;
-use schedule::ReadyAnswer;
+use schedule::FirstDue;
 use schedule::ScheduledRow;
 use schedule::copies_of;
 use session::Receiver;
@@ -117,11 +117,8 @@ pub fn serve_forward_unchecked(
     let mut notes = notes;
     let mut progress = false;
     loop {
-        let mut raw = [0u8; MAX_DATAGRAM_SIZE];
-        let taken = forward.take_unchecked(forward_records, forward_places, now, &mut raw);
-        let answer = taken.answer;
-        match answer {
-            ReadyAnswer::Nothing => {
+        match forward.first_due_unchecked(forward_records, now) {
+            FirstDue::Nothing => {
                 return ServeForwardResult {
                     forward,
                     side,
@@ -131,24 +128,16 @@ pub fn serve_forward_unchecked(
                     stop: Stop::Going,
                 };
             }
-            ReadyAnswer::Refused(_) => {
-                return ServeForwardResult {
-                    forward,
-                    side,
-                    reverse,
-                    notes,
-                    progress,
-                    stop: Stop::Going,
-                };
-            }
-            ReadyAnswer::Packet(len) => {
+            FirstDue::Packet(place, len) => {
+                let from = place * PLACE_SIZE;
+                let end = from + len;
                 let got = on_forward_unchecked(
                     side,
                     reverse,
                     notes,
                     total_chunks,
                     now,
-                    &raw[..len],
+                    &forward_places[from..end],
                     rolls,
                     store,
                     output,
@@ -156,7 +145,7 @@ pub fn serve_forward_unchecked(
                     reverse_records,
                     reverse_places,
                 );
-                forward = taken.path;
+                forward = forward.remove_first_unchecked(forward_records, forward_places);
                 side = got.side;
                 reverse = got.reverse;
                 notes = got.notes;

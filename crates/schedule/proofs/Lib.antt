@@ -10,5 +10,6 @@ pub mod Memory
 pub mod Calls
 pub mod OwnedRecords
 pub mod Bytes
+pub mod Removing
 pub mod Laws
 pub mod Examples

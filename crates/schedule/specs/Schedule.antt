@@ -23,6 +23,8 @@ use Rattle.refusal.specs.declared.DoneAnswer.the-variants as queued
 use Rattle.schedule.specs.declared.PopResult.{PopResult}
 use Rattle.schedule.specs.declared.ReadyAnswer.{ReadyAnswer}
 use Rattle.schedule.specs.declared.ReadyAnswer.the-variants as ready
+use Rattle.schedule.specs.declared.FirstDue.{FirstDue}
+use Rattle.schedule.specs.declared.FirstDue.the-variants as first
 use Rattle.schedule.specs.declared.DeadlineAnswer.{DeadlineAnswer}
 use Rattle.schedule.specs.declared.DeadlineAnswer.the-variants as deadline
 use Rattle.refusal.specs.declared.CountAnswer.{CountAnswer}
@@ -98,6 +100,12 @@ firstRecord rs = getD rs 0 []
 
 abbrev pub due : ℕ → List (List ℕ) → ℕ → Bool
 due count rs now = ltb 0 count && leb (timeOf (firstRecord rs)) now
+
+-- its place and length, if it may
+unfoldable pub firstDue : ℕ → List (List ℕ) → ℕ → FirstDue
+firstDue count rs now =
+    let r = firstRecord rs in
+    cond (due count rs now) (first.Packet (placeOf r) (recordLength r)) first.Nothing
 
 -- the bytes of a record's packet
 abbrev pub bytesOf : List ℕ → List ℕ → List ℕ

@@ -22,6 +22,7 @@ use refusal::TestAnswer;
 use refusal::Verdict;
 
 mod checks;
+mod first;
 mod lent;
 mod order;
 mod owned;
@@ -61,6 +62,12 @@ pub enum ReadyAnswer {
     Packet(usize),
     Nothing,
     Refused(Refusal),
+}
+
+// Of the packet that leaves first, if it is due, the place and the length.
+pub enum FirstDue {
+    Packet(usize, usize),
+    Nothing,
 }
 
 pub struct PopResult {

@@ -71,8 +71,16 @@ pub(super) fn take_packet(places: &mut [u8], place: usize, len: usize, out: &mut
 {
     let from = place * PLACE_SIZE;
     let end = from + len;
-    let to = from + PLACE_SIZE;
     octets::copy_unchecked(&places[from..end], &mut out[..len]);
+    clear_place(places, place);
+}
+
+pub(super) fn clear_place(places: &mut [u8], place: usize)
+    requires { ⌜ place * placeSize + placeSize ≤ length (now places) ⌝ }
+    ensures { λ _. ⌜ now (places .exit) ≡ placed (now (places .entry)) place (replicate placeSize 0) ⌝ }
+{
+    let from = place * PLACE_SIZE;
+    let to = from + PLACE_SIZE;
     octets::clear(&mut places[from..to]);
 }
 

@@ -1,12 +1,13 @@
-use mathlib.Core.Path.{refl, sym, _∙_}
-use borrow.Author.Needs.{needs}
+use mathlib.Core.Path.{_∙_}
+use native.Mathlib.Omega.{arith}
 use Rattle.multi_timer.specs.MultiTimer.{timersExit}
 use Rattle.notes.specs.Notes.{segMetas}
 use Rattle.path.specs.Direction.{direction}
 use Rattle.session.specs.Sending.{senderEnd}
 use Rattle.acks.specs.Acks.{ackState}
-use Rattle.path.proofs.Laws.{can-take}
-use Rattle.acks.proofs.Serving.{Left, left-start, left-idle, left-refused, left-can, left-short, left-cut, left-less, left-next}
+use Rattle.path.proofs.Laws.{records-within}
+use Rattle.acks.proofs.Serving.{Left, left-start, left-idle, left-takes, left-can, left-less, left-next}
+use borrow.Author.Needs.{needs}
 use Rattle.acks.proofs.serve_reverse_unchecked.Statement.{statement}
 use Rattle.acks.proofs.serve_reverse_unchecked.Tie as tie
 
@@ -17,79 +18,125 @@ abbrev μ-loop : tie.MeasureT-loop
 μ-loop timing notes now store₀ rows₀ records₀ places₀ keys₀ deadlines₀ reverse₀ side₀ progress₀ store rows records places keys deadlines reverse side progress = reverse .scheduler .count
 
 loop-holds : tie.Need-loop-holds Inv-loop μ-loop
-loop-holds c = left-start _ _ _ _ (c .before .before .before .before .pre)
+loop-holds c =
+    let s = c .before .before .before .before in
+    left-start _ _ _ _ (s .pre)
 
-slice-aggregate-take-unchecked : tie.Need-slice-aggregate-take-unchecked Inv-loop μ-loop
-slice-aggregate-take-unchecked c = search needs
-
-take-unchecked-requires : tie.Need-take-unchecked-requires Inv-loop μ-loop
-take-unchecked-requires c κs = can-take _ (c .before .before .before .loop .inv .can .sound) refl
+first-due-unchecked-requires : tie.Need-first-due-unchecked-requires Inv-loop μ-loop
+first-due-unchecked-requires c κs =
+    let l = c .before in
+    records-within (direction (l .loop .records) (l .loop .places) (l .loop .reverse)) (l .loop .inv .can .sound)
 
 enum-told : tie.Need-enum-told Inv-loop μ-loop
 enum-told c = search needs
 
 same-length : tie.Need-same-length Inv-loop μ-loop
-same-length c = c .before .before .before .before .before .before .before .before .before .before .loop .inv .same .store
+same-length c =
+    let l = c .before .before .before .before in
+    l .loop .inv .same .store
 
 same-length-2 : tie.Need-same-length-2 Inv-loop μ-loop
-same-length-2 c = c .before .before .before .before .before .before .before .before .before .before .loop .inv .same .rows
+same-length-2 c =
+    let l = c .before .before .before .before in
+    l .loop .inv .same .rows
 
 same-length-3 : tie.Need-same-length-3 Inv-loop μ-loop
-same-length-3 c = c .before .before .before .before .before .before .take-unchecked .kept .1 .0 ∙ c .before .before .before .before .before .before .before .before .before .before .loop .inv .same .records
+same-length-3 c =
+    let l = c .before .before .before .before in
+    l .loop .inv .same .records
 
 same-length-4 : tie.Need-same-length-4 Inv-loop μ-loop
-same-length-4 c = c .before .before .before .before .before .before .take-unchecked .kept .1 .1 .0 ∙ c .before .before .before .before .before .before .before .before .before .before .loop .inv .same .places
+same-length-4 c =
+    let l = c .before .before .before .before in
+    l .loop .inv .same .places
 
 same-length-5 : tie.Need-same-length-5 Inv-loop μ-loop
-same-length-5 c = c .before .before .before .before .before .before .before .before .before .before .loop .inv .same .keys
+same-length-5 c =
+    let l = c .before .before .before .before in
+    l .loop .inv .same .keys
 
 same-length-6 : tie.Need-same-length-6 Inv-loop μ-loop
-same-length-6 c = c .before .before .before .before .before .before .before .before .before .before .loop .inv .same .deadlines
+same-length-6 c =
+    let l = c .before .before .before .before in
+    l .loop .inv .same .deadlines
 
 returns : tie.Need-returns Inv-loop μ-loop
-returns c = left-idle (c .before .before .before .before .before .before .before .before .before .before .loop .inv) (c .before .before .before .before .before .before .take-unchecked .ensures) (c .enum-told .given .1)
+returns c =
+    let e = c in
+    let a = e .before .before in
+    let l = a .before .before in
+    left-idle (l .loop .inv) (a .first-due-unchecked .ensures) (e .enum-told .given .1)
 
-enum-told-2 : tie.Need-enum-told-2 Inv-loop μ-loop
-enum-told-2 c = search needs
+enum-known-place : tie.Need-enum-known-place Inv-loop μ-loop
+enum-known-place c = search needs
 
-same-length-7 : tie.Need-same-length-7 Inv-loop μ-loop
-same-length-7 c = c .before .before .before .before .before .before .before .before .before .before .loop .inv .same .store
+mul-from : tie.Need-mul-from Inv-loop μ-loop
+mul-from c =
+    let q = c .before in
+    let a = q .before .before in
+    let l = a .before .before in
+    let s = l .before .before .before .before .before in
+    omega (arith, left-takes (l .loop .inv) (a .first-due-unchecked .ensures) (q .place .given .1) .inside, l .loop .inv .same .places, s .good .1 .1 .1 .1 .1 .1 .1 .1 .0 .0)
 
-same-length-8 : tie.Need-same-length-8 Inv-loop μ-loop
-same-length-8 c = c .before .before .before .before .before .before .before .before .before .before .loop .inv .same .rows
+add-end : tie.Need-add-end Inv-loop μ-loop
+add-end c =
+    let q = c .before in
+    let a = q .before .before in
+    let l = a .before .before in
+    let s = l .before .before .before .before .before in
+    omega (arith, left-takes (l .loop .inv) (a .first-due-unchecked .ensures) (q .place .given .1) .inside, l .loop .inv .same .places, s .good .1 .1 .1 .1 .1 .1 .1 .1 .0 .0)
 
-same-length-9 : tie.Need-same-length-9 Inv-loop μ-loop
-same-length-9 c = c .before .before .before .before .before .before .take-unchecked .kept .1 .0 ∙ c .before .before .before .before .before .before .before .before .before .before .loop .inv .same .records
+sub-on-ack-unchecked : tie.Need-sub-on-ack-unchecked Inv-loop μ-loop
+sub-on-ack-unchecked c =
+    let q = c .before in
+    let a = q .before .before in
+    let l = a .before .before in
+    omega (arith, left-takes (l .loop .inv) (a .first-due-unchecked .ensures) (q .place .given .1) .inside)
 
-same-length-10 : tie.Need-same-length-10 Inv-loop μ-loop
-same-length-10 c = c .before .before .before .before .before .before .take-unchecked .kept .1 .1 .0 ∙ c .before .before .before .before .before .before .before .before .before .before .loop .inv .same .places
+part-on-ack-unchecked-start : tie.Need-part-on-ack-unchecked-start Inv-loop μ-loop
+part-on-ack-unchecked-start c =
+    let q = c .before .before in
+    let a = q .before .before in
+    let l = a .before .before in
+    omega (arith, left-takes (l .loop .inv) (a .first-due-unchecked .ensures) (q .place .given .1) .inside)
 
-same-length-11 : tie.Need-same-length-11 Inv-loop μ-loop
-same-length-11 c = c .before .before .before .before .before .before .before .before .before .before .loop .inv .same .keys
-
-same-length-12 : tie.Need-same-length-12 Inv-loop μ-loop
-same-length-12 c = c .before .before .before .before .before .before .before .before .before .before .loop .inv .same .deadlines
-
-returns-2 : tie.Need-returns-2 Inv-loop μ-loop
-returns-2 c = left-refused (c .before .before .before .before .before .before .before .before .before .before .loop .inv) (c .before .before .before .before .before .before .take-unchecked .ensures) _ (c .enum-told2 .given .1)
-
-enum-known-answer : tie.Need-enum-known-answer Inv-loop μ-loop
-enum-known-answer c = search needs
-
-array-share-prefix-raw : tie.Need-array-share-prefix-raw Inv-loop μ-loop
-array-share-prefix-raw c = left-short (c .before .before .before .before .before .before .before .before .before .before .before .loop .inv) (c .before .before .before .before .before .before .before .take-unchecked .ensures) (c .before .answer .given .1) (c .before .before .before .before .before .before .before .take-unchecked .kept .1 .1 .1 .1 .0)
-
-slice-aggregate-on-ack-unchecked : tie.Need-slice-aggregate-on-ack-unchecked Inv-loop μ-loop
-slice-aggregate-on-ack-unchecked c = sym (left-cut (c .before .before .before .before .before .before .before .before .before .before .before .before .loop .inv) (c .before .before .before .before .before .before .before .before .take-unchecked .ensures) (c .before .before .answer .given .1) (c .before .before .before .before .before .before .before .before .take-unchecked .kept .1 .1 .1 .1 .0))
+part-on-ack-unchecked-end : tie.Need-part-on-ack-unchecked-end Inv-loop μ-loop
+part-on-ack-unchecked-end c =
+    let q = c .before .before in
+    let a = q .before .before in
+    let l = a .before .before in
+    omega (arith, left-takes (l .loop .inv) (a .first-due-unchecked .ensures) (q .place .given .1) .inside)
 
 on-ack-unchecked-requires : tie.Need-on-ack-unchecked-requires Inv-loop μ-loop
-on-ack-unchecked-requires c κs = left-can (c .before .before .before .before .before .before .before .before .before .before .before .before .before .before .before .before .loop .inv) (c .before .before .before .before .before .before .before .before .before .before .before .before .take-unchecked .ensures) (c .before .before .before .before .before .before .answer .given .1)
+on-ack-unchecked-requires c κs =
+    let q = c .before .before .before .before .before .before .before in
+    let a = q .before .before in
+    let l = a .before .before in
+    left-can (l .loop .inv) (a .first-due-unchecked .ensures) (q .place .given .1)
+
+remove-first-unchecked-requires : tie.Need-remove-first-unchecked-requires Inv-loop μ-loop
+remove-first-unchecked-requires c κs =
+    let q = c .before .before .before .before .before .before .before .before .before .before .before .before .before .before .before .before .before in
+    let a = q .before .before in
+    let l = a .before .before in
+    left-takes (l .loop .inv) (a .first-due-unchecked .ensures) (q .place .given .1) .can
 
 loop-less : tie.Need-loop-less Inv-loop μ-loop
-loop-less c = left-less (c .before .before .before .before .before .before .before .before .before .before .before .before .before .before .before .before .before .before .before .before .before .before .before .before .before .loop .inv) (c .before .before .before .before .before .before .before .before .before .before .before .before .before .before .before .before .before .before .before .before .before .take-unchecked .ensures) (c .before .before .before .before .before .before .before .before .before .before .before .before .before .before .before .answer .given .1)
+loop-less c =
+    let r = c .before .before .before in
+    let q = r .before .before .before .before .before .before .before .before .before .before .before .before .before .before .before .before .before .before in
+    let a = q .before .before in
+    let l = a .before .before in
+    left-less (l .loop .inv) (a .first-due-unchecked .ensures) (q .place .given .1) (r .remove-first-unchecked .ensures)
 
 loop-again : tie.Need-loop-again Inv-loop μ-loop
-loop-again c = left-next (c .before .before .before .before .before .before .before .before .before .before .before .before .before .before .before .before .before .before .before .before .before .before .before .before .before .loop .inv) (c .before .before .before .before .before .before .before .before .before .before .before .before .before .before .before .before .before .before .before .before .before .take-unchecked .ensures) (c .before .before .before .before .before .before .before .before .before .before .before .before .before .before .before .answer .given .1) (c .before .before .before .before .before .before .before .before .on-ack-unchecked .ensures) (record { store = c .before .before .before .before .before .before .before .before .on-ack-unchecked .kept .1 .1 .1 .1 .1 .0 ∙ c .before .before .before .before .before .before .before .before .before .before .before .before .before .before .before .before .before .before .before .before .before .before .before .before .before .loop .inv .same .store; rows = c .before .before .before .before .before .before .before .before .on-ack-unchecked .kept .1 .1 .1 .1 .1 .1 .0 ∙ c .before .before .before .before .before .before .before .before .before .before .before .before .before .before .before .before .before .before .before .before .before .before .before .before .before .loop .inv .same .rows; records = c .before .before .before .before .before .before .before .before .before .before .before .before .before .before .before .before .before .before .before .before .before .take-unchecked .kept .1 .0 ∙ c .before .before .before .before .before .before .before .before .before .before .before .before .before .before .before .before .before .before .before .before .before .before .before .before .before .loop .inv .same .records; places = c .before .before .before .before .before .before .before .before .before .before .before .before .before .before .before .before .before .before .before .before .before .take-unchecked .kept .1 .1 .0 ∙ c .before .before .before .before .before .before .before .before .before .before .before .before .before .before .before .before .before .before .before .before .before .before .before .before .before .loop .inv .same .places; keys = c .before .before .before .before .before .before .before .before .on-ack-unchecked .kept .1 .1 .1 .1 .1 .1 .1 .0 ∙ c .before .before .before .before .before .before .before .before .before .before .before .before .before .before .before .before .before .before .before .before .before .before .before .before .before .loop .inv .same .keys; deadlines = c .before .before .before .before .before .before .before .before .on-ack-unchecked .kept .1 .1 .1 .1 .1 .1 .1 .1 .0 ∙ c .before .before .before .before .before .before .before .before .before .before .before .before .before .before .before .before .before .before .before .before .before .before .before .before .before .loop .inv .same .deadlines })
+loop-again c =
+    let r = c .before .before .before in
+    let w = r .before .before .before .before .before .before .before .before .before .before in
+    let q = w .before .before .before .before .before .before .before .before in
+    let a = q .before .before in
+    let l = a .before .before in
+    left-next (l .loop .inv) (a .first-due-unchecked .ensures) (q .place .given .1) (r .remove-first-unchecked .ensures) (w .on-ack-unchecked .ensures) (record { store = w .on-ack-unchecked .kept .1 .1 .1 .1 .1 .0 ∙ l .loop .inv .same .store; rows = w .on-ack-unchecked .kept .1 .1 .1 .1 .1 .1 .0 ∙ l .loop .inv .same .rows; records = r .remove-first-unchecked .kept .1 .0 ∙ l .loop .inv .same .records; places = r .remove-first-unchecked .kept .1 .1 .0 ∙ l .loop .inv .same .places; keys = w .on-ack-unchecked .kept .1 .1 .1 .1 .1 .1 .1 .0 ∙ l .loop .inv .same .keys; deadlines = w .on-ack-unchecked .kept .1 .1 .1 .1 .1 .1 .1 .1 .0 ∙ l .loop .inv .same .deadlines })
 
 pub serve-reverse-unchecked-spec : {M : Type 1} → statement M
 serve-reverse-unchecked-spec =
@@ -98,8 +145,7 @@ serve-reverse-unchecked-spec =
     Inv-loop
     μ-loop
     loop-holds
-    slice-aggregate-take-unchecked
-    take-unchecked-requires
+    first-due-unchecked-requires
     enum-told
     same-length
     same-length-2
@@ -108,17 +154,13 @@ serve-reverse-unchecked-spec =
     same-length-5
     same-length-6
     returns
-    enum-told-2
-    same-length-7
-    same-length-8
-    same-length-9
-    same-length-10
-    same-length-11
-    same-length-12
-    returns-2
-    enum-known-answer
-    array-share-prefix-raw
-    slice-aggregate-on-ack-unchecked
+    enum-known-place
+    mul-from
+    add-end
+    sub-on-ack-unchecked
+    part-on-ack-unchecked-start
+    part-on-ack-unchecked-end
     on-ack-unchecked-requires
+    remove-first-unchecked-requires
     loop-less
     loop-again)

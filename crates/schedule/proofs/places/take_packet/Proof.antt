@@ -4,7 +4,7 @@ use mathlib.Core.Path.{sym, _∙_, ap}
 use mathlib.Core.List.{List, _++_}
 use lib.ListN.{drop}
 use lib.Seq.{length-take-le}
-use Rattle.schedule.proofs.Lists.{one-part, part-is, part-length}
+use Rattle.schedule.proofs.Lists.{part-is, part-length}
 use borrow.Author.Needs.{needs}
 use Rattle.schedule.proofs.places.take_packet.Statement.{statement}
 use Rattle.schedule.proofs.places.take_packet.Tie as tie
@@ -14,9 +14,6 @@ mul-from c = search needs
 
 add-end : tie.Need-add-end
 add-end c = search needs
-
-add-to : tie.Need-add-to
-add-to c = search needs
 
 sub-copy-unchecked : tie.Need-sub-copy-unchecked
 sub-copy-unchecked c = search needs
@@ -38,17 +35,8 @@ copy-unchecked-requires c κs =
     let a = c .before .before .before .before .before .args in
     part-length (a .places .now) (a .place * 1410) (a .len) (omega arith) ∙ sym (length-take-le (a .len) (a .out .now) (omega arith))
 
-sub-clear : tie.Need-sub-clear
-sub-clear c = search needs
-
-part-clear-start : tie.Need-part-clear-start
-part-clear-start c = search needs
-
-part-clear-end : tie.Need-part-clear-end
-part-clear-end c = search needs
-
-clear-requires : tie.Need-clear-requires
-clear-requires c κs = search needs
+clear-place-requires : tie.Need-clear-place-requires
+clear-place-requires c κs = search needs
 
 same-length : tie.Need-same-length
 same-length c = search needs
@@ -59,9 +47,8 @@ same-length-2 c = search needs
 returns : tie.Need-returns
 returns c =
     let k = c .before .before .before .before .before .before in
-    let s = k .before .before .before .before .before .before in
-    let a = s .args in (
-      one-part (a .places .now) (c .before .before .clear .last .0) (a .place * 1410) (s .pre .0) (c .before .before .clear .ensures),
+    let a = k .before .before .before .before .before .before .args in (
+      c .before .before .clear-place .ensures,
       ap (λ (xs : List ℕ). xs ++ drop (a .len) (a .out .now)) (k .copy-unchecked .ensures ∙ part-is (a .places .now) (a .place * 1410) (a .len)),
     )
 
@@ -71,17 +58,13 @@ take-packet-spec =
     (tie.spec
     mul-from
     add-end
-    add-to
     sub-copy-unchecked
     part-copy-unchecked-start
     part-copy-unchecked-end
     slice-relend-prefix-copy-unchecked
     slice-aggregate-copy-unchecked
     copy-unchecked-requires
-    sub-clear
-    part-clear-start
-    part-clear-end
-    clear-requires
+    clear-place-requires
     same-length
     same-length-2
     returns)
