@@ -11,6 +11,7 @@ use Rattle.bounds.specs.Bounds.{maxDatagram, maxDuration}
 use Rattle.octets.specs.Fold.{foldBytes}
 use Rattle.schedule.specs.State.{Schedule, stateBroken, copies, lacksRoom}
 use Rattle.schedule.specs.Schedule.{newSchedule, scheduleAtUnchecked, PopExit, popUnchecked, firstTime}
+use Rattle.schedule.specs.Schedule.{due}
 use Rattle.schedule.specs.declared.ChannelScheduler.{ChannelScheduler}
 use Rattle.schedule.specs.declared.Deliveries.{Deliveries}
 use Rattle.schedule.specs.declared.Deliveries.the-variants.{Lost, One, Two}
@@ -135,6 +136,10 @@ abbrev pub takenBytes : ReadyAnswer → List ℕ → List ℕ
 takenBytes (ready.Packet len) out = take len out
 takenBytes ready.Nothing out = []
 takenBytes (ready.Refused r) out = []
+
+-- whether a copy is due
+abbrev pub isDue : Path → List (List ℕ) → ℕ → Bool
+isDue p rs now = due (p .scheduler .count) rs now
 
 -- when the next copy leaves; `firstTime` refuses nothing
 unfoldable pub deadlineOf : DeadlineAnswer → NextDeadline

@@ -6,7 +6,7 @@ ghost use lib.ListN.{length};
 ghost use Rattle.path.specs.Rolls.{packetRolls, rollsAt, rollsBroken, Doubles};
 ghost use Rattle.path.specs.Direction.{direction};
 ghost use Rattle.path.specs.Path.{newPath, rollsSpent, copyFold, carryExit, carry, CanCarry};
-ghost use Rattle.path.specs.Path.{stopOf, isGoing, takeExit, takeReady, CanTake, nextDeadline, isEmpty};
+ghost use Rattle.path.specs.Path.{stopOf, isGoing, takeExit, takeReady, CanTake, isDue, nextDeadline, isEmpty};
 use bounds::MAX_DATAGRAM_SIZE;
 use channel::Channel;
 use channel::ChannelConfig;
@@ -193,6 +193,19 @@ impl Path {
                 used: self.used,
             },
             answer,
+        }
+    }
+
+    // Whether a copy is due.
+    pub fn is_due_unchecked(self, records: &[ScheduledRow], now: u64) -> bool
+        requires { ⌜ self .scheduler .count ≤ length (records .now) ⌝ }
+        ensures { λ r. ⌜ r ≡ isDue self (records .entry .now) now ⌝ }
+    {
+        let scheduler = self.scheduler;
+        match scheduler.next_deadline_unchecked(records) {
+            DeadlineAnswer::At(time) => time <= now,
+            DeadlineAnswer::Nothing => false,
+            DeadlineAnswer::Refused(_) => false,
         }
     }
 
