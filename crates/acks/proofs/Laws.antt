@@ -8,3 +8,5 @@ pub use Rattle.acks.proofs.Serving.{nextTaken, nextState, serve-reverse
 pub use Rattle.acks.proofs.Turns.{serve-reverse-turns, serve-reverse-invariant, serve-reverse-direction-good, serve-reverse-counts, serve-reverse-progress, serve-reverse-drained, serve-reverse-good, serve-reverse-keeps-direction, serve-reverse-keeps, serve-reverse-each, serve-reverse-each-ack, serve-reverse-clock, good-can-serve-reverse}
 -- the timers beside the sender
 pub use Rattle.acks.proofs.Timers.{on-ack-timers, serve-reverse-timers}
+-- nothing is due
+pub use Rattle.acks.proofs.NotDue.{serve-reverse-not-due}

@@ -5,4 +5,5 @@ pub mod Serving
 pub mod Turns
 pub mod Timers
 pub mod Fresh
+pub mod NotDue
 pub mod Laws

@@ -10,3 +10,5 @@ pub use Rattle.receiving.proofs.Serving.{nextTaken, nextExit, serve-idl
 pub use Rattle.receiving.proofs.Turns.{serve-turns, serve-keeps, good-can-serve, serve-good, serve-forward-good, serve-keeps-forward, serve-each, Handed, serve-front, serve-each-reverse, serve-keeps-sizes, CountsRiseBy, serve-counts, serve-completes, serve-completed-is, serve-progress, serve-drained}
 -- the copies and orders of the reverse line, the times of the notes
 pub use Rattle.receiving.proofs.Orders.{forward-orders, serve-orders, forward-timely, serve-timely}
+-- nothing is due
+pub use Rattle.receiving.proofs.NotDue.{serve-not-due}

@@ -4,5 +4,6 @@ pub mod Completion
 pub mod Serving
 pub mod Turns
 pub mod Orders
+pub mod NotDue
 pub mod Laws
 pub mod Examples

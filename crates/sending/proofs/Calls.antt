@@ -119,7 +119,7 @@ module _ {t : Timing} {rolls : List Float} {size : ℕ} {file : List ℕ} {total
     pub wire-short : (payload out : List ℕ) → payload ≡ getD (chunksOf size file) seq [] → length (take (headerSize + length payload) out) ≤ maxDatagram
     wire-short payload out p = take-short (headerSize + length payload) maxDatagram out (datagram-short p)
 
--- ---- the tests of `can_pump`
+-- ---- the tests of `can_pump_unchecked`
 module _ (total : ℕ) (s : Sender) {b : Bool} (e : b ≡ canSend s) where
   pub pump-test : {n : ℕ} → b ≡ true → n ≡ windowOf s .«next_seq_num» → ltb n total ≡ canPump total s
   pump-test f g = ap (λ (k : ℕ). ltb k total) g ∙ ap (λ (c : Bool). c && ltb (windowOf s .«next_seq_num») total) (sym f ∙ e)

@@ -48,7 +48,7 @@ pub struct RetransmitResult {
 }
 
 // Whether the window has space and a chunk is left.
-fn can_pump(sender: Sender, total_chunks: u32) -> bool
+pub fn can_pump_unchecked(sender: Sender, total_chunks: u32) -> bool
     requires { ⌜ numbersBroken (windowOf sender) ≡ false ⌝ }
     ensures { λ r. ⌜ r ≡ canPump «total_chunks» sender ⌝ }
 {
@@ -161,7 +161,7 @@ pub fn pump_sends_unchecked(
     let mut sender = sender;
     let mut outbound = outbound;
     let mut progress = false;
-    while can_pump(sender, total_chunks) {
+    while can_pump_unchecked(sender, total_chunks) {
         let sent = send_one(
             sender,
             outbound,

@@ -1,6 +1,6 @@
 -- app/transfer.rs, `fire_timers`: what the timers that have run out send again.
 use Prim.Native.Nat.{ℕ}
-use mathlib.Core.Bool.{Bool, true, false, cond}
+use mathlib.Core.Bool.{Bool, true, false, cond, _||_}
 use mathlib.Core.List.{List, [], _∷_}
 use lib.Ieee.{Float}
 use Rattle.multi_timer.specs.Map.{dueKeys}
@@ -16,6 +16,7 @@ use Rattle.clock.specs.declared.Timing.the-variants as timing
 use Rattle.clock.specs.declared.Due.{Due}
 use Rattle.clock.specs.declared.Due.the-variants as ran
 use Rattle.session.specs.Sending.{SenderEnd, hasOutstanding, oldestOutstanding, resent}
+use Rattle.session.specs.declared.Sender.{Sender}
 use Rattle.session.specs.declared.Timeout.{Timeout}
 use Rattle.session.specs.declared.Timeout.the-variants as timeout
 use Rattle.submission.specs.Submission.{Outgoing, outgoing}
@@ -109,3 +110,13 @@ unfoldable pub fireTimers : ℕ → Timing → List Float → ℕ → FireState 
 fireTimers limit t rolls now s =
     cond (ceilingMet limit (s .resends)) (fireExit (withResends s (exhausted (s .resends))) false stop.Going)
     (byDue (due t (s .outgoing .clock) now (hasOutstanding (s .sender .sender))) limit t rolls now s)
+
+-- whether it has something to do
+abbrev pub hasRun : Due → Bool
+hasRun ran.Nothing = false
+hasRun ran.Idle = true
+hasRun ran.Single = true
+hasRun ran.Numbers = true
+
+abbrev pub timersDue : ℕ → Timing → ℕ → Sender → Resends → ClockState → Bool
+timersDue limit t now v r c = ceilingMet limit r || hasRun (due t c now (hasOutstanding v))

@@ -22,6 +22,8 @@ use session::Sender;
 use session::Timeout;
 use submission::Outbound;
 
+pub mod due;
+
 pub struct FireResult {
     pub sender: Sender,
     pub estimator: RtoEstimator,

@@ -21,11 +21,11 @@ abbrev μ-loop : tie.MeasureT-loop
 loop-holds : tie.Need-loop-holds Inv-loop μ-loop
 loop-holds c = left-start (c .before .before .before .before .before .before .pre)
 
-can-pump-requires : tie.Need-can-pump-requires Inv-loop μ-loop
-can-pump-requires c κs = state-numbers (c .loop .inv .can)
+can-pump-unchecked-requires : tie.Need-can-pump-unchecked-requires Inv-loop μ-loop
+can-pump-unchecked-requires c κs = state-numbers (c .loop .inv .can)
 
 send-one-requires : tie.Need-send-one-requires Inv-loop μ-loop
-send-one-requires c κs = (c .before .before .before .before .before .before .before .before .before .loop .inv .can, sym (c .before .before .before .before .before .before .before .before .can-pump .ensures) ∙ c .before .before .before .before .before .before .before .if1 .taken)
+send-one-requires c κs = (c .before .before .before .before .before .before .before .before .before .loop .inv .can, sym (c .before .before .before .before .before .before .before .before .can-pump-unchecked .ensures) ∙ c .before .before .before .before .before .before .before .if1 .taken)
 
 is-going-requires : tie.Need-is-going-requires Inv-loop μ-loop
 is-going-requires c κs = search needs
@@ -52,13 +52,13 @@ same-length-7 : tie.Need-same-length-7 Inv-loop μ-loop
 same-length-7 c = c .before .before .before .before .before .before .before .before .before .before .before .before .before .send-one .kept .1 .1 .1 .1 .1 .1 .1 .1 .1 .1 .1 .1 .1 .1 .1 .0 ∙ c .before .before .before .before .before .before .before .before .before .before .before .before .before .before .before .before .before .before .before .before .before .before .before .loop .inv .same .deadlines
 
 returns : tie.Need-returns Inv-loop μ-loop
-returns c = left-stopped (c .before .before .before .before .before .before .before .before .before .before .before .before .before .before .before .before .before .before .before .before .before .before .before .loop .inv) (c .before .before .before .before .before .before .before .before .before .before .before .before .before .before .before .before .before .before .before .before .before .before .can-pump .ensures) (c .before .before .before .before .before .before .before .before .before .before .before .before .before .before .before .before .before .before .before .before .before .if1 .taken) (c .before .before .before .before .before .before .before .before .before .before .before .before .before .send-one .ensures) (c .before .is-going .ensures) (c .if2 .taken)
+returns c = left-stopped (c .before .before .before .before .before .before .before .before .before .before .before .before .before .before .before .before .before .before .before .before .before .before .before .loop .inv) (c .before .before .before .before .before .before .before .before .before .before .before .before .before .before .before .before .before .before .before .before .before .before .can-pump-unchecked .ensures) (c .before .before .before .before .before .before .before .before .before .before .before .before .before .before .before .before .before .before .before .before .before .if1 .taken) (c .before .before .before .before .before .before .before .before .before .before .before .before .before .send-one .ensures) (c .before .is-going .ensures) (c .if2 .taken)
 
 loop-less : tie.Need-loop-less Inv-loop μ-loop
-loop-less c = left-less (c .before .before .before .before .before .before .before .before .before .before .before .before .before .before .before .before .before .before .before .before .before .before .before .before .before .loop .inv) (c .before .before .before .before .before .before .before .before .before .before .before .before .before .before .before .before .before .before .before .before .before .before .before .before .can-pump .ensures) (c .before .before .before .before .before .before .before .before .before .before .before .before .before .before .before .before .before .before .before .before .before .before .before .if1 .taken) (c .before .before .before .before .before .before .before .before .before .before .before .before .before .before .before .send-one .ensures) (c .before .before .before .is-going .ensures)
+loop-less c = left-less (c .before .before .before .before .before .before .before .before .before .before .before .before .before .before .before .before .before .before .before .before .before .before .before .before .before .loop .inv) (c .before .before .before .before .before .before .before .before .before .before .before .before .before .before .before .before .before .before .before .before .before .before .before .before .can-pump-unchecked .ensures) (c .before .before .before .before .before .before .before .before .before .before .before .before .before .before .before .before .before .before .before .before .before .before .before .if1 .taken) (c .before .before .before .before .before .before .before .before .before .before .before .before .before .before .before .send-one .ensures) (c .before .before .before .is-going .ensures)
 
 loop-again : tie.Need-loop-again Inv-loop μ-loop
-loop-again c = left-next (c .before .before .before .before .before .before .before .before .before .before .before .before .before .before .before .before .before .before .before .before .before .before .before .before .before .loop .inv) (c .before .before .before .before .before .before .before .before .before .before .before .before .before .before .before .before .before .before .before .before .before .before .before .before .can-pump .ensures) (c .before .before .before .before .before .before .before .before .before .before .before .before .before .before .before .before .before .before .before .before .before .before .before .if1 .taken) (c .before .before .before .before .before .before .before .before .before .before .before .before .before .before .before .send-one .ensures) (c .before .before .before .is-going .ensures) (c .before .before .if2 .left) (record { store = c .before .before .before .before .before .before .before .before .before .before .before .before .before .before .before .send-one .kept .1 .1 .1 .1 .1 .1 .1 .1 .1 .0 ∙ c .before .before .before .before .before .before .before .before .before .before .before .before .before .before .before .before .before .before .before .before .before .before .before .before .before .loop .inv .same .store; rows = c .before .before .before .before .before .before .before .before .before .before .before .before .before .before .before .send-one .kept .1 .1 .1 .1 .1 .1 .1 .1 .1 .1 .0 ∙ c .before .before .before .before .before .before .before .before .before .before .before .before .before .before .before .before .before .before .before .before .before .before .before .before .before .loop .inv .same .rows; events = c .before .before .before .before .before .before .before .before .before .before .before .before .before .before .before .send-one .kept .1 .1 .1 .1 .1 .1 .1 .1 .1 .1 .1 .0 ∙ c .before .before .before .before .before .before .before .before .before .before .before .before .before .before .before .before .before .before .before .before .before .before .before .before .before .loop .inv .same .events; records = c .before .before .before .before .before .before .before .before .before .before .before .before .before .before .before .send-one .kept .1 .1 .1 .1 .1 .1 .1 .1 .1 .1 .1 .1 .0 ∙ c .before .before .before .before .before .before .before .before .before .before .before .before .before .before .before .before .before .before .before .before .before .before .before .before .before .loop .inv .same .records; places = c .before .before .before .before .before .before .before .before .before .before .before .before .before .before .before .send-one .kept .1 .1 .1 .1 .1 .1 .1 .1 .1 .1 .1 .1 .1 .0 ∙ c .before .before .before .before .before .before .before .before .before .before .before .before .before .before .before .before .before .before .before .before .before .before .before .before .before .loop .inv .same .places; keys = c .before .before .before .before .before .before .before .before .before .before .before .before .before .before .before .send-one .kept .1 .1 .1 .1 .1 .1 .1 .1 .1 .1 .1 .1 .1 .1 .0 ∙ c .before .before .before .before .before .before .before .before .before .before .before .before .before .before .before .before .before .before .before .before .before .before .before .before .before .loop .inv .same .keys; deadlines = c .before .before .before .before .before .before .before .before .before .before .before .before .before .before .before .send-one .kept .1 .1 .1 .1 .1 .1 .1 .1 .1 .1 .1 .1 .1 .1 .1 .0 ∙ c .before .before .before .before .before .before .before .before .before .before .before .before .before .before .before .before .before .before .before .before .before .before .before .before .before .loop .inv .same .deadlines })
+loop-again c = left-next (c .before .before .before .before .before .before .before .before .before .before .before .before .before .before .before .before .before .before .before .before .before .before .before .before .before .loop .inv) (c .before .before .before .before .before .before .before .before .before .before .before .before .before .before .before .before .before .before .before .before .before .before .before .before .can-pump-unchecked .ensures) (c .before .before .before .before .before .before .before .before .before .before .before .before .before .before .before .before .before .before .before .before .before .before .before .if1 .taken) (c .before .before .before .before .before .before .before .before .before .before .before .before .before .before .before .send-one .ensures) (c .before .before .before .is-going .ensures) (c .before .before .if2 .left) (record { store = c .before .before .before .before .before .before .before .before .before .before .before .before .before .before .before .send-one .kept .1 .1 .1 .1 .1 .1 .1 .1 .1 .0 ∙ c .before .before .before .before .before .before .before .before .before .before .before .before .before .before .before .before .before .before .before .before .before .before .before .before .before .loop .inv .same .store; rows = c .before .before .before .before .before .before .before .before .before .before .before .before .before .before .before .send-one .kept .1 .1 .1 .1 .1 .1 .1 .1 .1 .1 .0 ∙ c .before .before .before .before .before .before .before .before .before .before .before .before .before .before .before .before .before .before .before .before .before .before .before .before .before .loop .inv .same .rows; events = c .before .before .before .before .before .before .before .before .before .before .before .before .before .before .before .send-one .kept .1 .1 .1 .1 .1 .1 .1 .1 .1 .1 .1 .0 ∙ c .before .before .before .before .before .before .before .before .before .before .before .before .before .before .before .before .before .before .before .before .before .before .before .before .before .loop .inv .same .events; records = c .before .before .before .before .before .before .before .before .before .before .before .before .before .before .before .send-one .kept .1 .1 .1 .1 .1 .1 .1 .1 .1 .1 .1 .1 .0 ∙ c .before .before .before .before .before .before .before .before .before .before .before .before .before .before .before .before .before .before .before .before .before .before .before .before .before .loop .inv .same .records; places = c .before .before .before .before .before .before .before .before .before .before .before .before .before .before .before .send-one .kept .1 .1 .1 .1 .1 .1 .1 .1 .1 .1 .1 .1 .1 .0 ∙ c .before .before .before .before .before .before .before .before .before .before .before .before .before .before .before .before .before .before .before .before .before .before .before .before .before .loop .inv .same .places; keys = c .before .before .before .before .before .before .before .before .before .before .before .before .before .before .before .send-one .kept .1 .1 .1 .1 .1 .1 .1 .1 .1 .1 .1 .1 .1 .1 .0 ∙ c .before .before .before .before .before .before .before .before .before .before .before .before .before .before .before .before .before .before .before .before .before .before .before .before .before .loop .inv .same .keys; deadlines = c .before .before .before .before .before .before .before .before .before .before .before .before .before .before .before .send-one .kept .1 .1 .1 .1 .1 .1 .1 .1 .1 .1 .1 .1 .1 .1 .1 .0 ∙ c .before .before .before .before .before .before .before .before .before .before .before .before .before .before .before .before .before .before .before .before .before .before .before .before .before .loop .inv .same .deadlines })
 
 same-length-8 : tie.Need-same-length-8 Inv-loop μ-loop
 same-length-8 c = c .before .before .loop .inv .same .store
@@ -82,7 +82,7 @@ same-length-14 : tie.Need-same-length-14 Inv-loop μ-loop
 same-length-14 c = c .before .before .loop .inv .same .deadlines
 
 returns-2 : tie.Need-returns-2 Inv-loop μ-loop
-returns-2 c = left-none (c .before .before .loop .inv) (c .before .can-pump .ensures) (c .if1 .left)
+returns-2 c = left-none (c .before .before .loop .inv) (c .before .can-pump-unchecked .ensures) (c .if1 .left)
 
 pub pump-sends-unchecked-spec : {M : Type 1} → statement M
 pump-sends-unchecked-spec =
@@ -91,7 +91,7 @@ pump-sends-unchecked-spec =
     Inv-loop
     μ-loop
     loop-holds
-    can-pump-requires
+    can-pump-unchecked-requires
     send-one-requires
     is-going-requires
     same-length
