@@ -1,6 +1,7 @@
 pub mod Settling
 pub mod Rounds
 pub mod Good
+pub mod RoundParts
 pub mod Returns
 pub mod Moves
 pub mod Kept

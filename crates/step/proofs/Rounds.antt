@@ -1,4 +1,4 @@
--- One law a return of a step.
+-- A step as what is left of it after each of its halves.
 use Prim.Native.Nat.{ℕ, _-_, _<_}
 use mathlib.Core.Path.{_≡_, refl, sym, ap, _∙_, subst}
 use mathlib.Core.Bool.{Bool, true, false, cond, not, _||_, true≢false}
@@ -18,17 +18,17 @@ use Rattle.step.specs.declared.Plan.{Plan}
 use Rattle.step.specs.declared.End.the-variants as end
 use Rattle.step.specs.declared.Course.the-variants.{Going}
 
-going-is : (st : Stop) → isGoing st ≡ true → st ≡ stop.Going
+pub going-is : (st : Stop) → isGoing st ≡ true → st ≡ stop.Going
 going-is stop.Going e = refl
 going-is stop.RollsSpent e = absurd (true≢false (sym e))
 going-is stop.EventsFull e = absurd (true≢false (sym e))
 going-is stop.ScheduleFull e = absurd (true≢false (sym e))
 
-not-going : (b : Bool) → not b ≡ true → b ≡ false
+pub not-going : (b : Bool) → not b ≡ true → b ≡ false
 not-going true n = absurd (true≢false (sym n))
 not-going false n = refl
 
-is-going : (b : Bool) → not b ≡ false → b ≡ true
+pub is-going : (b : Bool) → not b ≡ false → b ≡ true
 is-going true n = refl
 is-going false n = absurd (true≢false n)
 
@@ -56,30 +56,3 @@ module _ (p : Plan) (g : Given) (s : RunState) where
 
   pub no-round : eqb (s .rounds) 0 ≡ true → {y : StepExit} → y ≡ over (exhausted s) end.Ended (s .time) → y ≡ step p g s
   no-round z e = e ∙ sym (step-is ∙ ap (λ (b : Bool). cond b (over (exhausted s) end.Ended (s .time)) (afterArriving arrives)) z)
-
-  by-arrivals : {a : ArrivalExit} {y : StepExit} → eqb (s .rounds) 0 ≡ false → a ≡ arrives → y ≡ afterArriving a → y ≡ step p g s
-  by-arrivals z e f = f ∙ ap afterArriving e ∙ sym (step-is ∙ ap (λ (b : Bool). cond b (over (exhausted s) end.Ended (s .time)) (afterArriving arrives)) z)
-
-  pub arrival-stops : {A : ArrivalState} {q : Bool} {st : Stop} {b : Bool} {y : StepExit} → eqb (s .rounds) 0 ≡ false → arrivalExit A q st ≡ arrives → b ≡ isGoing st → not b ≡ true
-      → ((rest : StepExit) → isGoing st ≡ false → y ≡ unlessStopped st (withArrivals (roundLess s) A) rest) → y ≡ step p g s
-  arrival-stops {A} {q} {st} {b} z e i n f = by-arrivals z e (f _ (sym i ∙ not-going b n))
-
-  by-sends : {A : ArrivalState} {q : Bool} {st : Stop} {b : Bool} {d : FireExit} {y : StepExit} → eqb (s .rounds) 0 ≡ false → arrivalExit A q st ≡ arrives → b ≡ isGoing st → not b ≡ false
-      → d ≡ sends (withArrivals (roundLess s) A) → y ≡ afterSending q (withArrivals (roundLess s) A) d → y ≡ step p g s
-  by-sends {A} {q} {st} {b} {d} {y} z e i n f h =
-      by-arrivals z e
-      (h ∙ ap (afterSending q (withArrivals (roundLess s) A)) f
-      ∙ ap (λ (x : Stop). unlessStopped x (withArrivals (roundLess s) A) (afterSending q (withArrivals (roundLess s) A) (sends (withArrivals (roundLess s) A)))) (sym (going-is st (sym i ∙ is-going b n))))
-
-  module _ {A : ArrivalState} {q : Bool} {st : Stop} {b : Bool} {F : FireState} {q′ : Bool} {st′ : Stop} {b′ : Bool} (z : eqb (s .rounds) 0 ≡ false) (e : arrivalExit A q st ≡ arrives) (i : b ≡ isGoing st) (n : not b ≡ false)
-      (f : fireExit F q′ st′ ≡ sends (withArrivals (roundLess s) A)) (i′ : b′ ≡ isGoing st′) where
-    abbrev pub last : RunState
-    last = withFired (withArrivals (roundLess s) A) F
-
-    pub sending-stops : {y : StepExit} → not b′ ≡ true → ((rest : StepExit) → isGoing st′ ≡ false → y ≡ unlessStopped st′ last rest) → y ≡ step p g s
-    sending-stops n′ h = by-sends z e i n f (h _ (sym i′ ∙ not-going b′ n′))
-
-    pub sends-all : {y : StepExit} → not b′ ≡ false → y ≡ cond (F .resends .exhausted) (over last end.Ended (s .time)) (cond (q || q′) (stepExit last Going) (settle p last)) → y ≡ step p g s
-    sends-all {y} n′ h =
-        by-sends z e i n f
-        (h ∙ ap (λ (x : Stop). unlessStopped x last (cond (F .resends .exhausted) (over last end.Ended (s .time)) (cond (q || q′) (stepExit last Going) (settle p last)))) (sym (going-is st′ (sym i′ ∙ is-going b′ n′))))

@@ -8,9 +8,11 @@ use Rattle.path.specs.Direction.{direction}
 use Rattle.notes.specs.Notes.{segMetas}
 use Rattle.session.specs.Sending.{senderEnd}
 use Rattle.receiving.specs.Receiving.{inbound}
+use Rattle.receiving.specs.declared.ServeForwardResult.{ServeForwardResult}
+use Rattle.acks.specs.declared.ServeResult.{ServeResult}
 use Rattle.submission.specs.Submission.{Outgoing, outgoing}
-use Rattle.submission.specs.declared.Outbound.{Outbound}
 use Rattle.sending.specs.Retransmit as retransmit
+use Rattle.sending.specs.declared.PumpResult.{PumpResult}
 use Rattle.sending.specs.declared.Resends.{Resends}
 use Rattle.timeouts.specs.Timeouts.{FireState, fireState}
 use Rattle.timeouts.specs.declared.FireResult.{FireResult}
@@ -87,9 +89,9 @@ at s time moves rounds =
     runState (s .arrivals) (s .resends) (s .written) (s .events) time moves rounds
 
 -- the same of what a step passes by value
-abbrev pub arrivedState : State → Arrivals → State
-arrivedState s a = record {
-  arrivals = a;
+abbrev pub lessState : State → State
+lessState s = record {
+  arrivals = s .arrivals;
   resends = s .resends;
   events = s .events;
   now = s .now;
@@ -97,10 +99,38 @@ arrivedState s a = record {
   rounds = s .rounds - 1;
 }
 
-abbrev pub outboundOf : State → Outbound
-outboundOf s =
+abbrev pub arrivedState : State → Arrivals → State
+arrivedState s a = record {
+  arrivals = a;
+  resends = s .resends;
+  events = s .events;
+  now = s .now;
+  moves = s .moves;
+  rounds = s .rounds;
+}
+
+abbrev pub forwardState : State → ServeForwardResult → State
+forwardState s x =
+    arrivedState s
+    (record {
+      forward = x .forward;
+      receiving = x .side;
+      notes = x .notes;
+      reverse = x .reverse;
+      acks = s .arrivals .acks;
+    })
+
+abbrev pub reverseState : State → ServeResult → State
+reverseState s x =
     let a = s .arrivals in
-    record { forward = a .forward; events = s .events; notes = a .notes; clock = a .acks .clock }
+    arrivedState s
+    (record {
+      forward = a .forward;
+      receiving = a .receiving;
+      notes = a .notes;
+      reverse = x .reverse;
+      acks = x .side;
+    })
 
 abbrev pub firedState : State → FireResult → State
 firedState s x =
@@ -126,6 +156,18 @@ firedState s x =
       moves = s .moves;
       rounds = s .rounds;
     }
+
+abbrev pub pumpedState : State → PumpResult → State
+pumpedState s x =
+    firedState s
+    (record {
+      sender = x .sender;
+      estimator = s .arrivals .acks .estimator;
+      resends = s .resends;
+      outbound = x .outbound;
+      progress = x .progress;
+      stop = x .stop;
+    })
 
 -- ---- the eleven lent slices, and a run's state with them
 pub record Lent : Type 0 where

@@ -1,7 +1,7 @@
 // One round of a run at one moment and, if nothing happened in it, the move to the next deadline: the body of the loops
 // of the reference's `run_transfer`.
 ghost use mathlib.Core.Path.{_≡_};
-ghost use mathlib.Core.Bool.{false, _&&_, _||_};
+ghost use mathlib.Core.Bool.{false, _&&_};
 ghost use mathlib.Core.List.{List};
 ghost use Prim.Native.Nat.{ℕ, min, _≤_, _<_};
 ghost use lib.ListN.{length};
@@ -15,7 +15,7 @@ ghost use Rattle.step.specs.State.{Lent, lent, runOf, exhausted};
 ghost use Rattle.step.specs.Settle.{StepExit, stepExit, over, unlessStopped, senderIdle, ofPath, earlier};
 ghost use Rattle.step.specs.Settle.{nextDeadline, moved, moveTo, settle};
 ghost use Rattle.step.specs.declared.Course.the-variants.{Going};
-ghost use Rattle.step.specs.State.{given, arrivedState, outboundOf, firedState};
+ghost use Rattle.step.specs.State.{given};
 ghost use Rattle.step.specs.Step.{step};
 ghost use Rattle.step.specs.Good.{GoodPlan, GoodRun};
 use arrivals::Arrivals;
@@ -23,6 +23,12 @@ use clock::Clock;
 use clock::Timing;
 use events::Event;
 use notes::Note;
+use parts::either;
+use parts::round_less;
+use parts::with_fired;
+use parts::with_forward;
+use parts::with_pumped;
+use parts::with_reverse;
 use path::NextDeadline;
 use path::Path;
 use path::Stop;
@@ -30,8 +36,9 @@ use schedule::ScheduledRow;
 use sending::Resends;
 use session::Sender;
 use submission::Outbound;
-use timeouts::FireResult;
 use timer::Deadline;
+
+mod parts;
 
 // The parts of a setup that a step looks at.
 pub struct Plan {
@@ -318,71 +325,8 @@ fn settle(
     move_to(plan, state, deadline)
 }
 
-// The run with what arrived, and one round less.
-fn with_arrivals(state: State, arrivals: Arrivals) -> State
-    requires { ⌜ 0 < state .rounds ⌝ }
-    ensures { λ r. ⌜ r ≡ arrivedState state arrivals ⌝ }
-{
-    let mut state = state;
-    state.rounds = state.rounds - 1;
-    state.arrivals = arrivals;
-    state
-}
-
-// What the timers and the window work on.
-fn outbound_of(state: State) -> Outbound
-    ensures { λ r. ⌜ r ≡ outboundOf state ⌝ }
-{
-    let arrivals = state.arrivals;
-    let forward = arrivals.forward;
-    let notes = arrivals.notes;
-    let acks = arrivals.acks;
-    let clock = acks.clock;
-    Outbound {
-        forward,
-        events: state.events,
-        notes,
-        clock,
-    }
-}
-
-// The run with what they left.
-fn with_fired(state: State, fired: FireResult) -> State
-    ensures { λ r. ⌜ r ≡ firedState state fired ⌝ }
-{
-    let outbound = fired.outbound;
-    let sender = fired.sender;
-    let estimator = fired.estimator;
-    let resends = fired.resends;
-    let forward = outbound.forward;
-    let notes = outbound.notes;
-    let clock = outbound.clock;
-    let mut arrivals = state.arrivals;
-    let mut acks = arrivals.acks;
-    acks.sender = sender;
-    acks.estimator = estimator;
-    acks.clock = clock;
-    arrivals.forward = forward;
-    arrivals.notes = notes;
-    arrivals.acks = acks;
-    let mut state = state;
-    state.arrivals = arrivals;
-    state.resends = resends;
-    state.events = outbound.events;
-    state
-}
-
-fn either(a: bool, b: bool) -> bool
-    ensures { λ r. ⌜ r ≡ (a || b) ⌝ }
-{
-    if a {
-        return true;
-    }
-    b
-}
-
 // One round at one moment: what is due on both lines, the timers, new chunks; if nothing happened, the move to the next
-// deadline.
+// deadline. A part is called only where it has something to do, and no part has the whole state: each copy of it costs.
 pub fn step_unchecked(
     plan: Plan,
     state: State,
@@ -421,68 +365,155 @@ pub fn step_unchecked(
         return over(exhausted(state), End::Ended, now);
     }
     let arrivals = state.arrivals;
-    let arrived = arrivals::serve_arrivals_unchecked(
-        arrivals,
-        timing,
-        plan.total_chunks,
-        now,
-        reverse_rolls,
-        sender_store,
-        receiver_store,
-        output,
-        rows,
-        forward_records,
-        forward_places,
-        reverse_records,
-        reverse_places,
-        keys,
-        deadlines,
-    );
-    let left = arrived.state;
-    let stop = arrived.stop;
-    let some = arrived.progress;
-    let state = with_arrivals(state, left);
-    let on = path::is_going(stop);
-    if !on {
-        return stopped(state, stop);
+    let forward = arrivals.forward;
+    let mut state = round_less(state);
+    let mut progress = false;
+    let due = forward.is_due_unchecked(forward_records, now);
+    if due {
+        let receiving = arrivals.receiving;
+        let reverse = arrivals.reverse;
+        let notes = arrivals.notes;
+        let served = receiving::serve_forward_unchecked(
+            forward,
+            receiving,
+            reverse,
+            notes,
+            plan.total_chunks,
+            now,
+            reverse_rolls,
+            receiver_store,
+            output,
+            rows,
+            forward_records,
+            forward_places,
+            reverse_records,
+            reverse_places,
+        );
+        let stop = served.stop;
+        state = with_forward(state, served);
+        let on = path::is_going(stop);
+        if !on {
+            return stopped(state, stop);
+        }
+        progress = served.progress;
     }
-    let acks = left.acks;
+    let arrivals = state.arrivals;
+    let reverse = arrivals.reverse;
+    let due = reverse.is_due_unchecked(reverse_records, now);
+    if due {
+        let acks = arrivals.acks;
+        let notes = arrivals.notes;
+        let served = acks::serve_reverse_unchecked(
+            reverse,
+            acks,
+            timing,
+            notes,
+            now,
+            sender_store,
+            rows,
+            reverse_records,
+            reverse_places,
+            keys,
+            deadlines,
+        );
+        state = with_reverse(state, served);
+        progress = either(progress, served.progress);
+    }
+    let arrivals = state.arrivals;
+    let acks = arrivals.acks;
     let sender = acks.sender;
-    let estimator = acks.estimator;
+    let clock = acks.clock;
     let resends = state.resends;
-    let outbound = outbound_of(state);
-    let sent = departures::send_due_unchecked(
+    let due = timeouts::due::timers_due_unchecked(
         sender,
-        estimator,
         resends,
-        outbound,
+        clock,
         timing,
         plan.max_retransmissions,
-        plan.total_chunks,
-        plan.chunk_size,
         now,
-        file,
-        forward_rolls,
-        sender_store,
-        rows,
-        events,
-        forward_records,
-        forward_places,
         keys,
         deadlines,
     );
-    let stop = sent.stop;
-    let more = sent.progress;
-    let state = with_fired(state, sent);
-    let on = path::is_going(stop);
-    if !on {
-        return stopped(state, stop);
+    if due {
+        let estimator = acks.estimator;
+        let forward = arrivals.forward;
+        let notes = arrivals.notes;
+        let outbound = Outbound {
+            forward,
+            events: state.events,
+            notes,
+            clock,
+        };
+        let fired = timeouts::fire_timers_unchecked(
+            sender,
+            estimator,
+            resends,
+            outbound,
+            timing,
+            plan.max_retransmissions,
+            now,
+            forward_rolls,
+            sender_store,
+            rows,
+            events,
+            forward_records,
+            forward_places,
+            keys,
+            deadlines,
+        );
+        let stop = fired.stop;
+        state = with_fired(state, fired);
+        let on = path::is_going(stop);
+        if !on {
+            return stopped(state, stop);
+        }
+        progress = either(progress, fired.progress);
     }
-    let resends = sent.resends;
+    let resends = state.resends;
     if resends.exhausted {
         return over(state, End::Ended, now);
     }
-    let progress = either(some, more);
+    let arrivals = state.arrivals;
+    let acks = arrivals.acks;
+    let sender = acks.sender;
+    let due = sending::can_pump_unchecked(sender, plan.total_chunks);
+    if due {
+        let estimator = acks.estimator;
+        let forward = arrivals.forward;
+        let notes = arrivals.notes;
+        let clock = acks.clock;
+        let outbound = Outbound {
+            forward,
+            events: state.events,
+            notes,
+            clock,
+        };
+        let pumped = sending::pump_sends_unchecked(
+            sender,
+            outbound,
+            timing,
+            estimator.current_rto,
+            plan.total_chunks,
+            plan.chunk_size,
+            now,
+            file,
+            forward_rolls,
+            sender_store,
+            rows,
+            events,
+            forward_records,
+            forward_places,
+            keys,
+            deadlines,
+        );
+        let stop = pumped.stop;
+        state = with_pumped(state, pumped);
+        let on = path::is_going(stop);
+        if !on {
+            return stopped(state, stop);
+        }
+        progress = either(progress, pumped.progress);
+    }
     if progress {
         return going(state);
     }
