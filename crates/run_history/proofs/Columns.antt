@@ -13,6 +13,7 @@ use Rattle.channel.specs.declared.ChannelConfig.{ChannelConfig}
 use Rattle.channel.proofs.Tallies.{tallied}
 use Rattle.schedule.specs.State.{Schedule, copies}
 use Rattle.schedule.specs.Schedule.{putCopy, scheduleAtUnchecked}
+use Rattle.schedule.specs.Waiting.{WaitingCopy, waiting}
 use Rattle.schedule.specs.declared.Deliveries.{Deliveries}
 use Rattle.schedule.specs.declared.Deliveries.the-variants.{Lost, One, Two}
 use Rattle.schedule.specs.declared.ReadyAnswer.the-variants as ready
@@ -38,9 +39,11 @@ pub record Line : Type 0 where
   pub used : ℕ
   pub channel : Channel
   pub waiting : ℕ
+  pub order : ℕ
+  pub copies : List WaitingCopy
 
 abbrev pub lineOf : Direction → Line
-lineOf d = record { used = d .path .used; channel = d .path .channel; waiting = d .path .scheduler .count }
+lineOf d = record { used = d .path .used; channel = d .path .channel; waiting = d .path .scheduler .count; order = d .path .scheduler .«next_order»; copies = waiting (scheduleOf d) }
 
 -- after these packets, and so many copies handed over: those that were granted and didn't come wait
 pub record LineAfter (c : ChannelConfig) (rolls : List Float) (wires : List (List ℕ)) (came : ℕ) (l : Line) : Type 0 where
@@ -136,8 +139,11 @@ module _ (t : Timing) {c : ChannelConfig} {rolls : List Float} {xs : List Submis
   stopped-of : carriedOf (xs ++ this false ∷ []) ≡ carriedOf xs
   stopped-of = filter-more (λ (y : Submission). y .carried) xs (this false) ∙ append-nil (carriedOf xs)
 
-  wires-carried : forwardWires (xs ++ this true ∷ []) ≡ forwardWires xs ++ wire ∷ []
+  pub wires-carried : forwardWires (xs ++ this true ∷ []) ≡ forwardWires xs ++ wire ∷ []
   wires-carried = ap (map (λ (y : Submission). y .wire)) carried-of ∙ map-append (λ (y : Submission). y .wire) (carriedOf xs) (this true ∷ [])
+
+  pub wires-stopped : forwardWires (xs ++ this false ∷ []) ≡ forwardWires xs
+  wires-stopped = ap (map (λ (y : Submission). y .wire)) stopped-of
 
   same-length : length (forwardWires xs) ≡ length (carriedOf xs)
   same-length = length-map (carriedOf xs) (λ (y : Submission). y .wire)
@@ -163,7 +169,7 @@ module _ (t : Timing) {c : ChannelConfig} {rolls : List Float} {xs : List Submis
         again-are = counted (λ (y : Submission). y .again) xs (this false) again (q .again-are) ∙ k;
         written-are = ap length stopped-of ∙ q .written-are ∙ ap (λ (y : Outgoing). y .written) (sym (submit-stopped t rolls x wire o g));
         line = subst (LineAfter c rolls (forwardWires (xs ++ this false ∷ [])) came) (ap (λ (y : Outgoing). lineOf (y .forward)) (sym (submit-stopped t rolls x wire o g)))
-            (subst (λ (l : List (List ℕ)). LineAfter c rolls l came (lineOf (o .forward))) (ap (map (λ (y : Submission). y .wire)) (sym stopped-of)) (q .line));
+            (subst (λ (l : List (List ℕ)). LineAfter c rolls l came (lineOf (o .forward))) (sym wires-stopped) (q .line));
         events-are = ap (eventsFrom c rolls 0) stopped-of ∙ q .events-are ∙ sym (stopped-events t rolls x wire o g);
       }
 
@@ -176,10 +182,10 @@ module _ {c : ChannelConfig} {rolls : List Float} {xs : List Reply} {came acks :
   abbrev ack : Bool → Reply
   ack carried = record { number = number; cumulative = cumulative; sent = sent; wire = wire; carried = carried }
 
-  reply-carried : reverseWires (xs ++ ack true ∷ []) ≡ reverseWires xs ++ wire ∷ []
+  pub reply-carried : reverseWires (xs ++ ack true ∷ []) ≡ reverseWires xs ++ wire ∷ []
   reply-carried = ap (map (λ (y : Reply). y .wire)) (filter-more (λ (y : Reply). y .carried) xs (ack true)) ∙ map-append (λ (y : Reply). y .wire) (filter (λ (y : Reply). y .carried) xs) (ack true ∷ [])
 
-  reply-stopped : reverseWires (xs ++ ack false ∷ []) ≡ reverseWires xs
+  pub reply-stopped : reverseWires (xs ++ ack false ∷ []) ≡ reverseWires xs
   reply-stopped = ap (map (λ (y : Reply). y .wire)) (filter-more (λ (y : Reply). y .carried) xs (ack false) ∙ append-nil (filter (λ (y : Reply). y .carried) xs))
 
   pub carry-replying : (b : Bool) → isGoing (stopOf (carry d rolls true now wire .result .answer)) ≡ b → Replying c rolls (xs ++ ack b ∷ []) came (acks + 1) (lineOf (leftByCarry (carry d rolls true now wire)))

@@ -8,7 +8,7 @@ use lib.Ieee.{Float}
 use native.Mathlib.Numerals.{add-one}
 use lib.ListN.{length, getD, take, replicate}
 use lib.Seq.{take-suc}
-use Rattle.bounds.specs.Bounds.{countLimit}
+use Rattle.bounds.specs.Bounds.{countLimit, maxDatagram, maxDuration}
 use Rattle.channel.specs.declared.ChannelConfig.{ChannelConfig}
 use Rattle.chunks.specs.Chunks.{chunksOf}
 use Rattle.delivery.specs.Calls.{numberOf}
@@ -17,7 +17,8 @@ use Rattle.rto.specs.Rto.{onTimeoutUnchecked, countsFull}
 use Rattle.rto.specs.declared.RtoEstimator.{RtoEstimator}
 use Rattle.rto.specs.declared.TimeoutResult.{TimeoutResult}
 use Rattle.rto.proofs.Laws.{Good, timeout-accepted}
-use Rattle.path.specs.Path.{isGoing, packetBuffer}
+use Rattle.path.specs.Direction.{Direction, Good as GoodLine}
+use Rattle.path.specs.Path.{isGoing, packetBuffer, CanCarry}
 use Rattle.protocol.specs.Runs.{upFrom}
 use Rattle.window.specs.Slots as slots
 use Rattle.window.specs.Slots.{datagramFor}
@@ -25,22 +26,22 @@ use Rattle.clock.specs.Clock as clock
 use Rattle.clock.specs.declared.Timing.{Timing}
 use Rattle.clock.specs.declared.Timing.the-variants.{PerNumber}
 use Rattle.clock.proofs.Laws.{can-back-off}
-use Rattle.session.proofs.Laws.{datagram-number, resent-as}
+use Rattle.session.proofs.Laws.{datagram-number, datagram-short, resent-as, resent-good}
 use Rattle.session.specs.Sending.{SenderEnd, windowOf, windowEnd, isDue, sendChunk, resent, oldestOutstanding}
 use Rattle.delivery.specs.Ends.{bytesSent, isSendRefused}
-use Rattle.session.specs.GoodSender.{SenderUnbroken}
+use Rattle.session.specs.GoodSender.{senderBroken, SenderUnbroken, GoodSender, Within}
 use Rattle.departures.specs.Departures.{goesOn}
 use Rattle.prefixes.proofs.Laws.{send-not-refused, timeout-not-refused}
 use Rattle.session.specs.declared.Oldest.{Oldest}
 use Rattle.session.specs.declared.Timeout.{Timeout}
 use Rattle.session.specs.declared.Timeout.the-variants as timeout
-use Rattle.submission.specs.Submission.{Outgoing, submit}
+use Rattle.submission.specs.Submission.{Outgoing, entryFree, submit}
 use Rattle.receiving.specs.Receiving.{Inbound, inbound}
 use Rattle.sending.specs.Sending.{PumpState, PumpExit, pumpSends, canPump, nextNumber, sendOne}
 use Rattle.sending.specs.Good.{CanPump}
 use Rattle.sending.specs.Retransmit.{RetransmitExit, retransmit, exhausted, retransmitAll, ceilingMet}
 use Rattle.sending.specs.declared.Resends.{Resends}
-use Rattle.sending.proofs.Laws.{number-left, sent-next, pump-turns, can-send, retransmit-counts, all-none, all-by}
+use Rattle.sending.proofs.Laws.{number-left, given as nextGiven, written as nextWritten, can-submit-next, sent-next, pump-turns, can-send, retransmit-counts, all-none, all-by}
 use Rattle.timeouts.specs.Timeouts.{FireState, FireExit, timedOut, timeoutOf, fireNumber, fireNumbers, expired, fireTimers}
 use Rattle.timeouts.specs.Good.{GoodFire}
 use Rattle.timeouts.proofs.Laws.{sender-unbroken, timed-out-by, timers-by, cancelled, fire-due, fire-not-due, fire-number-good, numbers-none, numbers-exhausted, numbers-going, numbers-stopped, stopped-good, cancelled-good}
@@ -49,16 +50,18 @@ use Rattle.run_history.specs.Samples.{backOff}
 use native.Mathlib.Nat.{le-trans}
 use Rattle.rows.specs.Rows.{asNumber}
 use Rattle.notes.specs.Notes.{SegMetas, isPremature}
-use Rattle.path.proofs.Laws.{granted, going-is}
+use Rattle.path.proofs.Laws.{granted, going-is, carry-good}
 use Rattle.submission.specs.Submission.{noteBefore}
-use Rattle.submission.proofs.Laws.{metasOf, eventMade, submit-going, going-events, after-again}
+use Rattle.submission.proofs.Laws.{can-carry, metasOf, eventMade, submit-going, submit-forward, going-events, after-again}
 use Rattle.run_history.specs.Calls.{Reply, one}
-use Rattle.run_history.specs.Lines.{filter, count, any}
+use Rattle.run_history.specs.Lines.{filter, count, any, forwardWires}
+use Rattle.run_history.specs.Copies.{copiesFrom}
 use Rattle.run_history.specs.Premature.{isFirstGranted}
 use Rattle.run_history.specs.Answered.{Taken}
 use Rattle.run_history.proofs.Noted.{noted-again, noted-first, first-more, again-more, isEventAgain, first-once, again-twice, again-premature}
 use Rattle.run_history.proofs.Columns.{eventsIn, lineOf, Sending, submit-sending}
-use Rattle.run_history.proofs.Tells.{Origin, Moment, moment, NotedBy, Told, Goes, still-told, by-call, nothing-noted, same-noted, none-chunked, none-sent, none-replied, no-more}
+use Rattle.run_history.proofs.Holds.{LineHolds, no-copy, submit-holds}
+use Rattle.run_history.proofs.Tells.{Origin, Moment, moment, NotedBy, Told, Goes, still-told, by-call, nothing-noted, same-noted, none-chunked, none-sent, none-replied, none-arrives, none-returns, no-more}
 
 -- ---- the run goes on and the ceiling is not met
 pub goes-both : (x y : Bool) → (x && not y) ≡ true → (x ≡ true) × (y ≡ false)
@@ -105,6 +108,26 @@ resent-below v t unbroken =
     let r = resent-as v t unbroken in
     subst (Below (windowOf (v .sender) .«next_seq_num»)) (sym (r .packets-are)) (below-made (windowEnd (resent v t .after)) (windowOf (v .sender) .«next_seq_num») (r .count) (r .first) (r .within .below))
 
+-- ---- and none is too long
+abbrev Short : List (List ℕ) → Type 0
+Short [] = Unit {0}
+Short (wire ∷ wires) = (length wire ≤ maxDatagram) × Short wires
+
+short-made : (v : SenderEnd) (count first : ℕ) → senderBroken v ≡ false → Within (windowOf (v .sender)) first count → Short (map (datagramFor (windowEnd v)) (upFrom first count))
+short-made v zero first e w = tt
+short-made v (suc count) first e w =
+    let f = w .from in
+    let b = w .below in
+    (datagram-short v first e (record { from = f; below = omega (arith, b) }), short-made v count (suc first) e (record { from = omega (arith, f); below = omega (arith, b) }))
+
+resent-short : (v : SenderEnd) (t : Timeout) → SenderUnbroken v → Short (resent v t .packets)
+resent-short v t unbroken =
+    let r = resent-as v t unbroken in
+    let w = r .within in
+    let s = windowOf (v .sender) in
+    let good : GoodSender v (s .«total_sent» + s .retransmissions) = record { state = unbroken .state; sent = omega arith; again = omega arith } in
+    subst Short (sym (r .packets-are)) (short-made (resent v t .after) (r .count) (r .first) (resent-good v t _ good .state) (record { from = rw (r .same .base) (w .from); below = rw (r .same .next) (w .below) }))
+
 -- ---- datagrams again, until the ceiling is met or the run ends
 module _ (c : ChannelConfig) (rolls : List Float) (limit : ℕ) (t : Timing) (rto now : ℕ) (oldest : Oldest) where
   abbrev Sends : List Submission → ℕ → Resends → Outgoing → Type 0
@@ -113,14 +136,18 @@ module _ (c : ChannelConfig) (rolls : List Float) (limit : ℕ) (t : Timing) (rt
   record Resubmits (wires : List (List ℕ)) (r : Resends) (o : Outgoing) (y : RetransmitExit) : Type 0 where
     carried : List Bool
     sending : (xs : List Submission) (came : ℕ) → Sends xs came r o → Sends (xs ++ resubmissions carried wires) came (y .resends) (y .outgoing)
+    holds : GoodLine (o .forward) rolls → now ≤ maxDuration → Short wires → (xs : List Submission) {came : ℕ} (places : List ℕ) → Sends xs came r o → LineHolds (copiesFrom c rolls 0 (forwardWires xs)) places (lineOf (o .forward))
+        → LineHolds (copiesFrom c rolls 0 (forwardWires (xs ++ resubmissions carried wires))) places (lineOf (y .outgoing .forward))
     whole : isGoing (y .stop) ≡ true → y .resends .exhausted ≡ false → carried ≡ replicate (length wires) true
     premature : (test : ℕ → Bool) → ((n : ℕ) → test n ≡ isPremature (o .metas) n) → r .premature + count (λ (x : Submission). test (x .seq)) (resubmissions carried wires) ≡ y .resends .premature
     noted : isGoing (y .stop) ≡ true → (xs : List Reply) (ys : List ℕ) (next : ℕ) → Below next wires → NotedBy (eventsIn o) xs ys next (o .metas) → NotedBy (eventsIn (y .outgoing)) xs ys next (y .outgoing .metas)
 
   none-again : (wires : List (List ℕ)) (r : Resends) (o : Outgoing) (y : RetransmitExit) → ((xs : List Submission) (came : ℕ) → Sends xs came r o → Sends xs came (y .resends) (y .outgoing)) → (isGoing (y .stop) ≡ true → y .resends .exhausted ≡ false → [] ≡ replicate (length wires) true)
-      → r .premature ≡ y .resends .premature → ((xs : List Reply) (ys : List ℕ) (next : ℕ) → NotedBy (eventsIn o) xs ys next (o .metas) → NotedBy (eventsIn (y .outgoing)) xs ys next (y .outgoing .metas)) → Resubmits wires r o y
-  none-again wires r o y f w p k = record {
+      → r .premature ≡ y .resends .premature → ((xs : List Reply) (ys : List ℕ) (next : ℕ) → NotedBy (eventsIn o) xs ys next (o .metas) → NotedBy (eventsIn (y .outgoing)) xs ys next (y .outgoing .metas))
+      → ((gs : List (List ℕ)) (places : List ℕ) → LineHolds gs places (lineOf (o .forward)) → LineHolds gs places (lineOf (y .outgoing .forward))) → Resubmits wires r o y
+  none-again wires r o y f w p k i = record {
     carried = [];
+    holds = λ good time short xs places s h. rw (append-nil xs) (i _ places h);
     sending = λ xs came s. subst (λ (l : List Submission). Sends l came (y .resends) (y .outgoing)) (sym (append-nil xs)) (f xs came s);
     whole = w;
     premature = λ test h. ap (λ (n : ℕ). r .premature + n) (count-none (λ (x : Submission). test (x .seq))) ∙ no-more (r .premature) ∙ p;
@@ -137,6 +164,16 @@ module _ (c : ChannelConfig) (rolls : List Float) (limit : ℕ) (t : Timing) (rt
 
   abbrev given : List ℕ → clock.Submission
   given wire = record { time = now; seq = numberOf wire; rto = rto; retransmission = true; oldest = oldest }
+
+  -- what waits after one
+  one-holds : (wire : List ℕ) (r : Resends) (o : Outgoing) (b : Bool) → isGoing (again wire r o .stop) ≡ b → CanCarry (o .forward) rolls now wire → (xs : List Submission) {came : ℕ} (places : List ℕ) → Sends xs came r o → LineHolds (copiesFrom c rolls 0 (forwardWires xs)) places (lineOf (o .forward))
+      → LineHolds (copiesFrom c rolls 0 (forwardWires (xs ++ submission (numberOf wire) true wire b ∷ []))) places (lineOf (again wire r o .outgoing .forward))
+  unfolding retransmit
+  one-holds wire r o b g can xs places s h = submit-holds t (given wire) wire o s can h b g
+
+  again-good : (wire : List ℕ) (r : Resends) (o : Outgoing) → CanCarry (o .forward) rolls now wire → GoodLine (again wire r o .outgoing .forward) rolls
+  unfolding retransmit
+  again-good wire r o can = subst (λ (d : Direction). GoodLine d rolls) (sym (submit-forward t rolls (given wire) wire o)) (carry-good (o .forward) rolls (entryFree o) now wire can)
 
   -- the notes after one that is carried
   again-metas : (wire : List ℕ) (r : Resends) (o : Outgoing) → isGoing (again wire r o .stop) ≡ true → again wire r o .outgoing .metas ≡ metasOf rolls (given wire) o
@@ -165,6 +202,10 @@ module _ (c : ChannelConfig) (rolls : List Float) (limit : ℕ) (t : Timing) (rt
   more-again wire wires r o y g rest =
       record {
         carried = true ∷ rest .carried;
+        holds = λ good time short xs places s h.
+            let can : CanCarry (o .forward) rolls now wire = record { good = good; in-time = time; short = short .0 } in
+            subst (λ (l : List Submission). LineHolds (copiesFrom c rolls 0 (forwardWires l)) places (lineOf (y .outgoing .forward))) (append-assoc xs (submission (numberOf wire) true wire true ∷ []) (resubmissions (rest .carried) wires))
+            (rest .holds (again-good wire r o can) time (short .1) _ places (one-again wire r o true g xs _ s) (one-holds wire r o true g can xs places s h));
         whole = λ h x. ap (λ (l : List Bool). true ∷ l) (rest .whole h x);
         premature = λ test h.
             let k = rest .premature test (λ n. h n ∙ sym (again-test wire r o g n)) in
@@ -181,10 +222,10 @@ module _ (c : ChannelConfig) (rolls : List Float) (limit : ℕ) (t : Timing) (rt
       ∙ sym (again-count wire r o test h)
 
   resubmits : (wires : List (List ℕ)) (r : Resends) (o : Outgoing) → Resubmits wires r o (retransmitAll limit t rolls rto now oldest wires r o)
-  resubmits [] r o = subst (Resubmits [] r o) (sym (all-none limit t rolls rto now oldest r o)) (none-again [] r o _ (λ xs came s. s) (λ g x. refl) refl (λ xs ys next q. q))
+  resubmits [] r o = subst (Resubmits [] r o) (sym (all-none limit t rolls rto now oldest r o)) (none-again [] r o _ (λ xs came s. s) (λ g x. refl) refl (λ xs ys next q. q) (λ gs places h. h))
   resubmits (wire ∷ wires) r o =
-      all-by limit t rolls rto now oldest wire wires r o (Resubmits (wire ∷ wires) r o) refl (none-again (wire ∷ wires) r o _ (λ xs came s. s) (λ g x. absurd (true≢false x)) refl (λ xs ys next q. q))
-      (λ g. record { carried = false ∷ []; sending = one-again wire r o false g; whole = λ h x. absurd (true≢false (sym h ∙ g)); premature = λ test h. last-count wire wires r o test h; noted = λ h. absurd (true≢false (sym h ∙ g)) })
+      all-by limit t rolls rto now oldest wire wires r o (Resubmits (wire ∷ wires) r o) refl (none-again (wire ∷ wires) r o _ (λ xs came s. s) (λ g x. absurd (true≢false x)) refl (λ xs ys next q. q) (λ gs places h. h))
+      (λ g. record { carried = false ∷ []; holds = λ good time short xs places s h. one-holds wire r o false g (record { good = good; in-time = time; short = short .0 }) xs places s h; sending = one-again wire r o false g; whole = λ h x. absurd (true≢false (sym h ∙ g)); premature = λ test h. last-count wire wires r o test h; noted = λ h. absurd (true≢false (sym h ∙ g)) })
       (λ g. more-again wire wires r o _ g (resubmits wires (again wire r o .resends) (again wire r o .outgoing)))
 
 back-off-once : (wires : List (List ℕ)) → 0 < length wires → backOff wires ≡ rto.timeout ∷ []
@@ -216,10 +257,10 @@ module _ (b : Origin) (i : Inbound) (acks duplicates : ℕ) where
 
   -- ---- a chunk
   sent-told : (t : Timing) (chunks : List (List ℕ)) (rto now : ℕ) (e : RtoEstimator) (again : Resends) (w : PumpState) → isSendRefused (sendChunk (w .sender) (getD chunks (nextNumber w) []) packetBuffer .answer) ≡ false
-      → windowOf (sendChunk (w .sender) (getD chunks (nextNumber w) []) packetBuffer .after .sender) .«next_seq_num» ≡ nextNumber w + 1 → b .chunks ≡ chunks → nextNumber w < length chunks → nextNumber w < length (w .outgoing .metas .rows) → Told b (pumpMoment e again w)
+      → windowOf (sendChunk (w .sender) (getD chunks (nextNumber w) []) packetBuffer .after .sender) .«next_seq_num» ≡ nextNumber w + 1 → b .chunks ≡ chunks → nextNumber w < length chunks → nextNumber w < length (w .outgoing .metas .rows) → CanCarry (w .outgoing .forward) (b .forwardRolls) now (bytesSent (sendChunk (w .sender) (getD chunks (nextNumber w) []) packetBuffer .answer) (sendChunk (w .sender) (getD chunks (nextNumber w) []) packetBuffer .out)) → Told b (pumpMoment e again w)
       → Goes b (pumpMoment e again (sendOne t (b .forwardRolls) chunks rto now w .state)) (isGoing (sendOne t (b .forwardRolls) chunks rto now w .stop))
   unfolding sendOne
-  sent-told t chunks rto now e again w accepts grows same within row q =
+  sent-told t chunks rto now e again w accepts grows same within row can q =
       let x = sendChunk (w .sender) (getD chunks (nextNumber w) []) packetBuffer in
       let given : clock.Submission = record { time = now; seq = nextNumber w; rto = rto; retransmission = false; oldest = oldestOutstanding (x .after .sender) } in
       by-call {c = chunk (getD chunks (nextNumber w) []) (isGoing (sendOne t (b .forwardRolls) chunks rto now w .stop))} q
@@ -229,6 +270,8 @@ module _ (b : Origin) (i : Inbound) (acks duplicates : ℕ) where
         chunks-are = λ xs h. one-chunked b chunks same (nextNumber w) within (windowOf (x .after .sender) .«next_seq_num») grows xs h;
         sending = λ xs came s. rw (no-more came) (submit-sending t given (bytesSent (x .answer) (x .out)) (w .outgoing) s (no-more (again .«retx_submitted»)) _ refl);
         replying = none-replied b (pumpMoment e again w);
+        arrives = λ xs k places s h. no-copy refl (submit-holds t given (bytesSent (x .answer) (x .out)) (w .outgoing) s can h _ refl);
+        returns = λ xs k places s h. none-returns b (lineOf (i .reverse)) xs places h;
         estimator-is = λ sampled again t. refl;
         taken = λ sampled again t. tt;
         datas-are = no-more _;
@@ -257,7 +300,7 @@ module _ (b : Origin) (i : Inbound) (acks duplicates : ℕ) where
     where
       sent : (w : PumpState) (can : CanPump t (b .forwardRolls) size file total rto now w) (free : canPump total (w .sender .sender) ≡ true) → Told b (pumpMoment e again w)
           → Goes b (pumpMoment e again (sendOne t (b .forwardRolls) (chunksOf size file) rto now w .state)) (isGoing (sendOne t (b .forwardRolls) (chunksOf size file) rto now w .stop))
-      sent w can free q = sent-told t (chunksOf size file) rto now e again w (send-not-refused (w .sender) _ _ (can-send can free)) (sent-next can free .next) same (subst (λ (k : ℕ). nextNumber w < k) (can .whole) (number-left can free)) (le-trans (number-left can free) (can .good .rows)) q
+      sent w can free q = sent-told t (chunksOf size file) rto now e again w (send-not-refused (w .sender) _ _ (can-send can free)) (sent-next can free .next) same (subst (λ (k : ℕ). nextNumber w < k) (can .whole) (number-left can free)) (le-trans (number-left can free) (can .good .rows)) (can-carry t (b .forwardRolls) (nextGiven can free) (nextWritten can free) (w .outgoing) (can-submit-next can free)) q
 
   -- ---- a timeout: told where no datagram is left behind
   abbrev pub Fired : FireExit → Type 0
@@ -269,8 +312,8 @@ module _ (b : Origin) (i : Inbound) (acks duplicates : ℕ) where
   timeout-noted of s unbroken o xs ys k = subst (λ (n : ℕ). NotedBy (eventsIn o) (xs ++ []) (ys ++ []) n (o .metas)) (sym (resent-as (s .sender) of unbroken .same .next)) (nothing-noted (eventsIn o) xs ys k)
 
   module _ (limit now : ℕ) where
-    timed-out-told : (t : Timing) (of : Timeout) (s : FireState) → SenderUnbroken (s .sender) → Good (s .estimator) → countsFull (s .estimator .stats) ≡ false → Told b (fireMoment s) → Fired (timedOut limit t (b .forwardRolls) now of s)
-    timed-out-told t of s unbroken good counts q =
+    timed-out-told : (t : Timing) (of : Timeout) (s : FireState) → SenderUnbroken (s .sender) → Good (s .estimator) → countsFull (s .estimator .stats) ≡ false → GoodLine (s .outgoing .forward) (b .forwardRolls) → now ≤ maxDuration → Told b (fireMoment s) → Fired (timedOut limit t (b .forwardRolls) now of s)
+    timed-out-told t of s unbroken good counts line time q =
         timed-out-by limit t (b .forwardRolls) now of s Fired
         (λ none.
         by-call {c = timesOut of []} q
@@ -280,6 +323,8 @@ module _ (b : Origin) (i : Inbound) (acks duplicates : ℕ) where
           chunks-are = none-chunked b (resent-as (s .sender) of unbroken .same .next);
           sending = none-sent b (fireMoment s);
           replying = none-replied b (fireMoment s);
+          arrives = λ xs k places q h. none-arrives b (lineOf (s .outgoing .forward)) xs places h;
+          returns = λ xs k places q h. none-returns b (lineOf (i .reverse)) xs places h;
           estimator-is = λ sampled again t. rw none;
           taken = λ sampled again t. rw none tt;
           datas-are = no-more _;
@@ -299,6 +344,8 @@ module _ (b : Origin) (i : Inbound) (acks duplicates : ℕ) where
           chunks-are = none-chunked b (resent-as (s .sender) of unbroken .same .next);
           sending = λ xs came h. rw (no-more came) (again .sending xs came h);
           replying = none-replied b (fireMoment s);
+          arrives = λ xs k places q h. no-copy refl (again .holds line time (resent-short (s .sender) of unbroken) xs places q h);
+          returns = λ xs k places q h. none-returns b (lineOf (i .reverse)) xs places h;
           estimator-is = λ sampled again t. ap (foldl rto.step (s .estimator)) (back-off-once (resent (s .sender) of .packets) some) ∙ backed-off (s .estimator) good counts;
           taken = λ sampled again t. subst (Taken (s .estimator)) (sym (back-off-once (resent (s .sender) of .packets) some)) (timeout-taken (s .estimator) good counts, tt);
           datas-are = no-more _;
@@ -315,7 +362,7 @@ module _ (b : Origin) (i : Inbound) (acks duplicates : ℕ) where
       good-told : {t : Timing} (of : Timeout) {s : FireState} → GoodFire t (b .forwardRolls) samples now s → Told b (fireMoment s) → Fired (timedOut limit t (b .forwardRolls) now of s)
       good-told {t} of {s} g q =
           let e = g .estimator in
-          timed-out-told t of s (sender-unbroken g) (record { state = e .state; times = e .times }) (can-back-off (s .estimator) samples e few .0) q
+          timed-out-told t of s (sender-unbroken g) (record { state = e .state; times = e .times }) (can-back-off (s .estimator) samples e few .0) (g .outgoing .forward) (g .outgoing .notes .within) q
 
       number-told : (n : ℕ) (s : FireState) → GoodFire PerNumber (b .forwardRolls) samples now s → Told b (fireMoment s) → Fired (fireNumber limit (b .forwardRolls) now n s)
       unfolding fireNumber

@@ -1,5 +1,6 @@
 pub mod Lists
 pub mod Columns
+pub mod Holds
 pub mod Noted
 pub mod Tells
 pub mod Arrivals

@@ -45,8 +45,9 @@ use Rattle.run_history.specs.Calls.{Reply}
 use Rattle.run_history.specs.Samples.{roundTripBy, firstSample}
 use Rattle.run_history.specs.Answered.{Taken}
 use Rattle.run_history.proofs.Noted.{noted-sampled, any-more}
-use Rattle.run_history.proofs.Columns.{TakenFrom, taken-from, line-taken}
-use Rattle.run_history.proofs.Tells.{Origin, Moment, moment, Replied, NotedBy, Told, Tested, Makes, told-more, no-reply, same-noted, none-chunked, same-chunked, none-sent, no-more}
+use Rattle.run_history.proofs.Columns.{lineOf, TakenFrom, taken-from, line-taken}
+use Rattle.run_history.proofs.Holds.{LineHolds, Takes, Hands, hands-copy, take-holds}
+use Rattle.run_history.proofs.Tells.{Origin, Moment, moment, Replied, reverseCopies, NotedBy, Told, Tested, Makes, told-more, no-reply, same-noted, none-chunked, same-chunked, none-sent, none-arrives, no-more}
 
 -- ---- the segment whose round trip an accepted ACK ends was sent
 base-or-number : (x : SenderState) (n : ℕ) → (sampleSeq x n ≡ windowIn x .«send_base») ⊎ (sampleSeq x n ≡ n)
@@ -81,11 +82,14 @@ module _ (b : Origin) (f : Direction) (i : Inbound) (again : Resends) (written :
   abbrev pub Returns : Direction → AckState → Type 0
   Returns d s = Told b (returnMoment d s)
 
-  module _ (timing : Timing) (now : ℕ) (raw : List ℕ) (d left : Direction) (from : TakenFrom d left) (s : AckState) where
+  module _ (timing : Timing) (now : ℕ) (raw : List ℕ) (d left : Direction) (from : TakenFrom d left) (took : (gs : List (List ℕ)) (places : List ℕ) → LineHolds gs places (lineOf d) → Takes gs places raw (lineOf left)) (s : AckState) where
     one-returned : (e : SenderEnd) (r : RtoEstimator) (m : SegMetas) (acks duplicates : ℕ) (xs : List Reply) (came : ℕ) → Replied b xs came (returnMoment d s)
         → Replied b (xs ++ []) (came + 1) (moment f (inbound (i .side) (i .store) (i .output) m left) e r acks duplicates again written rows)
     one-returned e r m acks duplicates xs came q =
         subst (λ (l : List Reply). Replied b l (came + 1) (returnMoment left s)) (sym (append-nil xs)) (record { acks-are = q .acks-are; line = line-taken d left from (q .line) })
+
+    came : (xs : List Reply) (k : ℕ) (places : List ℕ) → Replied b xs k (returnMoment d s) → LineHolds (reverseCopies b xs) places (lineOf d) → Hands (reverseCopies b xs) (raw ∷ []) places (λ (ps : List ℕ). LineHolds (reverseCopies b (xs ++ [])) ps (lineOf left))
+    came xs k places q h = subst (λ (ys : List Reply). Hands (reverseCopies b xs) (raw ∷ []) places (λ (ps : List ℕ). LineHolds (reverseCopies b ys) ps (lineOf left))) (sym (append-nil xs)) (hands-copy (took _ places h))
 
     -- no valid ACK
     dropped : ackNumber (readDatagram raw) ≡ ack.Nothing → Makes b (return raw 0) (returnMoment d s) (returnMoment left s)
@@ -95,6 +99,8 @@ module _ (b : Origin) (f : Direction) (i : Inbound) (again : Resends) (written :
           ends-are = rw h;
           chunks-are = same-chunked b (returnMoment d s);
           sending = none-sent b (returnMoment d s);
+          arrives = λ xs k places q h. none-arrives b (lineOf f) xs places h;
+          returns = came;
           replying = one-returned (s .sender) (s .estimator) (s .metas) (s .received) (s .duplicates);
           estimator-is = λ sampled again t. rw h;
           taken = λ sampled again t. rw h tt;
@@ -130,6 +136,8 @@ module _ (b : Origin) (f : Direction) (i : Inbound) (again : Resends) (written :
             ends-are = rw h;
             chunks-are = none-chunked b (ack-keeps-sender (s .sender) raw .next);
             sending = none-sent b (returnMoment d s);
+            arrives = λ xs k places q h. none-arrives b (lineOf f) xs places h;
+            returns = came;
             replying = one-returned (handleAck (s .sender) raw .after) e m (s .received + 1) k;
             estimator-is = λ sampled again t. est sampled again t .0;
             taken = λ sampled again t. est sampled again t .1;
@@ -226,4 +234,4 @@ module _ (b : Origin) (f : Direction) (i : Inbound) (again : Resends) (written :
   pub returns-told : (timing : Timing) (now : ℕ) (d : Direction) (s : AckState) → CanServeReverse d s now → Returns d s → Returns (serveReverse timing now d s .reverse) (serveReverse timing now d s .state)
   returns-told timing now d s can q =
       serve-reverse-invariant timing now (λ (d : Direction) (s : AckState). CanServeReverse d s now × Returns d s)
-      (λ d s n e h. (turn-good timing now d s (h .0) n e, return-told timing now (take n (nextTaken now d .out)) d (leftByTake (nextTaken now d)) (taken-from now d n e) s (can-hand-over timing now d s (h .0) n e) (h .1))) d s (can, q) .1
+      (λ d s n e h. (turn-good timing now d s (h .0) n e, return-told timing now (take n (nextTaken now d .out)) d (leftByTake (nextTaken now d)) (taken-from now d n e) (λ gs places k. take-holds now d n (h .0 .sound) (h .0 .times) e k) s (can-hand-over timing now d s (h .0) n e) (h .1))) d s (can, q) .1

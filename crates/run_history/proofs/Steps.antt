@@ -142,7 +142,8 @@ module _ (b : Origin) (p : Plan) (file : List ℕ) (plan : GoodPlan p (record { 
         (λ (f : Direction) (i : Inbound). CanServeForward f i (b .reverseRolls) (s .time) × Prefixed begins (s .arrivals .sender) (endOf i) (i .output) f)
         (λ f i n e k. (turn-good (b .reverseRolls) (p .«total_chunks») (s .time) f i (k .0) n e, prefixed-turn (b .reverseRolls) (p .«total_chunks») (s .time) n (k .0) e (k .1)))
         (λ f i n e k. can-hand-over (b .reverseRolls) (p .«total_chunks») (s .time) f i (k .0) n e)
-        (λ f i n e k t. turn-not-refused (b .reverseRolls) (p .«total_chunks») (s .time) (k .1) room few (k .0) n e t) (s .arrivals .forward) (s .arrivals .inbound) (can .forward, q .prefixed) (q .told)
+        (λ f i n e k t. turn-not-refused (b .reverseRolls) (p .«total_chunks») (s .time) (k .1) room few (k .0) n e t)
+        (λ f i k. (k .0 .sound, k .0 .times)) (s .arrivals .forward) (s .arrivals .inbound) (can .forward, q .prefixed) (q .told)
 
     forward-prefixed : PrefixedAt middle
     forward-prefixed = prefixed-served (b .reverseRolls) (p .«total_chunks») (s .time) (can .forward) (q .prefixed)

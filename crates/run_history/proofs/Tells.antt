@@ -1,6 +1,6 @@
 -- A list of calls tells a run at a moment, and with one call more the run after it.
 use Prim.Native.Nat.{ℕ, _+_, _<_}
-use mathlib.Core.Path.{_≡_, sym, ap, _∙_, subst}
+use mathlib.Core.Path.{_≡_, refl, sym, ap, _∙_, subst}
 use mathlib.Core.Bool.{Bool, true, _&&_}
 use mathlib.Core.List.{List, [], _∷_, _++_, append-nil, dropLast, foldl, foldl-append}
 use native.Mathlib.Omega.{arith}
@@ -22,12 +22,14 @@ use Rattle.rows.specs.Rows.{isSet}
 use Rattle.notes.specs.Notes.{SegMetas, metaAt, isPremature}
 use Rattle.sending.specs.declared.Resends.{Resends}
 use Rattle.run_history.specs.Answered.{Each, NotRefused, Taken, Whole}
-use Rattle.run_history.specs.Lines.{any, carriedOf}
+use Rattle.run_history.specs.Lines.{any, carriedOf, forwardWires, reverseWires}
+use Rattle.run_history.specs.Copies.{copiesFrom, arrivedBy, returnedBy}
 use Rattle.run_history.specs.Premature.{isFirstGranted, covers, isPrematureAfter, prematureBy, prematureIn}
 use Rattle.run_history.specs.Samples.{roundTripBy, isSampledAfter, isAgainAfter, estimatedBy, estimatedIn}
 use Rattle.run_history.proofs.Noted.{flags, Noted, premature-is, isEventAgain, events-again}
 use Rattle.run_history.proofs.Lists.{after-more, collect-more, total-more, premature-more, estimated-more, each-more, taken-more, each-first, drop-last-more}
 use Rattle.run_history.proofs.Columns.{Line, lineOf, Sending, Replying}
+use Rattle.run_history.proofs.Holds.{LineHolds, Hands, no-copy, Comes, comes-more}
 
 -- what a run starts with
 pub record Origin : Type 0 where
@@ -81,6 +83,13 @@ Sent b xs came m = Sending (b .forward) (b .forwardRolls) xs came (m .again) (m 
 abbrev pub Replied : Origin → List Reply → ℕ → Moment → Type 0
 Replied b xs came m = Replying (b .reverse) (b .reverseRolls) xs came (m .replies) (m .reverse)
 
+-- the copies granted
+abbrev pub forwardCopies : Origin → List Submission → List (List ℕ)
+forwardCopies b xs = copiesFrom (b .forward) (b .forwardRolls) 0 (forwardWires xs)
+
+abbrev pub reverseCopies : Origin → List Reply → List (List ℕ)
+reverseCopies b xs = copiesFrom (b .reverse) (b .reverseRolls) 0 (reverseWires xs)
+
 -- the chunks sent are the first ones
 abbrev pub Chunked : Origin → List (List ℕ) → Moment → Type 0
 Chunked b xs m = xs ≡ take (nextNumber (m .ends)) (b .chunks)
@@ -90,6 +99,8 @@ pub record Tells (b : Origin) (cs : List Call) (m : Moment) : Type 0 where
   pub chunks-are : Chunked b (collect chunkBy (b .start) cs) m
   pub sending : Sent b (collect submittedBy (b .start) cs) (total arrivedIn (b .start) cs) m
   pub replying : Replied b (collect repliedBy (b .start) cs) (total returnedIn (b .start) cs) m
+  pub arrived : Comes (λ (ds : List Call). forwardCopies b (collect submittedBy (b .start) ds)) arrivedBy cs (m .forward)
+  pub returned : Comes (λ (ds : List Call). reverseCopies b (collect repliedBy (b .start) ds)) returnedBy cs (m .reverse)
   pub estimator-is : rto.afterCalls (b .rto) (estimatedIn (b .start) [] cs) ≡ m .estimator
   pub taken : Taken (fresh (b .rto)) (estimatedIn (b .start) [] cs)
   pub datas-are : total dataIn (b .start) cs ≡ m .datas
@@ -133,6 +144,10 @@ pub record Makes (b : Origin) (c : Call) (m next : Moment) : Type 0 where
   pub chunks-are : (xs : List (List ℕ)) → Chunked b xs m → Chunked b (xs ++ chunkBy (m .ends) c) next
   pub sending : (xs : List Submission) (came : ℕ) → Sent b xs came m → Sent b (xs ++ submittedBy (m .ends) c) (came + arrivedIn (m .ends) c) next
   pub replying : (xs : List Reply) (came : ℕ) → Replied b xs came m → Replied b (xs ++ repliedBy (m .ends) c) (came + returnedIn (m .ends) c) next
+  pub arrives : (xs : List Submission) (came : ℕ) (places : List ℕ) → Sent b xs came m → LineHolds (forwardCopies b xs) places (m .forward)
+      → Hands (forwardCopies b xs) (arrivedBy c) places (λ (ps : List ℕ). LineHolds (forwardCopies b (xs ++ submittedBy (m .ends) c)) ps (next .forward))
+  pub returns : (xs : List Reply) (came : ℕ) (places : List ℕ) → Replied b xs came m → LineHolds (reverseCopies b xs) places (m .reverse)
+      → Hands (reverseCopies b xs) (returnedBy c) places (λ (ps : List ℕ). LineHolds (reverseCopies b (xs ++ repliedBy (m .ends) c)) ps (next .reverse))
   pub estimator-is : (sampled again : ℕ → Bool) → Tested sampled again m → foldl rto.step (m .estimator) (estimatedBy sampled again (m .ends) c) ≡ next .estimator
   pub taken : (sampled again : ℕ → Bool) → Tested sampled again m → Taken (m .estimator) (estimatedBy sampled again (m .ends) c)
   pub datas-are : m .datas + dataIn (m .ends) c ≡ next .datas
@@ -186,6 +201,10 @@ module _ {b : Origin} {c : Call} {m next : Moment} (q : Told b m) (h : Makes b c
         chunks-are = subst (λ (xs : List (List ℕ)). Chunked b xs next) (sym (collected chunkBy)) (h .chunks-are _ (t .chunks-are));
         sending = rw (collected submittedBy, totalled arrivedIn) (h .sending _ _ (t .sending));
         replying = rw (collected repliedBy, totalled returnedIn) (h .replying _ _ (t .replying));
+        arrived = comes-more (t .arrived) c (next .forward)
+            (subst (λ (xs : List Submission). Hands (forwardCopies b (collect submittedBy (b .start) cs)) (arrivedBy c) (t .arrived .places) (λ (ps : List ℕ). LineHolds (forwardCopies b xs) ps (next .forward))) (sym (collected submittedBy)) (h .arrives _ _ _ (t .sending) (t .arrived .holds)));
+        returned = comes-more (t .returned) c (next .reverse)
+            (subst (λ (xs : List Reply). Hands (reverseCopies b (collect repliedBy (b .start) cs)) (returnedBy c) (t .returned .places) (λ (ps : List ℕ). LineHolds (reverseCopies b xs) ps (next .reverse))) (sym (collected repliedBy)) (h .returns _ _ _ (t .replying) (t .returned .holds)));
         estimator-is =
             ap (foldl rto.step (fresh (b .rto))) estimates ∙ foldl-append rto.step (fresh (b .rto)) (estimatedIn (b .start) [] cs) (estimatedBy sampled again (m .ends) c)
             ∙ ap (λ (e : RtoEstimator). foldl rto.step e (estimatedBy sampled again (m .ends) c)) (t .estimator-is) ∙ h .estimator-is sampled again tested;
@@ -224,6 +243,12 @@ none-sent b m xs came s = rw (append-nil xs, no-more came) s
 
 pub none-replied : (b : Origin) (m : Moment) (xs : List Reply) (came : ℕ) → Replied b xs came m → Replied b (xs ++ []) (came + 0) m
 none-replied b m xs came s = rw (append-nil xs, no-more came) s
+
+pub none-arrives : (b : Origin) (l : Line) (xs : List Submission) (places : List ℕ) → LineHolds (forwardCopies b xs) places l → Hands (forwardCopies b xs) [] places (λ (ps : List ℕ). LineHolds (forwardCopies b (xs ++ [])) ps l)
+none-arrives b l xs places h = no-copy refl (rw (append-nil xs) h)
+
+pub none-returns : (b : Origin) (l : Line) (xs : List Reply) (places : List ℕ) → LineHolds (reverseCopies b xs) places l → Hands (reverseCopies b xs) [] places (λ (ps : List ℕ). LineHolds (reverseCopies b (xs ++ [])) ps l)
+none-returns b l xs places h = no-copy refl (rw (append-nil xs) h)
 
 -- a call that sends no chunk
 pub none-chunked : (b : Origin) {n k : ℕ} → k ≡ n → (xs : List (List ℕ)) → xs ≡ take n (b .chunks) → xs ++ [] ≡ take k (b .chunks)

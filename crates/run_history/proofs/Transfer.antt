@@ -22,6 +22,8 @@ use Rattle.channel.specs.declared.Channel.{Channel}
 use Rattle.notes.specs.Notes.{newNotes}
 use Rattle.run_history.specs.Premature.{isFirstGranted, prematureIn}
 use Rattle.run_history.specs.Samples.{estimatedIn}
+use Rattle.run_history.specs.Copies.{copiesFrom, none}
+use Rattle.run_history.proofs.Holds.{holds-new}
 use Rattle.run_history.proofs.Noted.{noted-as, noted-none, isEventAgain}
 use Rattle.rto.specs.History as rto
 use Rattle.path.specs.Rolls.{Doubles}
@@ -58,7 +60,7 @@ module _ (k : Ceilings) (c : TransferConfig) (g : Given) (l : Lent) where
 
   -- no calls
   start-told : Told origin (momentAt (newRun k c l))
-  unfolding newRun newPath afterCalls collect total filter packetsFrom eventsFrom channel.filter rto.afterCalls any prematureIn estimatedIn
+  unfolding newRun newPath afterCalls collect total filter packetsFrom eventsFrom channel.filter rto.afterCalls any prematureIn estimatedIn copiesFrom
   start-told =
       record {
         calls = [];
@@ -67,6 +69,8 @@ module _ (k : Ceilings) (c : TransferConfig) (g : Given) (l : Lent) where
           chunks-are = ap (λ (n : ℕ). take n (chunksOf (c .«chunk_size») (g .file))) (sym (unused (c .protocol) (c .«window_size») (k .retries) (l .senderStore) .next));
           sending = record { again-are = refl; written-are = refl; line = record { used-is = refl; channel-is = refl; all-come = refl }; events-are = sym (events-none (replicate (length (l .events)) vacant)) };
           replying = record { acks-are = refl; line = record { used-is = refl; channel-is = refl; all-come = refl } };
+          arrived = record { places = []; came = none; holds = holds-new (c .channel) (l .forwardRecords) (l .forwardPlaces) };
+          returned = record { places = []; came = none; holds = holds-new (reverseConfig (c .channel)) (l .reverseRecords) (l .reversePlaces) };
           estimator-is = refl;
           taken = tt;
           datas-are = refl;
@@ -140,6 +144,10 @@ module _ (k : Ceilings) (c : TransferConfig) (g : Given) (l : Lent) where
               chunks-are = t .chunks-are;
               forward-is = ap (λ (x : Channel). x .stats) (sym (t .sending .line .channel-is));
               reverse-is = ap (λ (x : Channel). x .stats) (sym (t .replying .line .channel-is));
+              arrivals = t .arrived .places;
+              arrivals-are = t .arrived .came;
+              returns = t .returned .places;
+              returns-are = t .returned .came;
               arrivals-few = let e = t .sending .line .all-come in omega (arith, e);
               returns-few = let e = t .replying .line .all-come in omega (arith, e);
               estimator-is = t .estimator-is;

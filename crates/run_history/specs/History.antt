@@ -1,5 +1,5 @@
 -- Document 01, "Links that would ruin a book" (demand 2): the answer of `run_transfer` from the history of its calls.
-use Prim.Native.Nat.{_≤_}
+use Prim.Native.Nat.{ℕ, _≤_}
 use mathlib.Core.Path.{_≡_}
 use mathlib.Core.List.{List, [], dropLast}
 use lib.ListN.{length, take}
@@ -21,6 +21,7 @@ use Rattle.run_history.specs.Calls.{Submission, submittedBy, repliedBy}
 use Rattle.run_history.specs.Calls.{arrivedIn, returnedIn, dataIn, duplicateDataIn, acksIn, duplicateAcksIn}
 use Rattle.run_history.specs.Lines.{count, carriedOf, forwardWires, reverseWires, packets, eventsFrom}
 use Rattle.run_history.specs.Samples.{estimatedIn}
+use Rattle.run_history.specs.Copies.{copiesFrom, arrivedBy, returnedBy, Came}
 use Rattle.run_history.specs.Answered.{Each, NotRefused, Taken, Whole}
 use Rattle.run_history.specs.Premature.{prematureIn}
 
@@ -46,6 +47,14 @@ countsFrom c g e cs = record {
   events = length (carriedOf (collect submittedBy e cs));
 }
 
+-- the copies that the packets carried in calls from the ends e are granted, on either line
+abbrev pub forwardCopies : TransferConfig → Given → Ends → List Call → List (List ℕ)
+forwardCopies c g e cs = copiesFrom (c .channel) (g .forwardRolls) 0 (forwardWires (collect submittedBy e cs))
+
+abbrev pub reverseCopies : TransferConfig → Given → Ends → List Call → List (List ℕ)
+reverseCopies c g e cs =
+    copiesFrom (reverseConfig (c .channel)) (g .reverseRolls) 0 (reverseWires (collect repliedBy e cs))
+
 -- Calls from the ends e tell an answer and what it leaves in lent memory:
 pub record Tell (c : TransferConfig) (g : Given) (e : Ends) (cs : List Call) (o : Outcome) (l : Lent) : Type 0 where
   -- they lead to both ends, with their stores and the output; none is refused; all but the last are carried whole
@@ -60,7 +69,11 @@ pub record Tell (c : TransferConfig) (g : Given) (e : Ends) (cs : List Call) (o 
       ≡ o .forward
   pub reverse-is : channel.tallies (reverseConfig (c .channel))
       (packets (g .reverseRolls) (reverseWires (collect repliedBy e cs))) ≡ o .reverse
-  -- no more copies came than the channels granted
+  -- the copies that came are, each once, of those granted before; so no more came than were granted
+  pub arrivals : List ℕ
+  pub arrivals-are : Came (forwardCopies c g e) arrivedBy cs arrivals
+  pub returns : List ℕ
+  pub returns-are : Came (reverseCopies c g e) returnedBy cs returns
   pub arrivals-few : total arrivedIn e cs ≤ o .forward .«copies_delivered»
   pub returns-few : total returnedIn e cs ≤ o .reverse .«copies_delivered»
   -- the estimator's calls lead to the estimator, which refuses none

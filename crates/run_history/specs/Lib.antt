@@ -3,5 +3,6 @@ pub mod Lines
 pub mod Answered
 pub mod Premature
 pub mod Samples
+pub mod Copies
 pub mod EndCalls
 pub mod History
