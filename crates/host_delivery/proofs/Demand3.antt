@@ -11,6 +11,7 @@ use Rattle.delivery.specs.Ends.{ends, freshEnds}
 use Rattle.delivery.proofs.Demand3.{follows, fresh-start}
 use Rattle.delivery.proofs.Follow.{Follow}
 use Rattle.delivery.proofs.FromCalls.{from-calls}
+use Rattle.delivery.proofs.NotRefused.{fresh-none}
 use Rattle.delivery.proofs.Simulation.{Follows}
 use Rattle.delivery.specs.Calls.{Call, World, run, Admissible}
 use Rattle.session.specs.Ends.{timeoutOf}
@@ -40,16 +41,11 @@ simulation p w = record {
 host-follows : (p : ProtocolType) (w : ℕ) → Follow p w hostEnds
 host-follows p w = simulated p w hostEnds (ends p) (simulation p w) (follows p w)
 
--- nothing was made at the start
-nothing-sent : (p : ProtocolType) (w limit : ℕ) (sending receiving output : List ℕ) → freshEnds p w limit sending receiving output .sent ≡ []
-nothing-sent StopAndWait w limit sending receiving output = refl
-nothing-sent GoBackN w limit sending receiving output = refl
-nothing-sent SelectiveRepeat w limit sending receiving output = refl
-
-nothing-replied : (p : ProtocolType) (w limit : ℕ) (sending receiving output : List ℕ) → freshEnds p w limit sending receiving output .replies ≡ []
-nothing-replied StopAndWait w limit sending receiving output = refl
-nothing-replied GoBackN w limit sending receiving output = refl
-nothing-replied SelectiveRepeat w limit sending receiving output = refl
+-- no ACK was made at the start
+fresh-replies : (p : ProtocolType) (w limit : ℕ) (sending receiving output : List ℕ) → freshEnds p w limit sending receiving output .replies ≡ []
+fresh-replies StopAndWait w limit sending receiving output = refl
+fresh-replies GoBackN w limit sending receiving output = refl
+fresh-replies SelectiveRepeat w limit sending receiving output = refl
 
 module _ (s : host.Setup) (b : BothMade s) where
   abbrev p : ProtocolType
@@ -84,13 +80,13 @@ module _ (s : host.Setup) (b : BothMade s) where
   abbrev pub callsOf : List (Call (hostEnds .Timeout)) → List (Call (ends p .Timeout))
   callsOf cs = callsAs hostEnds (ends p) (simulation p w) start cs
 
-  made-world : WorldAs hostEnds (ends p) (simulation p w) (madeEnds s) start
+  pub made-world : WorldAs hostEnds (ends p) (simulation p w) (madeEnds s) start
   unfolding simulation
   made-world = record {
     sender = made-sender s b;
     receiver = made-receiver s b;
-    sent = sym (nothing-sent p w (s .limit) (s .senderStore) (s .receiverStore) (s .output));
-    replies = sym (nothing-replied p w (s .limit) (s .senderStore) (s .receiverStore) (s .output));
+    sent = sym (fresh-none p w (s .limit) (s .senderStore) (s .receiverStore) (s .output));
+    replies = sym (fresh-replies p w (s .limit) (s .senderStore) (s .receiverStore) (s .output));
   }
 
   -- the worlds that they lead to: the words hold the ends, and what was made is the same

@@ -5,3 +5,4 @@ pub mod Receivers
 pub mod Making
 pub mod Demand3
 pub mod Reached
+pub mod NotRefused

@@ -141,9 +141,12 @@ module _ (s : host.Setup) (b : BothMade s) where
   unfolding makeReceiverOf
   receiver-makes = makes _ _ (s .receiverWords) (s .receiverStore) _ (subst (λ (x : CallExit). isDone (x .answer) ≡ true) (by-number p (s .receiverWords) (s .receiverStore) _) (b .receiver))
 
+  pub window-bounds : windowBroken (s .window) ≡ false
+  window-bounds = receiver-makes .bounds
+
   pub made : Made p w (s .senderStore) (s .receiverStore)
   made = record {
-    in-bounds = bounds-of p (s .window) (receiver-makes .bounds);
+    in-bounds = bounds-of p (s .window) window-bounds;
     window = window-fits p (s .window);
     sending-room = sender-makes .room;
     receiving-room = receiving-room p (s .window) (s .receiverStore) (receiver-makes .room);

@@ -6,7 +6,8 @@ use lib.ListN.{length, drop}
 use Rattle.octets.specs.Flip.{flip}
 use Rattle.protocol.specs.declared.ProtocolType.{ProtocolType}
 use Rattle.protocol.specs.Machine.{SenderState, ReceiverState, nextNumber, receive}
-use Rattle.delivery.specs.Calls.{copyBytes, IsCopy, Call, send, timeout, toReceiver, toSender, Done, Ends, World, datagrams, bySender, byReceiver, step, run, Allowed, Admissible}
+use Rattle.delivery.specs.Calls.{Copy, copyBytes, IsCopy, Call, send, timeout, toReceiver, toSender, Done, Ends, World, datagrams, bySender, byReceiver, step, run, Allowed, Admissible}
+use Rattle.delivery.specs.Room.{NotRefused, NoneRefused}
 use Rattle.delivery.proofs.Datagrams.{DataBytes}
 use Rattle.delivery.proofs.Follow.{SenderKept, ReceiverKept, ChunkSent, SentAgain, PacketTaken, Follow}
 
@@ -143,20 +144,26 @@ module _ (G E : Ends) (S : Simulates G E) where
   after-receiver : {v : World G} {u : World E} {d : Done (G .Receiver)} {e : Done (E .Receiver)} → WorldAs v u → Does (S .ReceiverAs) d e → WorldAs (byReceiver v d) (byReceiver u e)
   after-receiver x d = record { sender = x .sender; receiver = d .after; sent = x .sent; replies = joined (x .replies) (d .written) }
 
+  -- a copy of what was made is the same copy
+  packet-does : (v : World G) (u : World E) (c : Copy) (buffer : List ℕ) → WorldAs v u
+      → Does (S .ReceiverAs) (G .handlePacket (v .receiver) (copyBytes (v .sent) c) buffer) (E .handlePacket (u .receiver) (copyBytes (u .sent) c) buffer)
+  packet-does v u c buffer x =
+      let raw = copyBytes (v .sent) c in
+      subst (λ (r : List ℕ). Does (S .ReceiverAs) (G .handlePacket (v .receiver) raw buffer) (E .handlePacket (u .receiver) r buffer)) (ap (λ (l : List (List ℕ)). copyBytes l c) (x .sent))
+      (S .packets (v .receiver) (u .receiver) raw buffer (x .receiver))
+
+  ack-does : (v : World G) (u : World E) (c : Copy) → WorldAs v u → Does (S .SenderAs) (G .handleAck (v .sender) (copyBytes (v .replies) c)) (E .handleAck (u .sender) (copyBytes (u .replies) c))
+  ack-does v u c x =
+      let raw = copyBytes (v .replies) c in
+      subst (λ (r : List ℕ). Does (S .SenderAs) (G .handleAck (v .sender) raw) (E .handleAck (u .sender) r)) (ap (λ (l : List (List ℕ)). copyBytes l c) (x .replies))
+      (S .acks (v .sender) (u .sender) raw (x .sender))
+
   step-as : (v : World G) (u : World E) (c : Call (G .Timeout)) → WorldAs v u → WorldAs (step G v c) (step E u (callAs (u .sender) c))
   unfolding step
   step-as v u (send payload buffer) x = after-sender x (S .sends (v .sender) (u .sender) payload buffer (x .sender))
   step-as v u (timeout t buffer) x = after-sender x (S .times (v .sender) (u .sender) t buffer (x .sender))
-  step-as v u (toReceiver c buffer) x =
-      let raw = copyBytes (v .sent) c in
-      let d = S .packets (v .receiver) (u .receiver) raw buffer (x .receiver) in
-      after-receiver x
-      (subst (λ (r : List ℕ). Does (S .ReceiverAs) (G .handlePacket (v .receiver) raw buffer) (E .handlePacket (u .receiver) r buffer)) (ap (λ (l : List (List ℕ)). copyBytes l c) (x .sent)) d)
-  step-as v u (toSender c) x =
-      let raw = copyBytes (v .replies) c in
-      let d = S .acks (v .sender) (u .sender) raw (x .sender) in
-      after-sender x
-      (subst (λ (r : List ℕ). Does (S .SenderAs) (G .handleAck (v .sender) raw) (E .handleAck (u .sender) r)) (ap (λ (l : List (List ℕ)). copyBytes l c) (x .replies)) d)
+  step-as v u (toReceiver c buffer) x = after-receiver x (packet-does v u c buffer x)
+  step-as v u (toSender c) x = after-sender x (ack-does v u c x)
 
   pub run-as : (v : World G) (u : World E) (cs : List (Call (G .Timeout))) → WorldAs v u → WorldAs (run G v cs) (run E u (callsAs u cs))
   unfolding run callsAs
@@ -173,3 +180,14 @@ module _ (G E : Ends) (S : Simulates G E) where
   unfolding callsAs
   admissible-as v u [] x a = tt
   admissible-as v u (c ∷ cs) x a = (allowed-as v u c x (a .0), admissible-as (step G v c) (step E u (callAs (u .sender) c)) cs (step-as v u c x) (a .1))
+
+  not-refused-as : (v : World G) (u : World E) (c : Call (G .Timeout)) → WorldAs v u → NotRefused E u (callAs (u .sender) c) → NotRefused G v c
+  not-refused-as v u (send payload buffer) x n = S .sends (v .sender) (u .sender) payload buffer (x .sender) .same-refused ∙ n
+  not-refused-as v u (timeout t buffer) x n = S .times (v .sender) (u .sender) t buffer (x .sender) .same-refused ∙ n
+  not-refused-as v u (toReceiver c buffer) x n = λ e. packet-does v u c buffer x .same-done ∙ n e
+  not-refused-as v u (toSender c) x n = λ e. ack-does v u c x .same-done ∙ n e
+
+  pub none-refused-as : (v : World G) (u : World E) (cs : List (Call (G .Timeout))) → WorldAs v u → NoneRefused E u (callsAs u cs) → NoneRefused G v cs
+  unfolding callsAs
+  none-refused-as v u [] x n = tt
+  none-refused-as v u (c ∷ cs) x n = (not-refused-as v u c x (n .0), none-refused-as (step G v c) (step E u (callAs (u .sender) c)) cs (step-as v u c x) (n .1))
