@@ -13,6 +13,7 @@ use Rattle.protocol.specs.declared.ProtocolType.the-variants as protocol
 use Rattle.window.specs.declared.SendWindow.{SendWindow}
 use Rattle.stop_and_wait.specs.Sender as stopAndWait
 use Rattle.session.specs.Sending as session
+use Rattle.session.specs.Receiving as receiving
 use Rattle.session.specs.declared.Sender.{Sender}
 use Rattle.session.specs.declared.Receiver.{Receiver}
 use Rattle.session.specs.declared.SenderState.{SenderState}
@@ -97,24 +98,28 @@ pub sender-long : (s : List ℕ) {x : Sender} → heldSender s ≡ heldSenders.S
 unfolding heldSender
 sender-long s {x} e = held-readable s (senderUnreadable s) x _ refl e .long
 
--- the next number that words hold is of 32 bits
-abbrev NextFits : HeldSender → Type 0
-NextFits (heldSenders.Sender x) = session.windowIn (x .state) .«next_seq_num» ≤ 4294967295
-NextFits heldSenders.Broken = Unit {0}
+-- the window of the sender that words hold is the one in them
+abbrev WindowIs : List ℕ → HeldSender → Type 0
+WindowIs s (heldSenders.Sender x) = session.windowOf x ≡ windowIn s
+WindowIs s heldSenders.Broken = Unit {0}
 
-next-cases : (s : List ℕ) (a b c d t : Bool) → senderUnreadable s ≡ a → notSingle s ≡ t
-    → NextFits (cond a heldSenders.Broken (cond b (held (senderState.SelectiveRepeat (record { window = windowIn s }))) (cond c (held (senderState.GoBackN (record { window = windowIn s }))) (cond d (cond t heldSenders.Broken (held (senderState.StopAndWait (stopAndWaitIn s)))) heldSenders.Broken))))
-next-cases s true b c d t r e = tt
-next-cases s false true c d t r e = sender-readable s r .next
-next-cases s false false true d t r e = sender-readable s r .next
-next-cases s false false false true true r e = tt
-next-cases s false false false true false r e =
-    subst (λ (w : SendWindow). w .«next_seq_num» ≤ 4294967295) (sym (single-window s e)) (sender-readable s r .next)
-next-cases s false false false false t r e = tt
+window-cases : (s : List ℕ) (a b c d t : Bool) → notSingle s ≡ t
+    → WindowIs s (cond a heldSenders.Broken (cond b (held (senderState.SelectiveRepeat (record { window = windowIn s }))) (cond c (held (senderState.GoBackN (record { window = windowIn s }))) (cond d (cond t heldSenders.Broken (held (senderState.StopAndWait (stopAndWaitIn s)))) heldSenders.Broken))))
+window-cases s true b c d t e = tt
+window-cases s false true c d t e = refl
+window-cases s false false true d t e = refl
+window-cases s false false false true true e = tt
+window-cases s false false false true false e = single-window s e
+window-cases s false false false false t e = tt
 
+pub sender-window : (s : List ℕ) {x : Sender} → heldSender s ≡ heldSenders.Sender x → session.windowOf x ≡ windowIn s
+unfolding heldSender
+sender-window s e = subst (WindowIs s) e (window-cases s (senderUnreadable s) (eqb (getD s 0 0) (senderWord protocol.SelectiveRepeat)) (eqb (getD s 0 0) (senderWord protocol.GoBackN)) (eqb (getD s 0 0) (senderWord protocol.StopAndWait)) (notSingle s) refl)
+
+-- its next number is of 32 bits
 pub sender-next : (s : List ℕ) {x : Sender} → heldSender s ≡ heldSenders.Sender x → session.windowOf x .«next_seq_num» ≤ 4294967295
 unfolding heldSender
-sender-next s e = subst NextFits e (next-cases s (senderUnreadable s) (eqb (getD s 0 0) (senderWord protocol.SelectiveRepeat)) (eqb (getD s 0 0) (senderWord protocol.GoBackN)) (eqb (getD s 0 0) (senderWord protocol.StopAndWait)) (notSingle s) refl refl)
+sender-next s {x} e = subst (λ (w : SendWindow). w .«next_seq_num» ≤ 4294967295) (sym (sender-window s e)) (held-readable s (senderUnreadable s) x _ refl e .next)
 
 pub sender-length : (s : List ℕ) (x : SenderState) → length (withSender s x) ≡ length s
 unfolding withSender withStopAndWait withWindow
@@ -162,6 +167,24 @@ held-receiver-readable s false x other e p = receiver-readable s e
 pub receiver-long : (s : List ℕ) {x : Receiver} → heldReceiver s ≡ heldReceivers.Receiver x → stateWords ≤ length s
 unfolding heldReceiver
 receiver-long s {x} e = held-receiver-readable s (receiverUnreadable s) x _ refl e .long
+
+-- base and fill mark of the receiver that words hold are the ones in them
+abbrev PlacesAre : List ℕ → HeldReceiver → Type 0
+PlacesAre s (heldReceivers.Receiver x) = (receiving.base x ≡ getD s 2 0) × (receiving.filled x ≡ getD s 3 0)
+PlacesAre s heldReceivers.Broken = Unit {0}
+
+place-cases : (s : List ℕ) (a b one c d : Bool)
+    → PlacesAre s (cond a heldReceivers.Broken (cond b (heldBy (receiverState.SelectiveRepeat (selectiveRepeatReceiverIn s))) (cond (not one) heldReceivers.Broken (cond c (heldBy (receiverState.GoBackN (goBackNReceiverIn s))) (cond d (heldBy (receiverState.StopAndWait (stopAndWaitReceiverIn s))) heldReceivers.Broken)))))
+place-cases s true b one c d = tt
+place-cases s false true one c d = (refl, refl)
+place-cases s false false false c d = tt
+place-cases s false false true true d = (refl, refl)
+place-cases s false false true false true = (refl, refl)
+place-cases s false false true false false = tt
+
+pub receiver-places : (s : List ℕ) {x : Receiver} → heldReceiver s ≡ heldReceivers.Receiver x → (receiving.base x ≡ getD s 2 0) × (receiving.filled x ≡ getD s 3 0)
+unfolding heldReceiver
+receiver-places s e = subst (PlacesAre s) e (place-cases s (receiverUnreadable s) (eqb (getD s 0 0) (receiverWord protocol.SelectiveRepeat)) (eqb (getD s 1 0) 1) (eqb (getD s 0 0) (receiverWord protocol.GoBackN)) (eqb (getD s 0 0) (receiverWord protocol.StopAndWait)))
 
 pub receiver-length : (s : List ℕ) (x : ReceiverState) → length (withReceiver s x) ≡ length s
 unfolding withFields

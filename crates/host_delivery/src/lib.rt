@@ -1,0 +1,1 @@
+// Demand 3 of the exports: lists of their calls from made states. Definitions in specs/, laws in proofs/; no code.
