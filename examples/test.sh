@@ -36,7 +36,7 @@ nm -g "$library" 2>/dev/null | sed -n 's/.* T \(pindrelo_[a-z_]*\)$/\1/p' | sort
 sed -n 's/^pindrelo_answer \(pindrelo_[a-z_]*\)(.*/\1/p' include/pindrelo.h | sort >"$out/declared"
 diff "$out/exported" "$out/declared" || { echo "host: exports (<) and header (>) differ" >&2; exit 1; }
 while read -r call; do
-  grep -q "$call(" examples/fuzz/fuzz.c || echo "host: $call isn't fuzzed"
+  grep -q "$call(" examples/fuzz/*.[ch] || echo "host: $call isn't fuzzed"
 done <"$out/exported"
 # shellcheck disable=SC2086
 cc -std=c99 $strict examples/calls.c "$library" -o "$out/calls"

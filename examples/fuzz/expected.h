@@ -202,12 +202,11 @@ static uint64_t expect_can_send(struct words s)
 
 static uint64_t expect_in_flight(struct words s, struct bytes store)
 {
-    int selective = s.n > 0 && s.at[0] == 259;
-    uint64_t refused = sender_held(s, selective ? sender_broken(s, store) : numbers_broken(s)), count = 0;
+    uint64_t refused = sender_held(s, sender_broken(s, store)), count = 0;
     if (refused)
         return refused;
     for (uint64_t n = s.at[2]; n < s.at[3]; n++)
-        count += !selective || slot_of(store, s.at[1], n)[2] == 1;
+        count += slot_of(store, s.at[1], n)[2] == 1;
     return answer_of(0, count);
 }
 

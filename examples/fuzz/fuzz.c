@@ -322,6 +322,21 @@ static void begin(void)
     }
 }
 
+/* in_flight without the store that it is to look at, in each protocol */
+static void without_store(void)
+{
+    uint64_t words[8];
+    uint8_t slot[SLOT_SIZE];
+    name = "in_flight";
+    for (uint64_t protocol = 1; protocol <= 3; protocol++) {
+        pindrelo_make_sender(protocol, 1, 0, words, 8, slot, sizeof slot);
+        take_back();
+        uint64_t *s = lend(STATE, words, 64, 64, 1, 0);
+        uint8_t *store = lend(STORE, slot, 0, 0, 1, 1);
+        check(pindrelo_in_flight(STATE_SLICE, STORE_SLICE), PINDRELO_STATE, HELD);
+    }
+}
+
 static void one_call(void)
 {
     switch (below(24)) {
@@ -346,6 +361,7 @@ int main(int argc, char **argv)
         return 2;
     signal(SIGSEGV, fault);
     signal(SIGBUS, fault);
+    without_store();
     for (calls = 0; calls < count; calls++) {
         take_back();
         if (calls % 400 == 0)
