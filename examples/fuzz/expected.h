@@ -76,12 +76,14 @@ static uint64_t expect_payload_length(struct bytes d)
     return refused ? refused : answer_of(0, pair(d.at + 6));
 }
 
-static uint64_t expect_write(uint64_t kind, size_t length, size_t room)
+static uint64_t expect_write(uint64_t kind, uint64_t number, uint64_t flags, size_t length, size_t room)
 {
     if (kind < 1 || kind > 3)
-        return answer_of(PINDRELO_KIND, kind);
+        return answer_of(PINDRELO_KIND, kind < 255 ? kind : 255);
     if (length > 1400)
         return PINDRELO_LONG;
+    if (WIDE(number) || flags > 255)
+        return PINDRELO_NUMBERS;
     return room < 10 + length ? PINDRELO_FULL : answer_of(0, 10 + length);
 }
 
@@ -94,13 +96,14 @@ static uint64_t given(struct bytes d)
 
 /* ---- making */
 
-static uint64_t expect_making(uint64_t protocol, size_t window, size_t slots, size_t words, size_t store)
+static uint64_t expect_making(uint64_t protocol, size_t window, uint64_t max_retries, size_t slots, size_t words,
+                              size_t store)
 {
     if (protocol < 1 || protocol > 3)
         return PINDRELO_SETUP;
     if (store / SLOT_SIZE < slots)
         return PINDRELO_STATE;
-    if (window < 1 || window > 32)
+    if (window < 1 || window > 32 || WIDE(max_retries))
         return PINDRELO_SETUP;
     return words < 8 ? PINDRELO_FULL : 0;
 }
@@ -303,7 +306,7 @@ static uint64_t expect_start(struct timers t, uint64_t key, uint64_t now, uint64
         return refused;
     if (now > PINDRELO_MAX_TIME || duration > PINDRELO_MAX_DURATION || now + duration > PINDRELO_MAX_TIME)
         return PINDRELO_TIME;
-    return t.state.at[1] == t.count && !runs(t, key) ? PINDRELO_FULL : 0;
+    return WIDE(key) || (t.state.at[1] == t.count && !runs(t, key)) ? PINDRELO_FULL : 0;
 }
 
 static uint64_t expect_cancel(struct timers t, uint64_t key)
