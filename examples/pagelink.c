@@ -16,7 +16,6 @@
 #include <stdio.h>
 #include <stdlib.h>
 #include <string.h>
-#include <sys/mman.h>
 #include <sys/stat.h>
 #include <time.h>
 #include <unistd.h>
@@ -219,49 +218,50 @@ static int send_file(const char *path)
     return 0;
 }
 
-/* ---- the receiver */
+/* ---- the receiver: its state, and an output for what one datagram can deliver, drained each time */
 
-static uint64_t length_at(const uint8_t *d)
+static uint64_t r[PINDRELO_STATE_WORDS];
+static uint8_t receiver_store[PINDRELO_STORE_SIZE(SLOTS)], output[SLOTS * PINDRELO_MAX_PAYLOAD];
+
+#define RECEIVER r, PINDRELO_STATE_WORDS, receiver_store, sizeof receiver_store
+
+static struct { int fd; uint64_t length, got; } file; /* with the 8 bytes that tell the length */
+
+/* what is newly delivered goes to the file */
+static void take_delivered(void)
 {
-    uint64_t n = 0;
-    for (int i = 0; i < 8; i++)
-        n = n << 8 | d[i];
-    return n;
+    uint64_t n = done("drain", pindrelo_drain(RECEIVER, output, sizeof output)), at = 0;
+    for (; at < n && file.got < 8; at++, file.got++)
+        file.length = file.length << 8 | output[at];
+    while (at < n) {
+        ssize_t w = write(file.fd, output + at, n - at);
+        if (w <= 0)
+            die("write", 0);
+        at += (uint64_t)w, file.got += (uint64_t)w;
+    }
 }
 
-/* what is newly delivered goes to the file; its pages aren't needed again */
-static void write_out(int fd, uint8_t *output, uint64_t from, uint64_t to)
+static int whole(void)
 {
-    uint64_t page = ~(uint64_t)4095;
-    for (uint64_t at = from; at < to;) {
-        ssize_t n = write(fd, output + at, to - at);
-        if (n <= 0)
-            die("write", 0);
-        at += (uint64_t)n;
-    }
-    madvise(output + (from & page), (to & page) - (from & page), MADV_DONTNEED);
+    return file.got >= 8 && file.got - 8 == file.length;
 }
 
 static int receive_file(const char *path)
 {
-    static uint8_t store[PINDRELO_STORE_SIZE(SLOTS)];
-    uint64_t r[PINDRELO_STATE_WORDS];
     uint8_t in[65536], ack[PINDRELO_ACK_SIZE];
-    size_t capacity = (size_t)1 << 32; /* address space, not memory: pages come as they are written */
-    uint8_t *output = mmap(NULL, capacity, PROT_READ | PROT_WRITE, MAP_PRIVATE | MAP_ANONYMOUS | MAP_NORESERVE, -1, 0);
-    int fd = open(path, O_WRONLY | O_CREAT | O_TRUNC, 0644);
-    if (fd < 0 || output == MAP_FAILED)
+    file.fd = open(path, O_WRONLY | O_CREAT | O_TRUNC, 0644);
+    if (file.fd < 0)
         die(path, 0);
-    done("make receiver", pindrelo_make_receiver(protocol, window, r, PINDRELO_STATE_WORDS, store, sizeof store));
+    done("make receiver", pindrelo_make_receiver(protocol, window, RECEIVER));
 
-    uint64_t written = 8, length = UINT64_MAX, refused = 0, silent = 0, begun = 0, last = clock_ns();
+    uint64_t refused = 0, silent = 0, begun = 0, last = clock_ns();
     for (;;) {
         if (poll(&(struct pollfd){.fd = line.fd, .events = POLLIN}, 1, 100) == 0)
             release(1);
-        int whole = r[PINDRELO_RECEIVER_FILLED] == length;
-        if (whole && clock_ns() - last > LINGER)
+        int complete = whole();
+        if (complete && clock_ns() - last > LINGER)
             break; /* the resendings have stopped: the sender has its ACKs, or will give up although all is here */
-        if (!whole && clock_ns() - last > GIVE_UP) {
+        if (!complete && clock_ns() - last > GIVE_UP) {
             fprintf(stderr, "pagelink: nothing for 10 s\n");
             return 1;
         }
@@ -270,8 +270,7 @@ static int receive_file(const char *path)
         ssize_t n = recvfrom(line.fd, in, sizeof in, MSG_DONTWAIT, (struct sockaddr *)&from, &fromlen);
         if (n < 0)
             continue;
-        pindrelo_answer a = pindrelo_receive(r, PINDRELO_STATE_WORDS, store, sizeof store, in, (size_t)n, output,
-                                             capacity, ack, sizeof ack);
+        pindrelo_answer a = pindrelo_receive(RECEIVER, in, (size_t)n, output, sizeof output, ack, sizeof ack);
         if (pindrelo_from_line(a))
             refused++; /* a damaged datagram: nothing changed */
         else if (pindrelo_refused(a))
@@ -283,19 +282,13 @@ static int receive_file(const char *path)
             last = clock_ns();
             if (!begun)
                 begun = last;
+            take_delivered();
             transmit(ack, sizeof ack);
         }
-        uint64_t filled = r[PINDRELO_RECEIVER_FILLED];
-        if (length == UINT64_MAX && filled >= 8)
-            length = length_at(output) + 8;
-        if (filled == length && !whole)
-            report("receiver", length - 8, last - begun + 1);
-        if (filled > written) {
-            write_out(fd, output, written, filled);
-            written = filled;
-        }
+        if (!complete && whole())
+            report("receiver", file.length, last - begun + 1);
     }
-    close(fd);
+    close(file.fd);
     fprintf(stderr, "receiver: chunks %llu, datagrams %llu, refused %llu, silent %llu\n",
             (unsigned long long)r[PINDRELO_RECEIVER_BASE], (unsigned long long)r[PINDRELO_RECEIVER_TOTAL],
             (unsigned long long)refused, (unsigned long long)silent);

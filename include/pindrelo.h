@@ -145,7 +145,8 @@ enum { PINDRELO_STOP_AND_WAIT = 1, PINDRELO_GO_BACK_N = 2, PINDRELO_SELECTIVE_RE
  *     SILENT                nothing is to be sent
  *     pindrelo_from_line    count it: nothing has changed
  *     any other             the host's own mistake, such as a file longer than the output
- * The output up to word FILLED is what is delivered. How the end is known: WHAT THE HOST DECIDES, below.
+ * The output up to word FILLED is what is delivered; pindrelo_drain makes room in it. How the end is known: WHAT THE
+ * HOST DECIDES, below.
  *
  * A sender: pindrelo_make_sender and pindrelo_make_timers; then, until all is sent and word BASE is word NEXT:
  *  1  pindrelo_send, as long as there are chunks and the answer isn't WINDOW_FULL. Send the datagram, note the time for

@@ -231,6 +231,14 @@ static int receiver_broken(struct words r, struct bytes store, size_t capacity)
     return 0;
 }
 
+/* 0, or what is refused whatever the call */
+static uint64_t receiver_held(struct words r, struct bytes store, size_t capacity)
+{
+    if (receiver_broken(r, store, capacity))
+        return PINDRELO_STATE;
+    return r.at[4] >= COUNTS_END || r.at[5] >= COUNTS_END || r.at[6] >= COUNTS_END ? PINDRELO_COUNTS : 0;
+}
+
 /* the number of the ACK, or NONE; *delivered: how many bytes are to be delivered */
 #define NONE UINT64_MAX
 static uint64_t reply(struct words r, struct bytes store, struct bytes d, uint64_t *delivered)
@@ -255,12 +263,8 @@ static uint64_t reply(struct words r, struct bytes store, struct bytes d, uint64
 
 static uint64_t expect_receive(struct words r, struct bytes store, struct bytes d, size_t capacity, size_t room)
 {
-    uint64_t refused, delivered = 0;
-    if (receiver_broken(r, store, capacity))
-        return PINDRELO_STATE;
-    if (r.at[4] >= COUNTS_END || r.at[5] >= COUNTS_END || r.at[6] >= COUNTS_END)
-        return PINDRELO_COUNTS;
-    if ((refused = given(d)))
+    uint64_t refused = receiver_held(r, store, capacity), delivered = 0;
+    if (refused || (refused = given(d)))
         return refused;
     if (valid(d) && d.at[4] == 1 && number_in(d.at) >= NUMBERS_END)
         return PINDRELO_NUMBERS;
@@ -268,6 +272,12 @@ static uint64_t expect_receive(struct words r, struct bytes store, struct bytes 
     if (delivered > capacity - r.at[3] || (ack != NONE && room < 10))
         return PINDRELO_FULL;
     return ack == NONE ? PINDRELO_SILENT : answer_of(0, ack);
+}
+
+static uint64_t expect_drain(struct words r, struct bytes store, size_t capacity)
+{
+    uint64_t refused = receiver_held(r, store, capacity);
+    return refused ? refused : answer_of(0, r.at[3]);
 }
 
 /* ---- a timer set */
@@ -334,6 +344,28 @@ static uint64_t expect_earliest(struct timers t)
         if (t.deadlines[i] < earliest)
             earliest = t.deadlines[i];
     return t.state.at[1] ? answer_of(0, earliest) : PINDRELO_NOTHING;
+}
+
+/* ---- a single timer */
+
+enum { SINGLE_START, SINGLE_CANCEL, IS_ACTIVE, REMAINING, IS_EXPIRED, IS_EXPIRED_FOR };
+
+static uint64_t expect_single(struct words t, int which, uint64_t now, uint64_t duration, uint64_t generation)
+{
+    if (t.n < 4 || t.at[0] != 264 || t.at[1] > 1 || (t.at[1] == 0 && t.at[2] != 0))
+        return PINDRELO_STATE;
+    if (t.at[2] > PINDRELO_MAX_TIME || (which != SINGLE_CANCEL && which != IS_ACTIVE && now > PINDRELO_MAX_TIME))
+        return PINDRELO_TIME;
+    if (which == SINGLE_START && (duration > PINDRELO_MAX_DURATION || now + duration > PINDRELO_MAX_TIME))
+        return PINDRELO_TIME;
+    int expired = t.at[1] && t.at[2] <= now;
+    switch (which) {
+    case IS_ACTIVE: return answer_of(0, t.at[1]);
+    case REMAINING: return t.at[1] ? answer_of(0, expired ? 0 : t.at[2] - now) : PINDRELO_NOTHING;
+    case IS_EXPIRED: return answer_of(0, expired);
+    case IS_EXPIRED_FOR: return answer_of(0, expired && t.at[3] == generation);
+    default: return 0;
+    }
 }
 
 #endif

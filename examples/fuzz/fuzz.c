@@ -15,7 +15,7 @@
 
 static unsigned long long calls, seed, met[32];
 static const char *name = "no call";
-static struct { const char *name; uint32_t statuses, met; } exports[24];
+static struct { const char *name; uint32_t statuses, met; } exports[64];
 
 static void fault(int number)
 {
@@ -215,8 +215,21 @@ static void receive(void)
     if ((done || pindrelo_status(a) == PINDRELO_SILENT) && regions[OUTPUT].length == CAPACITY) {
         go_on(&receiver);
         memcpy(output, to, CAPACITY);
-        if (CAPACITY - receiver.words[3] < below(3000)) /* a new output */
-            receiver.words[3] = 0;
+    }
+}
+
+static void drain(void)
+{
+    name = "drain";
+    uint64_t *s = give_words(receiver.words, 8);
+    uint8_t *store = give_store(&receiver), *from = give(OUTPUT, output, CAPACITY, length(CAPACITY, CAPACITY + 100));
+    may_write(STATE, 24, 32);
+    uint64_t expected = expect_drain(state_lent(), lent(STORE), lent(OUTPUT).n);
+    pindrelo_answer a = pindrelo_drain(STATE_SLICE, STORE_SLICE, from, regions[OUTPUT].length);
+    if (check(a, expected, HELD)) {
+        if (s[3] != 0)
+            fail("another fill mark", a, expected);
+        go_on(&receiver);
     }
 }
 
@@ -289,6 +302,42 @@ static void timers(void)
     }
 }
 
+static void single_timer(void)
+{
+    int which = (int)below(6);
+    static const char *names[] = {"single_timer_start", "single_timer_cancel", "single_timer_is_active",
+                                  "single_timer_remaining", "single_timer_is_expired", "single_timer_is_expired_for"};
+    name = names[which];
+    uint64_t *s = give_words(single, PINDRELO_SINGLE_TIMER_WORDS), generation = single[3] + below(2);
+    uint64_t at = wild && chance(3) ? boundary(PINDRELO_MAX_TIME) : now, wait = wild ? boundary(9) : below(50);
+    uint64_t expected = expect_single(state_lent(), which, at, wait, generation);
+    uint64_t before = state_lent().n > 3 ? s[3] : 0;
+    if (which < 2)
+        may_write(STATE, 0, 32);
+    pindrelo_answer a = which == SINGLE_START    ? pindrelo_single_timer_start(STATE_SLICE, at, wait)
+                        : which == SINGLE_CANCEL ? pindrelo_single_timer_cancel(STATE_SLICE)
+                        : which == IS_ACTIVE     ? pindrelo_single_timer_is_active(STATE_SLICE)
+                        : which == REMAINING     ? pindrelo_single_timer_remaining(STATE_SLICE, at)
+                        : which == IS_EXPIRED    ? pindrelo_single_timer_is_expired(STATE_SLICE, at)
+                                                 : pindrelo_single_timer_is_expired_for(STATE_SLICE, generation, at);
+    if (!check(a, expected, TIMER | (which == REMAINING ? ONE(18) : 0)) || which >= 2)
+        return;
+    uint64_t deadline = which == SINGLE_START ? at + wait : 0;
+    if (s[0] != 264 || s[1] != (which == SINGLE_START) || s[2] != deadline || s[3] != before + 1)
+        fail("another timer", a, expected);
+    memcpy(single, s, sizeof single);
+}
+
+static void make_single(void)
+{
+    name = "make_single_timer";
+    uint64_t *s = give_words(single, PINDRELO_SINGLE_TIMER_WORDS);
+    may_write(STATE, 0, 32);
+    uint64_t expected = regions[STATE].length < 32 ? PINDRELO_FULL : 0;
+    if (check(pindrelo_make_single_timer(STATE_SLICE), expected, ONE(0) | ONE(5)))
+        memcpy(single, s, sizeof single);
+}
+
 /* new ends of one protocol and window, at times with high numbers or counters */
 static void begin(void)
 {
@@ -310,6 +359,7 @@ static void begin(void)
     if (chance(4) || timer_words[0] == 0) {
         now = below(100);
         pindrelo_make_timers(timer_words, 3, keys, TIMERS, deadlines, TIMERS);
+        pindrelo_make_single_timer(single, PINDRELO_SINGLE_TIMER_WORDS);
     }
 }
 
@@ -330,7 +380,7 @@ static void without_store(void)
 
 static void one_call(void)
 {
-    switch (below(24)) {
+    switch (below(28)) {
     case 0: make_end(&sender, 1); return;
     case 1: make_end(&receiver, 0); return;
     case 2: case 3: case 4: case 5: send(); return;
@@ -339,6 +389,9 @@ static void one_call(void)
     case 13: look(); return;
     case 14: case 15: case 16: case 17: case 18: receive(); return;
     case 19: case 20: packets(); return;
+    case 21: drain(); return;
+    case 22: case 23: single_timer(); return;
+    case 24: make_single(); return;
     default: timers(); return;
     }
 }

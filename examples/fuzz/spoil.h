@@ -35,7 +35,7 @@ static struct end {
     uint8_t store[PINDRELO_STORE_SIZE(PINDRELO_MAX_WINDOW)];
 } sender, receiver;
 static uint8_t output[CAPACITY];
-static uint64_t timer_words[PINDRELO_TIMERS_WORDS + 1], deadlines[TIMERS], now;
+static uint64_t timer_words[PINDRELO_TIMERS_WORDS], deadlines[TIMERS], now, single[PINDRELO_SINGLE_TIMER_WORDS];
 static uint32_t keys[TIMERS];
 static struct { uint8_t bytes[PINDRELO_MAX_DATAGRAM]; size_t n; } pool[POOL];
 static int wild; /* this call's arguments are spoilt */
@@ -51,9 +51,10 @@ static void remember(const uint8_t *d, size_t n)
 
 static uint64_t boundary(uint64_t near)
 {
-    static const uint64_t at[] = {0, 1, 2, 31, 32, 33, 255, 256, 257, 258, 259, 260, 261, 262, 263, 512, 1400, 1401,
-                                  65535, 65536, UINT32_MAX, NUMBERS_END, PINDRELO_MAX_TIME, PINDRELO_MAX_DURATION,
-                                  COUNTS_END, UINT64_C(1) << 32, UINT64_C(1) << 56, UINT64_C(1) << 63, UINT64_MAX};
+    static const uint64_t at[] = {0, 1, 2, 31, 32, 33, 255, 256, 257, 258, 259, 260, 261, 262, 263, 264, 512, 1400,
+                                  1401, 65535, 65536, UINT32_MAX, NUMBERS_END, PINDRELO_MAX_TIME,
+                                  PINDRELO_MAX_DURATION, COUNTS_END, UINT64_C(1) << 32, UINT64_C(1) << 56,
+                                  UINT64_C(1) << 63, UINT64_MAX};
     switch (below(4)) {
     case 0: return any() >> below(64);
     case 1: return near + below(5) - 2;
