@@ -21,7 +21,9 @@
 #include <unistd.h>
 
 #define FIRST_TIMEOUT 30000000u /* ns */
+#define SHORTEST_TIMEOUT 20000000u
 #define LONGEST_TIMEOUT 240000000u
+#define GRANULARITY 1000000u
 #define GIVE_UP 10000000000u /* ns without progress */
 #define LINGER 1500000000u   /* ns of silence after the last byte: several times the longest timeout */
 #define SLOTS PINDRELO_MAX_WINDOW
@@ -63,21 +65,12 @@ static void report(const char *who, uint64_t bytes, uint64_t ns)
             line.sent, line.lost, line.doubled, line.swapped, line.flipped);
 }
 
-/* ---- the timeout: a fixed one, doubled when timers run out, until the next sample of a round trip */
+/* ---- the timeout: RFC 6298's with a lower minimum and maximum */
 
-static struct { uint64_t timeout, samples, sum; } rto = {FIRST_TIMEOUT, 0, 0};
+static uint64_t rto[PINDRELO_ESTIMATOR_WORDS];
+static double rto_doubles[PINDRELO_ESTIMATOR_DOUBLES];
 
-static void sample(uint64_t round_trip)
-{
-    rto.timeout = FIRST_TIMEOUT;
-    rto.samples++;
-    rto.sum += round_trip;
-}
-
-static void back_off(void)
-{
-    rto.timeout = 2 * rto.timeout < LONGEST_TIMEOUT ? 2 * rto.timeout : LONGEST_TIMEOUT;
-}
+#define ESTIMATOR rto, PINDRELO_ESTIMATOR_WORDS, rto_doubles, PINDRELO_ESTIMATOR_DOUBLES
 
 /* ---- the sender: its state, a timer for each outstanding number, and when and how often that was sent */
 
@@ -87,24 +80,24 @@ static void back_off(void)
 static uint64_t s[PINDRELO_STATE_WORDS], t[PINDRELO_TIMERS_WORDS], deadlines[SLOTS];
 static uint8_t sender_store[PINDRELO_STORE_SIZE(SLOTS)];
 static uint32_t keys[SLOTS];
-static struct { uint64_t at; int again; } notes[SLOTS];
+static struct { uint64_t at, again; } notes[SLOTS];
 
-static void sent(uint64_t number, uint64_t now, int again)
+static void sent(uint64_t number, uint64_t now, uint64_t again)
 {
     notes[number % SLOTS].at = now;
     notes[number % SLOTS].again = again;
-    done("timer start", pindrelo_timer_start(TIMERS, (uint32_t)number, now, rto.timeout));
+    done("timer start", pindrelo_timer_start(TIMERS, number, now, rto[PINDRELO_ESTIMATOR_RTO]));
 }
 
 /* an accepted ACK: true where it is a number's first. Go-Back-N's is of all numbers up to it, base being the lowest;
- * the lowest is sampled, unless it was sent again */
+ * the lowest is sampled, and the estimator leaves out what was sent again */
 static int acknowledged(uint64_t base, uint64_t number, uint64_t now)
 {
-    uint64_t lowest = protocol == PINDRELO_GO_BACK_N ? base : number, ran = 0;
+    uint64_t lowest = protocol == PINDRELO_GO_BACK_N ? base : number, i = lowest % SLOTS, ran = 0;
     for (uint64_t n = lowest; n <= number; n++)
-        ran |= done("timer cancel", pindrelo_timer_cancel(TIMERS, (uint32_t)n));
-    if (ran && !notes[lowest % SLOTS].again)
-        sample(now - notes[lowest % SLOTS].at);
+        ran |= done("timer cancel", pindrelo_timer_cancel(TIMERS, n));
+    if (ran)
+        done("sample", pindrelo_estimator_sample(ESTIMATOR, now - notes[i].at, notes[i].again));
     return ran != 0;
 }
 
@@ -117,7 +110,7 @@ static void timeouts(uint64_t now)
     int selective = protocol == PINDRELO_SELECTIVE_REPEAT;
     if (!count)
         return;
-    back_off();
+    done("estimator timeout", pindrelo_estimator_timeout(ESTIMATOR));
     for (uint64_t i = 0; i < (selective ? count : 1); i++) {
         pindrelo_answer a = selective ? pindrelo_timeout_number(SENDER, due[i], out, sizeof out)
                                       : pindrelo_timeout_all(SENDER, out, sizeof out);
@@ -174,6 +167,8 @@ static int send_file(const char *path)
     uint8_t *stream = read_stream(path, &length), in[65536], d[PINDRELO_MAX_DATAGRAM];
     done("make sender", pindrelo_make_sender(protocol, window, UINT32_MAX, SENDER));
     done("make timers", pindrelo_make_timers(TIMERS));
+    done("make estimator", pindrelo_make_estimator(ESTIMATOR, FIRST_TIMEOUT, SHORTEST_TIMEOUT, LONGEST_TIMEOUT,
+                                                   GRANULARITY, 0.125, 0.25, 4, 1));
     uint64_t progress = clock_ns(), begun = progress, refused = 0, other = 0;
     while (at < length || s[PINDRELO_SENDER_BASE] != s[PINDRELO_SENDER_NEXT]) {
         while (at < length) { /* fill the window */
@@ -210,10 +205,10 @@ static int send_file(const char *path)
     }
     report("sender", length - 8, clock_ns() - begun);
     fprintf(stderr, "sender: chunks %llu, datagrams %llu, again %llu, refused %llu, not accepted %llu; round trips "
-            "sampled %llu, on average %.3f ms\n", (unsigned long long)s[PINDRELO_SENDER_NEXT],
+            "sampled %llu, SRTT %.3f ms, RTO %.3f ms\n", (unsigned long long)s[PINDRELO_SENDER_NEXT],
             (unsigned long long)s[PINDRELO_SENDER_TOTAL_SENT], (unsigned long long)s[PINDRELO_SENDER_RETRANSMISSIONS],
-            (unsigned long long)refused, (unsigned long long)other, (unsigned long long)rto.samples,
-            rto.samples ? (double)rto.sum / 1e6 / (double)rto.samples : 0.0);
+            (unsigned long long)refused, (unsigned long long)other, (unsigned long long)rto[PINDRELO_ESTIMATOR_SAMPLES],
+            (double)rto[PINDRELO_ESTIMATOR_SRTT + 1] / 1e6, (double)rto[PINDRELO_ESTIMATOR_RTO] / 1e6);
     free(stream);
     return 0;
 }

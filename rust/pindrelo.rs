@@ -2,9 +2,11 @@
 //! `Result`s. What each call does is said there. Link libpindrelo.a: `-L native=target/staticlib -l static=pindrelo`.
 #![allow(dead_code, unused_imports)]
 
+mod estimator;
 mod packets;
 mod timers;
 
+pub use estimator::{Estimator, EstimatorSetup, ESTIMATOR_DOUBLES, ESTIMATOR_WORDS};
 pub use packets::{payload, read, validate, write, Packet, PacketKind};
 pub use timers::{SingleTimer, Timers, SINGLE_TIMER_WORDS, TIMERS_WORDS};
 

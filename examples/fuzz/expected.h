@@ -1,4 +1,4 @@
-/* For fuzz: what each call should answer, worked out from pindrelo.h. */
+/* For fuzz: what each call of packets and ends should answer, worked out from pindrelo.h. */
 #ifndef EXPECTED_H
 #define EXPECTED_H
 
@@ -11,7 +11,6 @@
 
 struct bytes { const uint8_t *at; size_t n; };
 struct words { const uint64_t *at; size_t n; };
-struct timers { struct words state; const uint32_t *keys; const uint64_t *deadlines; size_t key_count, count; };
 
 static uint64_t answer_of(unsigned status, uint64_t value)
 {
@@ -278,94 +277,6 @@ static uint64_t expect_drain(struct words r, struct bytes store, size_t capacity
 {
     uint64_t refused = receiver_held(r, store, capacity);
     return refused ? refused : answer_of(0, r.at[3]);
-}
-
-/* ---- a timer set */
-
-static uint64_t expect_make_timers(struct timers t)
-{
-    return t.key_count != t.count ? PINDRELO_STATE : t.state.n < 3 ? PINDRELO_FULL : 0;
-}
-
-/* 0, or what is refused whatever the call */
-static uint64_t timers_held(struct timers t)
-{
-    if (t.state.n < 3 || t.state.at[0] != 263 || t.key_count != t.count || t.state.at[1] > t.count)
-        return PINDRELO_STATE;
-    for (uint64_t i = 1; i < t.state.at[1]; i++)
-        if (t.keys[i - 1] >= t.keys[i])
-            return PINDRELO_STATE;
-    for (uint64_t i = 0; i < t.state.at[1]; i++)
-        if (t.deadlines[i] > PINDRELO_MAX_TIME)
-            return PINDRELO_TIME;
-    return 0;
-}
-
-static int runs(struct timers t, uint64_t key)
-{
-    for (uint64_t i = 0; i < t.state.at[1]; i++)
-        if (t.keys[i] == key)
-            return 1;
-    return 0;
-}
-
-static uint64_t expect_start(struct timers t, uint64_t key, uint64_t now, uint64_t duration)
-{
-    uint64_t refused = timers_held(t);
-    if (refused)
-        return refused;
-    if (now > PINDRELO_MAX_TIME || duration > PINDRELO_MAX_DURATION || now + duration > PINDRELO_MAX_TIME)
-        return PINDRELO_TIME;
-    return WIDE(key) || (t.state.at[1] == t.count && !runs(t, key)) ? PINDRELO_FULL : 0;
-}
-
-static uint64_t expect_cancel(struct timers t, uint64_t key)
-{
-    uint64_t refused = timers_held(t);
-    return refused ? refused : answer_of(0, (uint64_t)runs(t, key));
-}
-
-static uint64_t expect_pop(struct timers t, uint64_t now, size_t room)
-{
-    uint64_t refused = timers_held(t), due = 0;
-    if (refused || now > PINDRELO_MAX_TIME)
-        return refused ? refused : PINDRELO_TIME;
-    for (uint64_t i = 0; i < t.state.at[1]; i++)
-        due += t.deadlines[i] <= now;
-    return room < due ? PINDRELO_FULL : answer_of(0, due);
-}
-
-static uint64_t expect_earliest(struct timers t)
-{
-    uint64_t refused = timers_held(t), earliest = UINT64_MAX;
-    if (refused)
-        return refused;
-    for (uint64_t i = 0; i < t.state.at[1]; i++)
-        if (t.deadlines[i] < earliest)
-            earliest = t.deadlines[i];
-    return t.state.at[1] ? answer_of(0, earliest) : PINDRELO_NOTHING;
-}
-
-/* ---- a single timer */
-
-enum { SINGLE_START, SINGLE_CANCEL, IS_ACTIVE, REMAINING, IS_EXPIRED, IS_EXPIRED_FOR };
-
-static uint64_t expect_single(struct words t, int which, uint64_t now, uint64_t duration, uint64_t generation)
-{
-    if (t.n < 4 || t.at[0] != 264 || t.at[1] > 1 || (t.at[1] == 0 && t.at[2] != 0))
-        return PINDRELO_STATE;
-    if (t.at[2] > PINDRELO_MAX_TIME || (which != SINGLE_CANCEL && which != IS_ACTIVE && now > PINDRELO_MAX_TIME))
-        return PINDRELO_TIME;
-    if (which == SINGLE_START && (duration > PINDRELO_MAX_DURATION || now + duration > PINDRELO_MAX_TIME))
-        return PINDRELO_TIME;
-    int expired = t.at[1] && t.at[2] <= now;
-    switch (which) {
-    case IS_ACTIVE: return answer_of(0, t.at[1]);
-    case REMAINING: return t.at[1] ? answer_of(0, expired ? 0 : t.at[2] - now) : PINDRELO_NOTHING;
-    case IS_EXPIRED: return answer_of(0, expired);
-    case IS_EXPIRED_FOR: return answer_of(0, expired && t.at[3] == generation);
-    default: return 0;
-    }
 }
 
 #endif

@@ -7,79 +7,9 @@
  * lent byte that the call must not have written with what it was: after a refusal all of them. In a million calls or
  * more each call has to have met every status that the header names for it. */
 #define _GNU_SOURCE
-#include "spoil.h"
+#include "checked.h"
+#include "timing.h"
 #include <signal.h>
-#include <stdio.h>
-#include <stdlib.h>
-#include <unistd.h>
-
-static unsigned long long calls, seed, met[32];
-static const char *name = "no call";
-static struct { const char *name; uint32_t statuses, met; } exports[64];
-
-static void fault(int number)
-{
-    char s[160];
-    int n = snprintf(s, sizeof s, "fuzz: signal %d in %s, call %llu of seed %llu\n", number, name, calls, seed);
-    if (write(2, s, (size_t)n) < 0)
-        _exit(2);
-    _exit(1);
-}
-
-static void fail(const char *what, pindrelo_answer a, pindrelo_answer expected)
-{
-    fprintf(stderr, "fuzz: %s: %s: answer %u with %llu, expected %u with %llu; call %llu of seed %llu\n", name, what,
-            pindrelo_status(a), (unsigned long long)pindrelo_value(a), pindrelo_status(expected),
-            (unsigned long long)pindrelo_value(expected), calls, seed);
-    exit(1);
-}
-
-/* ---- after a call */
-
-#define ONE(status) (1u << (status))
-#define HELD (ONE(0) | ONE(8) | ONE(9))
-#define READING (ONE(0) | ONE(1) | ONE(2) | ONE(3))
-#define TIMER (ONE(0) | ONE(9) | ONE(10))
-
-/* true where the call was done */
-static int check(pindrelo_answer a, pindrelo_answer expected, uint32_t statuses)
-{
-    unsigned status = pindrelo_status(a);
-    if (status > 20 || !(statuses >> status & 1))
-        fail("a status that the header doesn't name", a, expected);
-    if (a != expected)
-        fail("another answer", a, expected);
-    for (int i = 0; i < REGIONS; i++) {
-        const struct region *r = &regions[i];
-        if (!r->lent)
-            continue;
-        int counting = status == PINDRELO_SILENT && i == STATE; /* words 4 to 6 */
-        if (!kept_outside(r, status ? counting ? 32 : 0 : r->from, status ? counting ? 56 : 0 : r->to))
-            fail("bytes changed that should have stayed", a, expected);
-        if (!border_kept(r))
-            fail("bytes beside what was lent changed", a, expected);
-    }
-    met[status]++;
-    int i = 0;
-    while (exports[i].name && exports[i].name != name)
-        i++;
-    exports[i].name = name;
-    exports[i].statuses = statuses;
-    exports[i].met |= ONE(status);
-    return status == PINDRELO_DONE;
-}
-
-static int all_met(void)
-{
-    int all = 1;
-    for (int i = 0; exports[i].name; i++)
-        for (int status = 0; status < 32; status++)
-            if ((exports[i].statuses & ~exports[i].met) >> status & 1) {
-                printf("fuzz: %s never answered %d\n", exports[i].name, status);
-                all = 0;
-            }
-    return all;
-}
 
 /* a state that a call has left becomes the one that later calls go on from */
 static void go_on(struct end *e)
@@ -90,11 +20,6 @@ static void go_on(struct end *e)
     if (regions[STORE].length)
         memcpy(e->store, regions[STORE].at, regions[STORE].length);
 }
-
-#define STATE_SLICE s, regions[STATE].length / 8
-#define STORE_SLICE store, regions[STORE].length
-#define IN_SLICE in, regions[IN].length
-#define OUT_SLICE out, regions[OUT].length
 
 /* ---- the calls */
 
@@ -262,82 +187,6 @@ static void packets(void)
         fail("another datagram", a, expected);
 }
 
-static void timers(void)
-{
-    int which = (int)below(5);
-    static const char *names[] = {"make_timers", "timer_start", "timer_cancel", "timer_pop", "timer_earliest"};
-    name = names[which];
-    uint64_t *s = give_words(timer_words, 3), key = wild ? boundary(3) : below(8);
-    uint32_t *k = give(KEYS, keys, sizeof keys, 4 * length(TIMERS, TIMERS + 2)), due[TIMERS] = {0};
-    uint64_t *d = give(DEADLINES, deadlines, sizeof deadlines, 8 * length(TIMERS, TIMERS + 2));
-    if (wild && chance(4) && regions[KEYS].length && regions[DEADLINES].length) {
-        regions[KEYS].at[0] = regions[KEYS].copy[0] = (uint8_t)any();
-        memcpy(regions[DEADLINES].at, (uint64_t[]){boundary(PINDRELO_MAX_TIME)}, 8);
-        memcpy(regions[DEADLINES].copy, regions[DEADLINES].at, 8);
-    }
-    uint32_t *out = give(OUT, due, sizeof due, 4 * length(TIMERS, TIMERS + 2));
-    size_t n = regions[KEYS].length / 4, m = regions[DEADLINES].length / 8, room = regions[OUT].length / 4;
-    struct timers t = {state_lent(), k, d, n, m};
-    uint64_t at = wild && chance(3) ? boundary(PINDRELO_MAX_TIME) : now, wait = wild ? boundary(9) : below(50);
-    uint64_t expected = which == 0 ? expect_make_timers(t) : which == 1 ? expect_start(t, key, at, wait)
-                      : which == 2 ? expect_cancel(t, key) : which == 3 ? expect_pop(t, at, room) : expect_earliest(t);
-    if (which < 4) {
-        may_write(STATE, 0, 24);
-        may_write(KEYS, 0, regions[KEYS].length);
-        may_write(DEADLINES, 0, regions[DEADLINES].length);
-    }
-    may_write(OUT, 0, which == 3 && !pindrelo_status(expected) ? 4 * pindrelo_value(expected) : 0);
-    pindrelo_answer a = which == 0   ? pindrelo_make_timers(STATE_SLICE, k, n, d, m)
-                        : which == 1 ? pindrelo_timer_start(STATE_SLICE, k, n, d, m, key, at, wait)
-                        : which == 2 ? pindrelo_timer_cancel(STATE_SLICE, k, n, d, m, key)
-                        : which == 3 ? pindrelo_timer_pop(STATE_SLICE, k, n, d, m, at, out, room)
-                                     : pindrelo_timer_earliest(STATE_SLICE, k, n, d, m);
-    static const uint32_t statuses[] = {ONE(0) | ONE(5) | ONE(9), TIMER | ONE(5), TIMER, TIMER | ONE(5),
-                                        TIMER | ONE(18)};
-    if (check(a, expected, statuses[which]) && n == TIMERS && m == TIMERS) {
-        memcpy(timer_words, s, 24);
-        memcpy(keys, k, sizeof keys);
-        memcpy(deadlines, d, sizeof deadlines);
-        now += below(20);
-    }
-}
-
-static void single_timer(void)
-{
-    int which = (int)below(6);
-    static const char *names[] = {"single_timer_start", "single_timer_cancel", "single_timer_is_active",
-                                  "single_timer_remaining", "single_timer_is_expired", "single_timer_is_expired_for"};
-    name = names[which];
-    uint64_t *s = give_words(single, PINDRELO_SINGLE_TIMER_WORDS), generation = single[3] + below(2);
-    uint64_t at = wild && chance(3) ? boundary(PINDRELO_MAX_TIME) : now, wait = wild ? boundary(9) : below(50);
-    uint64_t expected = expect_single(state_lent(), which, at, wait, generation);
-    uint64_t before = state_lent().n > 3 ? s[3] : 0;
-    if (which < 2)
-        may_write(STATE, 0, 32);
-    pindrelo_answer a = which == SINGLE_START    ? pindrelo_single_timer_start(STATE_SLICE, at, wait)
-                        : which == SINGLE_CANCEL ? pindrelo_single_timer_cancel(STATE_SLICE)
-                        : which == IS_ACTIVE     ? pindrelo_single_timer_is_active(STATE_SLICE)
-                        : which == REMAINING     ? pindrelo_single_timer_remaining(STATE_SLICE, at)
-                        : which == IS_EXPIRED    ? pindrelo_single_timer_is_expired(STATE_SLICE, at)
-                                                 : pindrelo_single_timer_is_expired_for(STATE_SLICE, generation, at);
-    if (!check(a, expected, TIMER | (which == REMAINING ? ONE(18) : 0)) || which >= 2)
-        return;
-    uint64_t deadline = which == SINGLE_START ? at + wait : 0;
-    if (s[0] != 264 || s[1] != (which == SINGLE_START) || s[2] != deadline || s[3] != before + 1)
-        fail("another timer", a, expected);
-    memcpy(single, s, sizeof single);
-}
-
-static void make_single(void)
-{
-    name = "make_single_timer";
-    uint64_t *s = give_words(single, PINDRELO_SINGLE_TIMER_WORDS);
-    may_write(STATE, 0, 32);
-    uint64_t expected = regions[STATE].length < 32 ? PINDRELO_FULL : 0;
-    if (check(pindrelo_make_single_timer(STATE_SLICE), expected, ONE(0) | ONE(5)))
-        memcpy(single, s, sizeof single);
-}
-
 /* new ends of one protocol and window, at times with high numbers or counters */
 static void begin(void)
 {
@@ -360,6 +209,7 @@ static void begin(void)
         now = below(100);
         pindrelo_make_timers(timer_words, 3, keys, TIMERS, deadlines, TIMERS);
         pindrelo_make_single_timer(single, PINDRELO_SINGLE_TIMER_WORDS);
+        pindrelo_make_default_estimator(estimator, PINDRELO_ESTIMATOR_WORDS, factors, PINDRELO_ESTIMATOR_DOUBLES);
     }
 }
 
@@ -380,7 +230,7 @@ static void without_store(void)
 
 static void one_call(void)
 {
-    switch (below(28)) {
+    switch (below(32)) {
     case 0: make_end(&sender, 1); return;
     case 1: make_end(&receiver, 0); return;
     case 2: case 3: case 4: case 5: send(); return;
@@ -392,6 +242,8 @@ static void one_call(void)
     case 21: drain(); return;
     case 22: case 23: single_timer(); return;
     case 24: make_single(); return;
+    case 25: make_estimator(); return;
+    case 26: case 27: estimate(); return;
     default: timers(); return;
     }
 }
