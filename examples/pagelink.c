@@ -16,13 +16,14 @@
 #include <stdio.h>
 #include <stdlib.h>
 #include <string.h>
-#include <sys/mman.h>
 #include <sys/stat.h>
 #include <time.h>
 #include <unistd.h>
 
 #define FIRST_TIMEOUT 30000000u /* ns */
+#define SHORTEST_TIMEOUT 20000000u
 #define LONGEST_TIMEOUT 240000000u
+#define GRANULARITY 1000000u
 #define GIVE_UP 10000000000u /* ns without progress */
 #define LINGER 1500000000u   /* ns of silence after the last byte: several times the longest timeout */
 #define SLOTS PINDRELO_MAX_WINDOW
@@ -64,21 +65,12 @@ static void report(const char *who, uint64_t bytes, uint64_t ns)
             line.sent, line.lost, line.doubled, line.swapped, line.flipped);
 }
 
-/* ---- the timeout: a fixed one, doubled when timers run out, until the next sample of a round trip */
+/* ---- the timeout: RFC 6298's with a lower minimum and maximum */
 
-static struct { uint64_t timeout, samples, sum; } rto = {FIRST_TIMEOUT, 0, 0};
+static uint64_t rto[PINDRELO_ESTIMATOR_WORDS];
+static double rto_doubles[PINDRELO_ESTIMATOR_DOUBLES];
 
-static void sample(uint64_t round_trip)
-{
-    rto.timeout = FIRST_TIMEOUT;
-    rto.samples++;
-    rto.sum += round_trip;
-}
-
-static void back_off(void)
-{
-    rto.timeout = 2 * rto.timeout < LONGEST_TIMEOUT ? 2 * rto.timeout : LONGEST_TIMEOUT;
-}
+#define ESTIMATOR rto, PINDRELO_ESTIMATOR_WORDS, rto_doubles, PINDRELO_ESTIMATOR_DOUBLES
 
 /* ---- the sender: its state, a timer for each outstanding number, and when and how often that was sent */
 
@@ -88,24 +80,24 @@ static void back_off(void)
 static uint64_t s[PINDRELO_STATE_WORDS], t[PINDRELO_TIMERS_WORDS], deadlines[SLOTS];
 static uint8_t sender_store[PINDRELO_STORE_SIZE(SLOTS)];
 static uint32_t keys[SLOTS];
-static struct { uint64_t at; int again; } notes[SLOTS];
+static struct { uint64_t at, again; } notes[SLOTS];
 
-static void sent(uint64_t number, uint64_t now, int again)
+static void sent(uint64_t number, uint64_t now, uint64_t again)
 {
     notes[number % SLOTS].at = now;
     notes[number % SLOTS].again = again;
-    done("timer start", pindrelo_timer_start(TIMERS, (uint32_t)number, now, rto.timeout));
+    done("timer start", pindrelo_timer_start(TIMERS, number, now, rto[PINDRELO_ESTIMATOR_RTO]));
 }
 
 /* an accepted ACK: true where it is a number's first. Go-Back-N's is of all numbers up to it, base being the lowest;
- * the lowest is sampled, unless it was sent again */
+ * the lowest is sampled, and the estimator leaves out what was sent again */
 static int acknowledged(uint64_t base, uint64_t number, uint64_t now)
 {
-    uint64_t lowest = protocol == PINDRELO_GO_BACK_N ? base : number, ran = 0;
+    uint64_t lowest = protocol == PINDRELO_GO_BACK_N ? base : number, i = lowest % SLOTS, ran = 0;
     for (uint64_t n = lowest; n <= number; n++)
-        ran |= done("timer cancel", pindrelo_timer_cancel(TIMERS, (uint32_t)n));
-    if (ran && !notes[lowest % SLOTS].again)
-        sample(now - notes[lowest % SLOTS].at);
+        ran |= done("timer cancel", pindrelo_timer_cancel(TIMERS, n));
+    if (ran)
+        done("sample", pindrelo_estimator_sample(ESTIMATOR, now - notes[i].at, notes[i].again));
     return ran != 0;
 }
 
@@ -118,7 +110,7 @@ static void timeouts(uint64_t now)
     int selective = protocol == PINDRELO_SELECTIVE_REPEAT;
     if (!count)
         return;
-    back_off();
+    done("estimator timeout", pindrelo_estimator_timeout(ESTIMATOR));
     for (uint64_t i = 0; i < (selective ? count : 1); i++) {
         pindrelo_answer a = selective ? pindrelo_timeout_number(SENDER, due[i], out, sizeof out)
                                       : pindrelo_timeout_all(SENDER, out, sizeof out);
@@ -175,6 +167,8 @@ static int send_file(const char *path)
     uint8_t *stream = read_stream(path, &length), in[65536], d[PINDRELO_MAX_DATAGRAM];
     done("make sender", pindrelo_make_sender(protocol, window, UINT32_MAX, SENDER));
     done("make timers", pindrelo_make_timers(TIMERS));
+    done("make estimator", pindrelo_make_estimator(ESTIMATOR, FIRST_TIMEOUT, SHORTEST_TIMEOUT, LONGEST_TIMEOUT,
+                                                   GRANULARITY, 0.125, 0.25, 4, 1));
     uint64_t progress = clock_ns(), begun = progress, refused = 0, other = 0;
     while (at < length || s[PINDRELO_SENDER_BASE] != s[PINDRELO_SENDER_NEXT]) {
         while (at < length) { /* fill the window */
@@ -211,57 +205,58 @@ static int send_file(const char *path)
     }
     report("sender", length - 8, clock_ns() - begun);
     fprintf(stderr, "sender: chunks %llu, datagrams %llu, again %llu, refused %llu, not accepted %llu; round trips "
-            "sampled %llu, on average %.3f ms\n", (unsigned long long)s[PINDRELO_SENDER_NEXT],
+            "sampled %llu, SRTT %.3f ms, RTO %.3f ms\n", (unsigned long long)s[PINDRELO_SENDER_NEXT],
             (unsigned long long)s[PINDRELO_SENDER_TOTAL_SENT], (unsigned long long)s[PINDRELO_SENDER_RETRANSMISSIONS],
-            (unsigned long long)refused, (unsigned long long)other, (unsigned long long)rto.samples,
-            rto.samples ? (double)rto.sum / 1e6 / (double)rto.samples : 0.0);
+            (unsigned long long)refused, (unsigned long long)other, (unsigned long long)rto[PINDRELO_ESTIMATOR_SAMPLES],
+            (double)rto[PINDRELO_ESTIMATOR_SRTT + 1] / 1e6, (double)rto[PINDRELO_ESTIMATOR_RTO] / 1e6);
     free(stream);
     return 0;
 }
 
-/* ---- the receiver */
+/* ---- the receiver: its state, and an output for what one datagram can deliver, drained each time */
 
-static uint64_t length_at(const uint8_t *d)
+static uint64_t r[PINDRELO_STATE_WORDS];
+static uint8_t receiver_store[PINDRELO_STORE_SIZE(SLOTS)], output[SLOTS * PINDRELO_MAX_PAYLOAD];
+
+#define RECEIVER r, PINDRELO_STATE_WORDS, receiver_store, sizeof receiver_store
+
+static struct { int fd; uint64_t length, got; } file; /* with the 8 bytes that tell the length */
+
+/* what is newly delivered goes to the file */
+static void take_delivered(void)
 {
-    uint64_t n = 0;
-    for (int i = 0; i < 8; i++)
-        n = n << 8 | d[i];
-    return n;
+    uint64_t n = done("drain", pindrelo_drain(RECEIVER, output, sizeof output)), at = 0;
+    for (; at < n && file.got < 8; at++, file.got++)
+        file.length = file.length << 8 | output[at];
+    while (at < n) {
+        ssize_t w = write(file.fd, output + at, n - at);
+        if (w <= 0)
+            die("write", 0);
+        at += (uint64_t)w, file.got += (uint64_t)w;
+    }
 }
 
-/* what is newly delivered goes to the file; its pages aren't needed again */
-static void write_out(int fd, uint8_t *output, uint64_t from, uint64_t to)
+static int whole(void)
 {
-    uint64_t page = ~(uint64_t)4095;
-    for (uint64_t at = from; at < to;) {
-        ssize_t n = write(fd, output + at, to - at);
-        if (n <= 0)
-            die("write", 0);
-        at += (uint64_t)n;
-    }
-    madvise(output + (from & page), (to & page) - (from & page), MADV_DONTNEED);
+    return file.got >= 8 && file.got - 8 == file.length;
 }
 
 static int receive_file(const char *path)
 {
-    static uint8_t store[PINDRELO_STORE_SIZE(SLOTS)];
-    uint64_t r[PINDRELO_STATE_WORDS];
     uint8_t in[65536], ack[PINDRELO_ACK_SIZE];
-    size_t capacity = (size_t)1 << 32; /* address space, not memory: pages come as they are written */
-    uint8_t *output = mmap(NULL, capacity, PROT_READ | PROT_WRITE, MAP_PRIVATE | MAP_ANONYMOUS | MAP_NORESERVE, -1, 0);
-    int fd = open(path, O_WRONLY | O_CREAT | O_TRUNC, 0644);
-    if (fd < 0 || output == MAP_FAILED)
+    file.fd = open(path, O_WRONLY | O_CREAT | O_TRUNC, 0644);
+    if (file.fd < 0)
         die(path, 0);
-    done("make receiver", pindrelo_make_receiver(protocol, window, r, PINDRELO_STATE_WORDS, store, sizeof store));
+    done("make receiver", pindrelo_make_receiver(protocol, window, RECEIVER));
 
-    uint64_t written = 8, length = UINT64_MAX, refused = 0, silent = 0, begun = 0, last = clock_ns();
+    uint64_t refused = 0, silent = 0, begun = 0, last = clock_ns();
     for (;;) {
         if (poll(&(struct pollfd){.fd = line.fd, .events = POLLIN}, 1, 100) == 0)
             release(1);
-        int whole = r[PINDRELO_RECEIVER_FILLED] == length;
-        if (whole && clock_ns() - last > LINGER)
+        int complete = whole();
+        if (complete && clock_ns() - last > LINGER)
             break; /* the resendings have stopped: the sender has its ACKs, or will give up although all is here */
-        if (!whole && clock_ns() - last > GIVE_UP) {
+        if (!complete && clock_ns() - last > GIVE_UP) {
             fprintf(stderr, "pagelink: nothing for 10 s\n");
             return 1;
         }
@@ -270,8 +265,7 @@ static int receive_file(const char *path)
         ssize_t n = recvfrom(line.fd, in, sizeof in, MSG_DONTWAIT, (struct sockaddr *)&from, &fromlen);
         if (n < 0)
             continue;
-        pindrelo_answer a = pindrelo_receive(r, PINDRELO_STATE_WORDS, store, sizeof store, in, (size_t)n, output,
-                                             capacity, ack, sizeof ack);
+        pindrelo_answer a = pindrelo_receive(RECEIVER, in, (size_t)n, output, sizeof output, ack, sizeof ack);
         if (pindrelo_from_line(a))
             refused++; /* a damaged datagram: nothing changed */
         else if (pindrelo_refused(a))
@@ -283,19 +277,13 @@ static int receive_file(const char *path)
             last = clock_ns();
             if (!begun)
                 begun = last;
+            take_delivered();
             transmit(ack, sizeof ack);
         }
-        uint64_t filled = r[PINDRELO_RECEIVER_FILLED];
-        if (length == UINT64_MAX && filled >= 8)
-            length = length_at(output) + 8;
-        if (filled == length && !whole)
-            report("receiver", length - 8, last - begun + 1);
-        if (filled > written) {
-            write_out(fd, output, written, filled);
-            written = filled;
-        }
+        if (!complete && whole())
+            report("receiver", file.length, last - begun + 1);
     }
-    close(fd);
+    close(file.fd);
     fprintf(stderr, "receiver: chunks %llu, datagrams %llu, refused %llu, silent %llu\n",
             (unsigned long long)r[PINDRELO_RECEIVER_BASE], (unsigned long long)r[PINDRELO_RECEIVER_TOTAL],
             (unsigned long long)refused, (unsigned long long)silent);

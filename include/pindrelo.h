@@ -145,19 +145,21 @@ enum { PINDRELO_STOP_AND_WAIT = 1, PINDRELO_GO_BACK_N = 2, PINDRELO_SELECTIVE_RE
  *     SILENT                nothing is to be sent
  *     pindrelo_from_line    count it: nothing has changed
  *     any other             the host's own mistake, such as a file longer than the output
- * The output up to word FILLED is what is delivered. How the end is known: WHAT THE HOST DECIDES, below.
+ * The output up to word FILLED is what is delivered; pindrelo_drain makes room in it. How the end is known: WHAT THE
+ * HOST DECIDES, below.
  *
- * A sender: pindrelo_make_sender and pindrelo_make_timers; then, until all is sent and word BASE is word NEXT:
+ * A sender: pindrelo_make_sender, pindrelo_make_timers and pindrelo_make_estimator, whose RTO is every timer's
+ * duration; then, until all is sent and word BASE is word NEXT:
  *  1  pindrelo_send, as long as there are chunks and the answer isn't WINDOW_FULL. Send the datagram, note the time for
  *     its number, which was word NEXT, and start the number's timer.
  *  2  Wait for a datagram, at most until pindrelo_timer_earliest.
  *  3  pindrelo_acknowledge for each that came. Done: pindrelo_timer_cancel for its number; in Go-Back-N for all from
- *     the old word BASE up to it. If one of them ran, that is progress, and the time since the note is a sample of the
- *     round trip: of this number, in Go-Back-N of the old BASE, and only if it was sent once (Karn). If none ran, the
- *     number was acknowledged before.
- *  4  pindrelo_timer_pop. In Selective Repeat pindrelo_timeout_number for each key that was due; in the others one
- *     pindrelo_timeout_all if any was. Send each datagram that is written, and start its number's timer again, with
- *     twice the timeout until there is a sample. */
+ *     the old word BASE up to it. If one of them ran, that is progress, and the time since the note is a sample for
+ *     pindrelo_estimator_sample: of this number, in Go-Back-N of the old BASE. If none ran, the number was acknowledged
+ *     before.
+ *  4  pindrelo_timer_pop. If any key was due, pindrelo_estimator_timeout; then in Selective Repeat
+ *     pindrelo_timeout_number for each of them, in the others one pindrelo_timeout_all. Send each datagram that is
+ *     written, note that its number was sent again, and start its timer again. */
 
 /* ---- A SENDER
  *

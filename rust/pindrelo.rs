@@ -2,11 +2,13 @@
 //! `Result`s. What each call does is said there. Link libpindrelo.a: `-L native=target/staticlib -l static=pindrelo`.
 #![allow(dead_code, unused_imports)]
 
+mod estimator;
 mod packets;
 mod timers;
 
+pub use estimator::{Estimator, EstimatorSetup, ESTIMATOR_DOUBLES, ESTIMATOR_WORDS};
 pub use packets::{payload, read, validate, write, Packet, PacketKind};
-pub use timers::{Timers, TIMERS_WORDS};
+pub use timers::{SingleTimer, Timers, SINGLE_TIMER_WORDS, TIMERS_WORDS};
 
 mod raw {
     extern "C" {
@@ -37,6 +39,9 @@ mod raw {
         pub fn pindrelo_receive(
             state: *mut u64, words: usize, store: *mut u8, size: usize, datagram: *const u8, length: usize,
             output: *mut u8, capacity: usize, ack: *mut u8, room: usize,
+        ) -> u64;
+        pub fn pindrelo_drain(
+            state: *mut u64, words: usize, store: *const u8, size: usize, output: *const u8, capacity: usize,
         ) -> u64;
     }
 }
@@ -262,7 +267,15 @@ impl Receiver {
         Ok(answer(a)?.map(|n| n as u32))
     }
 
-    /// How many bytes are delivered.
+    /// What was delivered since the last drain; the next packet is delivered to the start of the output.
+    pub fn drain(&mut self) -> Result<&[u8], Refusal> {
+        let (words, store, size) = (self.words.as_mut_ptr(), self.store.as_ptr(), self.store.len());
+        let (output, capacity) = (self.output.as_ptr(), self.output.len());
+        let n = length(unsafe { raw::pindrelo_drain(words, STATE_WORDS, store, size, output, capacity) })?;
+        Ok(&self.output[..n.unwrap_or(0)])
+    }
+
+    /// How many bytes of the output are delivered.
     pub fn filled(&self) -> usize {
         self.words[3] as usize
     }

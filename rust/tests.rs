@@ -1,6 +1,6 @@
 //! `rustc --edition 2021 -O --test rust/tests.rs -L native=target/staticlib -l static=pindrelo -o target/rust_tests`
 mod pindrelo;
-use pindrelo::{Packet, PacketKind, Protocol, Receiver, Refusal, Sender, Timers};
+use pindrelo::{Estimator, EstimatorSetup, Packet, PacketKind, Protocol, Receiver, Refusal, Sender, SingleTimer, Timers};
 use pindrelo::{ACK_SIZE, HEADER_SIZE, MAX_DATAGRAM, MAX_DURATION, MAX_PAYLOAD, MAX_TIME, MAX_WINDOW};
 
 const PROTOCOLS: [Protocol; 3] = [Protocol::StopAndWait, Protocol::GoBackN, Protocol::SelectiveRepeat];
@@ -237,6 +237,74 @@ fn timers() {
     assert_eq!(t.cancel(u32::MAX), Ok(false));
     assert_eq!(t.cancel(4), Ok(true));
     assert_eq!(t.earliest(), Ok(None));
+}
+
+#[test]
+fn single_timer() {
+    let mut t = SingleTimer::new().unwrap();
+    assert_eq!((t.is_active(), t.remaining(0), t.is_expired(MAX_TIME)), (Ok(false), Ok(None), Ok(false)));
+    assert_eq!(t.start(100, 20), Ok(()));
+    let generation = t.generation();
+    assert_eq!((t.is_active(), t.remaining(105), t.remaining(130)), (Ok(true), Ok(Some(15)), Ok(Some(0))));
+    assert_eq!((t.is_expired(119), t.is_expired(120)), (Ok(false), Ok(true)));
+    assert_eq!((t.is_expired_for(generation, 120), t.is_expired_for(generation + 1, 120)), (Ok(true), Ok(false)));
+    assert_eq!(t.is_expired(MAX_TIME + 1), Err(Refusal::Time));
+    let before = t.clone();
+    assert_eq!(t.start(100, MAX_DURATION + 1), Err(Refusal::Time));
+    assert_eq!(t, before);
+    assert_eq!(t.cancel(), Ok(()));
+    assert_eq!((t.is_active(), t.generation()), (Ok(false), generation + 1));
+    assert_eq!(SingleTimer::restore([0; 4]).is_active(), Err(Refusal::State));
+}
+
+#[test]
+fn estimator() {
+    let ms = 1_000_000;
+    let setup = EstimatorSetup {
+        initial_rto: 1000 * ms,
+        min_rto: ms,
+        max_rto: 500 * ms,
+        granularity: ms,
+        alpha: 0.125,
+        beta: 0.25,
+        k: 4.0,
+        rto_multiplier: 1.0,
+    };
+    let mut e = Estimator::new(setup).unwrap();
+    assert_eq!((e.rto(), e.srtt()), (1000 * ms, None));
+    assert_eq!(e.sample(100 * ms, false), Ok(true));
+    assert_eq!((e.rto(), e.srtt()), (300 * ms, Some(100 * ms)));
+    assert_eq!(e.sample(9 * ms, true), Ok(false));
+    assert_eq!((e.timeout(), e.exceeded(1), e.exceeded(2)), (Ok(500 * ms), Ok(true), Ok(false)));
+    assert_eq!((e.reset_backoff(), e.rto()), (Ok(()), 300 * ms));
+    assert_eq!(e.mean(), Ok(100.0));
+    let before = e.clone();
+    assert_eq!(e.sample(MAX_DURATION + 1, false), Err(Refusal::Time));
+    assert_eq!(e, before);
+    assert_eq!(Estimator::new(EstimatorSetup { alpha: f64::NAN, ..setup }), Err(Refusal::Setup));
+    assert_eq!(Estimator::new(EstimatorSetup { min_rto: 501 * ms, ..setup }), Err(Refusal::Setup));
+    assert_eq!(Estimator::restore([0; 24], [0.0; 5]).timeout(), Err(Refusal::State));
+    assert_eq!(Estimator::with_default_setup().unwrap().rto(), 1000 * ms);
+}
+
+/// Chunks through an output that holds one.
+#[test]
+fn drained() {
+    let (mut d, mut ack) = ([0; MAX_DATAGRAM], [0; ACK_SIZE]);
+    for p in PROTOCOLS {
+        let mut s = Sender::new(p, 2, 0).unwrap();
+        let mut r = Receiver::new(p, 2, vec![0; 2]).unwrap();
+        for chunk in [b"ab", b"cd", b"ef"] {
+            let n = s.send(chunk, &mut d).unwrap().unwrap();
+            assert!(r.receive(&d[..n], &mut ack).unwrap().is_some());
+            assert!(s.acknowledge(&ack).unwrap().is_some());
+            assert_eq!(r.delivered(), chunk);
+            assert_eq!(r.drain(), Ok(&chunk[..]));
+            assert_eq!(r.filled(), 0);
+            assert_eq!(r.drain(), Ok(&[][..]));
+        }
+        assert_eq!(Receiver::restore([0; 8], vec![], vec![]).drain(), Err(Refusal::State));
+    }
 }
 
 #[test]

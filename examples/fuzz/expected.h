@@ -1,4 +1,4 @@
-/* For fuzz: what each call should answer, worked out from pindrelo.h. */
+/* For fuzz: what each call of packets and ends should answer, worked out from pindrelo.h. */
 #ifndef EXPECTED_H
 #define EXPECTED_H
 
@@ -11,7 +11,6 @@
 
 struct bytes { const uint8_t *at; size_t n; };
 struct words { const uint64_t *at; size_t n; };
-struct timers { struct words state; const uint32_t *keys; const uint64_t *deadlines; size_t key_count, count; };
 
 static uint64_t answer_of(unsigned status, uint64_t value)
 {
@@ -76,12 +75,14 @@ static uint64_t expect_payload_length(struct bytes d)
     return refused ? refused : answer_of(0, pair(d.at + 6));
 }
 
-static uint64_t expect_write(uint64_t kind, size_t length, size_t room)
+static uint64_t expect_write(uint64_t kind, uint64_t number, uint64_t flags, size_t length, size_t room)
 {
     if (kind < 1 || kind > 3)
-        return answer_of(PINDRELO_KIND, kind);
+        return answer_of(PINDRELO_KIND, kind < 255 ? kind : 255);
     if (length > 1400)
         return PINDRELO_LONG;
+    if (WIDE(number) || flags > 255)
+        return PINDRELO_NUMBERS;
     return room < 10 + length ? PINDRELO_FULL : answer_of(0, 10 + length);
 }
 
@@ -94,13 +95,14 @@ static uint64_t given(struct bytes d)
 
 /* ---- making */
 
-static uint64_t expect_making(uint64_t protocol, size_t window, size_t slots, size_t words, size_t store)
+static uint64_t expect_making(uint64_t protocol, size_t window, uint64_t max_retries, size_t slots, size_t words,
+                              size_t store)
 {
     if (protocol < 1 || protocol > 3)
         return PINDRELO_SETUP;
     if (store / SLOT_SIZE < slots)
         return PINDRELO_STATE;
-    if (window < 1 || window > 32)
+    if (window < 1 || window > 32 || WIDE(max_retries))
         return PINDRELO_SETUP;
     return words < 8 ? PINDRELO_FULL : 0;
 }
@@ -228,6 +230,14 @@ static int receiver_broken(struct words r, struct bytes store, size_t capacity)
     return 0;
 }
 
+/* 0, or what is refused whatever the call */
+static uint64_t receiver_held(struct words r, struct bytes store, size_t capacity)
+{
+    if (receiver_broken(r, store, capacity))
+        return PINDRELO_STATE;
+    return r.at[4] >= COUNTS_END || r.at[5] >= COUNTS_END || r.at[6] >= COUNTS_END ? PINDRELO_COUNTS : 0;
+}
+
 /* the number of the ACK, or NONE; *delivered: how many bytes are to be delivered */
 #define NONE UINT64_MAX
 static uint64_t reply(struct words r, struct bytes store, struct bytes d, uint64_t *delivered)
@@ -252,12 +262,8 @@ static uint64_t reply(struct words r, struct bytes store, struct bytes d, uint64
 
 static uint64_t expect_receive(struct words r, struct bytes store, struct bytes d, size_t capacity, size_t room)
 {
-    uint64_t refused, delivered = 0;
-    if (receiver_broken(r, store, capacity))
-        return PINDRELO_STATE;
-    if (r.at[4] >= COUNTS_END || r.at[5] >= COUNTS_END || r.at[6] >= COUNTS_END)
-        return PINDRELO_COUNTS;
-    if ((refused = given(d)))
+    uint64_t refused = receiver_held(r, store, capacity), delivered = 0;
+    if (refused || (refused = given(d)))
         return refused;
     if (valid(d) && d.at[4] == 1 && number_in(d.at) >= NUMBERS_END)
         return PINDRELO_NUMBERS;
@@ -267,70 +273,10 @@ static uint64_t expect_receive(struct words r, struct bytes store, struct bytes 
     return ack == NONE ? PINDRELO_SILENT : answer_of(0, ack);
 }
 
-/* ---- a timer set */
-
-static uint64_t expect_make_timers(struct timers t)
+static uint64_t expect_drain(struct words r, struct bytes store, size_t capacity)
 {
-    return t.key_count != t.count ? PINDRELO_STATE : t.state.n < 3 ? PINDRELO_FULL : 0;
-}
-
-/* 0, or what is refused whatever the call */
-static uint64_t timers_held(struct timers t)
-{
-    if (t.state.n < 3 || t.state.at[0] != 263 || t.key_count != t.count || t.state.at[1] > t.count)
-        return PINDRELO_STATE;
-    for (uint64_t i = 1; i < t.state.at[1]; i++)
-        if (t.keys[i - 1] >= t.keys[i])
-            return PINDRELO_STATE;
-    for (uint64_t i = 0; i < t.state.at[1]; i++)
-        if (t.deadlines[i] > PINDRELO_MAX_TIME)
-            return PINDRELO_TIME;
-    return 0;
-}
-
-static int runs(struct timers t, uint64_t key)
-{
-    for (uint64_t i = 0; i < t.state.at[1]; i++)
-        if (t.keys[i] == key)
-            return 1;
-    return 0;
-}
-
-static uint64_t expect_start(struct timers t, uint64_t key, uint64_t now, uint64_t duration)
-{
-    uint64_t refused = timers_held(t);
-    if (refused)
-        return refused;
-    if (now > PINDRELO_MAX_TIME || duration > PINDRELO_MAX_DURATION || now + duration > PINDRELO_MAX_TIME)
-        return PINDRELO_TIME;
-    return t.state.at[1] == t.count && !runs(t, key) ? PINDRELO_FULL : 0;
-}
-
-static uint64_t expect_cancel(struct timers t, uint64_t key)
-{
-    uint64_t refused = timers_held(t);
-    return refused ? refused : answer_of(0, (uint64_t)runs(t, key));
-}
-
-static uint64_t expect_pop(struct timers t, uint64_t now, size_t room)
-{
-    uint64_t refused = timers_held(t), due = 0;
-    if (refused || now > PINDRELO_MAX_TIME)
-        return refused ? refused : PINDRELO_TIME;
-    for (uint64_t i = 0; i < t.state.at[1]; i++)
-        due += t.deadlines[i] <= now;
-    return room < due ? PINDRELO_FULL : answer_of(0, due);
-}
-
-static uint64_t expect_earliest(struct timers t)
-{
-    uint64_t refused = timers_held(t), earliest = UINT64_MAX;
-    if (refused)
-        return refused;
-    for (uint64_t i = 0; i < t.state.at[1]; i++)
-        if (t.deadlines[i] < earliest)
-            earliest = t.deadlines[i];
-    return t.state.at[1] ? answer_of(0, earliest) : PINDRELO_NOTHING;
+    uint64_t refused = receiver_held(r, store, capacity);
+    return refused ? refused : answer_of(0, r.at[3]);
 }
 
 #endif

@@ -7,80 +7,9 @@
  * lent byte that the call must not have written with what it was: after a refusal all of them. In a million calls or
  * more each call has to have met every status that the header names for it. */
 #define _GNU_SOURCE
-#include "spoil.h"
+#include "checked.h"
+#include "timing.h"
 #include <signal.h>
-#include <stdio.h>
-#include <stdlib.h>
-#include <unistd.h>
-
-static unsigned long long calls, seed, met[32];
-static const char *name = "no call";
-static struct { const char *name; uint32_t statuses, met; } exports[24];
-
-static void fault(int number)
-{
-    char s[160];
-    int n = snprintf(s, sizeof s, "fuzz: signal %d in %s, call %llu of seed %llu\n", number, name, calls, seed);
-    if (write(2, s, (size_t)n) < 0)
-        _exit(2);
-    _exit(1);
-}
-
-static void fail(const char *what, pindrelo_answer a, pindrelo_answer expected)
-{
-    fprintf(stderr, "fuzz: %s: %s: answer %u with %llu, expected %u with %llu; call %llu of seed %llu\n", name, what,
-            pindrelo_status(a), (unsigned long long)pindrelo_value(a), pindrelo_status(expected),
-            (unsigned long long)pindrelo_value(expected), calls, seed);
-    exit(1);
-}
-
-/* ---- after a call */
-
-#define ONE(status) (1u << (status))
-#define HELD (ONE(0) | ONE(8) | ONE(9))
-#define READING (ONE(0) | ONE(1) | ONE(2) | ONE(3))
-#define TIMER (ONE(0) | ONE(9) | ONE(10))
-#define ANY UINT64_MAX
-
-/* true where the call was done; expected ANY: not worked out */
-static int check(pindrelo_answer a, pindrelo_answer expected, uint32_t statuses)
-{
-    unsigned status = pindrelo_status(a);
-    if (status > 20 || !(statuses >> status & 1))
-        fail("a status that the header doesn't name", a, expected);
-    if (expected != ANY && a != expected)
-        fail("another answer", a, expected);
-    for (int i = 0; i < REGIONS; i++) {
-        const struct region *r = &regions[i];
-        if (!r->lent)
-            continue;
-        int counting = status == PINDRELO_SILENT && i == STATE; /* words 4 to 6 */
-        if (!kept_outside(r, status ? counting ? 32 : 0 : r->from, status ? counting ? 56 : 0 : r->to))
-            fail("bytes changed that should have stayed", a, expected);
-        if (!border_kept(r))
-            fail("bytes beside what was lent changed", a, expected);
-    }
-    met[status]++;
-    int i = 0;
-    while (exports[i].name && exports[i].name != name)
-        i++;
-    exports[i].name = name;
-    exports[i].statuses = statuses;
-    exports[i].met |= ONE(status);
-    return status == PINDRELO_DONE;
-}
-
-static int all_met(void)
-{
-    int all = 1;
-    for (int i = 0; exports[i].name; i++)
-        for (int status = 0; status < 32; status++)
-            if ((exports[i].statuses & ~exports[i].met) >> status & 1) {
-                printf("fuzz: %s never answered %d\n", exports[i].name, status);
-                all = 0;
-            }
-    return all;
-}
 
 /* a state that a call has left becomes the one that later calls go on from */
 static void go_on(struct end *e)
@@ -91,11 +20,6 @@ static void go_on(struct end *e)
     if (regions[STORE].length)
         memcpy(e->store, regions[STORE].at, regions[STORE].length);
 }
-
-#define STATE_SLICE s, regions[STATE].length / 8
-#define STORE_SLICE store, regions[STORE].length
-#define IN_SLICE in, regions[IN].length
-#define OUT_SLICE out, regions[OUT].length
 
 /* ---- the calls */
 
@@ -111,11 +35,10 @@ static void make_end(struct end *e, int sending)
     uint8_t *store = give(STORE, e->store, sizeof e->store, length(n, n + 100));
     may_write(STATE, 0, 64);
     may_write(STORE, 0, n);
-    uint64_t expected = expect_making(protocol, window, slots, regions[STATE].length / 8, regions[STORE].length);
+    uint64_t expected = expect_making(protocol, window, sending ? max_retries : 0, slots, regions[STATE].length / 8,
+                                      regions[STORE].length);
     pindrelo_answer a = sending ? pindrelo_make_sender(protocol, window, max_retries, STATE_SLICE, STORE_SLICE)
                                 : pindrelo_make_receiver(protocol, window, STATE_SLICE, STORE_SLICE);
-    if (sending && WIDE(max_retries))
-        expected = ANY;
     if (check(a, expected, ONE(0) | ONE(4) | ONE(5) | ONE(9)))
         go_on(e);
 }
@@ -166,10 +89,6 @@ static void timeout(void)
     may_write(STATE, 8, 64);
     may_write(STORE, 0, regions[STORE].length);
     may_write(OUT, 0, pindrelo_value(expected));
-    if (which == NUMBER && WIDE(number)) {
-        may_write(OUT, 0, regions[OUT].length);
-        expected = ANY;
-    }
     pindrelo_answer a = which == ALL        ? pindrelo_timeout_all(STATE_SLICE, STORE_SLICE, OUT_SLICE)
                         : which == EARLIEST ? pindrelo_timeout_earliest(STATE_SLICE, STORE_SLICE, OUT_SLICE)
                                             : pindrelo_timeout_number(STATE_SLICE, STORE_SLICE, number, OUT_SLICE);
@@ -221,8 +140,21 @@ static void receive(void)
     if ((done || pindrelo_status(a) == PINDRELO_SILENT) && regions[OUTPUT].length == CAPACITY) {
         go_on(&receiver);
         memcpy(output, to, CAPACITY);
-        if (CAPACITY - receiver.words[3] < below(3000)) /* a new output */
-            receiver.words[3] = 0;
+    }
+}
+
+static void drain(void)
+{
+    name = "drain";
+    uint64_t *s = give_words(receiver.words, 8);
+    uint8_t *store = give_store(&receiver), *from = give(OUTPUT, output, CAPACITY, length(CAPACITY, CAPACITY + 100));
+    may_write(STATE, 24, 32);
+    uint64_t expected = expect_drain(state_lent(), lent(STORE), lent(OUTPUT).n);
+    pindrelo_answer a = pindrelo_drain(STATE_SLICE, STORE_SLICE, from, regions[OUTPUT].length);
+    if (check(a, expected, HELD)) {
+        if (s[3] != 0)
+            fail("another fill mark", a, expected);
+        go_on(&receiver);
     }
 }
 
@@ -248,54 +180,11 @@ static void packets(void)
     size_t n = regions[IN].length;
     uint8_t *out = give_out(OUT, 10 + n);
     may_write(OUT, 0, 10 + n < regions[OUT].length ? 10 + n : regions[OUT].length);
-    int wide = kind > 255 || WIDE(number) || flags > 255;
-    uint64_t expected = wide ? ANY : expect_write(kind, n, regions[OUT].length);
+    uint64_t expected = expect_write(kind, number, flags, n, regions[OUT].length);
     pindrelo_answer a = pindrelo_write(kind, number, flags, IN_SLICE, OUT_SLICE);
-    if (check(a, expected, ONE(0) | ONE(2) | ONE(5) | ONE(6)) && !wide &&
+    if (check(a, expected, ONE(0) | ONE(2) | ONE(5) | ONE(6) | ONE(7)) &&
         (checksum(out, 10 + n) != pair(out + 8) || number_in(out) != number || out[4] != kind || out[5] != flags))
         fail("another datagram", a, expected);
-}
-
-static void timers(void)
-{
-    int which = (int)below(5);
-    static const char *names[] = {"make_timers", "timer_start", "timer_cancel", "timer_pop", "timer_earliest"};
-    name = names[which];
-    uint64_t *s = give_words(timer_words, 3), key = wild ? boundary(3) : below(8);
-    uint32_t *k = give(KEYS, keys, sizeof keys, 4 * length(TIMERS, TIMERS + 2)), due[TIMERS] = {0};
-    uint64_t *d = give(DEADLINES, deadlines, sizeof deadlines, 8 * length(TIMERS, TIMERS + 2));
-    if (wild && chance(4) && regions[KEYS].length && regions[DEADLINES].length) {
-        regions[KEYS].at[0] = regions[KEYS].copy[0] = (uint8_t)any();
-        memcpy(regions[DEADLINES].at, (uint64_t[]){boundary(PINDRELO_MAX_TIME)}, 8);
-        memcpy(regions[DEADLINES].copy, regions[DEADLINES].at, 8);
-    }
-    uint32_t *out = give(OUT, due, sizeof due, 4 * length(TIMERS, TIMERS + 2));
-    size_t n = regions[KEYS].length / 4, m = regions[DEADLINES].length / 8, room = regions[OUT].length / 4;
-    struct timers t = {state_lent(), k, d, n, m};
-    uint64_t at = wild && chance(3) ? boundary(PINDRELO_MAX_TIME) : now, wait = wild ? boundary(9) : below(50);
-    uint64_t expected = which == 0 ? expect_make_timers(t) : which == 1 ? expect_start(t, key, at, wait)
-                      : which == 2 ? expect_cancel(t, key) : which == 3 ? expect_pop(t, at, room) : expect_earliest(t);
-    if (which < 4) {
-        may_write(STATE, 0, 24);
-        may_write(KEYS, 0, regions[KEYS].length);
-        may_write(DEADLINES, 0, regions[DEADLINES].length);
-    }
-    may_write(OUT, 0, which == 3 && !pindrelo_status(expected) ? 4 * pindrelo_value(expected) : 0);
-    pindrelo_answer a = which == 0   ? pindrelo_make_timers(STATE_SLICE, k, n, d, m)
-                        : which == 1 ? pindrelo_timer_start(STATE_SLICE, k, n, d, m, key, at, wait)
-                        : which == 2 ? pindrelo_timer_cancel(STATE_SLICE, k, n, d, m, key)
-                        : which == 3 ? pindrelo_timer_pop(STATE_SLICE, k, n, d, m, at, out, room)
-                                     : pindrelo_timer_earliest(STATE_SLICE, k, n, d, m);
-    if (WIDE(key) && (which == 1 || which == 2))
-        expected = ANY;
-    static const uint32_t statuses[] = {ONE(0) | ONE(5) | ONE(9), TIMER | ONE(5), TIMER, TIMER | ONE(5),
-                                        TIMER | ONE(18)};
-    if (check(a, expected, statuses[which]) && n == TIMERS && m == TIMERS) {
-        memcpy(timer_words, s, 24);
-        memcpy(keys, k, sizeof keys);
-        memcpy(deadlines, d, sizeof deadlines);
-        now += below(20);
-    }
 }
 
 /* new ends of one protocol and window, at times with high numbers or counters */
@@ -319,6 +208,8 @@ static void begin(void)
     if (chance(4) || timer_words[0] == 0) {
         now = below(100);
         pindrelo_make_timers(timer_words, 3, keys, TIMERS, deadlines, TIMERS);
+        pindrelo_make_single_timer(single, PINDRELO_SINGLE_TIMER_WORDS);
+        pindrelo_make_default_estimator(estimator, PINDRELO_ESTIMATOR_WORDS, factors, PINDRELO_ESTIMATOR_DOUBLES);
     }
 }
 
@@ -339,7 +230,7 @@ static void without_store(void)
 
 static void one_call(void)
 {
-    switch (below(24)) {
+    switch (below(32)) {
     case 0: make_end(&sender, 1); return;
     case 1: make_end(&receiver, 0); return;
     case 2: case 3: case 4: case 5: send(); return;
@@ -348,6 +239,11 @@ static void one_call(void)
     case 13: look(); return;
     case 14: case 15: case 16: case 17: case 18: receive(); return;
     case 19: case 20: packets(); return;
+    case 21: drain(); return;
+    case 22: case 23: single_timer(); return;
+    case 24: make_single(); return;
+    case 25: make_estimator(); return;
+    case 26: case 27: estimate(); return;
     default: timers(); return;
     }
 }

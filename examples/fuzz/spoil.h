@@ -4,6 +4,7 @@
 
 #include "expected.h"
 #include "guarded.h"
+#include <math.h>
 
 static uint64_t rng;
 
@@ -25,7 +26,7 @@ static int chance(unsigned in)
 
 /* ---- what calls go on from */
 
-#define WORDS 10      /* of a state, some more than it needs */
+#define WORDS 26      /* of a state, some more than it needs */
 #define CAPACITY 6000 /* of the output */
 #define TIMERS 6
 #define POOL 24
@@ -35,8 +36,10 @@ static struct end {
     uint8_t store[PINDRELO_STORE_SIZE(PINDRELO_MAX_WINDOW)];
 } sender, receiver;
 static uint8_t output[CAPACITY];
-static uint64_t timer_words[PINDRELO_TIMERS_WORDS + 1], deadlines[TIMERS], now;
+static uint64_t timer_words[PINDRELO_TIMERS_WORDS], deadlines[TIMERS], now, single[PINDRELO_SINGLE_TIMER_WORDS];
 static uint32_t keys[TIMERS];
+static uint64_t estimator[PINDRELO_ESTIMATOR_WORDS];
+static double factors[PINDRELO_ESTIMATOR_DOUBLES];
 static struct { uint8_t bytes[PINDRELO_MAX_DATAGRAM]; size_t n; } pool[POOL];
 static int wild; /* this call's arguments are spoilt */
 
@@ -51,9 +54,10 @@ static void remember(const uint8_t *d, size_t n)
 
 static uint64_t boundary(uint64_t near)
 {
-    static const uint64_t at[] = {0, 1, 2, 31, 32, 33, 255, 256, 257, 258, 259, 260, 261, 262, 263, 512, 1400, 1401,
-                                  65535, 65536, UINT32_MAX, NUMBERS_END, PINDRELO_MAX_TIME, PINDRELO_MAX_DURATION,
-                                  COUNTS_END, UINT64_C(1) << 32, UINT64_C(1) << 56, UINT64_C(1) << 63, UINT64_MAX};
+    static const uint64_t at[] = {0, 1, 2, 31, 32, 33, 255, 256, 257, 258, 259, 260, 261, 262, 263, 264, 512, 1400,
+                                  1401, 65535, 65536, UINT32_MAX, NUMBERS_END, PINDRELO_MAX_TIME,
+                                  PINDRELO_MAX_DURATION, COUNTS_END, UINT64_C(1) << 32, UINT64_C(1) << 56,
+                                  UINT64_C(1) << 63, UINT64_MAX};
     switch (below(4)) {
     case 0: return any() >> below(64);
     case 1: return near + below(5) - 2;
@@ -82,10 +86,26 @@ static uint64_t *give_words(const uint64_t *words, size_t n)
     memcpy(w, words, n * sizeof *w);
     if (wild && chance(3))
         for (int i = chance(3) ? 2 : 1; i--;) {
-            size_t at = below(n < 8 ? n : 8);
+            size_t at = below(n);
             w[at] = boundary(w[at]);
         }
     return give(STATE, w, n * sizeof *w, 8 * length(n, WORDS));
+}
+
+static double any_double(void)
+{
+    static const double at[] = {0, -0.0, 0.125, 0.25, 1, 1.0000000000000002, 4, 16, 16.000000000000004, -1, 1e308,
+                                5e-324, INFINITY, -INFINITY, NAN};
+    return at[below(sizeof at / sizeof *at)];
+}
+
+static double *give_doubles(const double *doubles, size_t n)
+{
+    double d[PINDRELO_ESTIMATOR_DOUBLES];
+    memcpy(d, doubles, n * sizeof *d);
+    if (wild && chance(4))
+        d[below(n)] = any_double();
+    return give(DEADLINES, d, n * sizeof *d, 8 * length(n, n + 2));
 }
 
 /* how many slots words speak of */
