@@ -1,12 +1,11 @@
 -- What a host reads from the answers of the ends: done or not, refused or not, and the bytes written.
-use Prim.Native.Nat.{ℕ, _≤_, _<_}
+use Prim.Native.Nat.{ℕ, _<_}
 use mathlib.Core.Path.{_≡_, refl}
 use mathlib.Core.List.{List, []}
-use mathlib.Core.Bool.{Bool, true, false, cond, not, _&&_}
+use mathlib.Core.Bool.{Bool, true, false, not}
 use native.Mathlib.Omega.{arith}
 use borrow.Author.Tests.{le-leb, ne-eqb}
 use lib.ListN.{take}
-use lib.Dec.{leb, eqb}
 use Rattle.refusal.specs.Refusal.{entryOf}
 use Rattle.refusal.specs.declared.Refusal.{Refusal}
 use Rattle.window.specs.declared.SendAnswer.{SendAnswer}

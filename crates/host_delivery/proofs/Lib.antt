@@ -6,3 +6,5 @@ pub mod Making
 pub mod Demand3
 pub mod Reached
 pub mod NotRefused
+pub mod Resending
+pub mod SomeResending

@@ -14,10 +14,10 @@ use Rattle.receiver.specs.State as receiverState
 use Rattle.selective_repeat.specs.Receiver as selectiveRepeat
 use Rattle.delivery.specs.Calls.{Done}
 use Rattle.delivery.specs.AnyBytes.{ReceiverSound}
-use Rattle.delivery.specs.Ends.{ends, isReceived, WithOutput, byReceiving}
+use Rattle.delivery.specs.Ends.{ends, isReceived, WithOutput}
 use Rattle.delivery.proofs.Laws.{ReceiverGood, receiver-good-sound, receiver-step-good}
 use Rattle.session.specs.Receiving.{ReceiverEnd, receiverEnd, handlePacket}
-use Rattle.session.specs.Ends.{receiverOf, outputOf, doneAs}
+use Rattle.session.specs.Ends.{receiverOf, outputOf}
 use Rattle.session.proofs.Laws.{withOutputOf, handle-packet-is, receiver-base-is, output-is, unwritten-is}
 use Rattle.host_words.specs.declared.HeldReceiver.{HeldReceiver}
 use Rattle.host_words.specs.declared.HeldReceiver.the-variants as heldReceivers

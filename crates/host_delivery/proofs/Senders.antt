@@ -1,5 +1,5 @@
 -- A sender in words does what the protocol's own does: the words hold it after every call.
-use Prim.Native.Nat.{ℕ, _+_, _≤_, _<_, min}
+use Prim.Native.Nat.{ℕ, _≤_, min}
 use mathlib.Core.Path.{_≡_, refl, sym, ap, _∙_, subst}
 use mathlib.Core.List.{List, [], _∷_}
 use mathlib.Core.Bool.{Bool, true, false, cond, not}
@@ -30,14 +30,13 @@ use Rattle.delivery.specs.AnyBytes as any
 use Rattle.delivery.specs.AnyBytes.{SenderSound}
 use Rattle.delivery.specs.Ends.{ends, bySending, byResending, isHandled, byAcknowledging}
 use Rattle.delivery.proofs.Laws.{sender-step-sound}
-use Rattle.session.specs.declared.Sender.{Sender}
 use Rattle.session.specs.declared.Timeout.{Timeout}
-use Rattle.session.specs.Sending.{SenderEnd, senderEnd, windowOf, sendChunk, handleAck, handleTimeout}
+use Rattle.session.specs.Sending.{SenderEnd, senderEnd, sendChunk, handleAck, handleTimeout}
 use Rattle.session.specs.Ends.{senderOf, timeoutOf, doneAs}
 use Rattle.session.proofs.Laws.{send-chunk-is, handle-ack-is, handle-timeout-is, sender-base-is}
 use Rattle.host_words.specs.declared.HeldSender.{HeldSender}
 use Rattle.host_words.specs.declared.HeldSender.the-variants as heldSenders
-use Rattle.host_words.specs.Words.{stateWords, senderWord, heldSender, withSender}
+use Rattle.host_words.specs.Words.{stateWords, senderWord, heldSender}
 use Rattle.host_words.proofs.Words.{sender-window, sender-length}
 use Rattle.host_words.proofs.HeldBack.{protocolOf, SenderFits, sender-kind, sender-held}
 use Rattle.host_ends.specs.Answers.{CallExit}

@@ -9,7 +9,7 @@ use Rattle.protocol.specs.Machine.{SenderState, ReceiverState, nextNumber, rece
 use Rattle.delivery.specs.Calls.{Copy, copyBytes, IsCopy, Call, send, timeout, toReceiver, toSender, Done, Ends, World, datagrams, bySender, byReceiver, step, run, Allowed, Admissible}
 use Rattle.delivery.specs.Room.{NotRefused, NoneRefused}
 use Rattle.delivery.proofs.Datagrams.{DataBytes}
-use Rattle.delivery.proofs.Follow.{SenderKept, ReceiverKept, ChunkSent, SentAgain, PacketTaken, Follow}
+use Rattle.delivery.proofs.Follow.{SenderKept, ReceiverKept, Follow}
 
 -- a call leaves a state that stands for the other's, wrote the same, and was done or refused like it
 pub record Does {S T : Type 0} (As : S → T → Type 0) (d : Done S) (e : Done T) : Type 0 where
@@ -145,20 +145,20 @@ module _ (G E : Ends) (S : Simulates G E) where
   after-receiver x d = record { sender = x .sender; receiver = d .after; sent = x .sent; replies = joined (x .replies) (d .written) }
 
   -- a copy of what was made is the same copy
-  packet-does : (v : World G) (u : World E) (c : Copy) (buffer : List ℕ) → WorldAs v u
+  pub packet-does : (v : World G) (u : World E) (c : Copy) (buffer : List ℕ) → WorldAs v u
       → Does (S .ReceiverAs) (G .handlePacket (v .receiver) (copyBytes (v .sent) c) buffer) (E .handlePacket (u .receiver) (copyBytes (u .sent) c) buffer)
   packet-does v u c buffer x =
       let raw = copyBytes (v .sent) c in
       subst (λ (r : List ℕ). Does (S .ReceiverAs) (G .handlePacket (v .receiver) raw buffer) (E .handlePacket (u .receiver) r buffer)) (ap (λ (l : List (List ℕ)). copyBytes l c) (x .sent))
       (S .packets (v .receiver) (u .receiver) raw buffer (x .receiver))
 
-  ack-does : (v : World G) (u : World E) (c : Copy) → WorldAs v u → Does (S .SenderAs) (G .handleAck (v .sender) (copyBytes (v .replies) c)) (E .handleAck (u .sender) (copyBytes (u .replies) c))
+  pub ack-does : (v : World G) (u : World E) (c : Copy) → WorldAs v u → Does (S .SenderAs) (G .handleAck (v .sender) (copyBytes (v .replies) c)) (E .handleAck (u .sender) (copyBytes (u .replies) c))
   ack-does v u c x =
       let raw = copyBytes (v .replies) c in
       subst (λ (r : List ℕ). Does (S .SenderAs) (G .handleAck (v .sender) raw) (E .handleAck (u .sender) r)) (ap (λ (l : List (List ℕ)). copyBytes l c) (x .replies))
       (S .acks (v .sender) (u .sender) raw (x .sender))
 
-  step-as : (v : World G) (u : World E) (c : Call (G .Timeout)) → WorldAs v u → WorldAs (step G v c) (step E u (callAs (u .sender) c))
+  pub step-as : (v : World G) (u : World E) (c : Call (G .Timeout)) → WorldAs v u → WorldAs (step G v c) (step E u (callAs (u .sender) c))
   unfolding step
   step-as v u (send payload buffer) x = after-sender x (S .sends (v .sender) (u .sender) payload buffer (x .sender))
   step-as v u (timeout t buffer) x = after-sender x (S .times (v .sender) (u .sender) t buffer (x .sender))
