@@ -6,7 +6,7 @@ use mathlib.Core.Bool.{Bool, true, false, cond, not, and-eq-true-iff, true≢fal
 use mathlib.Core.List.{List}
 use borrow.Author.Tests.{le-leb, lt-ltb, leb-true, ltb-true, not-true}
 use lib.Dec.{ltb, eqb}
-use lib.ListN.{length, set, length-set}
+use lib.ListN.{length, length-set}
 use lib.Seq.{getD-set-same}
 use Rattle.bounds.specs.Bounds.{maxPayload, slotSize}
 use Rattle.store.specs.Slot.{slotAt, slotLength, slotMark, fillSlot}
@@ -16,7 +16,7 @@ use Rattle.store.proofs.Laws.{slot-in, slot-length, set-same, none-found}
 use Rattle.store.proofs.Ring.{set-number-other}
 use Rattle.window.specs.State.{outstanding}
 use Rattle.window.specs.Slots as slots
-use Rattle.window.specs.Slots.{slotFor, hold, markRetransmitted, emptyFrom, release}
+use Rattle.window.specs.Slots.{hold, markRetransmitted, emptyFrom, release}
 use Rattle.window.specs.Acknowledgement.{inWindow}
 use Rattle.window.specs.Resending.{markFrom}
 use Rattle.window.specs.declared.SendWindow.{SendWindow}

@@ -3,6 +3,11 @@ pub mod Each
 pub mod Single
 pub mod Steps
 pub mod Went
+pub mod Notes
+pub mod Ahead
+pub mod Sends
+pub mod Held
+pub mod Served
 pub mod Run
 pub mod Transfer
 pub mod Laws

@@ -4,17 +4,15 @@ use native.Mathlib.Omega.{arith}
 use mathlib.Core.Path.{_≡_, refl, sym, ap, _∙_, subst}
 use mathlib.Core.Bool.{Bool, true, false, cond, not, true≢false, and-eq-true-iff, _||_}
 use mathlib.Core.List.{List, [], _∷_}
-use lib.Dec.{ltb, leb, eqb}
+use lib.Dec.{ltb, eqb}
 use lib.Ieee.{Float}
 use lib.ListN.{take}
 use borrow.Author.Tests.{ltb-true, lt-ltb, leb-false, eqb-false}
 use Rattle.packet.specs.Reading.{readDatagram}
-use Rattle.protocol.specs.Runs.{upFrom}
 use Rattle.timer.specs.Timer.{active, expiredAt, cancelledUnchecked}
 use Rattle.timer.specs.declared.RetransmissionTimer.{RetransmissionTimer}
 use Rattle.window.specs.State.{outstanding}
 use Rattle.window.specs.Slots as slots
-use Rattle.window.specs.Slots.{datagramFor}
 use Rattle.window.specs.Acknowledgement.{inWindow}
 use Rattle.window.specs.Resending.{markFrom}
 use Rattle.window.proofs.Laws.{sound}
@@ -22,7 +20,7 @@ use Rattle.stop_and_wait.specs.Sender as stopAndWait
 use Rattle.stop_and_wait.specs.declared.StopAndWaitSender.{StopAndWaitSender}
 use Rattle.chunks.specs.Chunks.{chunksOf}
 use Rattle.delivery.specs.Calls.{numberOf}
-use Rattle.notes.specs.Notes.{SegMetas, isPremature}
+use Rattle.notes.specs.Notes.{SegMetas}
 use Rattle.notes.specs.declared.Notes.{Notes}
 use Rattle.path.specs.Direction.{Direction}
 use Rattle.path.specs.Path.{isGoing}
@@ -30,10 +28,9 @@ use Rattle.path.proofs.Laws.{going-is}
 use Rattle.rto.specs.Rto.{onTimeoutUnchecked}
 use Rattle.clock.specs.Clock.{ClockState, timerOf, withTimer, isOldest, armOldest, armAfterSubmit, rearmAfterAck, Submission, sampleRtt, singleDue, due}
 use Rattle.clock.specs.declared.Timing.the-variants.{Single}
-use Rattle.clock.specs.declared.Due.{Due}
 use Rattle.clock.specs.declared.Due.the-variants as ran
 use Rattle.clock.proofs.Laws.{arm-oldest-deadline}
-use Rattle.session.specs.Sending.{SenderEnd, senderIn, stopAndWaitEnd, goBackNEnd, windowOf, windowEnd, hasOutstanding, oldestOutstanding, sendChunk, acknowledged, Resent, resent, resentNumbers}
+use Rattle.session.specs.Sending.{SenderEnd, senderIn, stopAndWaitEnd, goBackNEnd, windowOf, hasOutstanding, oldestOutstanding, sendChunk, acknowledged, Resent, resent, resentNumbers}
 use Rattle.session.specs.GoodSender.{isSelective, SenderUnbroken}
 use Rattle.session.specs.declared.Oldest.{Oldest}
 use Rattle.session.specs.declared.Oldest.the-variants.{Number, Nothing}
@@ -41,13 +38,13 @@ use Rattle.session.specs.declared.Sender.{Sender}
 use Rattle.session.specs.declared.SenderState.{SenderState}
 use Rattle.session.specs.declared.SenderState.the-variants as senderState
 use Rattle.session.specs.declared.Timeout.the-variants.{All}
-use Rattle.session.proofs.Laws.{SameWindow, ResentAs, resent-as}
+use Rattle.session.proofs.Laws.{SameWindow, resent-as}
 use Rattle.session.proofs.Resends.{go-back-n-resent, stop-and-wait-resent}
 use Rattle.submission.specs.Submission.{Outgoing, submit}
 use Rattle.submission.proofs.Laws.{metasOf, submitted, submit-going, submit-stopped, submit-again-notes}
 use Rattle.sending.specs.Sending.{PumpState, PumpExit, canPump, nextNumber, sendOne, pumpSends}
 use Rattle.sending.specs.Good.{CanPump}
-use Rattle.sending.specs.Retransmit.{RetransmitExit, retransmit, countedAgain, ceilingMet, exhausted, retransmitAll}
+use Rattle.sending.specs.Retransmit.{RetransmitExit, retransmit, ceilingMet, exhausted, retransmitAll}
 use Rattle.sending.specs.declared.Resends.{Resends}
 use Rattle.sending.proofs.Laws.{chunk, blank, given, written, can-send, sent-next, notes-grow, retransmit-counts, all-going, all-stopped, resend-turns, pump-turns}
 use Rattle.acks.specs.Acks.{AckState, ackNumber, sampleSeq, onAccepted, counted, onAck}
@@ -59,7 +56,7 @@ use Rattle.acks.proofs.Laws.{on-ack-dropped, on-ack-duplicate, on-ack-accepted,
 use Rattle.receiving.proofs.Laws.{serve-keeps-sizes}
 use Rattle.arrivals.specs.Arrivals.{ArrivalState, ArrivalExit, acksOf, serveArrivals, CanServeArrivals}
 use Rattle.arrivals.proofs.Laws.{between, can-serve-reverse, either-exit}
-use Rattle.timeouts.specs.Timeouts.{FireState, fireState, FireExit, fireExit, withClock, stopped, timedOut, byDue, fireTimers}
+use Rattle.timeouts.specs.Timeouts.{FireState, FireExit, withClock, stopped, timedOut, byDue, fireTimers}
 use Rattle.timeouts.specs.Good.{GoodFire}
 use Rattle.timeouts.proofs.Laws.{sender-unbroken, timed-out-by, timers-met, timers-due}
 use Rattle.departures.specs.Departures.{pumpOf, pumped, goesOn, sendDue, CanSendDue}

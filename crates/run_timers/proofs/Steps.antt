@@ -1,5 +1,5 @@
 -- What the parts of a step keep, every step keeps that goes on or ends as the source's does; and so a run.
-use Prim.Native.Nat.{ℕ}
+use Prim.Native.Nat.{ℕ, _<_}
 use native.Mathlib.Omega.{arith}
 use mathlib.Core.Path.{_≡_, refl, sym, ap, _∙_, subst}
 use mathlib.Core.Bool.{Bool, true, false, cond, _||_}
@@ -25,9 +25,7 @@ use Rattle.step.specs.Settle.{StepExit, unlessStopped, settle}
 use Rattle.step.specs.Step.{roundLess, step}
 use Rattle.step.specs.Good.{GoodPlan, GoodRun}
 use Rattle.step.specs.declared.Plan.{Plan}
-use Rattle.step.specs.declared.End.{End}
 use Rattle.step.specs.declared.End.the-variants as end
-use Rattle.step.specs.declared.Course.{Course}
 use Rattle.step.specs.declared.Course.the-variants.{Going}
 use Rattle.step.proofs.Laws.{arrives, step-is, settle-cases, afterBoth, bothExit, arrived-good, good-fire, can-send-due, step-good}
 use Rattle.transfer.specs.Run.{isOver, run}
@@ -47,16 +45,20 @@ sent-unbroken {t} {rolls} {size} {file} {now = now} top s can g = by-test (goesO
     by-test true e = pump-can (can-pump top can e) .good .sender
     by-test false e = fire-timers-keeps g top .sender
 
--- ---- of both lines, the ends and the timers, and how many packets were sent again
+-- ---- of both lines, the ends and the timers, how many packets were sent again, and the time
 abbrev pub Kept : Type 1
-Kept = ArrivalState → ℕ → Type 0
+Kept = ArrivalState → ℕ → ℕ → Type 0
 
-abbrev pub At : Kept → RunState → Type 0
-At Q s = Q (s .arrivals) (s .resends .«retx_submitted»)
+abbrev pub Holds : Kept → RunState → Type 0
+Holds Q s = Q (s .arrivals) (s .resends .«retx_submitted») (s .time)
 
-module _ (Q : Kept) (p : Plan) (g : Given) where
+-- it holds at a later moment too
+abbrev pub Lasting : Kept → Type 0
+Lasting Q = (a : ArrivalState) (again now later : ℕ) → now < later → Q a again now → Q a again later
+
+module _ (Q : Kept) (lasting : Lasting Q) (p : Plan) (g : Given) where
   abbrev AtEnd : StepExit → Type 0
-  AtEnd x = endOf (x .course) ≡ end.Ended → At Q (x .state)
+  AtEnd x = endOf (x .course) ≡ end.Ended → Holds Q (x .state)
 
   unless : (st : Stop) (u : RunState) (rest : StepExit) → (isGoing st ≡ true → AtEnd rest) → AtEnd (unlessStopped st u rest)
   unless stop.Going u rest h = h refl
@@ -68,10 +70,10 @@ module _ (Q : Kept) (p : Plan) (g : Given) where
   either true x y h k = h
   either false x y h k = k
 
-  settled : (u : RunState) → At Q u → AtEnd (settle p u)
-  settled u q = settle-cases p u AtEnd (λ time i. q) (λ t e h i. q) (λ t e h k z i. q) (λ t e h k z i. q)
+  settled : (u : RunState) → Holds Q u → AtEnd (settle p u)
+  settled u q = settle-cases p u AtEnd (λ time i. q) (λ t e h i. q) (λ t e h k z i. lasting _ _ _ t h q) (λ t e h k z i. lasting _ _ _ t h q)
 
-  step-at : (s : RunState) → At Q s → (isGoing (bothExit p g s .stop) ≡ true → At Q (afterBoth p g s)) → AtEnd (step p g s)
+  step-at : (s : RunState) → Holds Q s → (isGoing (bothExit p g s .stop) ≡ true → Holds Q (afterBoth p g s)) → AtEnd (step p g s)
   step-at s q both =
       subst AtEnd (sym (step-is p g s))
       (either (eqb (s .rounds) 0) _ _ (λ i. q)
@@ -82,14 +84,14 @@ module _ (Q : Kept) (p : Plan) (g : Given) where
 
 -- ---- the last step of a run
 pub record Last (Q : Kept) (u : RunState) : Type 0 where
-  pub kept : At Q u
+  pub kept : Holds Q u
   pub unbroken : senderBroken (u .arrivals .sender) ≡ false
 
-pub ended-last : (Q : Kept) (p : Plan) (g : Given) → GoodPlan p g → (u : RunState) → GoodRun p g u → At Q u → (isGoing (bothExit p g u .stop) ≡ true → At Q (afterBoth p g u)) → endOf (step p g u .course) ≡ end.Ended → Last Q (step p g u .state)
-ended-last Q p g plan u good q both over =
+pub ended-last : (Q : Kept) → Lasting Q → (p : Plan) (g : Given) → GoodPlan p g → (u : RunState) → GoodRun p g u → Holds Q u → (isGoing (bothExit p g u .stop) ≡ true → Holds Q (afterBoth p g u)) → endOf (step p g u .course) ≡ end.Ended → Last Q (step p g u .state)
+ended-last Q lasting p g plan u good q both over =
     record {
-      kept = step-at Q p g u q both over;
-      unbroken = step-at (λ a n. senderBroken (a .sender) ≡ false) p g u (good .sender) (λ on. sent-unbroken (p .«max_retransmissions») _ (can-send-due (arrived-good good) plan) (good-fire (arrived-good good))) over;
+      kept = step-at Q lasting p g u q both over;
+      unbroken = step-at (λ a n time. senderBroken (a .sender) ≡ false) (λ a n now later l h. h) p g u (good .sender) (λ on. sent-unbroken (p .«max_retransmissions») _ (can-send-due (arrived-good good) plan) (good-fire (arrived-good good))) over;
     }
 
 -- the run's end is its last step's
@@ -101,14 +103,14 @@ at-last p g s P e f =
 -- ---- a run
 pub record Between (Q : Kept) (p : Plan) (g : Given) (s : RunState) : Type 0 where
   pub good : GoodRun p g s
-  pub kept : At Q s
+  pub kept : Holds Q s
 
-module _ (Q : Kept) (p : Plan) (g : Given) (plan : GoodPlan p g) (both : (s : RunState) → GoodRun p g s → At Q s → isGoing (bothExit p g s .stop) ≡ true → At Q (afterBoth p g s)) (s : RunState) (begun : Between Q p g s) where
+module _ (Q : Kept) (lasting : Lasting Q) (p : Plan) (g : Given) (plan : GoodPlan p g) (both : (s : RunState) → GoodRun p g s → Holds Q s → isGoing (bothExit p g s .stop) ≡ true → Holds Q (afterBoth p g s)) (s : RunState) (begun : Between Q p g s) where
   pub reached-between : {u : RunState} → Reached p g s u → Between Q p g u
   reached-between start = begun
   reached-between (next {u = u} r go) =
       let b = reached-between r in
-      record { good = step-good plan (b .good) go; kept = step-at Q p g u (b .kept) (both u (b .good) (b .kept)) (ap endOf go) }
+      record { good = step-good plan (b .good) go; kept = step-at Q lasting p g u (b .kept) (both u (b .good) (b .kept)) (ap endOf go) }
 
   pub run-last-at : endOf (run p g s .course) ≡ end.Ended → Last Q (run p g s .state)
-  run-last-at e = at-last p g s (Last Q) e (λ u r over i. let b = reached-between r in ended-last Q p g plan u (b .good) (b .kept) (both u (b .good) (b .kept)) over)
+  run-last-at e = at-last p g s (Last Q) e (λ u r over i. let b = reached-between r in ended-last Q lasting p g plan u (b .good) (b .kept) (both u (b .good) (b .kept)) over)
