@@ -8,7 +8,7 @@ use mathlib.Core.List.{List}
 use lib.ListN.{length}
 use Rattle.bounds.specs.Bounds.{countLimit, maxDuration}
 use Rattle.protocol.specs.declared.ProtocolType.{ProtocolType}
-use Rattle.schedule.proofs.Laws.{new-sound, new-times}
+use Rattle.schedule.proofs.Laws.{new-sound, new-times, new-cleared}
 use Rattle.channel.specs.declared.ChannelConfig.{ChannelConfig}
 use Rattle.path.specs.Path.{newPath}
 use Rattle.window.specs.State.{windowBroken, storeShort}
@@ -48,4 +48,4 @@ pub new-can-serve-reverse : (line : ChannelConfig) (rs : List (List ℕ)) (ps : 
     → CanServeReverse (newPath line rs ps) (ackState (newSender p w limit store) (fresh c) (newClock keys deadlines) (newNotes rows) 0 0) now
 unfolding newPath
 new-can-serve-reverse line rs ps p w limit store c rows keys deadlines now wf sf b f e in-time =
-    record { sound = new-sound rs ps; times = new-times rs ps; good = new-can-on-ack p w limit store c rows keys deadlines now wf sf b f e in-time .good; few = lit≤ tt }
+    record { sound = new-sound rs ps; times = new-times rs ps; cleared = new-cleared rs ps; good = new-can-on-ack p w limit store c rows keys deadlines now wf sf b f e in-time .good; few = lit≤ tt }

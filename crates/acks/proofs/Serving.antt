@@ -13,7 +13,7 @@ use Rattle.schedule.specs.declared.ReadyAnswer.the-variants as ready
 use Rattle.path.specs.Direction.{Direction, direction}
 use Rattle.path.specs.Path.{TakeExit, leftByTake, takeReady, removeFirst, packetBuffer}
 use Rattle.path.specs.declared.Path.{Path}
-use Rattle.path.proofs.Laws.{TakesPlace, take-count, take-leaves, take-not-due, take-place}
+use Rattle.path.proofs.Laws.{TakesPlace, take-count, take-leaves, take-cleared, take-not-due, take-place}
 use Rattle.clock.specs.declared.Timing.{Timing}
 use Rattle.acks.specs.Acks.{AckState, onAck}
 use Rattle.acks.specs.Good.{CanOnAck}
@@ -60,6 +60,7 @@ module _ (timing : Timing) (now : ℕ) (d : Direction) (s : AckState) where
         record {
           sound = l .sound;
           times = l .times;
+          cleared = take-cleared d now packetBuffer (can .sound) (can .cleared);
           good = on-ack-good timing now s (can-hand-over n e) raw;
           few = omega (arith, can .few, take-count d now packetBuffer n e, on-ack-counts timing now raw s .received .1);
         }
@@ -98,7 +99,7 @@ module _ {timing : Timing} {now : ℕ} {f g : Direction} {u v : AckState} {progr
 
   module _ {place len : ℕ} (q : a ≡ first.Packet place len) where
     pub left-takes : TakesPlace g now packetBuffer place len
-    left-takes = take-place g now packetBuffer place len (l .can .sound) (sym e ∙ q)
+    left-takes = take-place g now packetBuffer place len (l .can .sound) (l .can .cleared) (sym e ∙ q)
 
     pub left-can : CanOnAck v now
     left-can = can-hand-over timing now g v (l .can) len (left-takes .answer)

@@ -101,4 +101,4 @@ module _ (timing : Timing) (now : ℕ) where
 
 -- what the loop asks is met by a good direction and a good state, if their copies and ACKs are few
 pub good-can-serve-reverse : {d : Direction} {s : AckState} {rolls : List Float} {now : ℕ} → Good d rolls → GoodAcks s now → s .received + d .path .scheduler .count ≤ countLimit → CanServeReverse d s now
-good-can-serve-reverse good g few = record { sound = good .sound; times = good .times; good = g; few = few }
+good-can-serve-reverse good g few = record { sound = good .sound; times = good .times; cleared = good .cleared; good = g; few = few }

@@ -4,7 +4,7 @@ use Prim.Native.Nat.{ℕ, zero, suc, _+_, _≤_}
 use mathlib.Core.Path.{_≡_}
 use mathlib.Core.Bool.{Bool, true, false, cond}
 use Rattle.bounds.specs.Bounds.{countLimit}
-use Rattle.schedule.specs.State.{waitingRecords, stateBroken, heldLate}
+use Rattle.schedule.specs.State.{waitingRecords, stateBroken, heldLate, Cleared}
 use Rattle.path.specs.Direction.{Direction, scheduleOf}
 use Rattle.path.specs.Path.{leftByTake, takeReady, packetBuffer, isTaken, takenBytes}
 use Rattle.clock.specs.declared.Timing.{Timing}
@@ -37,9 +37,11 @@ serveAtMost (suc n) timing now d s =
 abbrev pub serveReverse : Timing → ℕ → Direction → AckState → ServeExit
 serveReverse timing now d s = serveAtMost (d .path .scheduler .count) timing now d s
 
--- the schedule and its times are within bounds, and its copies are too few for a count
+-- the schedule and its times are within bounds, its places are zeros where no packet lies, and its copies are too few
+-- for a count
 pub record CanServeReverse (d : Direction) (s : AckState) (now : ℕ) : Type 0 where
   pub sound : stateBroken (scheduleOf d) ≡ false
   pub times : heldLate (waitingRecords (scheduleOf d)) ≡ false
+  pub cleared : Cleared (scheduleOf d)
   pub good : GoodAcks s now
   pub few : s .received + d .path .scheduler .count ≤ countLimit

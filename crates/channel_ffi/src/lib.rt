@@ -312,7 +312,7 @@ pub extern "C" fn schedule_at_unchecked(
         count: count,
         next_order: next,
     };
-    s.schedule_at_unchecked(records, places, now, packet, Deliveries::One(delay));
+    s.schedule_at_unchecked(records, places, now, packet, Deliveries::One(delay), false);
 }
 
 #[no_mangle]

@@ -3,7 +3,7 @@ use mathlib.Core.Path.{_≡_, refl, sym, _∙_, ap}
 use Prim.Native.Nat.{ℕ, _+_, _-_, _<_, _≤_}
 use native.Mathlib.Omega.{arith}
 use native.Mathlib.Numerals.{add-one}
-use mathlib.Core.Bool.{Bool, true, false, cond, not, _||_}
+use mathlib.Core.Bool.{Bool, true, false, not, _||_}
 use mathlib.Core.List.{List}
 use lib.ListN.{length, drop, drop-of-length-le}
 use lib.Seq.{drop-cons}
@@ -12,10 +12,7 @@ use lib.Ieee.{Float, nan}
 use borrow.Author.Tests.{ltb-true, ltb-false, lt-ltb, le-ltb}
 use Rattle.float.specs.Roll.{rollInBounds}
 use Rattle.schedule.specs.State.{Schedule, schedule}
-use Rattle.schedule.specs.Record.{recordLength, placeOf}
-use Rattle.schedule.specs.Schedule.{newSchedule, firstRecord, due, firstDue, withoutFirst}
-use Rattle.schedule.specs.declared.FirstDue.{FirstDue}
-use Rattle.schedule.specs.declared.FirstDue.the-variants as first
+use Rattle.schedule.specs.Schedule.{newSchedule, withoutFirst}
 use Rattle.schedule.specs.declared.ChannelScheduler.{ChannelScheduler}
 use Rattle.channel.specs.Process.{newChannelUnchecked}
 use Rattle.channel.specs.declared.Channel.{Channel}
@@ -53,19 +50,6 @@ pub new-law : (c : ChannelConfig) (rs : List (List ℕ)) (ps : List ℕ) {ch : C
     → schedule rs′ ps′ s ≡ newSchedule rs ps → ch ≡ newChannelUnchecked c → direction rs′ ps′ (pathOf ch s 0) ≡ newPath c rs ps
 unfolding newPath
 new-law c rs ps {ch} e p = ap (λ (m : Schedule). onPath m ch 0) e ∙ ap (λ (x : Channel). onPath (newSchedule rs ps) x 0) p
-
--- ---- whether a copy is due
-abbrev isPacket : FirstDue → Bool
-isPacket (first.Packet place len) = true
-isPacket first.Nothing = false
-
-pub due-law : (count : ℕ) (rs : List (List ℕ)) (now : ℕ) {a b : FirstDue} → a ≡ firstDue count rs now → a ≡ b → isPacket b ≡ due count rs now
-unfolding firstDue
-due-law count rs now p q = ap isPacket (sym q ∙ p) ∙ go (due count rs now)
-  where
-    go : (t : Bool) → isPacket (cond t (first.Packet (placeOf (firstRecord rs)) (recordLength (firstRecord rs))) first.Nothing) ≡ t
-    go true = refl
-    go false = refl
 
 -- ---- removing
 pub remove-law : (d : Direction) {rs : List (List ℕ)} {ps : List ℕ} {s : ChannelScheduler} → schedule rs ps s ≡ withoutFirst (scheduleOf d)

@@ -12,7 +12,7 @@ use lib.Ieee.{Float}
 use borrow.Author.Tests.{ltb-true, ltb-false, le-ltb}
 use Rattle.bounds.specs.Bounds.{maxDatagram, maxTime, placeSize}
 use Rattle.refusal.specs.declared.Refusal.{Refusal}
-use Rattle.schedule.specs.State.{waitingRecords, stateBroken, heldLate, copies}
+use Rattle.schedule.specs.State.{waitingRecords, stateBroken, heldLate, copies, CanSchedule, Cleared}
 use Rattle.schedule.specs.Record.{timeOf}
 use Rattle.schedule.specs.Schedule.{firstRecord, due, popFirst, popUnchecked, popReadyAt, onPop, firstDue, withoutFirst}
 use Rattle.schedule.specs.Waiting.{WaitingCopy, waiting, putCopies, popCopies, nothing, leaves, firstDeadline}
@@ -20,7 +20,7 @@ use Rattle.schedule.specs.declared.FirstDue.{FirstDue}
 use Rattle.schedule.specs.declared.FirstDue.the-variants as first
 use Rattle.schedule.specs.declared.ReadyAnswer.{ReadyAnswer}
 use Rattle.schedule.specs.declared.ReadyAnswer.the-variants as ready
-use Rattle.schedule.proofs.Laws.{new-sound, new-times, schedule-waits, schedule-leaves, Leaves, pop-leaves, waits-count, first-time-is, count-within, pop-packet, pop-nothing, pop-idle, pop-never-refused, can-pop, pop-accepts, pop-accepted, popBy, pop-by-first, first-packet}
+use Rattle.schedule.proofs.Laws.{new-sound, new-times, new-cleared, schedule-cleared, pop-cleared, schedule-waits, schedule-leaves, Leaves, pop-leaves, waits-count, first-time-is, count-within, pop-packet, pop-nothing, pop-idle, pop-never-refused, can-pop, pop-accepts, pop-accepted, popBy, pop-by-first, first-packet}
 use Rattle.channel.specs.Bounds.{configBroken}
 use Rattle.channel.specs.Faults.{deliveriesOf}
 use Rattle.channel.specs.Process.{countedStats}
@@ -51,6 +51,7 @@ new-good c rs ps rolls h d w =
       used = omega arith;
       sound = new-sound rs ps;
       times = new-times rs ps;
+      cleared = new-cleared rs ps;
     }
 
 -- ---- counters
@@ -97,8 +98,11 @@ module _ (d : Direction) (rolls : List Float) (entryFree : Bool) (now : ℕ) (wi
   carry-used = by-left d rolls entryFree now wire (λ (x : Direction). (d .path .used ≤ x .path .used) × (x .path .used ≤ d .path .used + packetRolls)) (omega arith, omega arith) (λ f. (omega arith, omega arith))
 
   module _ (can : CanCarry d rolls now wire) where
+    can-fit : Fits d rolls entryFree now wire → CanSchedule (scheduleOf d) now (copyBytes d rolls wire) (granted d rolls)
+    can-fit f = can-put d rolls entryFree now wire (f .left) can (f .room) (carried-length (d .path .channel .config) (nextRolls d rolls) wire)
+
     leaves-schedule : Fits d rolls entryFree now wire → Leaves (scheduleOf d) (scheduleOf (carriedOn d rolls now wire)) (copies (granted d rolls))
-    leaves-schedule f = schedule-leaves (scheduleOf d) now (copyBytes d rolls wire) (granted d rolls) (can-put d rolls entryFree now wire (f .left) can (f .room) (carried-length (d .path .channel .config) (nextRolls d rolls) wire)) (can .good .times)
+    leaves-schedule f = schedule-leaves (scheduleOf d) now (copyBytes d rolls wire) (granted d rolls) (can-fit f) (can .good .times)
 
     pub carry-good : Good (leftByCarry (carry d rolls entryFree now wire)) rolls
     carry-good =
@@ -113,6 +117,7 @@ module _ (d : Direction) (rolls : List Float) (entryFree : Bool) (now : ℕ) (wi
           used = ltb-false (length rolls) (d .path .used + packetRolls) (f .left);
           sound = s .sound;
           times = s .times;
+          cleared = schedule-cleared (scheduleOf d) now (copyBytes d rolls wire) (granted d rolls) (can-fit f) (can .good .cleared);
         })
 
     pub carry-keeps : Keeps d (leftByCarry (carry d rolls entryFree now wire))
@@ -122,7 +127,7 @@ module _ (d : Direction) (rolls : List Float) (entryFree : Bool) (now : ℕ) (wi
 
     -- the copies stand among those that wait
     pub carry-waits : Fits d rolls entryFree now wire → waiting (scheduleOf (leftByCarry (carry d rolls entryFree now wire))) ≡ putCopies (d .path .scheduler .«next_order») now (copyBytes d rolls wire) (granted d rolls) (waiting (scheduleOf d))
-    carry-waits f = rw (carries d rolls entryFree now wire f) (schedule-waits (scheduleOf d) now (copyBytes d rolls wire) (granted d rolls) (can-put d rolls entryFree now wire (f .left) can (f .room) (carried-length (d .path .channel .config) (nextRolls d rolls) wire)))
+    carry-waits f = rw (carries d rolls entryFree now wire f) (schedule-waits (scheduleOf d) now (copyBytes d rolls wire) (granted d rolls) (can-fit f))
 
 -- ---- taking
 module _ (d : Direction) (now : ℕ) (out : List ℕ) where
@@ -166,13 +171,13 @@ module _ (d : Direction) (now : ℕ) (out : List ℕ) where
     pub bytes : take len (takeReady d now out .out) ≡ take (place * placeSize + len - place * placeSize) (drop (place * placeSize) (d .places))
     pub left : leftByTake (takeReady d now out) ≡ removeFirst d
 
-  pub take-place : (place len : ℕ) → stateBroken (scheduleOf d) ≡ false → firstDue (d .path .scheduler .count) (d .records) now ≡ first.Packet place len → TakesPlace place len
-  take-place place len sound e =
+  pub take-place : (place len : ℕ) → stateBroken (scheduleOf d) ≡ false → Cleared (scheduleOf d) → firstDue (d .path .scheduler .count) (d .records) now ≡ first.Packet place len → TakesPlace place len
+  take-place place len sound cleared e =
       let p = first-packet (scheduleOf d) now place len sound e in
       let t = take-by e in
       let rest = drop (place * placeSize) (d .places) in
       record {
-        can = record { sound = sound; some = p .some };
+        can = record { sound = sound; some = p .some; cleared = cleared };
         inside = omega (arith, p .inside, p .short);
         answer = ap (λ (x : TakeExit). x .result .answer) t;
         bytes =
@@ -202,6 +207,10 @@ module _ (d : Direction) (now : ℕ) (out : List ℕ) where
     unfolding takeReady
     take-leaves times = pop-leaves (scheduleOf d) now out sound times
 
+    pub take-cleared : Cleared (scheduleOf d) → Cleared (scheduleOf (leftByTake (takeReady d now out)))
+    unfolding takeReady
+    take-cleared cleared = pop-cleared (scheduleOf d) now out sound cleared
+
     pub taken-keeps : heldLate (waitingRecords (scheduleOf d)) ≡ false → TakeKeeps d (leftByTake (takeReady d now out))
     unfolding takeReady
     taken-keeps times = let s = take-leaves times in record { channel = refl; used = refl; orders = s .next ∙ add-zero (d .path .scheduler .«next_order»); records = s .records; places = s .places }
@@ -221,6 +230,7 @@ module _ (d : Direction) (now : ℕ) (out : List ℕ) where
           used = good .used;
           sound = leaves-pop .sound;
           times = leaves-pop .times;
+          cleared = take-cleared (good .sound) (good .cleared);
         }
 
     pub take-keeps : Keeps d (leftByTake (takeReady d now out))

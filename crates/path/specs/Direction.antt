@@ -5,7 +5,7 @@ use mathlib.Core.Bool.{false}
 use mathlib.Core.List.{List}
 use lib.ListN.{length}
 use lib.Ieee.{Float}
-use Rattle.schedule.specs.State.{Schedule, schedule, waitingRecords, stateBroken, heldLate}
+use Rattle.schedule.specs.State.{Schedule, schedule, waitingRecords, stateBroken, heldLate, Cleared}
 use Rattle.channel.specs.Bounds.{configBroken}
 use Rattle.channel.specs.declared.ChannelStats.{ChannelStats}
 use Rattle.path.specs.Rolls.{packetRolls, rollsBroken, Doubles}
@@ -33,7 +33,7 @@ pub record Counted (s : ChannelStats) (next used : ℕ) : Type 0 where
   pub delivered : s .«copies_delivered» * packetRolls ≤ 2 * used
   pub orders : next * packetRolls ≤ 2 * used
 
--- the setup, the rolls, the schedule and its times are within bounds
+-- the setup, the rolls, the schedule and its times are within bounds, and its places are zeros where no packet lies
 pub record Good (d : Direction) (rolls : List Float) : Type 0 where
   pub config : configBroken (d .path .channel .config) ≡ false
   pub counted : Counted (d .path .channel .stats) (d .path .scheduler .«next_order») (d .path .used)
@@ -42,3 +42,4 @@ pub record Good (d : Direction) (rolls : List Float) : Type 0 where
   pub used : d .path .used ≤ length rolls
   pub sound : stateBroken (scheduleOf d) ≡ false
   pub times : heldLate (waitingRecords (scheduleOf d)) ≡ false
+  pub cleared : Cleared (scheduleOf d)

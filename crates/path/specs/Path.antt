@@ -9,7 +9,7 @@ use lib.Dec.{ltb, eqb}
 use lib.Ieee.{Float}
 use Rattle.bounds.specs.Bounds.{maxDatagram, maxDuration}
 use Rattle.octets.specs.Fold.{foldBytes}
-use Rattle.schedule.specs.State.{Schedule, stateBroken, copies, lacksRoom}
+use Rattle.schedule.specs.State.{Schedule, stateBroken, copies, lacksRoom, Cleared}
 use Rattle.schedule.specs.Schedule.{newSchedule, scheduleAtUnchecked, PopExit, popUnchecked, firstTime}
 use Rattle.schedule.specs.Schedule.{due, withoutFirst}
 use Rattle.schedule.specs.declared.ChannelScheduler.{ChannelScheduler}
@@ -160,7 +160,8 @@ nextDeadline p rs = deadlineOf (firstTime (p .scheduler .count) rs)
 abbrev pub isEmpty : Path → Bool
 isEmpty p = eqb (p .scheduler .count) 0
 
--- what the calls ask: a good path, a time within a run, a packet that fits a place; a sound schedule, a copy that waits
+-- what the calls ask: a good path, a time within a run, a packet that fits a place; a sound schedule,
+-- a copy that waits, zeros where no packet lies
 pub record CanCarry (d : Direction) (rolls : List Float) (now : ℕ) (wire : List ℕ) : Type 0 where
   pub good : Good d rolls
   pub in-time : now ≤ maxDuration
@@ -169,3 +170,4 @@ pub record CanCarry (d : Direction) (rolls : List Float) (now : ℕ) (wire : Lis
 pub record CanRemove (d : Direction) : Type 0 where
   pub sound : stateBroken (scheduleOf d) ≡ false
   pub some : 0 < d .path .scheduler .count
+  pub cleared : Cleared (scheduleOf d)

@@ -153,7 +153,14 @@ impl Path {
         }
         let len = wire.len();
         let fold = copy_fold(deliveries, &copy[..len]);
-        let next = scheduler.schedule_at_unchecked(records, places, now, &copy[..len], deliveries);
+        let next = scheduler.schedule_at_unchecked(
+            records,
+            places,
+            now,
+            &copy[..len],
+            deliveries,
+            true,
+        );
         let after = done.channel;
         CarryResult {
             path: Path {
@@ -192,9 +199,11 @@ impl Path {
         requires { ⌜ self .scheduler .count ≤ length (records .now) ⌝ }
         ensures { λ r. ⌜ r ≡ isDue self (records .entry .now) now ⌝ }
     {
-        match self.first_due_unchecked(records, now) {
-            FirstDue::Packet(_, _) => true,
-            FirstDue::Nothing => false,
+        let scheduler = self.scheduler;
+        match scheduler.next_deadline_unchecked(records) {
+            DeadlineAnswer::At(time) => time <= now,
+            DeadlineAnswer::Nothing => false,
+            DeadlineAnswer::Refused(_) => false,
         }
     }
 

@@ -16,7 +16,7 @@ use Rattle.path.specs.Path.{isGoing, TakeExit, leftByTake, takeReady, removeFir
 use Rattle.path.specs.declared.Path.{Path}
 use Rattle.path.specs.declared.Stop.{Stop}
 use Rattle.path.specs.declared.Stop.the-variants as stop
-use Rattle.path.proofs.Laws.{TakesPlace, take-count, take-leaves, take-not-due, take-place}
+use Rattle.path.proofs.Laws.{TakesPlace, take-count, take-leaves, take-cleared, take-not-due, take-place}
 use Rattle.receiving.specs.Receiving.{Inbound, ForwardExit, forwardExit, onForward, ServeForwardExit, serveForwardExit, progressed, serveAtMost, serveForward}
 use Rattle.receiving.specs.Good.{CanOnForward, CanServeForward}
 use Rattle.receiving.proofs.Kept.{forward-good, forward-counts}
@@ -71,6 +71,7 @@ module _ (rolls : List Float) (total now : ℕ) (forward : Direction) (b : Inbou
         record {
           sound = s .sound;
           times = s .times;
+          cleared = take-cleared forward now packetBuffer (can .sound) (can .cleared);
           good = forward-good rolls total now (take n (nextTaken now forward .out)) b (can-hand-over n e);
           few = omega (arith, can .few, take-count forward now packetBuffer n e, forward-counts rolls total now (take n (nextTaken now forward .out)) b .datas .1);
           in-time = can .in-time;
@@ -115,7 +116,7 @@ module _ {rolls : List Float} {total now : ℕ} {f g : Direction} {u v : Inbound
 
   module _ {place len : ℕ} (q : a ≡ first.Packet place len) where
     pub left-takes : TakesPlace g now packetBuffer place len
-    left-takes = take-place g now packetBuffer place len (l .can .sound) (sym e ∙ q)
+    left-takes = take-place g now packetBuffer place len (l .can .sound) (l .can .cleared) (sym e ∙ q)
 
     pub left-can : CanOnForward v rolls now
     left-can = can-hand-over rolls total now g v (l .can) len (left-takes .answer)

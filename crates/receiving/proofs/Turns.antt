@@ -167,4 +167,4 @@ module _ (rolls : List Float) (total now : ℕ) where
 
 -- what the loop asks is met by a good direction and a good side, if their copies and Data are few
 pub good-can-serve : {f : Direction} {b : Inbound} {frolls rolls : List Float} {now : ℕ} → Good f frolls → GoodInbound b rolls → b .side .«data_received» + f .path .scheduler .count ≤ countLimit → now ≤ maxDuration → CanServeForward f b rolls now
-good-can-serve good g few time = record { sound = good .sound; times = good .times; good = g; few = few; in-time = time }
+good-can-serve good g few time = record { sound = good .sound; times = good .times; cleared = good .cleared; good = g; few = few; in-time = time }

@@ -7,7 +7,7 @@ use lib.ListN.{length}
 use lib.Ieee.{Float}
 use Rattle.bounds.specs.Bounds.{countLimit, maxDuration}
 use Rattle.notes.specs.Notes.{ScheduledBelow}
-use Rattle.schedule.specs.State.{waitingRecords, stateBroken, heldLate}
+use Rattle.schedule.specs.State.{waitingRecords, stateBroken, heldLate, Cleared}
 use Rattle.path.specs.Direction.{Direction, scheduleOf, Good}
 use Rattle.session.specs.Receiving.{receiverEnd}
 use Rattle.session.specs.GoodReceiver.{GoodReceiver}
@@ -28,10 +28,12 @@ pub record CanOnForward (b : Inbound) (rolls : List Float) (now : ℕ) : Type 0 
   pub few : b .side .«data_received» < countLimit
   pub in-time : now ≤ maxDuration
 
--- the loop: the forward line's schedule and its times are within bounds, and its copies are too few for a counter
+-- the loop: the forward line's schedule and its times are within bounds, its places are zeros where no packet lies, and
+-- its copies are too few for a counter
 pub record CanServeForward (forward : Direction) (b : Inbound) (rolls : List Float) (now : ℕ) : Type 0 where
   pub sound : stateBroken (scheduleOf forward) ≡ false
   pub times : heldLate (waitingRecords (scheduleOf forward)) ≡ false
+  pub cleared : Cleared (scheduleOf forward)
   pub good : GoodInbound b rolls
   pub few : b .side .«data_received» + forward .path .scheduler .count ≤ countLimit
   pub in-time : now ≤ maxDuration

@@ -33,6 +33,8 @@ use Rattle.schedule.proofs.Memory.{length-filled, within, unbroken, in-
 use Rattle.schedule.proofs.Calls.{can-one, can-first, can-second, lacks, lacks-not}
 pub use Rattle.schedule.proofs.Calls.{can-schedule, can-pop-accepted, read-sound}
 use Rattle.schedule.proofs.Bytes.{other-copies, filled-bytes, bytes-length}
+-- zeros where no packet lies
+pub use Rattle.schedule.proofs.Clearing.{new-cleared, schedule-cleared, taken-cleared, pop-cleared}
 -- the packet that leaves first
 pub use Rattle.schedule.proofs.Removing.{popBy, FirstPacket, pop-by-first, first-packet}
 -- tests

@@ -10,6 +10,7 @@ pub mod Memory
 pub mod Calls
 pub mod OwnedRecords
 pub mod Bytes
+pub mod Clearing
 pub mod Removing
 pub mod Laws
 pub mod Examples

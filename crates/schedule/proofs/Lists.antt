@@ -159,16 +159,6 @@ two-parts l p x y a h k e f =
     less : (a n : ℕ) → a + 1410 - (a + n) ≡ 1410 - n
     less a n = omega arith
 
-pub one-part : (l y : List ℕ) (a : ℕ) → a + 1410 ≤ length l → y ≡ replicate (length (midOf a (a + 1410 - a) l)) 0 → putMid a (a + 1410 - a) l y ≡ take a l ++ replicate 1410 0 ++ drop (a + 1410) l
-one-part l y a h f =
-    let zeros : y ≡ replicate 1410 0 = f ∙ ap (λ (m : ℕ). replicate m 0) (mid-len a (a + 1410) l h ∙ whole a) in
-    ap (λ (xs : List ℕ). take a l ++ (xs ++ postOf a (a + 1410 - a) l)) zeros
-    ∙ ap (λ (xs : List ℕ). take a l ++ (replicate 1410 0 ++ xs)) (post-is a (a + 1410) l (omega arith))
-    ∙ sym (append-assoc (take a l) (replicate 1410 0) (drop (a + 1410) l))
-  where
-    whole : (a : ℕ) → a + 1410 - a ≡ 1410
-    whole a = omega arith
-
 -- the part that is read
 pub part-is : (l : List ℕ) (a n : ℕ) → take (a + n - a) (drop a l) ≡ take n (drop a l)
 part-is l a n = ap (λ (k : ℕ). take k (drop a l)) (add-sub-cancel-left a n)

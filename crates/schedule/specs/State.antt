@@ -1,9 +1,9 @@
 -- Document 01, "Bounds of a setup" and "Turned away", checks 5, 8, 9 and 10 of a schedule.
-use Prim.Native.Nat.{ℕ, _+_, _-_, _*_, _/_, _≤_}
+use Prim.Native.Nat.{ℕ, _+_, _-_, _*_, _/_, _≤_, _<_}
 use mathlib.Core.Path.{_≡_}
 use mathlib.Core.Bool.{Bool, false, cond, _||_}
 use mathlib.Core.List.{List, [], _∷_}
-use lib.ListN.{length, take}
+use lib.ListN.{length, take, drop, replicate}
 use lib.Dec.{ltb, leb, eqb}
 use Rattle.bounds.specs.Bounds.{countLimit, maxDatagram, maxDeliveryDelay, maxTime, placeSize}
 use Rattle.refusal.specs.Counts.{countFull}
@@ -94,6 +94,19 @@ unusedPlaces m = length (freePlaces (placeCount m) (waitingRecords m))
 -- check 5 of k copies: too few free places, or too few unused records
 abbrev pub lacksRoom : Schedule → ℕ → Bool
 lacksRoom m k = ltb (unusedPlaces m) k || ltb (unusedRecords m) k
+
+-- the bytes of the place p from the k-th on are zeros
+abbrev pub ZerosFrom : ℕ → List ℕ → ℕ → Type 0
+ZerosFrom k ps p = drop k (take placeSize (drop (p * placeSize) ps)) ≡ replicate (placeSize - k) 0
+
+-- how many bytes of the place p a packet has
+unfoldable pub heldBytes : ℕ → List (List ℕ) → ℕ
+heldBytes p [] = 0
+heldBytes p (r ∷ rs) = cond (eqb p (placeOf r)) (recordLength r) (heldBytes p rs)
+
+-- all other bytes of the places are zeros; a run keeps it so, and no entry point looks at it
+pub record Cleared (m : Schedule) : Type 0 where
+  pub zeros : (p : ℕ) → p < placeCount m → ZerosFrom (heldBytes p (waitingRecords m)) (m .places) p
 
 -- what the calls below the entry points take for granted: the checks before them are false
 pub record CanPut (m : Schedule) (packet : List ℕ) : Type 0 where

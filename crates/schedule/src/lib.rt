@@ -1,10 +1,10 @@
 // The delivery schedule: waiting copies of packets, handed out at their time. Document 01, `channel/scheduler.rs`.
 ghost use mathlib.Core.Path.{_≡_};
-ghost use mathlib.Core.Bool.{false};
+ghost use mathlib.Core.Bool.{true, false};
 ghost use Prim.Native.Nat.{_≤_};
 ghost use lib.ListN.{length};
 ghost use Rattle.schedule.specs.Record.{after};
-ghost use Rattle.schedule.specs.State.{schedule, stateBroken, copies, delayAt, CanPut, CanSchedule};
+ghost use Rattle.schedule.specs.State.{schedule, stateBroken, copies, delayAt, CanPut, CanSchedule, Cleared};
 ghost use Rattle.schedule.specs.Schedule.{newSchedule, putCopy, scheduleAtUnchecked, scheduleExit, scheduleAt};
 ghost use Rattle.schedule.specs.Schedule.{popExit, popUnchecked, popReadyAt, CanPop};
 ghost use Rattle.schedule.specs.Schedule.{firstTime, nextDeadline, len, isEmpty, roomOf, room};
@@ -150,7 +150,14 @@ impl ChannelScheduler {
                 answer: DoneAnswer::Refused(r),
             },
             Verdict::Accepted => {
-                let next = self.schedule_at_unchecked(records, places, now, packet, deliveries);
+                let next = self.schedule_at_unchecked(
+                    records,
+                    places,
+                    now,
+                    packet,
+                    deliveries,
+                    false,
+                );
                 ScheduleResult {
                     scheduler: next,
                     answer: DoneAnswer::Done,
@@ -263,7 +270,7 @@ pub fn leaves_after(p: ScheduledRow, r: ScheduledRow) -> bool
 }
 
 impl ChannelScheduler {
-    // All copies of one answer of the channel.
+    // All copies of one answer of the channel. `cleared`: whether the bytes that no packet has are zeros.
     pub fn schedule_at_unchecked(
         self,
         records: &mut [ScheduledRow],
@@ -271,8 +278,10 @@ impl ChannelScheduler {
         now: u64,
         packet: &[u8],
         deliveries: Deliveries,
+        cleared: bool,
     ) -> Self
         requires { ⌜ CanSchedule (schedule (records .now) (places .now) self) now (packet .now) deliveries ⌝ }
+        requires { ⌜ (cleared ≡ true → Cleared (schedule (records .now) (places .now) self)) ⌝ }
         ensures { λ r. ⌜ schedule (records .exit .now) (places .exit .now) r
             ≡ scheduleAtUnchecked (schedule (records .entry .now) (places .entry .now) self) now (packet .entry .now)
             deliveries ⌝ }
@@ -282,7 +291,7 @@ impl ChannelScheduler {
         let mut k: usize = 0;
         while k < copies {
             let delay = delay_of(deliveries, k);
-            scheduler = scheduler.put(records, places, now + delay * 1000000, packet);
+            scheduler = scheduler.put(records, places, now + delay * 1000000, packet, cleared);
             k += 1;
         }
         scheduler
@@ -354,15 +363,23 @@ impl ChannelScheduler {
 
 impl ChannelScheduler {
     // One copy more, to leave at `time`.
-    fn put(self, records: &mut [ScheduledRow], places: &mut [u8], time: u64, packet: &[u8]) -> Self
+    fn put(
+        self,
+        records: &mut [ScheduledRow],
+        places: &mut [u8],
+        time: u64,
+        packet: &[u8],
+        cleared: bool,
+    ) -> Self
         requires { ⌜ CanPut (schedule (now records) (now places) self) (now packet) ⌝ }
+        requires { ⌜ (cleared ≡ true → Cleared (schedule (now records) (now places) self)) ⌝ }
         ensures { λ r. ⌜ schedule (now (records .exit)) (now (places .exit)) r
             ≡ putCopy (schedule (now (records .entry)) (now (places .entry)) self) time (now (packet .entry)) ⌝ }
     {
         let count = self.count;
         let order = self.next_order;
         let place = lowest_free(records, count, places.len() / PLACE_SIZE);
-        fill_place(places, place, packet);
+        fill_place(places, place, packet, cleared);
         let r = Scheduled {
             time: time,
             order: order,

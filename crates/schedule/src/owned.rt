@@ -160,7 +160,7 @@ impl OwnedSchedule {
         let records = self.records;
         let rows = packed_all(records);
         let place = lowest_free(&rows, count, places.len() / PLACE_SIZE);
-        fill_place(places, place, packet);
+        fill_place(places, place, packet, false);
         let r = Scheduled {
             time: time,
             order: order,

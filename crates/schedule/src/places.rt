@@ -1,11 +1,12 @@
 // The places of waiting records: which are doubled, which is the lowest free one, what a place holds.
 ghost use mathlib.Core.Path.{_≡_};
-ghost use mathlib.Core.Bool.{false};
+ghost use mathlib.Core.Bool.{true, false};
 ghost use mathlib.Core.List.{[], _++_};
 ghost use Prim.Native.Nat.{_+_, _*_, _≤_, _<_};
 ghost use lib.ListN.{length, getD, take, drop, replicate};
 ghost use Rattle.bounds.specs.Bounds.{maxDatagram, placeSize};
 ghost use Rattle.schedule.specs.Record.{placeOf, freePlaces, lowestFree};
+ghost use Rattle.schedule.specs.State.{ZerosFrom};
 ghost use Rattle.schedule.specs.Internal.{blockSize, blockAt, doubled, outside, firstUnset, sumFrom, sumLimit};
 ghost use Rattle.schedule.specs.Schedule.{placed, placeBytes};
 use super::Block;
@@ -49,15 +50,19 @@ pub(super) fn lowest_free(s: &[ScheduledRow], count: usize, places: usize) -> us
     lowest_unmarked(s, count, places)
 }
 
-// Fills a place: the packet, and zeros after it.
-pub(super) fn fill_place(places: &mut [u8], place: usize, packet: &[u8])
+// Fills a place: the packet, and zeros after it, which are there if the place is `cleared`.
+pub(super) fn fill_place(places: &mut [u8], place: usize, packet: &[u8], cleared: bool)
     requires { ⌜ (place * placeSize + placeSize ≤ length (now places)) × (length (now packet) ≤ maxDatagram) ⌝ }
+    requires { ⌜ (cleared ≡ true → ZerosFrom 0 (now places) place) ⌝ }
     ensures { λ _. ⌜ now (places .exit) ≡ placed (now (places .entry)) place (placeBytes (now (packet .entry))) ⌝ }
 {
     let from = place * PLACE_SIZE;
     let end = from + packet.len();
-    let to = from + PLACE_SIZE;
     octets::copy_unchecked(packet, &mut places[from..end]);
+    if cleared {
+        return;
+    }
+    let to = from + PLACE_SIZE;
     octets::clear(&mut places[end..to]);
 }
 
@@ -72,16 +77,18 @@ pub(super) fn take_packet(places: &mut [u8], place: usize, len: usize, out: &mut
     let from = place * PLACE_SIZE;
     let end = from + len;
     octets::copy_unchecked(&places[from..end], &mut out[..len]);
-    clear_place(places, place);
+    clear_place(places, place, PLACE_SIZE);
 }
 
-pub(super) fn clear_place(places: &mut [u8], place: usize)
-    requires { ⌜ place * placeSize + placeSize ≤ length (now places) ⌝ }
+// Clears the first `len` bytes of a place; the others are zeros.
+pub(super) fn clear_place(places: &mut [u8], place: usize, len: usize)
+    requires { ⌜ (place * placeSize + placeSize ≤ length (now places)) × (len ≤ placeSize)
+        × ZerosFrom len (now places) place ⌝ }
     ensures { λ _. ⌜ now (places .exit) ≡ placed (now (places .entry)) place (replicate placeSize 0) ⌝ }
 {
     let from = place * PLACE_SIZE;
-    let to = from + PLACE_SIZE;
-    octets::clear(&mut places[from..to]);
+    let end = from + len;
+    octets::clear(&mut places[from..end]);
 }
 
 // The block of 256 places from `base` on.

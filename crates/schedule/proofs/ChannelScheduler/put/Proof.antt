@@ -7,6 +7,7 @@ use Rattle.schedule.specs.Record.{after, inserted}
 use Rattle.schedule.specs.State.{schedule}
 use Rattle.schedule.proofs.Memory.{within, in-order, inside, single, short, slot, some-free, place-inside}
 use Rattle.schedule.proofs.Calls.{put-law}
+use Rattle.schedule.proofs.Clearing.{free-zeros}
 use borrow.Author.Needs.{needs}
 use Rattle.schedule.proofs.ChannelScheduler.put.Statement.{statement}
 use Rattle.schedule.proofs.ChannelScheduler.put.Tie as tie
@@ -15,13 +16,13 @@ lowest-free-requires : tie.Need-lowest-free-requires
 lowest-free-requires c κs =
     let s = c .before .before .before in
     let m = schedule (s .args .records .now) (s .args .places .now) (s .args .self) in
-    (within m (s .pre .sound), some-free m (s .args .packet .now) (s .pre), inside m (s .pre .sound), single m (s .pre .sound))
+    (within m (s .pre .0 .sound), some-free m (s .args .packet .now) (s .pre .0), inside m (s .pre .0 .sound), single m (s .pre .0 .sound))
 
 fill-place-requires : tie.Need-fill-place-requires
 fill-place-requires c κs =
     let s = c .before .before .before .before .before in
     let m = schedule (s .args .records .now) (s .args .places .now) (s .args .self) in
-    (rw (c .before .lowest-free .ensures) (place-inside m (s .args .packet .now) (s .pre)), short m (s .args .packet .now) (s .pre))
+    ((rw (c .before .lowest-free .ensures) (place-inside m (s .args .packet .now) (s .pre .0)), short m (s .args .packet .now) (s .pre .0)), λ e. free-zeros m (s .args .packet .now) (s .pre .0) (s .pre .1 e) (c .before .lowest-free .ensures))
 
 packed-requires : tie.Need-packed-requires
 packed-requires c κs = search needs
@@ -30,16 +31,16 @@ insert-requires : tie.Need-insert-requires
 insert-requires c κs =
     let s = c .before .before .before .before .before .before .before .before .before .before in
     let m = schedule (s .args .records .now) (s .args .places .now) (s .args .self) in
-    (slot m (s .args .packet .now) (s .pre), in-order m (s .pre .sound))
+    (slot m (s .args .packet .now) (s .pre .0), in-order m (s .pre .0 .sound))
 
-add-t13 : tie.Need-add-t13
-add-t13 c =
+add-t14 : tie.Need-add-t14
+add-t14 c =
     let s = c .before .before .before .before .before .before .before .before .before .before .before .before in
     let m = schedule (s .args .records .now) (s .args .places .now) (s .args .self) in
-    omega (arith, slot m (s .args .packet .now) (s .pre))
+    omega (arith, slot m (s .args .packet .now) (s .pre .0))
 
-add-t18 : tie.Need-add-t18
-add-t18 c = search needs
+add-t19 : tie.Need-add-t19
+add-t19 c = search needs
 
 same-length : tie.Need-same-length
 same-length c = search needs
@@ -62,8 +63,8 @@ put-spec =
     fill-place-requires
     packed-requires
     insert-requires
-    add-t13
-    add-t18
+    add-t14
+    add-t19
     same-length
     same-length-2
     returns)

@@ -1,4 +1,5 @@
 use mathlib.Core.Path.{sym, _∙_, ap}
+use mathlib.Core.Bool.{false≢true}
 use Rattle.schedule.specs.State.{Schedule, schedule}
 use Rattle.schedule.specs.Schedule.{scheduleAt, onSchedule}
 use Rattle.refusal.specs.declared.DoneAnswer.the-variants as done
@@ -17,7 +18,7 @@ enum-told : tie.Need-enum-told
 enum-told c = search needs
 
 schedule-at-unchecked-requires : tie.Need-schedule-at-unchecked-requires
-schedule-at-unchecked-requires c κs = can-schedule (schedule (c .before .before .before .before .before .before .before .before .before .args .records .now) (c .before .before .before .before .before .before .before .before .before .args .places .now) (c .before .before .before .before .before .before .before .before .before .args .self)) (c .before .before .before .before .before .before .before .before .before .args .now) (c .before .before .before .before .before .before .before .before .before .args .packet .now) (c .before .before .before .before .before .before .before .before .before .args .deliveries) (sym (c .before .before .before .before .schedule-verdict .ensures) ∙ c .before .before .enum-told .given .1)
+schedule-at-unchecked-requires c κs = (can-schedule (schedule (c .before .before .before .before .before .before .before .before .before .args .records .now) (c .before .before .before .before .before .before .before .before .before .args .places .now) (c .before .before .before .before .before .before .before .before .before .args .self)) (c .before .before .before .before .before .before .before .before .before .args .now) (c .before .before .before .before .before .before .before .before .before .args .packet .now) (c .before .before .before .before .before .before .before .before .before .args .deliveries) (sym (c .before .before .before .before .schedule-verdict .ensures) ∙ c .before .before .enum-told .given .1), λ e. absurd (false≢true e))
 
 same-length : tie.Need-same-length
 same-length c = search needs

@@ -1,3 +1,4 @@
+use mathlib.Core.Bool.{false≢true}
 use mathlib.Core.Path.{_≡_, sym, _∙_, ap, subst}
 use native.Mathlib.Omega.{arith}
 use Prim.Native.Nat.{ℕ, _<_}
@@ -29,7 +30,7 @@ fill-place-requires : tie.Need-fill-place-requires
 fill-place-requires c κs =
     let s = c .before .before .before .before .before .before .before in
     let m = ownedSchedule (s .args .self) (s .args .places .now) in
-    (rw (c .before .lowest-free .ensures, c .before .before .before .packed-all .ensures) (place-inside m (s .args .packet .now) (s .pre)), short m (s .args .packet .now) (s .pre))
+    ((rw (c .before .lowest-free .ensures, c .before .before .before .packed-all .ensures) (place-inside m (s .args .packet .now) (s .pre)), short m (s .args .packet .now) (s .pre)), λ e. absurd (false≢true e))
 
 inserted-requires : tie.Need-inserted-requires
 inserted-requires c κs =

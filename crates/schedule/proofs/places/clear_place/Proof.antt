@@ -1,5 +1,5 @@
 use Prim.Native.Nat.{_*_}
-use Rattle.schedule.proofs.Lists.{one-part}
+use Rattle.schedule.proofs.Clearing.{clear-part}
 use borrow.Author.Needs.{needs}
 use Rattle.schedule.proofs.places.clear_place.Statement.{statement}
 use Rattle.schedule.proofs.places.clear_place.Tie as tie
@@ -7,8 +7,8 @@ use Rattle.schedule.proofs.places.clear_place.Tie as tie
 mul-from : tie.Need-mul-from
 mul-from c = search needs
 
-add-to : tie.Need-add-to
-add-to c = search needs
+add-end : tie.Need-add-end
+add-end c = search needs
 
 sub-clear : tie.Need-sub-clear
 sub-clear c = search needs
@@ -28,14 +28,14 @@ same-length c = search needs
 returns : tie.Need-returns
 returns c =
     let s = c .before .before .before .before .before in
-    one-part (s .args .places .now) (c .before .before .clear .last .0) (s .args .place * 1410) (s .pre) (c .before .before .clear .ensures)
+    clear-part (s .args .places .now) (c .before .before .clear .last .0) (s .args .place * 1410) (s .args .len) (s .pre .0) (s .pre .1) (s .pre .2) (c .before .before .clear .ensures)
 
 pub clear-place-spec : {M : Type 1} → statement M
 clear-place-spec =
     tie.close
     (tie.spec
     mul-from
-    add-to
+    add-end
     sub-clear
     part-clear-start
     part-clear-end

@@ -4,6 +4,7 @@ use mathlib.Core.Path.{sym, _∙_, ap}
 use mathlib.Core.List.{List, _++_}
 use lib.ListN.{drop}
 use lib.Seq.{length-take-le}
+use Rattle.schedule.proofs.Clearing.{whole-place}
 use Rattle.schedule.proofs.Lists.{part-is, part-length}
 use borrow.Author.Needs.{needs}
 use Rattle.schedule.proofs.places.take_packet.Statement.{statement}
@@ -36,7 +37,9 @@ copy-unchecked-requires c κs =
     part-length (a .places .now) (a .place * 1410) (a .len) (omega arith) ∙ sym (length-take-le (a .len) (a .out .now) (omega arith))
 
 clear-place-requires : tie.Need-clear-place-requires
-clear-place-requires c κs = search needs
+clear-place-requires c κs =
+    let s = c .before .before .before .before .before .before .before .before .before in
+    (s .pre .0, omega arith, whole-place (s .args .places .now) (s .args .place))
 
 same-length : tie.Need-same-length
 same-length c = search needs
