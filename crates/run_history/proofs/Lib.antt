@@ -5,6 +5,7 @@ pub mod Noted
 pub mod Tells
 pub mod Arrivals
 pub mod Returns
+pub mod Resent
 pub mod Departures
 pub mod Steps
 pub mod EndCalls
