@@ -10,5 +10,6 @@ pub mod Departures
 pub mod Steps
 pub mod EndCalls
 pub mod Duplicates
+pub mod Few
 pub mod Transfer
 pub mod Laws
