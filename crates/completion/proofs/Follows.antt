@@ -1,5 +1,5 @@
 -- What holds of the parts of a run: its ends are those after a list of calls, the chunks sent are the file's first ones, and what waits on the lines are copies of what the ends made. Each call of an end keeps it.
-use Prim.Native.Nat.{ℕ, _+_, _≤_, _<_}
+use Prim.Native.Nat.{ℕ, _+_, _*_, _≤_, _<_}
 use mathlib.Core.Path.{_≡_, refl, sym, ap, _∙_, subst}
 use mathlib.Core.Bool.{Bool, true, false, cond}
 use mathlib.Core.List.{List, [], _∷_, _++_, append-nil}
@@ -7,17 +7,19 @@ use native.Mathlib.Omega.{arith}
 use native.Mathlib.Numerals.{add-one}
 use lib.ListN.{length, getD, take, length-append, length-take, List·getD-append}
 use lib.Seq.{take-suc, getD-append-add, getD-take}
+use borrow.Author.Tests.{le-ltb}
 use Rattle.octets.specs.Octets.{Octets}
-use Rattle.bounds.specs.Bounds.{headerSize}
+use Rattle.bounds.specs.Bounds.{headerSize, slotSize}
 use Rattle.protocol.specs.PlainMachine.{WindowFits}
 use Rattle.protocol.specs.declared.ProtocolType.{ProtocolType}
 use Rattle.protocol.specs.declared.ProtocolType.the-variants.{StopAndWait, GoBackN, SelectiveRepeat}
 use Rattle.protocol.proofs.Laws.{chunksFed}
+use Rattle.window.specs.State.{windowBroken, storeShort}
 use Rattle.schedule.specs.Waiting.{All, of-none, of-more}
 use Rattle.schedule.proofs.Laws.{all-weaker}
 use Rattle.channel.specs.declared.ChannelConfig.{ChannelConfig}
 use Rattle.delivery.specs.Calls.{Copy, whole, copyBytes, IsCopy, send, timeout, toReceiver, toSender, step, Allowed, numberOf, fedBy}
-use Rattle.delivery.specs.Ends.{ends, freshEnds}
+use Rattle.delivery.specs.Ends.{ends, freshEnds, ReceivingRoom}
 use Rattle.delivery.proofs.Laws.{copy-stays, copy-bytes}
 use Rattle.chunks.proofs.Laws.{chunk-octets}
 use Rattle.path.specs.Direction.{Direction}
@@ -258,6 +260,18 @@ pub window-fits : (p : ProtocolType) (w : ℕ) → WindowFits p (slotCount p w)
 window-fits StopAndWait w = refl
 window-fits GoBackN w = tt
 window-fits SelectiveRepeat w = tt
+
+receiving-fits : (p : ProtocolType) (w : ℕ) (store : List ℕ) → (p ≡ SelectiveRepeat → w * slotSize ≤ length store) → ReceivingRoom p (slotCount p w) store
+unfolding storeShort
+receiving-fits StopAndWait w store h = tt
+receiving-fits GoBackN w store h = tt
+receiving-fits SelectiveRepeat w store h = le-ltb _ _ (h refl)
+
+-- with room in both stores
+pub new-begun : (p : ProtocolType) (w limit : ℕ) (sending receiving output : List ℕ) (size : ℕ) (file : List ℕ) → windowBroken (slotCount p w) ≡ false → storeShort sending (slotCount p w) ≡ false → (p ≡ SelectiveRepeat → w * slotSize ≤ length receiving)
+    → Octets sending → 0 < size → Octets file → Begun (record { protocol = p; window = slotCount p w; limit = limit; sending = sending; receiving = receiving; output = output; size = size; file = file })
+new-begun p w limit sending receiving output size file bounds room fits store some octets =
+    record { made = record { in-bounds = bounds; window = window-fits p w; sending-room = room; receiving-room = receiving-fits p w receiving fits; octets = store }; some = some; octets = octets }
 
 pub new-sender-slots : (p : ProtocolType) (w limit : ℕ) (store : List ℕ) → newSender p (slotCount p w) limit store ≡ newSender p w limit store
 unfolding newSender

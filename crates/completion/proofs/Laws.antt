@@ -1,7 +1,7 @@
 -- What crates above may cite of demand 3 in a run.
 -- the invariant of a run, the parts of a step that keep it, and what it says at the end
 pub use Rattle.completion.proofs.Reached.{Start, chunksIn}
-pub use Rattle.completion.proofs.Follows.{Begun, window-fits, new-sender-slots, new-receiver-slots}
+pub use Rattle.completion.proofs.Follows.{Begun, window-fits, new-begun, new-sender-slots, new-receiver-slots}
 pub use Rattle.completion.proofs.Serving.{endOf}
 pub use Rattle.completion.proofs.Events.{eventsIn, Logged, LoggedIn}
 pub use Rattle.completion.proofs.Runs.{Runs, RunsOutgoing, RunsInbound, runs-start, runs-served, runs-acked, runs-timed-out, runs-resent, runs-sent, runs-pumped, runs-delivered, runs-file, runs-completed}

@@ -18,8 +18,7 @@ use Rattle.transfer.specs.Start.{planFor, newRun, startOf}
 use Rattle.transfer.specs.Run.{run}
 use Rattle.transfer.specs.Transfer.{defaultCeilings, finishedAt, outcomeOf, RunExit, runTransfer}
 use Rattle.transfer.specs.declared.RunAnswer.the-variants as answer
-use Rattle.transfer.proofs.Runs.{stepsFrom, goesOn, run-steps}
-use Rattle.transfer.proofs.Laws.{accepted-is}
+use Rattle.transfer.proofs.Laws.{stepsFrom, goesOn, run-steps, accepted-is}
 use Rattle.edition_clock.specs.OneLoss.{config, file, memory, Delivers}
 use Rattle.notes.specs.Notes as notes
 use Rattle.refusal.specs.Clauses as refusalClauses

@@ -14,7 +14,7 @@ use Rattle.step.specs.Settle.{StepExit}
 use Rattle.step.specs.declared.Plan.{Plan}
 use Rattle.transfer.specs.Start.{planFor, newRun}
 use Rattle.transfer.specs.Transfer.{defaultCeilings, RunExit, ended}
-use Rattle.transfer.proofs.Runs.{stepsFrom, goesOn, run-steps}
+use Rattle.transfer.proofs.Laws.{stepsFrom, goesOn, run-steps}
 use Rattle.linkrun_text.specs.Linkrun.{maxFile, linkrunSetup, linkrunRolls, linkrunLent, runEvents, fileEvents, linkrunText}
 use Rattle.linkrun_text.proofs.Starts.{fileGiven, linkrun-ends}
 use Rattle.acks.specs.Acks as acks

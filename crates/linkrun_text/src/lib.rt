@@ -68,8 +68,8 @@ pub fn run_file_unchecked(file: &[u8], events: &mut [Event; 256]) -> RunAnswer
     )
 }
 
-// How many of the rows hold events: none where the run is refused. A run writes no more rows than it is lent; that
-// isn't proved, so it is looked at.
+// How many of the rows hold events: none where the run is refused. A run writes no more rows than it is lent, but no
+// law below this crate says so; it is looked at.
 fn events_written(answer: RunAnswer) -> usize
     ensures { λ r. ⌜ r ≡ rowsWritten answer ⌝ }
 {

@@ -8,18 +8,13 @@ use mathlib.Core.List.{List, [], _∷_}
 use lib.Dec.{eqb, leb, ltb}
 use lib.ListN.{length}
 use borrow.Author.Tests.{leb-false, ltb-true, ltb-false}
-use Rattle.protocol.specs.declared.ProtocolType.{ProtocolType}
-use Rattle.protocol.specs.declared.ProtocolType.the-variants.{StopAndWait, GoBackN, SelectiveRepeat}
 use Rattle.timer.specs.declared.Deadline.{Deadline}
 use Rattle.timer.specs.declared.Deadline.the-variants as deadline
 use Rattle.path.specs.Path.{isGoing}
 use Rattle.path.specs.declared.Stop.{Stop}
 use Rattle.path.specs.declared.Stop.the-variants as stop
-use Rattle.chunks.specs.Chunks.{chunksOf}
-use Rattle.chunks.proofs.Laws.{count-empty, chunks-count}
-use Rattle.session.specs.Receiving.{newReceiver, base}
 use Rattle.receiving.specs.declared.ReceivingSide.{ReceivingSide}
-use Rattle.receiving.proofs.Laws.{Completes, completes-same, CompletedIs, serve-completes, serve-completed-is, new-completed-is}
+use Rattle.receiving.proofs.Laws.{Completes, completes-same, CompletedIs, serve-completes, serve-completed-is}
 use Rattle.receiving.specs.Receiving.{ServeForwardExit, serveForward}
 use Rattle.acks.specs.Reverse.{serveReverse}
 use Rattle.arrivals.specs.Arrivals.{ArrivalState, arrivalExit, acksOf, withForward, reverseServed, serveArrivals}
@@ -33,6 +28,7 @@ use Rattle.step.specs.declared.End.{End}
 use Rattle.step.specs.declared.End.the-variants as end
 use Rattle.step.specs.declared.Course.the-variants.{Going}
 use Rattle.step.proofs.Laws.{arrives, step-is, afterBoth, bothExit}
+use Rattle.transfer.proofs.Laws.{start-completed-is}
 use Rattle.transfer.specs.Start.{planFor, newRun, startOf}
 use Rattle.transfer.specs.Run.{isOver, runAtMostFor, runAtMost, runFor, run, stepsLeft}
 use Rattle.transfer.specs.Transfer.{endOf, finishedAt, runTransfer}
@@ -220,25 +216,9 @@ module _ (p : Plan) (g : Given) (s : RunState) where
       most-finishes (suc (stepsLeft p s)) 0 s (record { is = refl; early = early; completed-is = c; since = λ d. absurd (true≢false (sym d ∙ not-done)); before = λ d. absurd (true≢false (sym d ∙ not-done)) }) (run-over p g s)
 
 -- ---- at the start
-new-base : (p : ProtocolType) (w : ℕ) (store : List ℕ) → base (newReceiver p w store .receiver) ≡ 0
-unfolding newReceiver
-new-base StopAndWait w store = refl
-new-base GoBackN w store = refl
-new-base SelectiveRepeat w store = refl
-
-some-chunk : (size : ℕ) (file : List ℕ) → 0 < size → 0 < length (chunksOf size file)
-some-chunk size [] h = let e = count-empty size [] refl in omega (arith, e)
-some-chunk size (x ∷ file) h = let e = chunks-count size x file h in more (length file / size) (length (chunksOf size (x ∷ file))) e
-  where
-    more : (n m : ℕ) → m ≡ n + 1 → 0 < m
-    more n m e = omega arith
-
 pub transfer-finishes : (k : Ceilings) (c : TransferConfig) (g : Given) (l : Lent) → CanStart (startOf c g l) → Finishes (planFor k c g) g (newRun k c l) (run (planFor k c g) g (newRun k c l))
 unfolding newRun
-transfer-finishes k c g l h =
-    let n = new-base (c .protocol) (c .«window_size») (l .receiverStore) in
-    let m = some-chunk (c .«chunk_size») (g .file) (let z = h .chunk-some in omega (arith, z)) in
-    run-finishes (planFor k c g) g (newRun k c l) (omega arith) (new-completed-is (length (chunksOf (c .«chunk_size») (g .file))) (newReceiver (c .protocol) (c .«window_size») (l .receiverStore) .receiver) (omega (arith, n, m))) refl
+transfer-finishes k c g l h = run-finishes (planFor k c g) g (newRun k c l) (omega arith) (start-completed-is k c g l h) refl
 
 pub outcome-finishes : (k : Ceilings) (c : TransferConfig) (g : Given) (l : Lent) (o : Outcome) → runTransfer k c g l .answer ≡ answer.Outcome o → FinishedSo k c g l o
 outcome-finishes k c g l = by-outcome k c g l (λ (o : Outcome) (m : Lent). FinishedSo k c g l o) (λ h. let f = transfer-finishes k c g l h in record { in-time = f .in-time; completed = f .completed })

@@ -1,14 +1,14 @@
 -- What is sent: each chunk is a call, and each timeout with what becomes of its datagrams.
-use Prim.Native.Nat.{ℕ, zero, suc, _+_, _≤_, _<_}
+use Prim.Native.Nat.{ℕ, _+_, _≤_, _<_}
 use mathlib.Core.Path.{_≡_, refl, sym, ap, _∙_, subst}
 use mathlib.Core.Bool.{Bool, true, false, cond, not, _&&_, true≢false}
-use mathlib.Core.List.{List, [], _∷_, _++_, append-nil, append-assoc, foldl, map}
+use mathlib.Core.List.{List, [], _∷_, _++_, append-nil, append-assoc, foldl}
 use native.Mathlib.Omega.{arith}
 use lib.Ieee.{Float}
 use native.Mathlib.Numerals.{add-one}
 use lib.ListN.{length, getD, take, replicate}
 use lib.Seq.{take-suc}
-use Rattle.bounds.specs.Bounds.{countLimit, maxDatagram, maxDuration}
+use Rattle.bounds.specs.Bounds.{countLimit, maxDuration}
 use Rattle.channel.specs.declared.ChannelConfig.{ChannelConfig}
 use Rattle.chunks.specs.Chunks.{chunksOf}
 use Rattle.delivery.specs.Calls.{numberOf}
@@ -19,17 +19,14 @@ use Rattle.rto.specs.declared.TimeoutResult.{TimeoutResult}
 use Rattle.rto.proofs.Laws.{Good, timeout-accepted}
 use Rattle.path.specs.Direction.{Direction, Good as GoodLine}
 use Rattle.path.specs.Path.{isGoing, packetBuffer, CanCarry}
-use Rattle.protocol.specs.Runs.{upFrom}
-use Rattle.window.specs.Slots as slots
-use Rattle.window.specs.Slots.{datagramFor}
 use Rattle.clock.specs.Clock as clock
 use Rattle.clock.specs.declared.Timing.{Timing}
 use Rattle.clock.specs.declared.Timing.the-variants.{PerNumber}
 use Rattle.clock.proofs.Laws.{can-back-off}
-use Rattle.session.proofs.Laws.{datagram-number, datagram-short, resent-as, resent-good}
-use Rattle.session.specs.Sending.{SenderEnd, windowOf, windowEnd, isDue, sendChunk, resent, oldestOutstanding}
+use Rattle.session.proofs.Laws.{resent-as}
+use Rattle.session.specs.Sending.{SenderEnd, windowOf, isDue, sendChunk, resent, oldestOutstanding}
 use Rattle.delivery.specs.Ends.{bytesSent, isSendRefused}
-use Rattle.session.specs.GoodSender.{senderBroken, SenderUnbroken, GoodSender, Within}
+use Rattle.session.specs.GoodSender.{SenderUnbroken}
 use Rattle.departures.specs.Departures.{goesOn}
 use Rattle.prefixes.proofs.Laws.{send-not-refused, timeout-not-refused}
 use Rattle.session.specs.declared.Oldest.{Oldest}
@@ -59,6 +56,7 @@ use Rattle.run_history.specs.Copies.{copiesFrom}
 use Rattle.run_history.specs.Premature.{isFirstGranted}
 use Rattle.run_history.specs.Answered.{Taken}
 use Rattle.run_history.proofs.Noted.{noted-again, noted-first, first-more, again-more, isEventAgain, first-once, again-twice, again-premature}
+use Rattle.run_history.proofs.Resent.{Below, Short, resent-below, resent-short}
 use Rattle.run_history.proofs.Columns.{eventsIn, lineOf, Sending, submit-sending}
 use Rattle.run_history.proofs.Holds.{LineHolds, no-copy, submit-holds}
 use Rattle.run_history.proofs.Tells.{Origin, Moment, moment, NotedBy, Told, Goes, still-told, by-call, nothing-noted, same-noted, none-chunked, none-sent, none-replied, none-arrives, none-returns, no-more}
@@ -93,40 +91,6 @@ as-one false = refl
 
 sum-more : (p c k y x r : ℕ) → x ≡ c + k → r ≡ p + c → r + k ≡ y → p + x ≡ y
 sum-more p c k y x r e f g = omega arith
-
--- ---- the numbers of datagrams are below one
-abbrev Below : ℕ → List (List ℕ) → Type 0
-Below next [] = Unit {0}
-Below next (wire ∷ wires) = (numberOf wire < next) × Below next wires
-
-below-made : (v : slots.Sender) (next count first : ℕ) → first + count ≤ next → Below next (map (datagramFor v) (upFrom first count))
-below-made v next zero first h = tt
-below-made v next (suc count) first h = (rw (datagram-number v first) (omega arith), below-made v next count (suc first) (omega arith))
-
-resent-below : (v : SenderEnd) (t : Timeout) → SenderUnbroken v → Below (windowOf (v .sender) .«next_seq_num») (resent v t .packets)
-resent-below v t unbroken =
-    let r = resent-as v t unbroken in
-    subst (Below (windowOf (v .sender) .«next_seq_num»)) (sym (r .packets-are)) (below-made (windowEnd (resent v t .after)) (windowOf (v .sender) .«next_seq_num») (r .count) (r .first) (r .within .below))
-
--- ---- and none is too long
-abbrev Short : List (List ℕ) → Type 0
-Short [] = Unit {0}
-Short (wire ∷ wires) = (length wire ≤ maxDatagram) × Short wires
-
-short-made : (v : SenderEnd) (count first : ℕ) → senderBroken v ≡ false → Within (windowOf (v .sender)) first count → Short (map (datagramFor (windowEnd v)) (upFrom first count))
-short-made v zero first e w = tt
-short-made v (suc count) first e w =
-    let f = w .from in
-    let b = w .below in
-    (datagram-short v first e (record { from = f; below = omega (arith, b) }), short-made v count (suc first) e (record { from = omega (arith, f); below = omega (arith, b) }))
-
-resent-short : (v : SenderEnd) (t : Timeout) → SenderUnbroken v → Short (resent v t .packets)
-resent-short v t unbroken =
-    let r = resent-as v t unbroken in
-    let w = r .within in
-    let s = windowOf (v .sender) in
-    let good : GoodSender v (s .«total_sent» + s .retransmissions) = record { state = unbroken .state; sent = omega arith; again = omega arith } in
-    subst Short (sym (r .packets-are)) (short-made (resent v t .after) (r .count) (r .first) (resent-good v t _ good .state) (record { from = rw (r .same .base) (w .from); below = rw (r .same .next) (w .below) }))
 
 -- ---- datagrams again, until the ceiling is met or the run ends
 module _ (c : ChannelConfig) (rolls : List Float) (limit : ℕ) (t : Timing) (rto now : ℕ) (oldest : Oldest) where

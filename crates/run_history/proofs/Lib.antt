@@ -5,9 +5,11 @@ pub mod Noted
 pub mod Tells
 pub mod Arrivals
 pub mod Returns
+pub mod Resent
 pub mod Departures
 pub mod Steps
 pub mod EndCalls
 pub mod Duplicates
+pub mod Few
 pub mod Transfer
 pub mod Laws

@@ -1,18 +1,12 @@
 -- The answer of `run_transfer` from the history of its calls.
-use Prim.Native.Nat.{ℕ, _*_, _≤_}
+use Prim.Native.Nat.{ℕ}
 use mathlib.Core.Path.{_≡_, refl, sym, ap, subst}
-use mathlib.Core.List.{List, []}
+use mathlib.Core.List.{[]}
 use native.Mathlib.Omega.{arith}
 use lib.ListN.{length, take, replicate}
-use borrow.Author.Tests.{le-ltb}
-use Rattle.bounds.specs.Bounds.{slotSize}
 use Rattle.octets.specs.Octets.{Octets}
-use Rattle.protocol.specs.declared.ProtocolType.{ProtocolType}
-use Rattle.protocol.specs.declared.ProtocolType.the-variants.{StopAndWait, GoBackN, SelectiveRepeat}
-use Rattle.window.specs.State.{storeShort}
-use Rattle.delivery.specs.Ends.{ReceivingRoom}
 use Rattle.session.specs.Sending.{slotCount}
-use Rattle.completion.proofs.Laws.{Start, Begun, window-fits, new-sender-slots, new-receiver-slots}
+use Rattle.completion.proofs.Laws.{Start, Begun, new-begun, new-sender-slots, new-receiver-slots}
 use Rattle.chunks.specs.Chunks.{chunksOf}
 use Rattle.sending.proofs.Laws.{unused}
 use Rattle.prefixes.proofs.Laws.{prefixed-start}
@@ -47,12 +41,6 @@ use Rattle.run_history.specs.Lines.{filter, any, packetsFrom, eventsFrom
 use Rattle.run_history.specs.History.{startEnds, History}
 use Rattle.run_history.proofs.Tells.{Origin, NotedBy, Told, Over as Ended}
 use Rattle.run_history.proofs.Steps.{momentAt, Goes-on, run-told}
-
-receiving-room : (p : ProtocolType) (w : ℕ) (store : List ℕ) → (p ≡ SelectiveRepeat → w * slotSize ≤ length store) → ReceivingRoom p (slotCount p w) store
-unfolding storeShort
-receiving-room StopAndWait w store h = tt
-receiving-room GoBackN w store h = tt
-receiving-room SelectiveRepeat w store h = le-ltb _ _ (h refl)
 
 module _ (k : Ceilings) (c : TransferConfig) (g : Given) (l : Lent) where
   abbrev origin : Origin
@@ -105,17 +93,8 @@ module _ (k : Ceilings) (c : TransferConfig) (g : Given) (l : Lent) where
 
     begun : Begun begins
     begun =
-        record {
-          made = record {
-            in-bounds = sender-window k c g l h;
-            window = window-fits (c .protocol) (c .«window_size»);
-            sending-room = sender-store k c g l h;
-            receiving-room = receiving-room (c .protocol) (c .«window_size») (l .receiverStore) (h .receiver-room);
-            octets = store;
-          };
-          some = let n = h .chunk-some in omega (arith, n);
-          octets = file;
-        }
+        let n = h .chunk-some in
+        new-begun (c .protocol) (c .«window_size») (k .retries) (l .senderStore) (l .receiverStore) (l .output) (c .«chunk_size») (g .file) (sender-window k c g l h) (sender-store k c g l h) (h .receiver-room) store (omega (arith, n)) file
 
     start-goes : Goes-on origin (planFor k c g) (g .file) (start-plan k c g l h) (c .protocol) (slotCount (c .protocol) (c .«window_size»)) (k .retries) (l .senderStore) (l .receiverStore) (l .output) (h .output-room) refl (reverse-no-faults (c .channel)) (newRun k c l)
     unfolding newRun

@@ -1,5 +1,5 @@
 -- Document 01, "Links that would ruin a book" (demand 2): the answer of `run_transfer` from the history of its calls.
-use Prim.Native.Nat.{ℕ, _≤_}
+use Prim.Native.Nat.{ℕ, _+_, _≤_}
 use mathlib.Core.Path.{_≡_}
 use mathlib.Core.List.{List, [], dropLast}
 use lib.ListN.{length, take}
@@ -89,3 +89,12 @@ pub record History (k : Ceilings) (c : TransferConfig) (g : Given) (before : Len
     : Type 0 where
   pub calls : List Call
   pub tell : Tell c g (startEnds k c before) calls o l
+
+-- what follows for the answer and the rows alone: a row for each event, no more Data and ACKs than copies, and at most a
+-- sample for each ACK
+pub record Few (o : Outcome) (l : Lent) : Type 0 where
+  pub events : o .driver .events ≤ length (l .events)
+  pub datas : o .driver .«data_received» ≤ o .forward .«copies_delivered»
+  pub acks : o .driver .«ack_received» ≤ o .reverse .«copies_delivered»
+  pub samples : o .estimator .stats .«sample_count» + o .estimator .stats .«karn_rejected_count»
+      ≤ o .driver .«ack_received»

@@ -30,12 +30,14 @@ use Rattle.clock.specs.Estimator.{Factors}
 use Rattle.clock.specs.declared.Timing.the-variants.{Single, PerNumber, Edition}
 use Rattle.clock.proofs.Laws.{fresh-estimator, new-sender-timers}
 use Rattle.session.specs.Sending.{slotCount}
-use Rattle.session.specs.Receiving.{newReceiver, receiverSlotCount}
+use Rattle.session.specs.Receiving.{base, newReceiver, receiverSlotCount}
 use Rattle.session.proofs.Laws.{new-receiver-good}
 use Rattle.sending.proofs.Laws.{unused}
 use Rattle.timeouts.proofs.Laws.{new-can-fire}
-use Rattle.receiving.proofs.Laws.{new-inbound-good}
+use Rattle.receiving.specs.Receiving.{newSide}
+use Rattle.receiving.proofs.Laws.{CompletedIs, new-completed-is, new-inbound-good}
 use Rattle.chunks.specs.Chunks.{chunksOf}
+use Rattle.chunks.proofs.Laws.{chunks-some}
 use Rattle.step.specs.State.{Given, RunState, Lent}
 use Rattle.step.specs.Settle.{StepExit}
 use Rattle.step.specs.declared.Plan.{Plan}
@@ -87,6 +89,13 @@ reverse-fine c h = or-false (chancesBroken (c .loss) (c .duplicate) (c .reorder)
 pub reverse-no-faults : (c : ChannelConfig) → NoFaults (reverseConfig c)
 reverse-no-faults c = record { loss = zero false; duplicate = zero false; reorder = zero false; corrupt = zero false }
 
+-- nothing is delivered
+new-base : (p : ProtocolType) (w : ℕ) (store : List ℕ) → base (newReceiver p w store .receiver) ≡ 0
+unfolding newReceiver
+new-base StopAndWait w store = refl
+new-base GoBackN w store = refl
+new-base SelectiveRepeat w store = refl
+
 module _ (k : Ceilings) (c : TransferConfig) (g : Given) (l : Lent) (h : CanStart (startOf c g l)) where
   pub start-can-make : 0 < k .steps → CanMake k c (l .senderStore) (l .receiverStore) (l .keys) (l .deadlines)
   start-can-make some =
@@ -109,6 +118,14 @@ module _ (k : Ceilings) (c : TransferConfig) (g : Given) (l : Lent) (h : CanStar
 
   pub sender-window : windowBroken (slotCount (c .protocol) (c .«window_size»)) ≡ false
   sender-window = subst (λ (n : ℕ). windowBroken n ≡ false) (slots-same (c .protocol) (c .«window_size»)) (sender-window-fine (startOf c g l) h)
+
+  -- so the run isn't completed, there being a chunk
+  pub start-completed-is : CompletedIs (length (chunksOf (c .«chunk_size») (g .file))) (newSide (newReceiver (c .protocol) (c .«window_size») (l .receiverStore) .receiver))
+  start-completed-is =
+      let n = new-base (c .protocol) (c .«window_size») (l .receiverStore) in
+      let z = h .chunk-some in
+      let m = chunks-some (c .«chunk_size») (g .file) (omega (arith, z)) in
+      new-completed-is (length (chunksOf (c .«chunk_size») (g .file))) (newReceiver (c .protocol) (c .«window_size») (l .receiverStore) .receiver) (omega (arith, n, m))
 
   notes-fit : newNotes (l .rows) .notes .count ≤ length (newNotes (l .rows) .rows)
   unfolding newNotes

@@ -6,23 +6,15 @@ use mathlib.Core.Bool.{Bool, true, false, not}
 use mathlib.Core.List.{List, [], _∷_}
 use lib.ListN.{length, replicate}
 use borrow.Author.Tests.{le-ltb}
-use Rattle.bounds.specs.Bounds.{slotSize}
 use Rattle.rows.specs.Rows.{vacant}
-use Rattle.protocol.specs.declared.ProtocolType.{ProtocolType}
-use Rattle.protocol.specs.declared.ProtocolType.the-variants.{StopAndWait, GoBackN, SelectiveRepeat}
-use Rattle.window.specs.State.{storeShort}
 use Rattle.octets.specs.Octets.{Octets}
 use Rattle.path.specs.Rolls.{Doubles}
-use Rattle.chunks.proofs.Laws.{chunks-some}
-use Rattle.delivery.specs.Ends.{ReceivingRoom}
 use Rattle.clock.specs.Estimator.{Factors}
 use Rattle.session.specs.Sending.{slotCount}
-use Rattle.session.specs.Receiving.{newReceiver, base}
 use Rattle.setup.specs.Setup.{CanStart}
 use Rattle.setup.specs.declared.TransferConfig.{TransferConfig}
-use Rattle.completion.proofs.Laws.{Start, chunksIn, Begun, window-fits, new-sender-slots, new-receiver-slots, runs-start, runs-delivered, runs-completed}
+use Rattle.completion.proofs.Laws.{Start, Begun, new-begun, new-sender-slots, new-receiver-slots, runs-start, runs-delivered, runs-completed}
 use Rattle.prefixes.proofs.Laws.{prefixed-start, prefixed-written, prefixed-completed}
-use Rattle.receiving.proofs.Laws.{new-completed-is}
 use Rattle.step.specs.State.{Given, Lent}
 use Rattle.step.specs.Settle.{StepExit}
 use Rattle.transfer.specs.Start.{planFor, reverseConfig, newRun, startOf}
@@ -31,41 +23,20 @@ use Rattle.transfer.specs.Transfer.{outcomeOf, lentOf, runTransfer}
 use Rattle.transfer.specs.declared.Ceilings.{Ceilings}
 use Rattle.transfer.specs.declared.Outcome.{Outcome}
 use Rattle.transfer.specs.declared.RunAnswer.the-variants as answer
-use Rattle.transfer.proofs.Laws.{reverse-no-faults, start-plan, start-good, sender-window, sender-store, by-outcome}
+use Rattle.transfer.proofs.Laws.{reverse-no-faults, start-plan, start-good, sender-window, sender-store, start-completed-is, by-outcome}
 use Rattle.transfer_delivery.specs.Delivered.{Delivered}
 use Rattle.transfer_delivery.proofs.Steps.{At, run-keeps}
 use Rattle.transfer_delivery.proofs.Holds.{begins, Holds, step-holds}
 
 -- ---- at the start
-receiving-room : (p : ProtocolType) (w : ℕ) (store : List ℕ) → (p ≡ SelectiveRepeat → w * slotSize ≤ length store) → ReceivingRoom p (slotCount p w) store
-unfolding storeShort
-receiving-room StopAndWait w store h = tt
-receiving-room GoBackN w store h = tt
-receiving-room SelectiveRepeat w store h = le-ltb _ _ (h refl)
-
-new-base : (p : ProtocolType) (w : ℕ) (store : List ℕ) → base (newReceiver p w store .receiver) ≡ 0
-unfolding newReceiver
-new-base StopAndWait w store = refl
-new-base GoBackN w store = refl
-new-base SelectiveRepeat w store = refl
-
 module _ (k : Ceilings) (c : TransferConfig) (g : Given) (l : Lent) (h : CanStart (startOf c g l)) (store : Octets (l .senderStore)) (file : Octets (g .file)) where
   abbrev ends : Start
   ends = begins (c .protocol) (slotCount (c .protocol) (c .«window_size»)) (k .retries) (l .senderStore) (l .receiverStore) (l .output) (c .«chunk_size») (g .file)
 
   begun : Begun ends
   begun =
-      record {
-        made = record {
-          in-bounds = sender-window k c g l h;
-          window = window-fits (c .protocol) (c .«window_size»);
-          sending-room = sender-store k c g l h;
-          receiving-room = receiving-room (c .protocol) (c .«window_size») (l .receiverStore) (h .receiver-room);
-          octets = store;
-        };
-        some = let n = h .chunk-some in omega (arith, n);
-        octets = file;
-      }
+      let n = h .chunk-some in
+      new-begun (c .protocol) (c .«window_size») (k .retries) (l .senderStore) (l .receiverStore) (l .output) (c .«chunk_size») (g .file) (sender-window k c g l h) (sender-store k c g l h) (h .receiver-room) store (omega (arith, n)) file
 
   start-holds : At (Holds ends (c .channel) (g .forwardRolls)) (newRun k c l)
   unfolding newRun
@@ -74,12 +45,10 @@ module _ (k : Ceilings) (c : TransferConfig) (g : Given) (l : Lent) (h : CanStar
       let w = c .«window_size» in
       let r = runs-start begun (c .channel) (reverseConfig (c .channel)) (g .forwardRolls) (l .forwardRecords) (l .reverseRecords) (l .forwardPlaces) (l .reversePlaces) (replicate (length (l .events)) vacant) (reverse-no-faults (c .channel)) in
       let q = prefixed-start begun (c .channel) (l .forwardRecords) (l .forwardPlaces) in
-      let n = new-base p w (l .receiverStore) in
-      let m = chunks-some (c .«chunk_size») (g .file) (begun .some) in
       record {
         runs = rw (← new-sender-slots p w (k .retries) (l .senderStore), ← new-receiver-slots p w (l .receiverStore)) r;
         prefixed = rw (← new-sender-slots p w (k .retries) (l .senderStore), ← new-receiver-slots p w (l .receiverStore)) q;
-        completed = new-completed-is (length (chunksIn ends)) (newReceiver p w (l .receiverStore) .receiver) (omega (arith, n, m));
+        completed = start-completed-is k c g l h;
       }
 
   module _ (forward : Doubles (g .forwardRolls)) (reverse : Doubles (g .reverseRolls)) (factors : Factors (c .rto)) where
