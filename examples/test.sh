@@ -32,11 +32,11 @@ if have rustc "the Rust wrapper"; then
 fi
 
 have cc "the calls from C" || exit 0
-nm -g "$library" 2>/dev/null | sed -n 's/.* T \(pindrelo_[a-z_]*\)$/\1/p' | sort >"$out/exported"
+nm -g "$library" 2>/dev/null | sed -n 's/.* T \(.*\)$/\1/p' | sort >"$out/exported"
 sed -n 's/^pindrelo_answer \(pindrelo_[a-z_]*\)(.*/\1/p' include/pindrelo.h | sort >"$out/declared"
 diff "$out/exported" "$out/declared" || { echo "host: exports (<) and header (>) differ" >&2; exit 1; }
 while read -r call; do
-  grep -q "$call(" examples/fuzz/*.[ch] || echo "host: $call isn't fuzzed"
+  grep -q "$call(" examples/fuzz/*.[ch] || { echo "host: $call isn't fuzzed" >&2; exit 1; }
 done <"$out/exported"
 # shellcheck disable=SC2086
 cc -std=c99 $strict examples/calls.c "$library" -o "$out/calls"

@@ -31,7 +31,8 @@ extern "C" {
  *      4  setup     protocol, window or another number out of bounds, at making
  *      5  full      a lent buffer is shorter than this call writes
  *      6  long      a payload above 1,400 bytes
- *      7  numbers   the numbers are used up: 4,294,901,760; of write, a number above 32 bits or flags above 8
+ *      7  numbers   the numbers are used up: 4,294,901,760; of write, a number of more than 32 bits or flags of
+ *                   more than 8
  *      8  counts    a counter stands at 2^60 or more
  *      9  state     words, store or output that don't fit: zeros, another kind, fewer words, another version, an
  *                   output shorter than its fill mark. It is no check of integrity: other words may pass
@@ -88,11 +89,12 @@ static inline unsigned pindrelo_second(pindrelo_answer a) { return (unsigned)(pi
 
 /* ---- MEMORY
  *
- * A pointer is followed by its length: words (8 bytes, aligned) for a state, keys (4 bytes, aligned) and deadlines (8)
- * for a timer set, bytes for all else. Any length is answered, too short ones by 9 or 5, NULL only with length 0. What
- * C must keep, since no library can see it: a pointer is valid for its length, and no two slices of one call overlap.
- * Bytes past what a call writes stay as they are. A datagram that comes goes into a call whole: read it into
- * PINDRELO_MAX_DATAGRAM bytes at least. A line that carries less than that wants shorter chunks. */
+ * A pointer is followed by its length, the number of elements that it points to, not of bytes: uint64_t for a state's
+ * words and for deadlines, uint32_t for keys, double for an estimator, all aligned; uint8_t for all else. Any length is
+ * answered, too short ones by 9 or 5, NULL only with length 0. What C must keep, since no library can see it: a pointer
+ * is valid for its length, and no two slices of one call overlap. Bytes past what a call writes stay as they are. A
+ * datagram that comes goes into a call whole: read it into PINDRELO_MAX_DATAGRAM bytes at least. A line that carries
+ * less than that wants shorter chunks. */
 
 #define PINDRELO_HEADER_SIZE 10
 #define PINDRELO_MAX_PAYLOAD 1400
@@ -113,9 +115,9 @@ static inline unsigned pindrelo_second(pindrelo_answer a) { return (unsigned)(pi
 /* ---- STATES
  *
  * A state is its words, with its store and, of a receiver, the output up to the fill mark, of a timer set its keys and
- * deadlines: copy or save all of it and it goes on from there, timers with the clock that they were set by. Words are
- * numbers in the machine's byte order. Word 0 has the kind and the version of this layout; words of another version
- * are a 9. A host may read these words, and writes none: */
+ * deadlines, of an estimator its doubles: copy or save all of it and it goes on from there, timers with the clock that
+ * they were set by. Words are numbers in the machine's byte order. Word 0 has the kind and the version of this layout;
+ * words of another version are a 9. A host may read these words, and writes none: */
 
 enum {
     PINDRELO_SENDER_WINDOW = 1,
@@ -156,10 +158,11 @@ enum { PINDRELO_STOP_AND_WAIT = 1, PINDRELO_GO_BACK_N = 2, PINDRELO_SELECTIVE_RE
  *  3  pindrelo_acknowledge for each that came. Done: pindrelo_timer_cancel for its number; in Go-Back-N for all from
  *     the old word BASE up to it. If one of them ran, that is progress, and the time since the note is a sample for
  *     pindrelo_estimator_sample: of this number, in Go-Back-N of the old BASE. If none ran, the number was acknowledged
- *     before.
+ *     before, or Stop-and-Wait's retries were spent.
  *  4  pindrelo_timer_pop. If any key was due, pindrelo_estimator_timeout; then in Selective Repeat
  *     pindrelo_timeout_number for each of them, in the others one pindrelo_timeout_all. Send each datagram that is
- *     written, note that its number was sent again, and start its timer again. */
+ *     written, note that its number was sent again, and start its timer again. NOTHING in Stop-and-Wait means that the
+ *     retries are spent: no timer runs then, and the host gives up, or waits for a last ACK as long as it chooses. */
 
 /* ---- A SENDER
  *
@@ -173,7 +176,7 @@ pindrelo_answer pindrelo_make_sender(uint64_t protocol, size_t window, uint64_t 
                                      uint64_t *state, size_t words, uint8_t *store, size_t store_size);
 
 /* A chunk: its datagram to the start of out. Done: the datagram's length; its number was word NEXT before the
- * call. Else WINDOW_FULL. 9, 8, 6, 7, 5. */
+ * call. Else WINDOW_FULL, which is tested after 6 and before 7 and 5. 9, 8, 6, 7, 5. */
 pindrelo_answer pindrelo_send(uint64_t *state, size_t words, uint8_t *store, size_t store_size,
                               const uint8_t *payload, size_t length, uint8_t *out, size_t out_size);
 
@@ -204,11 +207,13 @@ pindrelo_answer pindrelo_in_flight(const uint64_t *state, size_t words, const ui
 
 /* ---- A RECEIVER
  *
- * Payloads go to the output in order, from the fill mark on; the output has the same length in every call, and the
- * file must fit in it, unless it is drained (see DRAINING). Bytes below the fill mark are never read or written again.
+ * Payloads go to the output in order, from the fill mark on; it is the same output in every call, but right after a
+ * drain, and the file must fit in it, unless it is drained (see DRAINING). Bytes below the fill mark are never read or
+ * written again.
  * A 5 leaves all as it was: the sender's next copy will do. */
 
-/* protocol and window as the sender's. Only Selective Repeat's store is looked at and cleared. 9, 4, 5. */
+/* protocol and window as the sender's. Only Selective Repeat's store is looked at and cleared. An unknown protocol is
+ * a 4 before all else; then 9, 4, 5. */
 pindrelo_answer pindrelo_make_receiver(uint64_t protocol, size_t window,
                                        uint64_t *state, size_t words, uint8_t *store, size_t store_size);
 
@@ -335,7 +340,7 @@ enum {
     PINDRELO_ESTIMATOR_SRTT = 5,
     PINDRELO_ESTIMATOR_RTTVAR = 7,
     PINDRELO_ESTIMATOR_RTO = 9,
-    PINDRELO_ESTIMATOR_IN_BACKOFF = 11, /* 1 after a timeout, 0 after a sample */
+    PINDRELO_ESTIMATOR_IN_BACKOFF = 11, /* 1 after a timeout, until a sample is used or the backoff is reset */
     PINDRELO_ESTIMATOR_CONSECUTIVE_TIMEOUTS = 12,
     PINDRELO_ESTIMATOR_SAMPLES = 13,
     PINDRELO_ESTIMATOR_REJECTED = 14, /* samples of datagrams sent again */
@@ -366,7 +371,8 @@ pindrelo_answer pindrelo_estimator_timeout(uint64_t *state, size_t words, double
 /* Back to the RTO from before the timeouts. 9, 8, 10. */
 pindrelo_answer pindrelo_estimator_reset_backoff(uint64_t *state, size_t words, double *doubles, size_t double_count);
 
-/* Done: 1 where max_retries timeouts or more came since the last sample, else 0. 9, 8, 10. */
+/* Done: 1 where max_retries timeouts or more came since a sample was used or the backoff was reset, else 0. 9, 8,
+ * 10. */
 pindrelo_answer pindrelo_estimator_exceeded(const uint64_t *state, size_t words, const double *doubles,
                                             size_t double_count, uint64_t max_retries);
 

@@ -191,10 +191,10 @@ impl Sender {
         length(unsafe { raw::pindrelo_timeout_earliest(words, STATE_WORDS, store, size, o, out.len()) })
     }
 
-    pub fn timeout_number(&mut self, number: u32, out: &mut [u8]) -> Result<Option<usize>, Refusal> {
+    pub fn timeout_number(&mut self, number: u64, out: &mut [u8]) -> Result<Option<usize>, Refusal> {
         let (words, store, size) = self.lent();
         let o = out.as_mut_ptr();
-        let a = unsafe { raw::pindrelo_timeout_number(words, STATE_WORDS, store, size, number as u64, o, out.len()) };
+        let a = unsafe { raw::pindrelo_timeout_number(words, STATE_WORDS, store, size, number, o, out.len()) };
         Ok(answer(a)?.map(|n| n as usize))
     }
 
@@ -208,14 +208,14 @@ impl Sender {
         Ok(answer(a)?.unwrap_or(0) as usize)
     }
 
-    /// The lowest number not acknowledged.
-    pub fn base(&self) -> u32 {
-        self.words[2] as u32
+    /// The lowest number not acknowledged; of a restored state its word, whatever that is.
+    pub fn base(&self) -> u64 {
+        self.words[2]
     }
 
     /// The number of the next chunk.
-    pub fn next(&self) -> u32 {
-        self.words[3] as u32
+    pub fn next(&self) -> u64 {
+        self.words[3]
     }
 
     fn lent(&mut self) -> (*mut u64, *mut u8, usize) {

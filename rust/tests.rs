@@ -143,7 +143,7 @@ fn refused_changes_nothing() {
         let done = match i % 4 {
             0 => s.send(&d, &mut out).map(|x| x.is_some()),
             1 => s.acknowledge(&d).map(|x| x.is_some()),
-            2 => s.timeout_number(rng.below(4) as u32, &mut out).map(|x| x.is_some()),
+            2 => s.timeout_number(rng.below(4) as u64, &mut out).map(|x| x.is_some()),
             _ => s.timeout_all(&mut out).map(|x| x.is_some()),
         };
         if let Err(e) = done {
