@@ -13,9 +13,11 @@ use Rattle.step.specs.State.{RunState}
 use Rattle.step.specs.Settle.{StepExit}
 use Rattle.step.specs.declared.Plan.{Plan}
 use Rattle.transfer.specs.Start.{planFor, newRun}
-use Rattle.transfer.specs.Transfer.{defaultCeilings, RunExit, ended}
+use Rattle.step.specs.declared.End.the-variants.{Ended}
+use Rattle.transfer.specs.Transfer.{defaultCeilings, endOf, outcomeOf, RunExit, ended}
+use Rattle.transfer.specs.Run.{run}
 use Rattle.transfer.proofs.Laws.{stepsFrom, goesOn, run-steps}
-use Rattle.linkrun_text.specs.Linkrun.{maxFile, linkrunSetup, linkrunRolls, linkrunLent, runEvents, fileEvents, linkrunText}
+use Rattle.linkrun_text.specs.Linkrun.{maxFile, linkrunSetup, linkrunRolls, linkrunLent, Completes, runEvents, fileEvents, linkrunText}
 use Rattle.linkrun_text.proofs.Starts.{fileGiven, linkrun-ends}
 use Rattle.acks.specs.Acks as acks
 use Rattle.acks.specs.Reverse as acksReverse
@@ -87,6 +89,8 @@ text-after n b bs short e =
 record Computes (n : ℕ) (file text : List ℕ) : Type 0 where
   goes-on : goes n file ≡ true
   prints : eventsText (runEvents (ended (stepped n file))) ≡ text
+  over : endOf (stepped n file .course) ≡ Ended
+  done : stepped n file .state .arrivals .inbound .side .completed ≡ true
 
 abbrev oneText : List ℕ
 oneText = ascii "seq\tagain\tdelays\tfolds\n0\t0\t5\t510\n"
@@ -96,7 +100,16 @@ twoText = ascii "seq\tagain\tdelays\tfolds\n0\t0\t5\t765\n1\t0\t5\t510\n"
 
 computed : Computes 5 (65 ∷ []) oneText × Computes 5 (255 ∷ 65 ∷ []) twoText
 unfolding linkrunSetup linkrunRolls linkrunLent runEvents stepsFrom goesOn acks.onAccepted acks.onAck acksReverse.serveAtMost arrivals.serveArrivals channelFaults.carriedBytes channelFaults.deliveriesOf channelFaults.isCorrupted channelFaults.isDuplicated channelFaults.isLost channelFaults.isReordered channelProcess.processUnchecked checksum.checksum checksum.onesAdd checksum.onesSum checksum.words chunks.chunksOf chunks.pieces clock.armAfterSubmit clock.cancelNumber clock.due clock.newClock clock.nextDeadline clock.rearmAfterAck clock.sampleRtt departures.sendDue events.eventOf events.eventsOf events.rowOf timersMap.deadlinesOf timersMap.earliest timersMap.entriesOf timersMap.keep timersMap.keysOf timersMap.lookup timersMap.minOf timersMap.put multiTimer.cancelTimerUnchecked multiTimer.newUnchecked multiTimer.replaced multiTimer.startTimerAtUnchecked notes.markAckScheduled notes.newNotes notes.rtoAtSend notes.sent notes.setDropped notes.takeSample octetsFold.foldBytes octetsFold.sum packetFormat.checksumOf packetFormat.datagram packetFormat.headerBytes packetFormat.matches packetReading.headerOf packetReading.payloadOf packetReading.payloadPart packetReading.readChecks packetReading.readDatagram path.carry path.copyFold path.deadlineOf path.newPath path.takeReady pathRolls.rollsAt receiverReceive.receive receiverReply.ackAfter receiverReply.applied receiverReply.roomMissing receiverState.countsBroken receiverState.stateBroken receiving.absorb receiving.onForward receiving.received receiving.serveAtMost receiving.submitAck refusalClauses.anyOf refusalOrder.decide refusalOrder.firstOf refusalOrder.numbered refusalOrder.orElse refusalOrder.order refusalOrder.verdict rto.fresh scheduleRecord.freeFrom scheduleRecord.inserted scheduleRecord.placeIn schedule.popUnchecked schedule.putCopy schedule.scheduleAtUnchecked schedule.withoutFirst selectiveRepeatReceiver.dataDecision selectiveRepeatReceiver.decision selectiveRepeatReceiver.deliveredBytes selectiveRepeatReceiver.receivingBroken selectiveRepeatReceiver.stateBroken selectiveRepeatSender.acknowledgeOne selectiveRepeatSender.decideAck selectiveRepeatSender.inFlightCount sending.pumpMost sending.sendOne sessionReceiving.handlePacket sessionReceiving.newReceiver sessionSending.handleAck sessionSending.newSender sessionSending.sendChunk stepSettle.nextDeadline stepSettle.senderIdle stepSettle.settle step.stepFor storeNumbers.markedCount storeNumbers.markedRun storeNumbers.payloadsFrom storeSlot.putSlot storeSlot.slotAt storeSlot.slotBytes storeSlot.slotPayload storeSound.anyBelow storeSound.receiverSlotBroken storeSound.receiverSlotsBroken storeSound.senderSlotBroken storeSound.senderSlotsBroken submission.noteAfter submission.noteBefore submission.submit decimal.digits decimal.digitsIn timeouts.fireTimers timer.newTimer traceText.columns traceText.eventLine traceText.eventLines traceText.eventsText traceText.headLine traceText.joined traceText.line traceText.parted transferStart.newRun windowAcknowledgement.ackDecision windowAcknowledgement.byDecision windowSending.sendChecks windowSending.sendChunk windowSlots.emptyFrom windowSlots.fresh windowSlots.hold windowSlots.release windowState.countsBroken windowState.numbersBroken windowState.stateBroken windowState.storeShort windowState.windowBroken ieee.le ieee.lt ieee.mul ieee.ofInt ieee.toUnsigned
-computed = (record { goes-on = refl; prints = refl }, record { goes-on = refl; prints = refl })
+computed = (record { goes-on = refl; prints = refl; over = refl; done = refl }, record { goes-on = refl; prints = refl; over = refl; done = refl })
+
+completes : {n : ℕ} {file text : List ℕ} → length file ≤ maxFile → Computes n file text → Completes file
+completes {n} {file} short c =
+    let same = run-steps (plan file) (fileGiven file) n first (c .goes-on) in
+    record {
+      ran = record { outcome = outcomeOf (run (plan file) (fileGiven file) first); answered = ap (λ (x : RunExit). x .answer) (linkrun-ends file short) };
+      ended = ap (λ (x : StepExit). endOf (x .course)) same ∙ c .over;
+      completed = ap (λ (x : StepExit). x .state .arrivals .inbound .side .completed) same ∙ c .done;
+    }
 
 -- document 01's, and README's
 pub one-byte : linkrunText (65 ∷ []) ≡ oneText
@@ -104,3 +117,6 @@ one-byte = text-after 5 65 [] (omega arith) (computed .0 .goes-on) ∙ computed 
 
 pub two-bytes : linkrunText (255 ∷ 65 ∷ []) ≡ twoText
 two-bytes = text-after 5 255 (65 ∷ []) (omega arith) (computed .1 .goes-on) ∙ computed .1 .prints
+
+pub both-complete : Completes (65 ∷ []) × Completes (255 ∷ 65 ∷ [])
+both-complete = (completes (omega arith) (computed .0), completes (omega arith) (computed .1))

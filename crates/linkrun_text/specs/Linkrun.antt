@@ -1,7 +1,7 @@
 -- The program `linkrun` (document 01, at its end): its built-in setup, and what it prints for a file.
 use Prim.Native.Nat.{ℕ, _*_}
 use mathlib.Core.Path.{_≡_}
-use mathlib.Core.Bool.{cond}
+use mathlib.Core.Bool.{true, cond}
 use mathlib.Core.List.{List, [], _∷_}
 use lib.Dec.{ltb}
 use lib.ListN.{length, replicate}
@@ -16,6 +16,7 @@ use Rattle.events.specs.Events.{ForwardEvent, eventsOf}
 use Rattle.setup.specs.declared.ClockChoice.the-variants.{Source}
 use Rattle.setup.specs.declared.TransferConfig.{TransferConfig}
 use Rattle.step.specs.State.{given, Lent, lent}
+use Rattle.step.specs.declared.End.the-variants.{Ended}
 use Rattle.transfer.specs.Transfer.{defaultCeilings, RunExit, runTransfer}
 use Rattle.transfer.specs.declared.Outcome.{Outcome as RunOutcome}
 use Rattle.transfer.specs.declared.RunAnswer.{RunAnswer}
@@ -77,6 +78,12 @@ linkrunRun file = runTransfer defaultCeilings linkrunSetup (given file linkrunRo
 pub record Ran (file : List ℕ) : Type 0 where
   pub outcome : RunOutcome
   pub answered : linkrunRun file .answer ≡ Outcome outcome
+
+-- and ended by itself, with all delivered
+pub record Completes (file : List ℕ) : Type 0 where
+  pub ran : Ran file
+  pub ended : ran .outcome .end ≡ Ended
+  pub completed : ran .outcome .completed ≡ true
 
 -- the events of a run; of a refused one none
 abbrev pub answeredEvents : RunAnswer → List (List ℕ) → List ForwardEvent
