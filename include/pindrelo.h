@@ -37,10 +37,11 @@ extern "C" {
  *      9  state     words, store or output that don't fit: zeros, another kind, fewer words, another version, an
  *                   output shorter than its fill mark. It is no check of integrity: other words may pass
  *     10  time      a time given, held or to be stored above 172,800 s, a duration above 86,400 s
+ *     11  roll      a roll of a run is not at least 0 and below 1
  *     16  the window is full     17  not accepted     18  nothing     19  nothing to answer     20  invalid checksum
  *
  * 1 to 11 are refusals: no byte of anything lent has changed. The first that is true is answered, in the order 9,
- * 8, 10, 4, 1, 2, 3, 6, 7, 5. (11 belongs to rolls; no call here answers it. 12 to 15 are kept for refusals to come.)
+ * 8, 10, 11, 4, 1, 2, 3, 6, 7, 5. (12 to 15 are kept for refusals to come.)
  * From 16 on nothing failed; but for 19, which counts the datagram, nothing has changed then either. Where no value is
  * named it is 0.
  *
@@ -65,6 +66,7 @@ enum {
     PINDRELO_COUNTS = 8,
     PINDRELO_STATE = 9,
     PINDRELO_TIME = 10,
+    PINDRELO_ROLL = 11,
     PINDRELO_WINDOW_FULL = 16,
     PINDRELO_NOT_ACCEPTED = 17,
     PINDRELO_NOTHING = 18,
@@ -379,6 +381,80 @@ pindrelo_answer pindrelo_estimator_exceeded(const uint64_t *state, size_t words,
 /* The mean of the samples used, in milliseconds, to the first of out; 0 without samples. 9, 8, 10, 5. */
 pindrelo_answer pindrelo_estimator_mean(const uint64_t *state, size_t words, const double *doubles,
                                         size_t double_count, double *out, size_t out_count);
+
+/* ---- A RUN
+ *
+ * A whole transfer of a file over a line that is made up, on a virtual clock: both ends, the line in both directions
+ * and the timers, to try a setup. The line's faults come from rolls, doubles at least 0 and below 1: eight for each
+ * datagram and each ACK, in the order loss, duplicate, reorder, corrupt, byte, bit, jitter, the duplicate's jitter. */
+
+#define PINDRELO_SETUP_NUMBERS 13
+#define PINDRELO_SETUP_DOUBLES 8
+#define PINDRELO_OUTCOME_WORDS 31
+
+/* the setup: numbers, and doubles */
+enum {
+    PINDRELO_SETUP_PROTOCOL = 0, /* 1 to 3 */
+    PINDRELO_SETUP_CLOCK = 1,    /* 1 the source's timing; 2 RFC 6298 section 5, not with Selective Repeat */
+    PINDRELO_SETUP_WINDOW = 2,
+    PINDRELO_SETUP_CHUNK = 3, /* 1 to 1,400 bytes; at most 65,536 chunks */
+    PINDRELO_SETUP_REORDER_EXTRA_MS = 4,
+    PINDRELO_SETUP_BASE_DELAY_MS = 5,
+    PINDRELO_SETUP_JITTER_MS = 6, /* each delay at most 60,000 */
+    PINDRELO_SETUP_INITIAL_RTO = 7,
+    PINDRELO_SETUP_MIN_RTO = 8,
+    PINDRELO_SETUP_MAX_RTO = 9,
+    PINDRELO_SETUP_GRANULARITY = 10, /* these four in ns, as an estimator's */
+    PINDRELO_SETUP_MAX_VIRTUAL_TIME = 11,
+    PINDRELO_SETUP_MAX_RETRANSMISSIONS = 12
+};
+
+enum {
+    PINDRELO_SETUP_LOSS = 0,
+    PINDRELO_SETUP_DUPLICATE = 1,
+    PINDRELO_SETUP_REORDER = 2,
+    PINDRELO_SETUP_CORRUPT = 3, /* chances, 0 to 1 */
+    PINDRELO_SETUP_ALPHA = 4,
+    PINDRELO_SETUP_BETA = 5,
+    PINDRELO_SETUP_K = 6,
+    PINDRELO_SETUP_RTO_MULTIPLIER = 7
+};
+
+/* the outcome: words */
+enum {
+    PINDRELO_OUTCOME_COMPLETED = 0,
+    PINDRELO_OUTCOME_FINISHED_AT = 1, /* ns */
+    PINDRELO_OUTCOME_END = 2,         /* 0 ended, 1 rolls spent, 2 events full, 3 schedule full */
+    PINDRELO_OUTCOME_DRIVER = 3, /* sent again, too early, data received, ACKs sent, ACKs received, duplicate data,
+                                    duplicate ACKs, events: eight words */
+    PINDRELO_OUTCOME_SENDER = 11,   /* base, sent, sent again */
+    PINDRELO_OUTCOME_RECEIVER = 14, /* base, the fill mark, received, and its second and third word */
+    PINDRELO_OUTCOME_FILLED = 15,
+    PINDRELO_OUTCOME_FORWARD = 19, /* datagrams, lost, corrupted, duplicated, reordered, copies */
+    PINDRELO_OUTCOME_REVERSE = 25
+};
+
+/* What is lent: stores as for the ends; an output not shorter than the file; a note for each chunk; events, one row a
+ * datagram (its number, 1 if sent again, copies, two delays in ms, two sums of bytes); of each direction records and
+ * places of 1,410 bytes for the copies on their way; of Selective Repeat a key and a deadline for each number of the
+ * window. With N = chunks + max_retransmissions these end a run in no other way than "ended": N events, 8 N forward and
+ * 16 N reverse rolls, 2 N records and 2 N places in each direction.
+ * Done: 1 where the run completed, else 0; the outcome, and the estimator as AN RTO ESTIMATOR has it. Completed with
+ * the fill mark at the file's length means that exactly the file was written. 9 too few numbers or doubles; 4 an
+ * unknown protocol or clock; then 9, 11 (a roll, used or not), 4, 5, with too few words for the outcome a 5. */
+pindrelo_answer pindrelo_run(
+    const uint64_t *numbers, size_t number_count, const double *reals, size_t real_count,
+    const uint8_t *file, size_t length, const double *forward_rolls, size_t forward_roll_count,
+    const double *reverse_rolls, size_t reverse_roll_count, uint8_t *sender_store, size_t sender_store_size,
+    uint8_t *receiver_store, size_t receiver_store_size, uint8_t *output, size_t output_size,
+    uint64_t (*notes)[7], size_t note_count, uint64_t (*events)[7], size_t event_count,
+    uint64_t (*forward_records)[4], size_t forward_record_count,
+    uint8_t *forward_places, size_t forward_places_size,
+    uint64_t (*reverse_records)[4], size_t reverse_record_count,
+    uint8_t *reverse_places, size_t reverse_places_size,
+    uint32_t *keys, size_t key_count, uint64_t *deadlines, size_t deadline_count,
+    uint64_t *words, size_t word_count, uint64_t *estimator, size_t estimator_words,
+    double *doubles, size_t double_count);
 
 /* ---- WHAT THE HOST DECIDES
  *

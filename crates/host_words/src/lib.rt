@@ -332,7 +332,7 @@ fn put_fields(state: &mut [u64], f: ReceiverFields)
     state[6] = f.third;
 }
 
-fn receiver_fields(state: ReceiverState) -> ReceiverFields
+pub fn receiver_fields(state: ReceiverState) -> ReceiverFields
     ensures { λ r. ⌜ r ≡ receiverFields state ⌝ }
 {
     match state {

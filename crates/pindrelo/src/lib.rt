@@ -17,7 +17,12 @@ ghost use Rattle.host_drain.specs.Drain.{drain};
 ghost use Rattle.host_single_timer.specs.SingleTimer as single;
 ghost use Rattle.rto.specs.Rto.{defaultConfig};
 ghost use Rattle.host_estimator.specs.Estimator as estimators;
+ghost use Rattle.step.specs.State.{given, lent};
+ghost use Rattle.host_run.specs.Run as runs;
+use events::Event;
+use notes::Note;
 use rto::RtoConfig;
+use schedule::ScheduledRow;
 use session::Timeout;
 
 #[no_mangle]
@@ -376,4 +381,60 @@ pub extern "C" fn pindrelo_estimator_mean(state: &[u64], doubles: &[f64], out: &
         ≡ estimators.mean (now (state .entry)) (now (doubles .entry)) (now (out .entry)) ⌝ }
 {
     host_estimator::mean_rtt_ms(state, doubles, out)
+}
+
+#[no_mangle]
+pub extern "C" fn pindrelo_run(
+    numbers: &[u64],
+    reals: &[f64],
+    file: &[u8],
+    forward_rolls: &[f64],
+    reverse_rolls: &[f64],
+    sender_store: &mut [u8],
+    receiver_store: &mut [u8],
+    output: &mut [u8],
+    rows: &mut [Note],
+    events: &mut [Event],
+    forward_records: &mut [ScheduledRow],
+    forward_places: &mut [u8],
+    reverse_records: &mut [ScheduledRow],
+    reverse_places: &mut [u8],
+    keys: &mut [u32],
+    deadlines: &mut [u64],
+    words: &mut [u64],
+    estimator: &mut [u64],
+    doubles: &mut [f64],
+) -> u64
+    ensures { λ r. ⌜ runs.hostRunExit r (lent («sender_store» .exit .now) («receiver_store» .exit .now)
+        (output .exit .now) (rows .exit .now) (events .exit .now) («forward_records» .exit .now)
+        («forward_places» .exit .now) («reverse_records» .exit .now) («reverse_places» .exit .now) (keys .exit .now)
+        (deadlines .exit .now)) (runs.results (words .exit .now) (estimator .exit .now) (doubles .exit .now))
+        ≡ runs.run (numbers .entry .now) (reals .entry .now)
+        (given (file .entry .now) («forward_rolls» .entry .now) («reverse_rolls» .entry .now))
+        (lent («sender_store» .entry .now) («receiver_store» .entry .now) (output .entry .now) (rows .entry .now)
+        (events .entry .now) («forward_records» .entry .now) («forward_places» .entry .now)
+        («reverse_records» .entry .now) («reverse_places» .entry .now) (keys .entry .now) (deadlines .entry .now))
+        (runs.results (words .entry .now) (estimator .entry .now) (doubles .entry .now)) ⌝ }
+{
+    host_run::run(
+        numbers,
+        reals,
+        file,
+        forward_rolls,
+        reverse_rolls,
+        sender_store,
+        receiver_store,
+        output,
+        rows,
+        events,
+        forward_records,
+        forward_places,
+        reverse_records,
+        reverse_places,
+        keys,
+        deadlines,
+        words,
+        estimator,
+        doubles,
+    )
 }

@@ -1,0 +1,3 @@
+pub mod Setup
+pub mod Outcome
+pub mod Run
