@@ -49,3 +49,6 @@ cc $sanitize "$out/empty.c" -o "$out/empty" 2>/dev/null || { sanitize=; echo "ho
 # shellcheck disable=SC2086
 cc -std=c11 -O1 -g $sanitize $strict examples/fuzz/fuzz.c "$library" -o "$out/fuzz"
 "$out/fuzz" "$fuzz_calls"
+# shellcheck disable=SC2086
+cc -std=c11 -O1 -g $sanitize $strict examples/fuzz/runs.c "$library" -o "$out/runs"
+"$out/runs" $((fuzz_calls / 50))

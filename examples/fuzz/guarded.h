@@ -1,5 +1,6 @@
-/* For fuzz: memory to lend. A slice begins directly behind a page that can't be touched or ends directly before one; on
- * its other side are marked bytes. After a call it is compared with what it was. */
+/* Memory to lend. A slice begins directly behind a page that can't be touched or ends directly before one; on its other
+ * side are marked bytes. After a call it is compared with what it was. Who includes this names the slices before, in an
+ * enum with REGIONS last. */
 #ifndef GUARDED_H
 #define GUARDED_H
 
@@ -11,8 +12,6 @@
 #define PAGE 4096
 #define BORDER 64
 #define MARK 0xA5
-
-enum { STATE, STORE, IN, OUT, OUTPUT, KEYS, DEADLINES, REGIONS };
 
 static struct region {
     uint8_t *low, *at;
@@ -59,7 +58,7 @@ static void *lend(int i, const void *bytes, size_t have, size_t n, int at_end, i
     return n == 0 && null ? NULL : r->at;
 }
 
-static void may_write(int i, size_t from, size_t to)
+static inline void may_write(int i, size_t from, size_t to)
 {
     regions[i].from = from;
     regions[i].to = to;

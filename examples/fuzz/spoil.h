@@ -3,6 +3,7 @@
 #define SPOIL_H
 
 #include "expected.h"
+enum { STATE, STORE, IN, OUT, OUTPUT, KEYS, DEADLINES, REGIONS };
 #include "guarded.h"
 #include <math.h>
 
