@@ -1,19 +1,18 @@
 -- The four parts of a round, each called only where something is due: what is left after each, what the next asks, and each end of the round.
-use Prim.Native.Nat.{ℕ, _≤_}
 use mathlib.Core.Path.{_≡_, refl, sym, ap, _∙_, subst}
-use mathlib.Core.Bool.{Bool, true, false, cond, not, _&&_, _||_, true≢false}
+use mathlib.Core.Bool.{Bool, true, false, cond, not, _&&_, _||_}
 use lib.Dec.{eqb}
 use Rattle.path.specs.Path.{isGoing, isDue}
 use Rattle.path.specs.declared.Stop.{Stop}
 use Rattle.path.specs.declared.Stop.the-variants as stop
 use Rattle.receiving.specs.Receiving.{ServeForwardExit, serveForwardExit}
 use Rattle.receiving.proofs.Laws.{serve-not-due}
-use Rattle.acks.specs.Reverse.{ServeExit, serveExit, serveReverse, CanServeReverse}
+use Rattle.acks.specs.Reverse.{ServeExit, serveReverse, CanServeReverse}
 use Rattle.acks.proofs.Laws.{serve-reverse-not-due}
 use Rattle.sending.specs.Sending.{PumpExit, pumpExit, canPump, pumpSends}
 use Rattle.sending.specs.Good.{CanPump}
 use Rattle.sending.proofs.Laws.{pump-nothing}
-use Rattle.timeouts.specs.Timeouts.{FireExit, fireExit, fireTimers, timersDue}
+use Rattle.timeouts.specs.Timeouts.{FireExit, fireTimers, timersDue}
 use Rattle.timeouts.specs.Good.{CanFire}
 use Rattle.timeouts.proofs.Laws.{timers-not-due}
 use Rattle.arrivals.specs.Arrivals.{ArrivalExit, arrivalExit, acksOf, withForward, withReverse, reverseServed}

@@ -1,17 +1,14 @@
 -- A step as what is left of it after each of its halves.
-use Prim.Native.Nat.{ℕ, _-_, _<_}
-use mathlib.Core.Path.{_≡_, refl, sym, ap, _∙_, subst}
+use mathlib.Core.Path.{_≡_, refl, sym, ap, _∙_}
 use mathlib.Core.Bool.{Bool, true, false, cond, not, _||_, true≢false}
-use mathlib.Core.List.{List}
 use lib.Dec.{eqb}
 use Rattle.path.specs.Path.{isGoing}
 use Rattle.path.specs.declared.Stop.{Stop}
 use Rattle.path.specs.declared.Stop.the-variants as stop
-use Rattle.sending.specs.declared.Resends.{Resends}
-use Rattle.timeouts.specs.Timeouts.{FireExit, fireExit, FireState}
-use Rattle.arrivals.specs.Arrivals.{ArrivalState, ArrivalExit, arrivalExit, serveArrivals}
+use Rattle.timeouts.specs.Timeouts.{FireExit}
+use Rattle.arrivals.specs.Arrivals.{ArrivalExit, serveArrivals}
 use Rattle.departures.specs.Departures.{sendDue}
-use Rattle.step.specs.State.{Given, chunksFor, RunState, runState, fireOf, withArrivals, withFired, exhausted}
+use Rattle.step.specs.State.{Given, chunksFor, RunState, fireOf, withArrivals, withFired, exhausted}
 use Rattle.step.specs.Settle.{StepExit, stepExit, over, unlessStopped, settle}
 use Rattle.step.specs.Step.{roundLess, stepFor, step}
 use Rattle.step.specs.declared.Plan.{Plan}

@@ -1,8 +1,8 @@
 use Rattle.step.specs.Settle.{senderIdle}
 use Rattle.step.proofs.Settling.{done-open, done-idle}
 use borrow.Author.Needs.{needs}
-use Rattle.step.proofs.all_done.Statement.{statement}
-use Rattle.step.proofs.all_done.Tie as tie
+use Rattle.step.proofs.ends.all_done.Statement.{statement}
+use Rattle.step.proofs.ends.all_done.Tie as tie
 
 returns : tie.Need-returns
 returns c = done-open (c .before .args .completed) (senderIdle (c .before .args .total-chunks) (c .before .args .sender) (c .before .args .forward) (c .before .args .reverse) (c .before .args .clock)) (c .if1 .taken)

@@ -1,7 +1,7 @@
 use Rattle.step.proofs.Settling.{earlier-first, earlier-both}
 use borrow.Author.Needs.{needs}
-use Rattle.step.proofs.earlier.Statement.{statement}
-use Rattle.step.proofs.earlier.Tie as tie
+use Rattle.step.proofs.ends.earlier.Statement.{statement}
+use Rattle.step.proofs.ends.earlier.Tie as tie
 
 enum-told : tie.Need-enum-told
 enum-told c = search needs

@@ -1,8 +1,8 @@
 use Rattle.step.specs.State.{runOf}
 use Rattle.step.proofs.Settling.{move-none, move-past, move-beyond, move-within}
 use borrow.Author.Needs.{needs}
-use Rattle.step.proofs.move_to.Statement.{statement}
-use Rattle.step.proofs.move_to.Tie as tie
+use Rattle.step.proofs.ends.move_to.Statement.{statement}
+use Rattle.step.proofs.ends.move_to.Tie as tie
 
 enum-told : tie.Need-enum-told
 enum-told c = search needs

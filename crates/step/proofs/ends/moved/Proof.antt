@@ -1,8 +1,8 @@
 use Rattle.step.specs.State.{runOf}
 use Rattle.step.proofs.Settling.{moved-last, moved-on}
 use borrow.Author.Needs.{needs}
-use Rattle.step.proofs.moved.Statement.{statement}
-use Rattle.step.proofs.moved.Tie as tie
+use Rattle.step.proofs.ends.moved.Statement.{statement}
+use Rattle.step.proofs.ends.moved.Tie as tie
 
 over-requires : tie.Need-over-requires
 over-requires c κs = search needs

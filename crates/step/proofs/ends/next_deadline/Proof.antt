@@ -2,8 +2,8 @@ use Rattle.path.specs.Direction.{direction}
 use Rattle.multi_timer.specs.MultiTimer.{timersExit}
 use Rattle.step.proofs.Settling.{next-law}
 use borrow.Author.Needs.{needs}
-use Rattle.step.proofs.next_deadline.Statement.{statement}
-use Rattle.step.proofs.next_deadline.Tie as tie
+use Rattle.step.proofs.ends.next_deadline.Statement.{statement}
+use Rattle.step.proofs.ends.next_deadline.Tie as tie
 
 next-deadline-unchecked-requires : tie.Need-next-deadline-unchecked-requires
 next-deadline-unchecked-requires c κs = search needs

@@ -1,7 +1,7 @@
 use Rattle.step.proofs.Settling.{of-path-at}
 use borrow.Author.Needs.{needs}
-use Rattle.step.proofs.of_path.Statement.{statement}
-use Rattle.step.proofs.of_path.Tie as tie
+use Rattle.step.proofs.ends.of_path.Statement.{statement}
+use Rattle.step.proofs.ends.of_path.Tie as tie
 
 enum-known-d : tie.Need-enum-known-d
 enum-known-d c = search needs

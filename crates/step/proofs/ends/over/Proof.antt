@@ -1,6 +1,6 @@
 use Rattle.step.proofs.Settling.{over-completed, over-open}
-use Rattle.step.proofs.over.Statement.{statement}
-use Rattle.step.proofs.over.Tie as tie
+use Rattle.step.proofs.ends.over.Statement.{statement}
+use Rattle.step.proofs.ends.over.Tie as tie
 
 returns : tie.Need-returns
 returns c = over-completed (c .before .before .before .args .state) (c .before .before .before .args .end) (c .before .before .before .args .now) (c .if1 .taken)

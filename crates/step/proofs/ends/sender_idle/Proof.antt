@@ -1,7 +1,7 @@
 use Rattle.step.proofs.Settling.{idle-unsent, idle-forward, idle-reverse, idle-waiting, idle-timers}
 use borrow.Author.Needs.{needs}
-use Rattle.step.proofs.sender_idle.Statement.{statement}
-use Rattle.step.proofs.sender_idle.Tie as tie
+use Rattle.step.proofs.ends.sender_idle.Statement.{statement}
+use Rattle.step.proofs.ends.sender_idle.Tie as tie
 
 next-seq-num-unchecked-requires : tie.Need-next-seq-num-unchecked-requires
 next-seq-num-unchecked-requires c κs = search needs

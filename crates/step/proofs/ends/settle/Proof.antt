@@ -1,8 +1,8 @@
 use Rattle.step.specs.State.{lent, runOf}
 use Rattle.step.proofs.Settling.{settle-done, settle-next}
 use borrow.Author.Needs.{needs}
-use Rattle.step.proofs.settle.Statement.{statement}
-use Rattle.step.proofs.settle.Tie as tie
+use Rattle.step.proofs.ends.settle.Statement.{statement}
+use Rattle.step.proofs.ends.settle.Tie as tie
 
 all-done-requires : tie.Need-all-done-requires
 all-done-requires c κs = search needs

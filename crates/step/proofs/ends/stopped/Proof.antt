@@ -1,8 +1,8 @@
 use Rattle.step.specs.State.{runOf}
 use Rattle.step.proofs.Settling.{stopped-never, stopped-by}
 use borrow.Author.Needs.{needs}
-use Rattle.step.proofs.stopped.Statement.{statement}
-use Rattle.step.proofs.stopped.Tie as tie
+use Rattle.step.proofs.ends.stopped.Statement.{statement}
+use Rattle.step.proofs.ends.stopped.Tie as tie
 
 enum-told : tie.Need-enum-told
 enum-told c = search needs
