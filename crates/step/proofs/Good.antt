@@ -52,7 +52,7 @@ module _ {p : Plan} {g : Given} {s : RunState} (good : GoodRun p g s) where
   can-arrive =
       let o = good .outgoing in
       record {
-        forward = record { sound = o .forward .sound; times = o .forward .times; good = good .inbound; few = few-datas; in-time = o .notes .within };
+        forward = record { sound = o .forward .sound; times = o .forward .times; cleared = o .forward .cleared; good = good .inbound; few = few-datas; in-time = o .notes .within };
         acks = record { sender = sender-unbroken good-fire; estimator = good .estimator; clock = o .clock; notes = o .notes; scheduled = o .scheduled; duplicates = good .duplicates };
         replies = good .arrived .replies;
       }
