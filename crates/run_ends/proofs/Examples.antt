@@ -1,4 +1,4 @@
--- Runs computed from the definitions: each end, two of them on either line, and the order of the tests.
+-- Runs computed from the definitions: each end, two of them on either line, the order of the tests, and the limit of time.
 use Prim.Native.Nat.{ℕ, _*_, _^_, _<_}
 use native.Mathlib.Omega.{arith}
 use mathlib.Core.Path.{_≡_, refl}
@@ -68,9 +68,9 @@ use Rattle.window.specs.Sending as windowSending
 use Rattle.window.specs.Slots as windowSlots
 use Rattle.window.specs.State as windowState
 
--- one byte over Stop-and-Wait, 5 ms each way, no faults; three moments, two rounds at each
-abbrev config : TransferConfig
-config =
+-- one byte over Stop-and-Wait, 5 ms each way, no faults; to a limit of time; three moments, two rounds at each
+abbrev config : ℕ → TransferConfig
+config limit =
     record {
       protocol = StopAndWait;
       clock = Source;
@@ -78,23 +78,29 @@ config =
       «chunk_size» = 1;
       channel = record { loss = zero64; duplicate = zero64; reorder = zero64; «reorder_extra_ms» = 0; corrupt = zero64; «base_delay_ms» = 5; «jitter_ms» = 0 };
       rto = record { «initial_rto» = 1000000000; «min_rto» = 1000000000; «max_rto» = 60000000000; granularity = 1000000; alpha = eighth64; beta = quarter64; k = four64; «rto_multiplier» = one64 };
-      «max_virtual_time» = 60000000000;
+      «max_virtual_time» = limit;
       «max_retransmissions» = 10;
     }
 
 abbrev ceilings : Ceilings
 ceilings = record { steps = 3; rounds = 2; retries = 10 }
 
--- with rolls for so many packets each way, so many event entries, and records and places for so many copies each way
+-- with rolls for so many packets each way, so many event entries, and records and places for so many copies each way; to
+-- such a limit
 record Case : Type 0 where
   forward : ℕ
   reverse : ℕ
   events : ℕ
   copies : ℕ
   replies : ℕ
+  limit : ℕ
 
 abbrev case : ℕ → ℕ → ℕ → ℕ → ℕ → Case
-case f r e c a = record { forward = f; reverse = r; events = e; copies = c; replies = a }
+case f r e c a = record { forward = f; reverse = r; events = e; copies = c; replies = a; limit = 60000000000 }
+
+-- with enough of all
+abbrev to : ℕ → Case
+to limit = record { forward = 1; reverse = 1; events = 1; copies = 1; replies = 1; limit = limit }
 
 abbrev memory : Case → Lent
 memory x =
@@ -105,7 +111,7 @@ abbrev offered : Case → Given
 offered x = given (65 ∷ []) (replicate (x .forward * packetRolls) zero64) (replicate (x .reverse * packetRolls) zero64)
 
 abbrev called : Case → RunExit
-called x = runTransfer ceilings config (offered x) (memory x)
+called x = runTransfer ceilings (config (x .limit)) (offered x) (memory x)
 
 -- the end, completed, the finishing time, what was written
 record Row : Type 0 where
@@ -124,7 +130,7 @@ rowOf x = by-answer (x .answer)
     by-answer (answer.Outcome o) = row (wordOf (o .end)) (o .completed) (o .«finished_at») (take (filled (o .receiver)) (x .lent .output))
     by-answer (answer.Refused r) = row [] false 0 []
 
-ends-table : map (λ x. rowOf (called x)) (case 1 1 1 1 1 ∷ case 0 1 1 1 1 ∷ case 1 0 1 1 1 ∷ case 1 1 0 1 1 ∷ case 1 1 1 0 1 ∷ case 1 1 1 1 0 ∷ case 0 1 0 0 1 ∷ case 1 1 0 0 1 ∷ [])
+ends-table : map (λ x. rowOf (called x)) (case 1 1 1 1 1 ∷ case 0 1 1 1 1 ∷ case 1 0 1 1 1 ∷ case 1 1 0 1 1 ∷ case 1 1 1 0 1 ∷ case 1 1 1 1 0 ∷ case 0 1 0 0 1 ∷ case 1 1 0 0 1 ∷ to 4000000 ∷ [])
     ≡ row (ascii "ended") true 5000000 (65 ∷ [])
     ∷ row (ascii "rolls spent") false 0 []
     ∷ row (ascii "rolls spent") true 5000000 (65 ∷ [])
@@ -133,6 +139,7 @@ ends-table : map (λ x. rowOf (called x)) (case 1 1 1 1 1 ∷ case 0 1 1 1 1 ∷
     ∷ row (ascii "schedule full") true 5000000 (65 ∷ [])
     ∷ row (ascii "rolls spent") false 0 []
     ∷ row (ascii "events full") false 0 []
+    ∷ row (ascii "ended") false 4000000 []
     ∷ []
 unfolding acks.onAccepted acks.onAck acksReverse.serveAtMost arrivals.serveArrivals channelBounds.configBroken channelFaults.carriedBytes channelFaults.deliveriesOf channelFaults.isCorrupted channelFaults.isDuplicated channelFaults.isLost channelFaults.isReordered channelProcess.processUnchecked checksum.checksum checksum.onesAdd checksum.onesSum checksum.words chunks.chunksOf chunks.pieces clock.armAfterSubmit clock.armOldest clock.due clock.newClock clock.nextDeadline clock.rearmAfterAck departures.sendDue multiTimer.newUnchecked notes.expiry notes.newNotes notes.sent notes.setDropped packetFormat.checksumOf packetFormat.datagram packetFormat.headerBytes packetFormat.matches packetReading.headerOf packetReading.payloadOf packetReading.payloadPart packetReading.readChecks packetReading.readDatagram path.carry path.deadlineOf path.newPath path.takeReady pathRolls.rollsAt pathRolls.rollsBroken receiverReceive.receive receiverReply.ackAfter receiverReply.applied receiverReply.roomMissing receiverState.countsBroken receiverState.stateBroken receiving.absorb receiving.onForward receiving.received receiving.serveAtMost receiving.submitAck refusalClauses.anyOf refusalOrder.decide refusalOrder.firstOf refusalOrder.numbered refusalOrder.orElse refusalOrder.order refusalOrder.verdict rto.configInBounds rto.fresh scheduleRecord.freeFrom scheduleRecord.inserted scheduleRecord.placeIn schedule.popUnchecked schedule.putCopy schedule.scheduleAtUnchecked schedule.withoutFirst sending.pumpMost sending.sendOne sessionReceiving.handlePacket sessionReceiving.newReceiver sessionSending.handleAck sessionSending.newSender sessionSending.sendChunk setup.clockBroken setup.roomMissing setup.setupBroken setup.stateBroken stepSettle.nextDeadline stepSettle.senderIdle stepSettle.settle step.stepFor stopAndWait.dataDecision stopAndWait.decision storeSlot.putSlot storeSlot.slotAt storeSlot.slotBytes storeSound.anyBelow storeSound.senderSlotBroken storeSound.senderSlotsBroken submission.noteAfter submission.noteBefore submission.submit timeouts.fireTimers timer.cancelledUnchecked timer.newTimer timer.startedAtUnchecked transferRun.runFor transferRun.runAtMostFor transferStart.newRun transfer.runTransfer windowAcknowledgement.ackDecision windowAcknowledgement.byDecision windowSending.sendChecks windowSending.sendChunk windowSlots.fresh windowSlots.hold windowState.countsBroken windowState.numbersBroken windowState.stateBroken windowState.storeShort windowState.windowBroken lt le mul ofInt toUnsigned
 ends-table = refl
@@ -142,9 +149,9 @@ doubles : (n : ℕ) → n * 8 < 2 ^ 63 → Doubles (replicate n zero64)
 unfolding fits
 doubles n h = record { each = λ i l. rw (getD-replicate n i zero64 nan (rw (length-replicate n zero64) at l)) tt; size = rw (length-replicate n zero64) h }
 
-factors : Factors (config .rto)
+factors : (limit : ℕ) → Factors (config limit .rto)
 unfolding fits
-factors = record { alpha = tt; beta = tt; k = tt; multiplier = tt }
+factors limit = record { alpha = tt; beta = tt; k = tt; multiplier = tt }
 
-ends-so : (x : Case) → x .forward < 100 → x .reverse < 100 → (o : Outcome) → called x .answer ≡ answer.Outcome o → EndsSo config (offered x) o (called x .lent)
-ends-so x f r o e = transfer-ends ceilings config (offered x) (memory x) (doubles (x .forward * packetRolls) (omega arith)) (doubles (x .reverse * packetRolls) (omega arith)) factors o e
+ends-so : (x : Case) → x .forward < 100 → x .reverse < 100 → (o : Outcome) → called x .answer ≡ answer.Outcome o → EndsSo (config (x .limit)) (offered x) o (called x .lent)
+ends-so x f r o e = transfer-ends ceilings (config (x .limit)) (offered x) (memory x) (doubles (x .forward * packetRolls) (omega arith)) (doubles (x .reverse * packetRolls) (omega arith)) (factors (x .limit)) o e

@@ -1,5 +1,5 @@
 -- When a run finishes.
-use Prim.Native.Nat.{ℕ, zero, suc, _+_, _-_, _/_, _≤_, _<_}
+use Prim.Native.Nat.{ℕ, _+_, _-_, _/_, _≤_, _<_}
 use native.Mathlib.Omega.{arith}
 use mathlib.Core.Path.{_≡_, refl, sym, ap, _∙_, subst}
 use mathlib.Core.Bool.{Bool, true, false, cond, not, true≢false, _&&_, _||_}
@@ -30,14 +30,15 @@ use Rattle.step.specs.declared.Course.the-variants.{Going}
 use Rattle.step.proofs.Laws.{arrives, step-is, afterBoth, bothExit}
 use Rattle.transfer.proofs.Laws.{start-completed-is}
 use Rattle.transfer.specs.Start.{planFor, newRun, startOf}
-use Rattle.transfer.specs.Run.{isOver, runAtMostFor, runAtMost, runFor, run, stepsLeft}
+use Rattle.transfer.specs.Run.{isOver, run}
 use Rattle.transfer.specs.Transfer.{endOf, finishedAt, runTransfer}
 use Rattle.transfer.specs.declared.Ceilings.{Ceilings}
 use Rattle.transfer.specs.declared.Outcome.{Outcome}
 use Rattle.transfer.specs.declared.RunAnswer.the-variants as answer
 use Rattle.transfer.proofs.Laws.{run-over}
-use Rattle.run_ends.specs.Ended.{nextTime}
-use Rattle.run_ends.specs.Finish.{sideOf, deliveredBy, stateAfter, CompletedIn, PastLimit, Finishes, FinishedSo}
+use Rattle.edition_clock.specs.AlongARun.{Reached, start, next}
+use Rattle.edition_clock.proofs.Run.{run-last}
+use Rattle.run_ends.specs.Finish.{sideOf, deliveredBy, CompletedIn, Finishes, FinishedSo}
 use Rattle.run_ends.proofs.Transfer.{by-outcome}
 
 -- ---- what a step from s leaves: the time is not earlier and within the limit
@@ -45,7 +46,7 @@ record StepsTo (p : Plan) (s : RunState) (sides : ReceivingSide → Type 0) (x :
   later : s .time ≤ x .state .time
   in-time : x .state .time ≤ p .«max_virtual_time»
   side : sides (sideOf (x .state))
-  finishes : isOver (x .course) ≡ true → (finishedAt (x .course) ≡ finishingTime (x .state) (x .state .time)) ⊎ ((endOf (x .course) ≡ end.Ended) × (finishedAt (x .course) ≡ finishingTime (x .state) (p .«max_virtual_time»)) × PastLimit p (x .state))
+  finishes : isOver (x .course) ≡ true → (finishedAt (x .course) ≡ finishingTime (x .state) (x .state .time)) ⊎ ((endOf (x .course) ≡ end.Ended) × (finishedAt (x .course) ≡ finishingTime (x .state) (p .«max_virtual_time»)))
 
 module _ (p : Plan) (g : Given) (s : RunState) (sides : ReceivingSide → Type 0) (early : s .time ≤ p .«max_virtual_time») where
   abbrev Steps : StepExit → Type 0
@@ -55,18 +56,18 @@ module _ (p : Plan) (g : Given) (s : RunState) (sides : ReceivingSide → Type 0
   over-now : (u : RunState) (e : End) → u .time ≡ s .time → sides (sideOf u) → Steps (over u e (u .time))
   over-now u e t q = record { later = omega (arith, t); in-time = omega (arith, t); side = q; finishes = λ i. inl refl }
 
-  move-steps : (u : RunState) (d : Deadline) → nextTime p u ≡ d → u .time ≡ s .time → sides (sideOf u) → Steps (moveTo p u d)
-  move-steps u deadline.Unset n e q = over-now u end.Ended e q
-  move-steps u (deadline.At t) n e q = by-past (leb t (u .time)) (ltb (p .«max_virtual_time») t) (leb-false t (u .time)) (ltb-true (p .«max_virtual_time») t) (ltb-false (p .«max_virtual_time») t)
+  move-steps : (u : RunState) (d : Deadline) → u .time ≡ s .time → sides (sideOf u) → Steps (moveTo p u d)
+  move-steps u deadline.Unset e q = over-now u end.Ended e q
+  move-steps u (deadline.At t) e q = by-past (leb t (u .time)) (ltb (p .«max_virtual_time») t) (leb-false t (u .time)) (ltb-false (p .«max_virtual_time») t)
     where
       by-moves : (b : Bool) → u .time < t → t ≤ p .«max_virtual_time» → Steps (cond b (over (at u t (u .moves) (u .rounds)) end.Ended t) (stepExit (at u t (u .moves - 1) (p .rounds)) Going))
       by-moves true h k = record { later = omega (arith, e, h); in-time = k; side = q; finishes = λ i. inl refl }
       by-moves false h k = record { later = omega (arith, e, h); in-time = k; side = q; finishes = λ i. absurd (true≢false (sym i)) }
 
-      by-past : (a b : Bool) → (a ≡ false → u .time < t) → (b ≡ true → p .«max_virtual_time» < t) → (b ≡ false → t ≤ p .«max_virtual_time») → Steps (cond a (over (exhausted u) end.Ended (u .time)) (cond b (over u end.Ended (p .«max_virtual_time»)) (moved p u t)))
-      by-past true b h l k = over-now (exhausted u) end.Ended e q
-      by-past false true h l k = record { later = omega (arith, e); in-time = omega (arith, e); side = q; finishes = λ i. inr (refl, refl, record { deadline = t; next = n; past = l refl }) }
-      by-past false false h l k = by-moves (eqb (u .moves) 0) (h refl) (k refl)
+      by-past : (a b : Bool) → (a ≡ false → u .time < t) → (b ≡ false → t ≤ p .«max_virtual_time») → Steps (cond a (over (exhausted u) end.Ended (u .time)) (cond b (over u end.Ended (p .«max_virtual_time»)) (moved p u t)))
+      by-past true b h k = over-now (exhausted u) end.Ended e q
+      by-past false true h k = record { later = omega (arith, e); in-time = omega (arith, e); side = q; finishes = λ i. inr (refl, refl) }
+      by-past false false h k = by-moves (eqb (u .moves) 0) (h refl) (k refl)
 
   settle-steps : (u : RunState) → u .time ≡ s .time → sides (sideOf u) → Steps (settle p u)
   unfolding settle
@@ -74,7 +75,7 @@ module _ (p : Plan) (g : Given) (s : RunState) (sides : ReceivingSide → Type 0
     where
       go : (b : Bool) → Steps (cond b (over u end.Ended (u .time)) (moveTo p u (nextDeadline (p .timing) (u .arrivals .forward) (u .arrivals .inbound .reverse) (u .arrivals .clock))))
       go true = over-now u end.Ended e q
-      go false = move-steps u (nextTime p u) refl e q
+      go false = move-steps u (nextDeadline (p .timing) (u .arrivals .forward) (u .arrivals .inbound .reverse) (u .arrivals .clock)) e q
 
   unless : (st : Stop) (u : RunState) (rest : StepExit) → u .time ≡ s .time → sides (sideOf u) → Steps rest → Steps (unlessStopped st u rest)
   unless stop.Going u rest e q h = h
@@ -125,9 +126,8 @@ module _ (p : Plan) (g : Given) (s : RunState) where
         is = serve-completed-is (g .reverseRolls) (p .«total_chunks») (s .time) (s .arrivals .forward) (s .arrivals .inbound) c;
       }))
 
--- ---- a run from s, at u after n steps
-record Timed (p : Plan) (g : Given) (s : RunState) (n : ℕ) (u : RunState) : Type 0 where
-  is : u ≡ stateAfter n p g s
+-- ---- a run from s, at u
+record Timed (p : Plan) (g : Given) (s u : RunState) : Type 0 where
   early : u .time ≤ p .«max_virtual_time»
   completed-is : CompletedIs (p .«total_chunks») (sideOf u)
   since : sideOf u .completed ≡ true → CompletedIn p g s (sideOf u .«completed_at»)
@@ -138,82 +138,60 @@ not-yet true e = refl
 not-yet false e = absurd (true≢false (sym e))
 
 module _ (p : Plan) (g : Given) (s : RunState) where
-  module _ (n : ℕ) (u : RunState) (q : Timed p g s n u) where
-    next : StepsTo p u (Completing p g u) (step p g u)
-    next = step-completing p g u (q .early) (q .completed-is)
+  module _ (u : RunState) (r : Reached p g s u) (q : Timed p g s u) where
+    abbrev v : RunState
+    v = step p g u .state
 
-    next-is : step p g u .state ≡ stateAfter (suc n) p g s
-    unfolding stateAfter
-    next-is = ap (λ (x : RunState). step p g x .state) (q .is)
+    then : StepsTo p u (Completing p g u) (step p g u)
+    then = step-completing p g u (q .early) (q .completed-is)
 
-    since-next : (b : Bool) → sideOf u .completed ≡ b → sideOf (step p g u .state) .completed ≡ true → CompletedIn p g s (sideOf (step p g u .state) .«completed_at») × (sideOf (step p g u .state) .«completed_at» ≤ step p g u .state .time)
-    since-next true e d =
-        let k = next .side .completes .stays e in
-        let l = next .later in
+    since-then : (b : Bool) → sideOf u .completed ≡ b → sideOf v .completed ≡ true → CompletedIn p g s (sideOf v .«completed_at») × (sideOf v .«completed_at» ≤ v .time)
+    since-then true e d =
+        let k = then .side .completes .stays e in
+        let l = then .later in
         let m = q .before e in
         (subst (CompletedIn p g s) (sym (k .1)) (q .since e), omega (arith, k .1, l, m))
-    since-next false e d =
-        let k = next .side .completes .moment e d in
-        let l = next .later in (
-          record {
-            steps = n;
-            moment = ap (λ (x : RunState). x .time) (sym (q .is)) ∙ sym (k .0);
-            before = subst (λ (x : RunState). deliveredBy x < p .«total_chunks») (q .is) (ltb-true (deliveredBy u) (p .«total_chunks») (not-yet _ (sym e ∙ q .completed-is)));
-            after = subst (λ (x : RunState). p .«total_chunks» ≤ deliveredBy x) next-is (k .1);
-          },
+    since-then false e d =
+        let k = then .side .completes .moment e d in
+        let l = then .later in (
+          record { before = u; reached = r; moment = sym (k .0); missing = ltb-true (deliveredBy u) (p .«total_chunks») (not-yet _ (sym e ∙ q .completed-is)); all = k .1 },
           omega (arith, k .0, l),
         )
 
-    timed-next : Timed p g s (suc n) (step p g u .state)
-    timed-next =
-        record {
-          is = next-is;
-          early = next .in-time;
-          completed-is = next .side .is;
-          since = λ d. since-next (sideOf u .completed) refl d .0;
-          before = λ d. since-next (sideOf u .completed) refl d .1;
-        }
+    timed-then : Timed p g s v
+    timed-then = record { early = then .in-time; completed-is = then .side .is; since = λ d. since-then (sideOf u .completed) refl d .0; before = λ d. since-then (sideOf u .completed) refl d .1 }
 
     -- ---- where it is over
     module _ (o : isOver (step p g u .course) ≡ true) where
-      abbrev v : RunState
-      v = step p g u .state
-
       on-completed : sideOf v .completed ≡ true → finishedAt (step p g u .course) ≡ sideOf v .«completed_at»
       on-completed d =
-          ⊎-elim (λ e. e ∙ ap (λ (b : Bool). cond b (sideOf v .«completed_at») (v .time)) d) (λ e. e .1 ∙ ap (λ (b : Bool). cond b (sideOf v .«completed_at») (p .«max_virtual_time»)) d) (next .finishes o)
+          ⊎-elim (λ e. e ∙ ap (λ (b : Bool). cond b (sideOf v .«completed_at») (v .time)) d) (λ e. e .1 ∙ ap (λ (b : Bool). cond b (sideOf v .«completed_at») (p .«max_virtual_time»)) d) (then .finishes o)
 
-      on-open : sideOf v .completed ≡ false → (finishedAt (step p g u .course) ≡ v .time) ⊎ ((endOf (step p g u .course) ≡ end.Ended) × (finishedAt (step p g u .course) ≡ p .«max_virtual_time») × PastLimit p v)
+      on-open : sideOf v .completed ≡ false → (finishedAt (step p g u .course) ≡ v .time) ⊎ ((endOf (step p g u .course) ≡ end.Ended) × (finishedAt (step p g u .course) ≡ p .«max_virtual_time»))
       on-open d =
-          ⊎-elim (λ e. inl (e ∙ ap (λ (b : Bool). cond b (sideOf v .«completed_at») (v .time)) d)) (λ e. inr (e .0, e .1 ∙ ap (λ (b : Bool). cond b (sideOf v .«completed_at») (p .«max_virtual_time»)) d, e .2)) (next .finishes o)
+          ⊎-elim (λ e. inl (e ∙ ap (λ (b : Bool). cond b (sideOf v .«completed_at») (v .time)) d)) (λ e. inr (e .0, e .1 ∙ ap (λ (b : Bool). cond b (sideOf v .«completed_at») (p .«max_virtual_time»)) d)) (then .finishes o)
 
       within : (b : Bool) → sideOf v .completed ≡ b → finishedAt (step p g u .course) ≤ p .«max_virtual_time»
-      within true d = let e = on-completed d in let h = timed-next .before d in let k = timed-next .early in omega (arith, e, h, k)
-      within false d = let k = timed-next .early in ⊎-elim (λ e. omega (arith, e, k)) (λ e. let f = e .1 in omega (arith, f)) (on-open d)
+      within true d = let e = on-completed d in let h = timed-then .before d in let k = timed-then .early in omega (arith, e, h, k)
+      within false d = let k = timed-then .early in ⊎-elim (λ e. omega (arith, e, k)) (λ e. let f = e .1 in omega (arith, f)) (on-open d)
 
       over-finishes : Finishes p g s (step p g u)
       over-finishes =
           record {
             in-time = within (sideOf v .completed) refl;
-            completed = λ d. subst (CompletedIn p g s) (sym (on-completed d)) (timed-next .since d);
+            completed = λ d. subst (CompletedIn p g s) (sym (on-completed d)) (timed-then .since d);
             stopped = λ d h. ⊎-elim (λ e. e) (λ e. absurd (h (e .0))) (on-open d);
-            ended = λ d h. ⊎-elim (λ e. inl e) (λ e. inr (e .1, e .2)) (on-open d);
           }
 
-  most-finishes : (m n : ℕ) (u : RunState) → Timed p g s n u → isOver (runAtMost m p g u .course) ≡ true → Finishes p g s (runAtMost m p g u)
-  unfolding runAtMostFor
-  most-finishes zero n u q o = absurd (true≢false (sym o))
-  most-finishes (suc m) n u q o = by-course (isOver (step p g u .course)) refl o (λ i. most-finishes m (suc n) (step p g u .state) (timed-next n u q) i)
-    where
-      by-course : (b : Bool) → isOver (step p g u .course) ≡ b → isOver (cond b (step p g u) (runAtMost m p g (step p g u .state)) .course) ≡ true → (isOver (runAtMost m p g (step p g u .state) .course) ≡ true → Finishes p g s (runAtMost m p g (step p g u .state)))
-          → Finishes p g s (cond b (step p g u) (runAtMost m p g (step p g u .state)))
-      by-course true e i more = over-finishes n u q e
-      by-course false e i more = more i
+  reached-timed : Timed p g s s → {u : RunState} → Reached p g s u → Timed p g s u
+  reached-timed q start = q
+  reached-timed q (next {u = u} r go) = timed-then u r (reached-timed q r)
 
   pub run-finishes : s .time ≤ p .«max_virtual_time» → CompletedIs (p .«total_chunks») (sideOf s) → sideOf s .completed ≡ false → Finishes p g s (run p g s)
-  unfolding runFor stateAfter
   run-finishes early c not-done =
-      most-finishes (suc (stepsLeft p s)) 0 s (record { is = refl; early = early; completed-is = c; since = λ d. absurd (true≢false (sym d ∙ not-done)); before = λ d. absurd (true≢false (sym d ∙ not-done)) }) (run-over p g s)
+      let x = run-last p g s in
+      let q : Timed p g s s = record { early = early; completed-is = c; since = λ d. absurd (true≢false (sym d ∙ not-done)); before = λ d. absurd (true≢false (sym d ∙ not-done)) } in
+      subst (λ (y : StepExit). isOver (y .course) ≡ true → Finishes p g s y) (sym (x .last)) (over-finishes (x .before) (x .reached) (reached-timed q (x .reached))) (run-over p g s)
 
 -- ---- at the start
 pub transfer-finishes : (k : Ceilings) (c : TransferConfig) (g : Given) (l : Lent) → CanStart (startOf c g l) → Finishes (planFor k c g) g (newRun k c l) (run (planFor k c g) g (newRun k c l))

@@ -9,6 +9,7 @@ use lib.Dec.{ltb, leb}
 use lib.Ieee.{Float}
 use lib.ListN.{length}
 use borrow.Author.Tests.{leb-false, ltb-false}
+use Rattle.chunks.specs.Chunks.{chunksOf}
 use Rattle.timer.specs.Timer.{expiredAt}
 use Rattle.timer.specs.declared.Deadline.{Deadline}
 use Rattle.timer.specs.declared.Deadline.the-variants as deadline
@@ -37,6 +38,7 @@ use Rattle.session.specs.declared.Timeout.{Timeout}
 use Rattle.session.specs.declared.Timeout.the-variants as timeout
 use Rattle.sending.specs.Sending.{PumpState, PumpExit, pumpExit, nextNumber, canPump, sendOne, progressed, pumpMost, pumpSends}
 use Rattle.sending.specs.Retransmit.{ceilingMet, exhausted}
+use Rattle.sending.proofs.Laws.{pump-turns}
 use Rattle.receiving.specs.Receiving.{ServeForwardExit, serveForward}
 use Rattle.receiving.proofs.Laws.{serve-drained}
 use Rattle.acks.specs.Reverse.{serveReverse}
@@ -44,7 +46,8 @@ use Rattle.acks.proofs.Laws.{serve-reverse-drained}
 use Rattle.arrivals.specs.Arrivals.{ArrivalState, arrivalExit, acksOf, withForward, reverseServed, serveArrivals}
 use Rattle.timeouts.specs.Timeouts.{FireState, FireExit, fireExit, withResends, withClock, stopped, timedOut, timeoutOf, fireNumber, fireNumbers, expired, byDue, fireTimers}
 use Rattle.timeouts.proofs.Laws.{timed-out-by, timers-met, timers-due}
-use Rattle.departures.specs.Departures.{pumpOf, pumped, goesOn, sendDue}
+use Rattle.departures.specs.Departures.{pumpOf, pumped, goesOn, sendDue, CanSendDue}
+use Rattle.departures.proofs.Laws.{fired, can-pump}
 
 -- ---- a chunk that can be sent is sent
 abbrev pub NoneLeft : ℕ → Sender → Type 0
@@ -67,10 +70,10 @@ or-left true b e = absurd (true≢false e)
 or-left false b e = refl
 
 module _ (t : Timing) (rolls : List Float) (chunks : List (List ℕ)) (now : ℕ) where
-  none-pumped : (n rto : ℕ) (s : PumpState) → length chunks - nextNumber s ≤ n → pumpMost n t rolls chunks rto now s .progress ≡ false → (pumpMost n t rolls chunks rto now s .state ≡ s) × NoneLeft (length chunks) (s .sender .sender)
+  none-pumped : (n rto : ℕ) (s : PumpState) → pumpMost n t rolls chunks rto now s .progress ≡ false → pumpMost n t rolls chunks rto now s .state ≡ s
   unfolding pumpMost sendOne
-  none-pumped zero rto s h e = (refl, inl (omega (arith, h)))
-  none-pumped (suc n) rto s h e = by-free (canPump (length chunks) (s .sender .sender)) refl e
+  none-pumped zero rto s e = refl
+  none-pumped (suc n) rto s e = by-free (canPump (length chunks) (s .sender .sender)) e
     where
       one : PumpExit
       one = sendOne t rolls chunks rto now s
@@ -79,10 +82,10 @@ module _ (t : Timing) (rolls : List Float) (chunks : List (List ℕ)) (now : ℕ
       sends true e = true≢false e
       sends false e = true≢false e
 
-      by-free : (b : Bool) → canPump (length chunks) (s .sender .sender) ≡ b → cond b (cond (isGoing (one .stop)) (progressed (pumpMost n t rolls chunks rto now (one .state))) one) (pumpExit s false stop.Going) .progress ≡ false
-          → (cond b (cond (isGoing (one .stop)) (progressed (pumpMost n t rolls chunks rto now (one .state))) one) (pumpExit s false stop.Going) .state ≡ s) × NoneLeft (length chunks) (s .sender .sender)
-      by-free true f e = absurd (sends (isGoing (one .stop)) e)
-      by-free false f e = (refl, not-free (length chunks) (s .sender .sender) f)
+      by-free : (b : Bool) → cond b (cond (isGoing (one .stop)) (progressed (pumpMost n t rolls chunks rto now (one .state))) one) (pumpExit s false stop.Going) .progress ≡ false
+          → cond b (cond (isGoing (one .stop)) (progressed (pumpMost n t rolls chunks rto now (one .state))) one) (pumpExit s false stop.Going) .state ≡ s
+      by-free true e = absurd (sends (isGoing (one .stop)) e)
+      by-free false e = refl
 
 -- ---- a timer that has run out does something
 module _ (limit : ℕ) (rolls : List Float) (now : ℕ) where
@@ -122,13 +125,12 @@ module _ (limit : ℕ) (rolls : List Float) (now : ℕ) where
       by-ceiling false c = subst Quiet (sym (timers-due limit t rolls now s c refl)) (by-what _ refl)
 
   -- ---- the departures: nothing was sent, no timer has run out, and all is as it was
-  pub record NoneSent (t : Timing) (total : ℕ) (s : FireState) (x : FireExit) : Type 0 where
+  pub record NoneSent (t : Timing) (s : FireState) (x : FireExit) : Type 0 where
     pub sender : x .state .sender ≡ s .sender
     pub outgoing : x .state .outgoing ≡ s .outgoing
-    pub left : NoneLeft total (s .sender .sender)
     pub not-due : due t (s .outgoing .clock) now (hasOutstanding (s .sender .sender)) ≡ ran.Nothing
 
-  pub none-sent : (t : Timing) (chunks : List (List ℕ)) (s : FireState) → let x = sendDue limit t rolls chunks now s in isGoing (x .stop) ≡ true → x .state .resends .exhausted ≡ false → x .progress ≡ false → NoneSent t (length chunks) s x
+  pub none-sent : (t : Timing) (chunks : List (List ℕ)) (s : FireState) → let x = sendDue limit t rolls chunks now s in isGoing (x .stop) ≡ true → x .state .resends .exhausted ≡ false → x .progress ≡ false → NoneSent t s x
   unfolding sendDue
   none-sent t chunks s = by-test (goesOn fired) refl
     where
@@ -138,17 +140,30 @@ module _ (limit : ℕ) (rolls : List Float) (now : ℕ) where
       sent : PumpExit
       sent = pumpSends t rolls chunks (fired .state .estimator .«current_rto») now (pumpOf (fired .state))
 
-      by-test : (b : Bool) → goesOn fired ≡ b → let x = cond b (pumped fired sent) fired in isGoing (x .stop) ≡ true → x .state .resends .exhausted ≡ false → x .progress ≡ false → NoneSent t (length chunks) s x
+      by-test : (b : Bool) → goesOn fired ≡ b → let x = cond b (pumped fired sent) fired in isGoing (x .stop) ≡ true → x .state .resends .exhausted ≡ false → x .progress ≡ false → NoneSent t s x
       by-test true g on k e =
           let f = none-fired t s (or-left (fired .progress) (sent .progress) e) k in
-          let n = none-pumped t rolls chunks now (length chunks - nextNumber (pumpOf (fired .state))) (fired .state .estimator .«current_rto») (pumpOf (fired .state)) (omega arith) (or-right (fired .progress) (sent .progress) e) in
+          let n = none-pumped t rolls chunks now (length chunks - nextNumber (pumpOf (fired .state))) (fired .state .estimator .«current_rto») (pumpOf (fired .state)) (or-right (fired .progress) (sent .progress) e) in
           record {
-            sender = ap (λ (y : PumpState). y .sender) (n .0) ∙ ap (λ (y : FireState). y .sender) (f .0);
-            outgoing = ap (λ (y : PumpState). y .outgoing) (n .0) ∙ ap (λ (y : FireState). y .outgoing) (f .0);
-            left = subst (λ (y : FireState). NoneLeft (length chunks) (y .sender .sender)) (f .0) (n .1);
+            sender = ap (λ (y : PumpState). y .sender) n ∙ ap (λ (y : FireState). y .sender) (f .0);
+            outgoing = ap (λ (y : PumpState). y .outgoing) n ∙ ap (λ (y : FireState). y .outgoing) (f .0);
             not-due = f .1;
           }
       by-test false g on k e = absurd (true≢false (sym (ap (λ (b : Bool). b && not (fired .state .resends .exhausted)) on ∙ ap not k) ∙ g))
+
+-- ---- departures that went on left nothing to send
+pub sent-left : {t : Timing} {rolls : List Float} {size : ℕ} {file : List ℕ} {total now : ℕ} {s : FireState} (limit : ℕ) → CanSendDue t rolls size file total now s → let x = sendDue limit t rolls (chunksOf size file) now s in isGoing (x .stop) ≡ true → x .state .resends .exhausted ≡ false → NoneLeft total (x .state .sender .sender)
+unfolding sendDue
+sent-left {t} {rolls} {size} {file} {total} {now} {s} limit can = by-test (goesOn (fired limit can)) refl
+  where
+    sent : PumpExit
+    sent = pumpSends t rolls (chunksOf size file) (fired limit can .state .estimator .«current_rto») now (pumpOf (fired limit can .state))
+
+    by-test : (b : Bool) → goesOn (fired limit can) ≡ b → let x = cond b (pumped (fired limit can) sent) (fired limit can) in isGoing (x .stop) ≡ true → x .state .resends .exhausted ≡ false → NoneLeft total (x .state .sender .sender)
+    by-test true g on k =
+        pump-turns (λ v x. isGoing (x .stop) ≡ true → NoneLeft total (x .state .sender .sender)) (λ v c none i. not-free total (v .sender .sender) none) (λ v x c free i rest. rest) (λ v c free stops i. absurd (true≢false (sym i ∙ stops)))
+        (pumpOf (fired limit can .state)) (can-pump limit can g) on
+    by-test false g on k = absurd (true≢false (sym (ap (λ (b : Bool). b && not (fired limit can .state .resends .exhausted)) on ∙ ap not k) ∙ g))
 
 -- ---- the arrivals: what was due on the lines was handed over
 pub record Drained (now : ℕ) (a : ArrivalState) : Type 0 where

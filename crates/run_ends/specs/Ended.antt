@@ -1,4 +1,4 @@
--- app/transfer.rs, `run_transfer`: why a run ended as the source's does, by its last state.
+-- app/transfer.rs, `run_transfer`: why and when a run ended as the source's does, by its last step.
 use Prim.Native.Nat.{ℕ, _≤_, _<_}
 use mathlib.Core.Path.{_≡_}
 use mathlib.Core.Bool.{Bool, true}
@@ -9,9 +9,11 @@ use Rattle.window.specs.State.{outstanding}
 use Rattle.clock.specs.Clock.{timerOf}
 use Rattle.clock.specs.declared.Timing.the-variants.{Single}
 use Rattle.session.specs.Sending.{windowOf}
-use Rattle.step.specs.State.{RunState}
-use Rattle.step.specs.Settle.{senderIdle, nextDeadline}
+use Rattle.step.specs.State.{Given, RunState, exhausted}
+use Rattle.step.specs.Settle.{StepExit, finishingTime, senderIdle, nextDeadline}
 use Rattle.step.specs.declared.Plan.{Plan}
+use Rattle.transfer.specs.Transfer.{finishedAt}
+use Rattle.edition_clock.specs.AlongARun.{LastStep}
 
 -- all chunks sent and acknowledged, nothing on the lines, no number has a timer
 abbrev pub isIdle : Plan → RunState → Bool
@@ -34,19 +36,36 @@ NothingToSend p s =
 -- the source's single timer has run out with nothing outstanding: nothing is sent, and the time doesn't move
 pub record TimerPast (p : Plan) (s : RunState) : Type 0 where
   pub single : p .timing ≡ Single
-  pub none : windowOf (s .arrivals .sender .sender) .«next_seq_num» ≤ windowOf (s .arrivals .sender .sender) .«send_base»
+  pub none : windowOf (s .arrivals .sender .sender) .«next_seq_num»
+      ≤ windowOf (s .arrivals .sender .sender) .«send_base»
   pub deadline : ℕ
   pub set : timerOf (s .arrivals .clock) .deadline ≡ At deadline
   pub past : deadline ≤ s .time
 
--- completed with nothing left to do; as many packets sent again as may be; nothing that is due, or only past the limit;
--- the rounds at this moment used up, or such a timer; the moments used up, after the move. A run waits for a time only
--- with nothing to send.
-pub data EndedWhy (p : Plan) (s : RunState) : Type 0 where
-  finished : s .arrivals .inbound .side .completed ≡ true → isIdle p s ≡ true → EndedWhy p s
-  resends-used : p .«max_retransmissions» ≤ s .resends .«retx_submitted» → EndedWhy p s
-  nothing-due : NothingToSend p s → nextTime p s ≡ Unset → EndedWhy p s
-  past-limit : NothingToSend p s → (t : ℕ) → nextTime p s ≡ At t → p .«max_virtual_time» < t → EndedWhy p s
-  rounds-used : s .rounds ≡ 0 → EndedWhy p s
-  timer-past : NothingToSend p s → TimerPast p s → EndedWhy p s
-  moments-used : NothingToSend p s → s .moves ≡ 0 → nextTime p s ≡ At (s .time) → EndedWhy p s
+-- the next deadline is past the limit
+pub record PastLimit (p : Plan) (s : RunState) : Type 0 where
+  pub deadline : ℕ
+  pub next : nextTime p s ≡ At deadline
+  pub past : p .«max_virtual_time» < deadline
+
+-- The last step was one from u to s, and the run ended at a time: now, but at the limit where the next deadline is past
+-- it. Completed with nothing left to do; as many packets sent again as may be; nothing that is due, or only past the
+-- limit; no round left at this moment, and nothing done in the step; such a timer; the moments used up, after the move.
+-- After every round nothing is left to send.
+pub data EndedWhy (p : Plan) (u s : RunState) : ℕ → Type 0 where
+  finished : s .arrivals .inbound .side .completed ≡ true → isIdle p s ≡ true → EndedWhy p u s (s .time)
+  resends-used : s .resends .exhausted ≡ true → p .«max_retransmissions» ≤ s .resends .«retx_submitted»
+      → EndedWhy p u s (s .time)
+  nothing-due : NothingToSend p s → nextTime p s ≡ Unset → EndedWhy p u s (s .time)
+  past-limit : NothingToSend p s → PastLimit p s → EndedWhy p u s (p .«max_virtual_time»)
+  rounds-used : u .rounds ≡ 0 → s ≡ exhausted u → (0 < p .rounds → NothingToSend p s) → EndedWhy p u s (s .time)
+  timer-past : NothingToSend p s → TimerPast p s → EndedWhy p u s (s .time)
+  moments-used : NothingToSend p s → u .moves ≡ 0 → u .time < s .time → nextTime p s ≡ At (s .time)
+      → EndedWhy p u s (s .time)
+
+-- of a run from s; it finishes at that time, a completed one at its completion
+pub record EndedSo (p : Plan) (g : Given) (s : RunState) (x : StepExit) : Type 0 where
+  pub step : LastStep p g s x
+  pub time : ℕ
+  pub why : EndedWhy p (step .before) (x .state) time
+  pub finishes : finishedAt (x .course) ≡ finishingTime (x .state) time

@@ -46,10 +46,10 @@ use Rattle.run_ends.proofs.Laws.{transfer-ended-why}
 use Rattle.run_timers.specs.Timed.{largestRto, Timed, sufficesOn, RetriesSuffice}
 use Rattle.run_timers.specs.Stopped.{CeilingMet, AllAcknowledged}
 use Rattle.run_timers.proofs.Steps.{ended-last, at-last, Between, reached-between, run-last-at}
-use Rattle.run_timers.proofs.Went.{reached-passed, step-last}
+use Rattle.run_timers.proofs.Went.{reached-passed}
 use Rattle.run_timers.proofs.Ahead.{Ahead}
 use Rattle.run_timers.proofs.Held.{SingleKept, EachKept, EditionKept, single-lasting, each-lasting, edition-lasting, single-both, each-both, Held, single-held, each-held, edition-held, held-timed}
-use Rattle.run_timers.proofs.Served.{Spent, ended-served}
+use Rattle.run_timers.proofs.Served.{ended-served}
 
 -- ---- at the start
 go-back-n-unlimited : (limit w retries : ℕ) (store : List ℕ) → LimitIs limit (newSender protocol.GoBackN w retries store .sender .state)
@@ -183,22 +183,12 @@ module _ (k : Ceilings) (c : TransferConfig) (g : Given) (l : Lent) (h : CanStar
     pub transfer-timed : {u : RunState} → Reached (planFor k c g) g (newRun k c l) u → Timed c (planFor k c g) u
     transfer-timed r = along .timed r
 
-    spent : endOf (run p g first .course) ≡ end.Ended → Spent k p g first (run p g first .state)
+    pub transfer-served : endOf (run (planFor k c g) g (newRun k c l) .course) ≡ end.Ended → AllAcknowledged (planFor k c g) (run (planFor k c g) g (newRun k c l) .state) ⊎ CeilingMet k c g (newRun k c l) (run (planFor k c g) g (newRun k c l))
     unfolding newRun
-    spent e =
-        at-last p g first (Spent k p g first) e
-        (λ u r over i.
-        let q = reached-passed refl r in
-        let x = step-last p g u i in
-        let a = q .moves-left in
-        let b = q .rounds-left in
-        let m = x .moves in
-        let n = x .rounds in
-        record { before = u; moved = q .moved; turned = q .turned; went = q .went; rounds-spent = λ z. omega (arith, b, n, z); moves-spent = λ z. omega (arith, a, m, z) })
-
-    pub transfer-served : endOf (run (planFor k c g) g (newRun k c l) .course) ≡ end.Ended
-        → AllAcknowledged (planFor k c g) (run (planFor k c g) g (newRun k c l) .state) ⊎ CeilingMet k c g (newRun k c l) (run (planFor k c g) g (newRun k c l) .state)
-    transfer-served e = let x = along .last e in ended-served k c g (run p g first .state) (x .0) (x .1) (spent e) (transfer-ended-why k c g l e)
+    transfer-served e =
+        let x = along .last e in
+        let y = transfer-ended-why k c g l h forward reverse factors e in
+        ended-served k c g first (y .step .before) (reached-passed refl (y .step .reached)) refl (run p g first) (y .step .last) (x .0) (x .1) (y .why)
 
 -- `run_transfer`'s own ceilings suffice for every setup that allows as many packets again as u32 holds
 pub default-suffices : (c : TransferConfig) → c .«max_retransmissions» ≤ defaultCeilings .retries → RetriesSuffice defaultCeilings c

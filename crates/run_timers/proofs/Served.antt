@@ -1,7 +1,7 @@
 -- With a number outstanding the next time is set and near: so a run that ended has every chunk acknowledged, or met a ceiling.
 use Prim.Native.Nat.{ℕ, _+_, _-_, _≤_, _<_, min}
 use native.Mathlib.Omega.{arith}
-use mathlib.Core.Path.{_≡_, refl, sym, ap, _∙_}
+use mathlib.Core.Path.{_≡_, refl, sym, ap, _∙_, subst}
 use mathlib.Core.Bool.{Bool, true, false, cond, not, true≢false, and-eq-true-iff}
 use mathlib.Core.Logic.{_⊎_, inl, inr, ⊎-elim}
 use mathlib.Core.List.{List, [], _∷_}
@@ -24,9 +24,10 @@ use Rattle.session.specs.Sending.{hasOutstanding}
 use Rattle.session.specs.GoodSender.{isSelective, senderBroken}
 use Rattle.setup.specs.declared.TransferConfig.{TransferConfig}
 use Rattle.step.specs.State.{Given, RunState}
-use Rattle.step.specs.Settle.{senderIdle}
+use Rattle.step.specs.Settle.{StepExit, senderIdle}
+use Rattle.step.specs.Step.{step}
 use Rattle.step.specs.declared.Plan.{Plan}
-use Rattle.step.proofs.Laws as step
+use Rattle.step.proofs.Laws as laws
 use Rattle.transfer.specs.Start.{planFor}
 use Rattle.transfer.specs.declared.Ceilings.{Ceilings}
 use Rattle.run_ends.specs.Ended.{isIdle, nextTime, NothingToSend, EndedWhy}
@@ -36,6 +37,7 @@ use Rattle.run_timers.specs.Stopped.{Went, CeilingMet, AllAcknowledged}
 use Rattle.run_timers.specs.Stopped.CeilingMet.{resends-met, limit-met, rounds-met, moments-met}
 use Rattle.run_timers.proofs.Due.{base-unmarked}
 use Rattle.run_timers.proofs.Held.{single-other, edition-each, Held}
+use Rattle.run_timers.proofs.Went.{Passed}
 
 -- ---- the earliest deadline of the timer set is no later than any
 none-some : {A : Type 0} {d : ℕ} → _≡_ {A = Option ℕ} none (some d) → A
@@ -71,15 +73,6 @@ earliest-of (x ∷ es) k d e = record { at = minOf (x .deadline) (deadlinesOf es
     by-key : (b : Bool) → cond b (some (x .deadline)) (lookup k es) ≡ some d → minOf (x .deadline) (deadlinesOf es) ≤ d
     by-key true e = let q = some-some e in let m = min-first (x .deadline) (deadlinesOf es) in omega (arith, q, m)
     by-key false e = min-below (x .deadline) es k d e
-
--- ---- what the last state has left of rounds and moves tells how many were made
-pub record Spent (k : Ceilings) (p : Plan) (g : Given) (first last : RunState) : Type 0 where
-  pub before : RunState
-  pub moved : ℕ
-  pub turned : ℕ
-  pub went : Went p g first before moved turned
-  pub rounds-spent : last .rounds ≡ 0 → k .rounds ≤ turned + 1
-  pub moves-spent : last .moves ≡ 0 → k .steps ≤ moved + 1
 
 module _ (top : ℕ) (p : Plan) (s : RunState) (held : Held top p s) (unbroken : senderBroken (s .arrivals .sender) ≡ false) where
   -- ---- with a number outstanding
@@ -135,7 +128,7 @@ module _ (top : ℕ) (p : Plan) (s : RunState) (held : Held top p s) (unbroken :
       not-set e = let z : _≡_ {A = ℕ} 0 1 = cc in absurd (omega arith)
 
       by-test : (b : Bool) → ltb (windowIn s .«send_base») (windowIn s .«next_seq_num») ≡ b → AllAcknowledged p s
-      by-test true o = let x = next-set (ltb-true _ _ o) in not-set (sym (x .is) ∙ step.no-deadline (p .timing) (s .arrivals .forward) (s .arrivals .inbound .reverse) (s .arrivals .clock) e .timer-none)
+      by-test true o = let x = next-set (ltb-true _ _ o) in not-set (sym (x .is) ∙ laws.no-deadline (p .timing) (s .arrivals .forward) (s .arrivals .inbound .reverse) (s .arrivals .clock) e .timer-none)
       by-test false o = all-sent (ltb-false _ _ o) n
 
   late-time : NothingToSend p s → (t : ℕ) → nextTime p s ≡ At t → p .«max_virtual_time» < t → AllAcknowledged p s ⊎ (p .«max_virtual_time» < s .time + top)
@@ -144,18 +137,25 @@ module _ (top : ℕ) (p : Plan) (s : RunState) (held : Held top p s) (unbroken :
       by-test : (b : Bool) → ltb (windowIn s .«send_base») (windowIn s .«next_seq_num») ≡ b → AllAcknowledged p s ⊎ (p .«max_virtual_time» < s .time + top)
       by-test true o =
           let x = next-set (ltb-true _ _ o) in
-          let a = step.earliest (p .timing) (s .arrivals .forward) (s .arrivals .inbound .reverse) (s .arrivals .clock) e .timer-later (x .is) in
+          let a = laws.earliest (p .timing) (s .arrivals .forward) (s .arrivals .inbound .reverse) (s .arrivals .clock) e .timer-later (x .is) in
           let b = x .near in
           inr (omega (arith, h, a, b))
       by-test false o = inl (all-sent (ltb-false _ _ o) n)
 
--- ---- why a run ended
-module _ (k : Ceilings) (c : TransferConfig) (g : Given) (s : RunState) (held : Held (largestRto (c .rto)) (planFor k c g) s) (unbroken : senderBroken (s .arrivals .sender) ≡ false) where
-  pub ended-served : {first : RunState} → Spent k (planFor k c g) g first s → EndedWhy (planFor k c g) s → AllAcknowledged (planFor k c g) s ⊎ CeilingMet k c g first s
-  ended-served x (finished d i) = inl (idle-all (largestRto (c .rto)) (planFor k c g) s held unbroken i)
-  ended-served x (resends-used h) = inr (resends-met h)
-  ended-served x (nothing-due n e) = inl (no-time (largestRto (c .rto)) (planFor k c g) s held unbroken n e)
-  ended-served x (past-limit n t e h) = ⊎-elim inl (λ l. inr (limit-met (record { deadline = t; next = e; past = h }) l)) (late-time (largestRto (c .rto)) (planFor k c g) s held unbroken n t e h)
-  ended-served x (rounds-used h) = inr (rounds-met (x .went) (x .rounds-spent h))
-  ended-served x (timer-past n y) = absurd (true≢false (sym (ap active (y .set)) ∙ held .off (y .single) (y .none)))
-  ended-served x (moments-used n h e) = inr (moments-met (x .went) (x .moves-spent h))
+-- ---- why a run ended: what the state before the last step has left of rounds and moves tells how many were made
+module _ (k : Ceilings) (c : TransferConfig) (g : Given) (first u : RunState) (q : Passed (planFor k c g) g first u) (few : first .moves ≡ k .steps - 1) (x : StepExit) (last : x ≡ step (planFor k c g) g u) (held : Held (largestRto (c .rto)) (planFor k c g) (x .state))
+    (unbroken : senderBroken (x .state .arrivals .sender) ≡ false) where
+  all-rounds : u .rounds ≡ 0 → Went (planFor k c g) g first u (q .moved) (k .rounds)
+  all-rounds z = let n = q .rounds-left in subst (λ (i : ℕ). Went (planFor k c g) g first u (q .moved) i) (omega (arith, z, n)) (q .went)
+
+  all-moves : u .moves ≡ 0 → Went (planFor k c g) g first u (k .steps - 1) (q .turned)
+  all-moves z = let n = q .moves-left in subst (λ (i : ℕ). Went (planFor k c g) g first u i (q .turned)) (omega (arith, z, n, few)) (q .went)
+
+  pub ended-served : {time : ℕ} → EndedWhy (planFor k c g) u (x .state) time → AllAcknowledged (planFor k c g) (x .state) ⊎ CeilingMet k c g first x
+  ended-served (finished d i) = inl (idle-all (largestRto (c .rto)) (planFor k c g) (x .state) held unbroken i)
+  ended-served (resends-used e h) = inr (resends-met e h)
+  ended-served (nothing-due n e) = inl (no-time (largestRto (c .rto)) (planFor k c g) (x .state) held unbroken n e)
+  ended-served (past-limit n l) = ⊎-elim inl (λ i. inr (limit-met l i)) (late-time (largestRto (c .rto)) (planFor k c g) (x .state) held unbroken n (l .deadline) (l .next) (l .past))
+  ended-served (rounds-used z e n) = inr (rounds-met (all-rounds z) last e)
+  ended-served (timer-past n y) = absurd (true≢false (sym (ap active (y .set)) ∙ held .off (y .single) (y .none)))
+  ended-served (moments-used n z l e) = inr (moments-met (all-moves z) last l)

@@ -31,11 +31,11 @@ module _ (k : Ceilings) (c : TransferConfig) (g : Given) (l : Lent) (store : Oct
   last = run (planFor k c g) g (newRun k c l)
 
   abbrev Completes : Outcome → Lent → Type 0
-  Completes o m = Delivered c g l o m → FlipsOutside (c .channel) (g .forwardRolls) (fileChunks c g) (eventsAt o m) → o .end ≡ Ended → (o .completed ≡ true) ⊎ CeilingMet k c g (newRun k c l) (last .state)
+  Completes o m = Delivered c g l o m → FlipsOutside (c .channel) (g .forwardRolls) (fileChunks c g) (eventsAt o m) → o .end ≡ Ended → (o .completed ≡ true) ⊎ CeilingMet k c g (newRun k c l) last
 
   completes : CanStart (startOf c g l) → Completes (outcomeOf last) (lentOf (last .state))
   completes h d flips e = ⊎-elim (λ all. inl (d .said (le-trans all (d .first flips .not-negative)))) inr (transfer-served k c g l h forward reverse factors retries e)
 
   pub transfer-completes : (o : Outcome) → runTransfer k c g l .answer ≡ answer.Outcome o → FlipsOutside (c .channel) (g .forwardRolls) (fileChunks c g) (eventsAt o (runTransfer k c g l .lent)) → o .end ≡ Ended
-      → (o .completed ≡ true) ⊎ CeilingMet k c g (newRun k c l) (last .state)
+      → (o .completed ≡ true) ⊎ CeilingMet k c g (newRun k c l) last
   transfer-completes o e = by-outcome k c g l Completes completes o e (transfer-delivered k c g l store file forward reverse factors o e)

@@ -1,20 +1,15 @@
 -- What a run has left of its moves and rounds is what it had, less those that it made.
-use Prim.Native.Nat.{ℕ, _+_, _-_, _≤_, _<_}
+use Prim.Native.Nat.{ℕ, _+_, _-_, _<_}
 use native.Mathlib.Omega.{arith}
-use mathlib.Core.Path.{_≡_, refl, sym, subst}
-use mathlib.Core.Bool.{Bool, true, false, cond, true≢false, _||_}
+use mathlib.Core.Path.{_≡_, refl}
 use mathlib.Core.Logic.{_⊎_, inl, inr, ⊎-elim}
-use lib.Dec.{eqb}
 use borrow.Author.Tests.{eqb-false}
-use Rattle.path.specs.declared.Stop.{Stop}
-use Rattle.path.specs.declared.Stop.the-variants as stop
-use Rattle.step.specs.State.{Given, RunState, withArrivals}
-use Rattle.step.specs.Settle.{StepExit, unlessStopped, settle}
-use Rattle.step.specs.Step.{roundLess, step}
+use Rattle.step.specs.State.{Given, RunState}
+use Rattle.step.specs.Settle.{StepExit}
+use Rattle.step.specs.Step.{step}
 use Rattle.step.specs.declared.Plan.{Plan}
 use Rattle.step.specs.declared.Course.the-variants.{Going}
-use Rattle.step.proofs.Laws.{arrives, step-is, settle-cases, settle-going, afterBoth, bothExit, going-cases}
-use Rattle.transfer.specs.Run.{isOver}
+use Rattle.step.proofs.Laws.{settle-going, afterBoth, going-cases}
 use Rattle.edition_clock.specs.AlongARun.{Reached}
 use Rattle.edition_clock.specs.AlongARun as reached
 use Rattle.run_timers.specs.Stopped.{Went}
@@ -55,40 +50,3 @@ reached-passed {p} {g} {s} e (reached.next {u = u} r go) =
     let n = q .rounds-left in
     ⊎-elim (λ o. let a = o .moves in let b = o .rounds in record { moved = q .moved; turned = q .turned + 1; went = round (q .went) go (o .time); moves-left = omega (arith, a, m); rounds-left = omega (arith, b, n) })
     (λ o. let a = o .moves in let b = o .rounds in record { moved = q .moved + 1; turned = 0; went = move (q .went) go (o .time); moves-left = omega (arith, a, m); rounds-left = omega (arith, b) }) (step-goes p g u go)
-
--- ---- the last step takes no move, and at most a round
-pub record LastOf (u v : RunState) : Type 0 where
-  pub moves : v .moves ≡ u .moves
-  pub rounds : u .rounds ≤ v .rounds + 1
-
-module _ (p : Plan) (g : Given) (u : RunState) where
-  abbrev IsLast : StepExit → Type 0
-  IsLast x = isOver (x .course) ≡ true → LastOf u (x .state)
-
-  unless : (st : Stop) (v : RunState) (rest : StepExit) → LastOf u v → IsLast rest → IsLast (unlessStopped st v rest)
-  unless stop.Going v rest l h = h
-  unless stop.RollsSpent v rest l h = λ i. l
-  unless stop.EventsFull v rest l h = λ i. l
-  unless stop.ScheduleFull v rest l h = λ i. l
-
-  either : (b : Bool) (x y : StepExit) → IsLast x → IsLast y → IsLast (cond b x y)
-  either true x y h k = h
-  either false x y h k = k
-
-  round-left : u .rounds ≤ u .rounds - 1 + 1
-  round-left = omega arith
-
-  less : LastOf u (afterBoth p g u)
-  less = record { moves = refl; rounds = round-left }
-
-  settled : IsLast (settle p (afterBoth p g u))
-  settled =
-      settle-cases p (afterBoth p g u) IsLast (λ time i. less) (λ t e h i. record { moves = refl; rounds = round-left }) (λ t e h k z i. record { moves = refl; rounds = round-left }) (λ t e h k z i. absurd (true≢false (sym i)))
-
-  pub step-last : IsLast (step p g u)
-  step-last =
-      subst IsLast (sym (step-is p g u))
-      (either (eqb (u .rounds) 0) _ _ (λ i. record { moves = refl; rounds = omega arith })
-      (unless (arrives p g u .stop) (withArrivals (roundLess u) (arrives p g u .state)) _ (record { moves = refl; rounds = round-left })
-      (unless (bothExit p g u .stop) (afterBoth p g u) _ less
-      (either (afterBoth p g u .resends .exhausted) _ _ (λ i. less) (either (arrives p g u .progress || bothExit p g u .progress) _ _ (λ i. absurd (true≢false (sym i))) settled)))))
