@@ -16,11 +16,11 @@ use Rattle.delivery.proofs.Simulation.{Follows}
 use Rattle.delivery.specs.Calls.{Call, World, run, Admissible}
 use Rattle.session.specs.Ends.{timeoutOf}
 use Rattle.host_delivery.specs.Host as host
-use Rattle.host_delivery.specs.Host.{hostEnds, madeEnds, BothMade}
+use Rattle.host_delivery.specs.Host.{hostEnds, windowOf, madeEnds, BothMade}
 use Rattle.host_delivery.proofs.Senders.{HoldsSender, host-sends, host-times, host-acks, host-base}
 use Rattle.host_delivery.proofs.Receivers.{HoldsReceiver, host-packets, host-receiver-base, host-output, host-unwritten}
 use Rattle.host_delivery.proofs.Simulation.{Simulates, simulated, callsAs, WorldAs, run-as, admissible-as}
-use Rattle.host_delivery.proofs.Making.{windowOf, startOf, window-fits, made, made-sender, made-receiver}
+use Rattle.host_delivery.proofs.Making.{startOf, window-fits, made, made-sender, made-receiver}
 
 -- the exports do as the ends of each protocol
 unfoldable pub simulation : (p : ProtocolType) (w : ℕ) → Simulates hostEnds (ends p)

@@ -5,6 +5,7 @@ pub mod Receivers
 pub mod Making
 pub mod Demand3
 pub mod Reached
-pub mod NotRefused
+pub mod EndsRoom
 pub mod Resending
+pub mod NotRefused
 pub mod SomeResending

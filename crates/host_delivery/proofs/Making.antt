@@ -31,7 +31,7 @@ use Rattle.host_words.proofs.HeldBack.{kind-made, kind-length}
 use Rattle.host_ends.specs.Answers.{CallExit, callExit}
 use Rattle.host_ends.specs.Making.{makeUnless, madeExit, senderMade, senderBroken, makeSenderOf, receiverMade, makeReceiverOf, byProtocol}
 use Rattle.host_delivery.specs.Host as host
-use Rattle.host_delivery.specs.Host.{HostSender, HostReceiver, isDone, lent, senderAfter, protocolNumber, madeEnds, BothMade}
+use Rattle.host_delivery.specs.Host.{HostSender, HostReceiver, isDone, lent, senderAfter, protocolNumber, windowOf, madeEnds, BothMade}
 use Rattle.host_delivery.proofs.Answers.{refused-not-done}
 use Rattle.host_delivery.proofs.Senders as senders
 use Rattle.host_delivery.proofs.Senders.{RetriesFit, HoldsSender}
@@ -116,10 +116,7 @@ fresh-output StopAndWait w limit sending receiving output = refl
 fresh-output GoBackN w limit sending receiving output = refl
 fresh-output SelectiveRepeat w limit sending receiving output = refl
 
--- the window that the ends run with, and demand 3's fresh ends of the setup
-abbrev pub windowOf : host.Setup → ℕ
-windowOf s = slotCount (s .protocol) (s .window)
-
+-- demand 3's fresh ends of the setup
 abbrev pub startOf : (s : host.Setup) → World (ends (s .protocol))
 startOf s = freshEnds (s .protocol) (windowOf s) (s .limit) (s .senderStore) (s .receiverStore) (s .output)
 

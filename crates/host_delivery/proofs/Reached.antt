@@ -6,10 +6,10 @@ use Rattle.delivery.specs.Ends.{ends}
 use Rattle.session.specs.declared.Timeout.{Timeout}
 use Rattle.session.specs.Ends.{timeoutOf}
 use Prim.Native.Nat.{ℕ}
-use Rattle.host_delivery.specs.Host.{HostSender, HostReceiver, Setup, hostEnds, madeEnds, BothMade}
+use Rattle.host_delivery.specs.Host.{HostSender, HostReceiver, Setup, hostEnds, windowOf, madeEnds, BothMade}
 use Rattle.host_delivery.proofs.Senders.{HoldsSender, host-sends, host-times, host-acks}
 use Rattle.host_delivery.proofs.Receivers.{HoldsReceiver, host-packets}
-use Rattle.host_delivery.proofs.Making.{windowOf, startOf, made-sender, made-receiver}
+use Rattle.host_delivery.proofs.Making.{startOf, made-sender, made-receiver}
 
 pub record SomeSender (p : ProtocolType) (h : HostSender) : Type 0 where
   pub sender : ends p .Sender

@@ -6,7 +6,7 @@ use native.Mathlib.Omega.{arith}
 use lib.ListN.{length}
 use Rattle.protocol.specs.declared.ProtocolType.{ProtocolType}
 use Rattle.protocol.specs.declared.ProtocolType.the-variants.{StopAndWait, GoBackN, SelectiveRepeat}
-use Rattle.protocol.specs.PlainMachine.{Fed, PlainState, plainStart, plainRun, plainOutstanding}
+use Rattle.protocol.specs.PlainMachine.{PlainState, plainOutstanding}
 use Rattle.delivery.specs.Calls.{Call, World, run, Admissible}
 use Rattle.delivery.specs.Demand3.{plainAfter, ResendState, resendStart, ResendsAll}
 use Rattle.delivery.specs.Ends.{one, all, earliest, ends}
@@ -18,13 +18,13 @@ use Rattle.session.specs.Ends.{senderOf}
 use Rattle.host_words.specs.declared.HeldSender.{HeldSender}
 use Rattle.host_words.specs.declared.HeldSender.the-variants as heldSenders
 use Rattle.host_words.specs.Words.{heldSender}
-use Rattle.host_delivery.specs.Host.{Setup, hostEnds, madeEnds, BothMade}
+use Rattle.host_delivery.specs.Host.{Setup, hostEnds, windowOf, madeEnds, BothMade}
 use Rattle.host_delivery.specs.Room.{RoomToResend, RetryLeft}
 use Rattle.host_delivery.proofs.Simulation.{callsAs, WorldAs}
-use Rattle.host_delivery.proofs.Resending.{fed-in-as, ResendAs, resends-all-as, TimeoutFor, callsFor, calls-are}
-use Rattle.host_delivery.proofs.Making.{windowOf, startOf, made}
+use Rattle.host_delivery.proofs.Resending.{ResendAs, resends-all-as, TimeoutFor, callsFor, calls-are}
+use Rattle.host_delivery.proofs.Making.{startOf, made}
 use Rattle.host_delivery.proofs.Demand3.{simulation, callsOf, made-world, host-run, host-admissible}
-use Rattle.host_delivery.proofs.NotRefused.{unwritten-all, same-length}
+use Rattle.host_delivery.proofs.NotRefused.{unwritten-all, same-length, same-machine}
 
 -- every timeout of the ends is an export's
 timeout-for : (p : ProtocolType) (w : ℕ) (s : ends p .Sender) (t : ends p .Timeout) → TimeoutFor hostEnds (ends p) (simulation p w) s t
@@ -62,11 +62,8 @@ module _ (s : Setup) (b : BothMade s) (cs : List (Call Timeout)) (l : Admissible
   abbrev otherMachine : PlainState
   otherMachine = plainAfter p w (ends p) (startOf s) (callsOf s b cs)
 
-  same-machine : machine ≡ otherMachine
-  same-machine = ap (plainRun p w plainStart) (fed-in-as p w hostEnds (ends p) (simulation p w) (madeEnds s) (startOf s) cs (made-world s b))
-
   alike : ResendAs p w hostEnds (ends p) (simulation p w) (resendStart hostEnds reached machine) (resendStart (ends p) other otherMachine)
-  alike = record { world = host-run s b cs; plain = same-machine; numbers = ap plainOutstanding same-machine; packets = refl; replies = refl }
+  alike = record { world = host-run s b cs; plain = same-machine s b cs; numbers = ap plainOutstanding (same-machine s b cs); packets = refl; replies = refl }
 
   pub host-some-resending : RoomToResend s reached machine (length cs) → RetryLeft (heldSender (reached .sender .words)) → HostResending s reached machine
   unfolding simulation
@@ -74,9 +71,9 @@ module _ (s : Setup) (b : BothMade s) (cs : List (Call Timeout)) (l : Admissible
       let x = host-run s b cs in
       let size = same-length p w (startOf s) cs in
       let space : length (ends p .unwritten (startOf s .receiver)) ≡ length (s .output) = ap length (unwritten-all p w (s .limit) (s .senderStore) (s .receiverStore) (s .output)) in
-      let bytes : length (flatten (machine .sent)) ≡ length (flatten (otherMachine .sent)) = ap (λ (m : PlainState). length (flatten (m .sent))) same-machine in
-      let chunks : length (machine .sent) ≡ length (otherMachine .sent) = ap (λ (m : PlainState). length (m .sent)) same-machine in
-      let due : length (plainOutstanding machine) ≡ length (plainOutstanding otherMachine) = ap (λ (m : PlainState). length (plainOutstanding m)) same-machine in
+      let bytes : length (flatten (machine .sent)) ≡ length (flatten (otherMachine .sent)) = ap (λ (m : PlainState). length (flatten (m .sent))) (same-machine s b cs) in
+      let chunks : length (machine .sent) ≡ length (otherMachine .sent) = ap (λ (m : PlainState). length (m .sent)) (same-machine s b cs) in
+      let due : length (plainOutstanding machine) ≡ length (plainOutstanding otherMachine) = ap (λ (m : PlainState). length (plainOutstanding m)) (same-machine s b cs) in
       let datagrams : length (reached .sent) ≡ length (other .sent) = ap length (x .sent) in
       let output = h .output in
       let numbers = h .numbers in

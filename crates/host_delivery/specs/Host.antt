@@ -12,6 +12,7 @@ use Rattle.protocol.specs.declared.ProtocolType.{ProtocolType}
 use Rattle.protocol.specs.declared.ProtocolType.the-variants as protocol
 use Rattle.delivery.specs.Calls.{Done, done, Ends, World, fresh}
 use Rattle.session.specs.declared.Timeout.{Timeout}
+use Rattle.session.specs.Sending.{slotCount}
 use Rattle.host_answer.specs.Answer.{doneStatus, statusIn, valueIn}
 use Rattle.host_ends.specs.Answers.{CallExit}
 use Rattle.host_ends.specs.Sender as sender
@@ -91,6 +92,10 @@ pub record Setup : Type 0 where
   pub receiverWords : List ℕ
   pub receiverStore : List ℕ
   pub output : List ℕ
+
+-- the window that the ends run with: Stop-and-Wait's is 1
+abbrev pub windowOf : Setup → ℕ
+windowOf s = slotCount (s .protocol) (s .window)
 
 abbrev pub protocolNumber : ProtocolType → ℕ
 protocolNumber protocol.StopAndWait = 1

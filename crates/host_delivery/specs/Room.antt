@@ -3,34 +3,49 @@ use Prim.Native.Nat.{ℕ, _+_, _*_, _≤_, _<_}
 use mathlib.Core.List.{List, [], _∷_, flatten}
 use lib.ListN.{length}
 use Rattle.bounds.specs.Bounds.{headerSize, maxPayload, maxDatagram, seqNumLimit, countLimit}
+use Rattle.protocol.specs.declared.ProtocolType.{ProtocolType}
+use Rattle.protocol.specs.declared.ProtocolType.the-variants.{StopAndWait, GoBackN, SelectiveRepeat}
 use Rattle.protocol.specs.PlainMachine.{PlainState, plainOutstanding}
 use Rattle.delivery.specs.Calls.{Call, send, timeout, toReceiver, toSender, World}
-use Rattle.delivery.specs.Room.{chunksIn}
+use Rattle.delivery.specs.Demand3.{plainAfter}
 use Rattle.session.specs.declared.Timeout.{Timeout}
+use Rattle.session.specs.declared.Timeout.the-variants as timeouts
 use Rattle.session.specs.declared.SenderState.{SenderState}
 use Rattle.session.specs.declared.SenderState.the-variants as senderState
 use Rattle.host_words.specs.declared.HeldSender.{HeldSender}
 use Rattle.host_words.specs.declared.HeldSender.the-variants as heldSenders
-use Rattle.host_delivery.specs.Host.{Setup, hostEnds}
+use Rattle.host_delivery.specs.Host.{Setup, hostEnds, windowOf, madeEnds}
 
--- of a window: a payload within its bound, and a buffer that is long enough for whatever the call writes
-abbrev pub Fits : ℕ → Call Timeout → Type 0
-Fits window (send payload out) = (length payload ≤ maxPayload) × (headerSize + length payload ≤ length out)
-Fits window (timeout t out) = window * maxDatagram ≤ length out
-Fits window (toReceiver c ack) = headerSize ≤ length ack
-Fits window (toSender c) = Unit {0}
+-- how many datagrams a timeout sends at most, of a window of w
+abbrev pub resentMost : ProtocolType → ℕ → Timeout → ℕ
+resentMost StopAndWait w t = 1
+resentMost GoBackN w timeouts.All = w
+resentMost GoBackN w timeouts.Earliest = 1
+resentMost GoBackN w (timeouts.Number n) = w
+resentMost SelectiveRepeat w t = 1
 
-abbrev pub AllFit : ℕ → List (Call Timeout) → Type 0
-AllFit window [] = Unit {0}
-AllFit window (c ∷ cs) = Fits window c × AllFit window cs
+-- a payload within its bound, and a buffer that is long enough for whatever the call writes
+abbrev pub Fits : ProtocolType → ℕ → Call Timeout → Type 0
+Fits p w (send payload out) = (length payload ≤ maxPayload) × (headerSize + length payload ≤ length out)
+Fits p w (timeout t out) = resentMost p w t * maxDatagram ≤ length out
+Fits p w (toReceiver c ack) = headerSize ≤ length ack
+Fits p w (toSender c) = Unit {0}
 
--- the output has room for all chunks, their numbers stay below the limit, and so do the counters: no call makes more
--- datagrams than the window
+abbrev pub AllFit : ProtocolType → ℕ → List (Call Timeout) → Type 0
+AllFit p w [] = Unit {0}
+AllFit p w (c ∷ cs) = Fits p w c × AllFit p w cs
+
+-- S at the end of the list: a chunk that met a full window isn't in it
+abbrev pub sentBy : (s : Setup) → List (Call Timeout) → List (List ℕ)
+sentBy s cs = plainAfter (s .protocol) (windowOf s) hostEnds (madeEnds s) cs .sent
+
+-- the output has room for S, S leaves a number for one chunk more, and the counters stay below their limit: no call
+-- makes more datagrams than the window
 pub record Suffices (s : Setup) (cs : List (Call Timeout)) : Type 0 where
-  pub buffers : AllFit (s .window) cs
-  pub output : length (flatten (chunksIn cs)) ≤ length (s .output)
-  pub numbers : length (chunksIn cs) ≤ seqNumLimit
-  pub calls : s .window * length cs < countLimit
+  pub buffers : AllFit (s .protocol) (windowOf s) cs
+  pub output : length (flatten (sentBy s cs)) ≤ length (s .output)
+  pub numbers : length (sentBy s cs) < seqNumLimit
+  pub calls : windowOf s * length cs < countLimit
 
 -- what a resending asks after such a list, of the plain machine m: room for what is sent again and handed over
 pub record RoomToResend (s : Setup) (v : World hostEnds) (m : PlainState) (calls : ℕ) : Type 0 where
