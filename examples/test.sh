@@ -39,8 +39,10 @@ while read -r call; do
   grep -q "$call(" examples/fuzz/*.[ch] || { echo "host: $call isn't fuzzed" >&2; exit 1; }
 done <"$out/exported"
 # shellcheck disable=SC2086
-cc -std=c99 $strict examples/calls.c "$library" -o "$out/calls"
-"$out/calls"
+for test in calls exports; do
+  cc -std=c99 $strict "examples/$test.c" "$library" -o "$out/$test"
+  "$out/$test"
+done
 bash examples/run.sh 60000 >"$out/run.log" 2>&1 || { cat "$out/run.log"; exit 1; }
 grep ^protocol "$out/run.log"
 sanitize=-fsanitize=address

@@ -285,8 +285,8 @@ pindrelo_answer pindrelo_write(uint64_t kind, uint64_t number, uint64_t flags, c
  * A host that writes a file away as it comes needs no output of the file's length. A drain takes what was delivered:
  * the first bytes of the output, as many as its value says, are the next of the file, and the fill mark is 0 then. They
  * stand there until the next receive, which writes from the start: write them away before that, or lend another output.
- * All bytes drained, joined, and the output up to its fill mark are what was delivered. One receive delivers at most
- * window chunks. */
+ * All bytes drained, joined, and the output up to its fill mark are what was delivered. An output of window x
+ * PINDRELO_MAX_PAYLOAD bytes that is drained before each receive has room for all that the receive delivers. */
 
 /* The store and the output are those of the last receive, and are only read. Done: how many bytes. 9, 8. */
 pindrelo_answer pindrelo_drain(uint64_t *state, size_t words, const uint8_t *store, size_t store_size,

@@ -37,7 +37,8 @@ results words estimator doubles = record { words = words; estimator = estimator;
 
 abbrev pub withResults : Results → Outcome → Results
 withResults x o =
-    results (withOutcome (x .words) o) (withWords (x .estimator) (o .estimator)) (withDoubles (x .doubles) (o .estimator))
+    let e = o .estimator in
+    results (withOutcome (x .words) o) (withWords (x .estimator) e) (withDoubles (x .doubles) e)
 
 unfoldable pub resultsShort : Results → Bool
 resultsShort x =

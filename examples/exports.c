@@ -1,0 +1,149 @@
+/* exports: the single timer, the estimator, drain and a run from C, each answer compared; prints a line for each that
+ * is wrong. */
+#include "pindrelo.h"
+#include <stdio.h>
+#include <string.h>
+
+static int wrong;
+
+static void expect(const char *what, uint64_t got, uint64_t wanted)
+{
+    if (got != wanted) {
+        printf("exports: %s: %llu, not %llu\n", what, (unsigned long long)got, (unsigned long long)wanted);
+        wrong = 1;
+    }
+}
+
+#define DONE(value) ((uint64_t)(value) << 8)
+
+static void single_timer(void)
+{
+    uint64_t t[5] = { 7, 7, 7, 7, 7 };
+    expect("too few words", pindrelo_make_single_timer(t, 3), PINDRELO_FULL);
+    expect("nothing written", t[0], 7);
+    expect("make", pindrelo_make_single_timer(t, 5), DONE(0));
+    expect("word past the timer", t[4], 7);
+    expect("doesn't run", pindrelo_single_timer_remaining(t, 4, 5), PINDRELO_NOTHING);
+    expect("start", pindrelo_single_timer_start(t, 4, 10, 20), DONE(0));
+    expect("runs", pindrelo_single_timer_is_active(t, 4), DONE(1));
+    expect("remaining", pindrelo_single_timer_remaining(t, 4, 12), DONE(18));
+    expect("before the deadline", pindrelo_single_timer_is_expired(t, 4, 29), DONE(0));
+    expect("at the deadline", pindrelo_single_timer_is_expired(t, 4, 30), DONE(1));
+    expect("stale", pindrelo_single_timer_is_expired_for(t, 4, 0, 30), DONE(0));
+    expect("not stale", pindrelo_single_timer_is_expired_for(t, 4, 1, 30), DONE(1));
+    expect("late", pindrelo_single_timer_start(t, 4, 172800000000001u, 0), PINDRELO_TIME);
+    expect("deadline kept", t[PINDRELO_SINGLE_TIMER_DEADLINE], 30);
+    expect("cancel", pindrelo_single_timer_cancel(t, 4), DONE(0));
+    t[PINDRELO_SINGLE_TIMER_DEADLINE] = 9;
+    expect("a time without a flag", pindrelo_single_timer_cancel(t, 4), PINDRELO_STATE);
+}
+
+static void estimator(void)
+{
+    uint64_t e[PINDRELO_ESTIMATOR_WORDS];
+    double d[PINDRELO_ESTIMATOR_DOUBLES], mean[1];
+    expect("too few doubles", pindrelo_make_default_estimator(e, 24, d, 4), PINDRELO_FULL);
+    expect("default", pindrelo_make_default_estimator(e, 24, d, 5), DONE(0));
+    expect("initial RTO", e[PINDRELO_ESTIMATOR_RTO], 1000000000);
+    expect("alpha", pindrelo_make_estimator(e, 24, d, 5, 1, 1, 1, 1, 1.5, 0, 0, 0), PINDRELO_SETUP);
+    expect("make", pindrelo_make_estimator(e, 24, d, 5, 1000000000, 1000000, 60000000000u, 1000000, 0.125, 0.25, 4, 1),
+           DONE(0));
+    expect("sample", pindrelo_estimator_sample(e, 24, d, 5, 100000000, 0), DONE(1));
+    expect("RTO", e[PINDRELO_ESTIMATOR_RTO], 300000000);
+    expect("SRTT", e[PINDRELO_ESTIMATOR_SRTT + 1], 100000000);
+    expect("sent again", pindrelo_estimator_sample(e, 24, d, 5, 100000000, (uint64_t)1 << 40), DONE(0));
+    expect("timeout", pindrelo_estimator_timeout(e, 24, d, 5), DONE(600000000));
+    expect("one timeout", pindrelo_estimator_exceeded(e, 24, d, 5, 1), DONE(1));
+    expect("a limit of 33 bits", pindrelo_estimator_exceeded(e, 24, d, 5, (uint64_t)1 << 32), DONE(0));
+    expect("reset", pindrelo_estimator_reset_backoff(e, 24, d, 5), DONE(0));
+    expect("RTO as before", e[PINDRELO_ESTIMATOR_RTO], 300000000);
+    expect("mean", pindrelo_estimator_mean(e, 24, d, 5, mean, 1), DONE(0));
+    expect("mean in ms", (uint64_t)mean[0], 100);
+    expect("no room for the mean", pindrelo_estimator_mean(e, 24, d, 5, mean, 0), PINDRELO_FULL);
+    expect("a long sample", pindrelo_estimator_sample(e, 24, d, 5, 86400000000001u, 0), PINDRELO_TIME);
+    e[PINDRELO_ESTIMATOR_IN_BACKOFF] = 2;
+    expect("a broken flag", pindrelo_estimator_timeout(e, 24, d, 5), PINDRELO_STATE);
+}
+
+static uint8_t sending[PINDRELO_STORE_SIZE(4)], receiving[PINDRELO_STORE_SIZE(4)];
+
+/* 100 chunks of 700 bytes through an output of 1,400, drained at every second one */
+static void drain(uint64_t protocol)
+{
+    uint64_t s[PINDRELO_STATE_WORDS], r[PINDRELO_STATE_WORDS];
+    uint8_t chunk[700], datagram[710], output[1400], ack[PINDRELO_ACK_SIZE];
+    expect("sender", pindrelo_make_sender(protocol, 4, 100, s, 8, sending, sizeof sending), DONE(0));
+    expect("receiver", pindrelo_make_receiver(protocol, 4, r, 8, receiving, sizeof receiving), DONE(0));
+    for (unsigned i = 0; i < 100; i++) {
+        memset(chunk, (int)i, sizeof chunk);
+        expect("send", pindrelo_send(s, 8, sending, sizeof sending, chunk, sizeof chunk, datagram, sizeof datagram),
+               DONE(710));
+        expect("receive", pindrelo_receive(r, 8, receiving, sizeof receiving, datagram, sizeof datagram, output,
+                                           sizeof output, ack, sizeof ack), DONE(i));
+        expect("acknowledge", pindrelo_acknowledge(s, 8, sending, sizeof sending, ack, sizeof ack), DONE(i));
+        if (i % 2 == 0) {
+            expect("a short output", pindrelo_drain(r, 8, receiving, sizeof receiving, output, 699), PINDRELO_STATE);
+            continue;
+        }
+        expect("drain", pindrelo_drain(r, 8, receiving, sizeof receiving, output, sizeof output), DONE(1400));
+        expect("first byte", output[0], i - 1);
+        expect("last byte", output[1399], i);
+        expect("drained", pindrelo_drain(r, 8, receiving, sizeof receiving, output, sizeof output), DONE(0));
+    }
+    expect("a sender's words", pindrelo_drain(s, 8, sending, sizeof sending, output, sizeof output), PINDRELO_STATE);
+}
+
+static uint64_t numbers[PINDRELO_SETUP_NUMBERS] = { 3, 1, 4, 1, 0, 5, 0, 1000000000, 1000000000, 60000000000u, 1000000,
+                                                    60000000000u, 10 };
+static double reals[PINDRELO_SETUP_DOUBLES] = { 0, 0, 0, 0, 0.125, 0.25, 4, 1 }, rolls[64], doubles[5];
+static uint8_t file[1] = { 0x41 }, output[1], forward_places[4 * 1410], reverse_places[4 * 1410];
+static uint64_t notes[1][7], events[4][7], forward[4][4], reverse[4][4], deadlines[4], words[32], estimated[24];
+static uint32_t keys[4];
+
+static pindrelo_answer run_with(size_t number_count, size_t word_count)
+{
+    return pindrelo_run(numbers, number_count, reals, 8, file, 1, rolls, 64, rolls, 64, sending, sizeof sending,
+                        receiving, sizeof receiving, output, 1, notes, 1, events, 4, forward, 4, forward_places,
+                        sizeof forward_places, reverse, 4, reverse_places, sizeof reverse_places, keys, 4, deadlines,
+                        4, words, word_count, estimated, 24, doubles, 5);
+}
+
+/* linkrun's setup, of one byte */
+static void run(void)
+{
+    memset(words, 0xee, sizeof words);
+    expect("too few numbers", run_with(12, 32), PINDRELO_STATE);
+    expect("too few words", run_with(13, 30), PINDRELO_FULL);
+    rolls[63] = 1;
+    expect("a roll before too few words", run_with(13, 30), PINDRELO_ROLL);
+    rolls[63] = 0;
+    numbers[PINDRELO_SETUP_PROTOCOL] = 4;
+    expect("protocol", run_with(13, 32), PINDRELO_SETUP);
+    numbers[PINDRELO_SETUP_PROTOCOL] = 3;
+    expect("nothing written", words[0] >> 56, 0xee);
+    expect("no output", output[0], 0);
+    expect("run", run_with(13, 32), DONE(1));
+    expect("the file", output[0], 0x41);
+    expect("finished", words[PINDRELO_OUTCOME_FINISHED_AT], 5000000);
+    expect("ended", words[PINDRELO_OUTCOME_END], 0);
+    expect("events", words[PINDRELO_OUTCOME_DRIVER + 7], 1);
+    expect("sender's base", words[PINDRELO_OUTCOME_SENDER], 1);
+    expect("fill mark", words[PINDRELO_OUTCOME_FILLED], 1);
+    expect("datagrams", words[PINDRELO_OUTCOME_FORWARD], 1);
+    expect("ACKs", words[PINDRELO_OUTCOME_REVERSE], 1);
+    expect("word past the outcome", words[31] >> 56, 0xee);
+    expect("delay", events[0][3], 5);
+    expect("sum of bytes", events[0][5], 510);
+    expect("samples", estimated[PINDRELO_ESTIMATOR_SAMPLES], 1);
+}
+
+int main(void)
+{
+    single_timer();
+    estimator();
+    drain(PINDRELO_STOP_AND_WAIT);
+    drain(PINDRELO_GO_BACK_N);
+    drain(PINDRELO_SELECTIVE_REPEAT);
+    run();
+    return wrong;
+}
