@@ -95,15 +95,15 @@ static void drain(uint64_t protocol)
 
 static uint64_t numbers[PINDRELO_SETUP_NUMBERS] = { 3, 1, 4, 1, 0, 5, 0, 1000000000, 1000000000, 60000000000u, 1000000,
                                                     60000000000u, 10 };
-static double reals[PINDRELO_SETUP_DOUBLES] = { 0, 0, 0, 0, 0.125, 0.25, 4, 1 }, rolls[64], doubles[5];
+static double reals[PINDRELO_SETUP_DOUBLES] = { 0, 0, 0, 0, 0.125, 0.25, 4, 1 }, rolls[64], back_rolls[64], doubles[5];
 static uint8_t file[1] = { 0x41 }, output[1], forward_places[4 * 1410], reverse_places[4 * 1410];
 static uint64_t notes[1][7], events[4][7], forward[4][4], reverse[4][4], deadlines[4], words[32], estimated[24];
 static uint32_t keys[4];
 
 static pindrelo_answer run_with(size_t number_count, size_t word_count)
 {
-    return pindrelo_run(numbers, number_count, reals, 8, file, 1, rolls, 64, rolls, 64, sending, sizeof sending,
-                        receiving, sizeof receiving, output, 1, notes, 1, events, 4, forward, 4, forward_places,
+    return pindrelo_run(numbers, number_count, reals, 8, file, 1, rolls, 64, back_rolls, 64, sending,
+                        sizeof sending, receiving, sizeof receiving, output, 1, notes, 1, events, 4, forward, 4, forward_places,
                         sizeof forward_places, reverse, 4, reverse_places, sizeof reverse_places, keys, 4, deadlines,
                         4, words, word_count, estimated, 24, doubles, 5);
 }
@@ -114,9 +114,9 @@ static void run(void)
     memset(words, 0xee, sizeof words);
     expect("too few numbers", run_with(12, 32), PINDRELO_STATE);
     expect("too few words", run_with(13, 30), PINDRELO_FULL);
-    rolls[63] = 1;
+    back_rolls[63] = 1;
     expect("a roll before too few words", run_with(13, 30), PINDRELO_ROLL);
-    rolls[63] = 0;
+    back_rolls[63] = 0;
     numbers[PINDRELO_SETUP_PROTOCOL] = 4;
     expect("protocol", run_with(13, 32), PINDRELO_SETUP);
     numbers[PINDRELO_SETUP_PROTOCOL] = 3;

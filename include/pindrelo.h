@@ -92,11 +92,11 @@ static inline unsigned pindrelo_second(pindrelo_answer a) { return (unsigned)(pi
 /* ---- MEMORY
  *
  * A pointer is followed by its length, the number of elements that it points to, not of bytes: uint64_t for a state's
- * words and for deadlines, uint32_t for keys, double for an estimator, all aligned; uint8_t for all else. Any length is
- * answered, too short ones by 9 or 5, NULL only with length 0. What C must keep, since no library can see it: a pointer
- * is valid for its length, and no two slices of one call overlap. Bytes past what a call writes stay as they are. A
- * datagram that comes goes into a call whole: read it into PINDRELO_MAX_DATAGRAM bytes at least. A line that carries
- * less than that wants shorter chunks. */
+ * words and for deadlines, uint32_t for keys, double for an estimator and a run, rows of words for a run, all aligned;
+ * uint8_t for all else. Any length is answered, too short ones by 9 or 5, NULL only with length 0. What C must keep,
+ * since no library can see it: a pointer is valid for its length, and no two slices of one call overlap. Bytes past
+ * what a call writes stay as they are. A datagram that comes goes into a call whole: read it into
+ * PINDRELO_MAX_DATAGRAM bytes at least. A line that carries less than that wants shorter chunks. */
 
 #define PINDRELO_HEADER_SIZE 10
 #define PINDRELO_MAX_PAYLOAD 1400
