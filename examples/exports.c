@@ -1,5 +1,5 @@
 /* exports: the single timer, the estimator, drain and a run from C, each answer compared; prints a line for each that
- * is wrong. */
+ * is wrong, or "as expected". */
 #include "pindrelo.h"
 #include <stdio.h>
 #include <string.h>
@@ -102,8 +102,8 @@ static uint32_t keys[4];
 
 static pindrelo_answer run_with(size_t number_count, size_t word_count)
 {
-    return pindrelo_run(numbers, number_count, reals, 8, file, 1, rolls, 64, back_rolls, 64, sending,
-                        sizeof sending, receiving, sizeof receiving, output, 1, notes, 1, events, 4, forward, 4, forward_places,
+    return pindrelo_run(numbers, number_count, reals, 8, file, 1, rolls, 64, back_rolls, 64, sending, sizeof sending,
+                        receiving, sizeof receiving, output, 1, notes, 1, events, 4, forward, 4, forward_places,
                         sizeof forward_places, reverse, 4, reverse_places, sizeof reverse_places, keys, 4, deadlines,
                         4, words, word_count, estimated, 24, doubles, 5);
 }
@@ -145,5 +145,7 @@ int main(void)
     drain(PINDRELO_GO_BACK_N);
     drain(PINDRELO_SELECTIVE_REPEAT);
     run();
+    if (!wrong)
+        puts("exports: as expected");
     return wrong;
 }
