@@ -10,4 +10,5 @@ pub mod Held
 pub mod Served
 pub mod Run
 pub mod Transfer
+pub mod Again
 pub mod Laws
