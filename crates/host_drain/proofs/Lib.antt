@@ -1,4 +1,5 @@
 pub mod Calls
 pub mod Unchanged
 pub mod Follow
+pub mod EveryList
 pub mod Delivered
