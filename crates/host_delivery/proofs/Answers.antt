@@ -23,7 +23,7 @@ use Rattle.host_ends.specs.Answers.{sendCode, ackCode, timeoutCode, receiveCode
 use Rattle.host_ends.proofs.Fits.{SendFits, TimeoutFits}
 use Rattle.host_delivery.specs.Host.{isDone, isRefused, bytesWritten, ackWritten}
 
-done-read : (n : ℕ) → isDone (packed 0 n) ≡ true
+pub done-read : (n : ℕ) → isDone (packed 0 n) ≡ true
 done-read n = rw (status-back 0 n (omega arith)) refl
 
 done-not-refused : (n : ℕ) → isRefused (packed 0 n) ≡ false

@@ -38,7 +38,7 @@ simulation p w = record {
   unwritten = λ h r before. host-unwritten p w h r before;
 }
 
-host-follows : (p : ProtocolType) (w : ℕ) → Follow p w hostEnds
+unfoldable pub host-follows : (p : ProtocolType) (w : ℕ) → Follow p w hostEnds
 host-follows p w = simulated p w hostEnds (ends p) (simulation p w) (follows p w)
 
 -- no ACK was made at the start
@@ -57,7 +57,7 @@ module _ (s : host.Setup) (b : BothMade s) where
   abbrev start : World (ends p)
   start = startOf s
 
-  made-follows : Follows p w hostEnds (host-follows p w) (hostEnds .unwritten (madeEnds s .receiver)) (madeEnds s) (newWorld p w)
+  pub made-follows : Follows p w hostEnds (host-follows p w) (hostEnds .unwritten (madeEnds s .receiver)) (madeEnds s) (newWorld p w)
   unfolding newWorld simulated host-follows simulation
   made-follows =
       let f = fresh-start p w (s .limit) (s .senderStore) (s .receiverStore) (s .output) (made s b) in

@@ -9,3 +9,4 @@ pub mod EndsRoom
 pub mod Resending
 pub mod NotRefused
 pub mod SomeResending
+pub mod Drains

@@ -32,7 +32,7 @@ module _ (p : ProtocolType) (w : ℕ) (E : Ends) (F : Follow p w E) where
   }
 
   module _ (r : WithDrained (E .Receiver)) (d : Done (E .Receiver)) (m : ReceiverState) where
-    pub receiver-kept : ReceiverKept E (F .ReceiverIs) (r .receiver) d m → ReceiverKept (drainable E) ReceiverIs r (notDraining (r .drained) d) m
+    pub receiver-kept : ReceiverKept E (F .ReceiverIs) (r .receiver) d m → ReceiverKept (drainable E) ReceiverIs r (notDraining r d) m
     receiver-kept k = record {
       after = k .after;
       nothing = k .nothing;
@@ -40,7 +40,7 @@ module _ (p : ProtocolType) (w : ℕ) (E : Ends) (F : Follow p w E) where
       unwritten = k .unwritten;
     }
 
-    pub taken : (q : Segment) → PacketTaken p w E (F .ReceiverIs) (r .receiver) d m q → PacketTaken p w (drainable E) ReceiverIs r (notDraining (r .drained) d) m q
+    pub taken : (q : Segment) → PacketTaken p w E (F .ReceiverIs) (r .receiver) d m q → PacketTaken p w (drainable E) ReceiverIs r (notDraining r d) m q
     taken q k = record {
       after = k .after;
       output = ap (λ (l : List ℕ). r .drained ++ l) (k .output) ∙ sym (append-assoc (r .drained) (E .output (r .receiver)) (flatten (receive p w m q .delivered)));

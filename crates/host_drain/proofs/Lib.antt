@@ -1,5 +1,6 @@
 pub mod Calls
 pub mod Unchanged
 pub mod Follow
+pub mod EveryList
 pub mod Delivered
 pub mod Room

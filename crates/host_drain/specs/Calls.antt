@@ -4,7 +4,7 @@ use Prim.Native.Nat.{ℕ, _-_, _≤_}
 use mathlib.Core.Path.{_≡_}
 use mathlib.Core.List.{List, [], _∷_, _++_, flatten}
 use mathlib.Core.Bool.{Bool, true, false, cond}
-use lib.ListN.{length, take}
+use lib.ListN.{length, take, drop}
 use Rattle.refusal.specs.declared.CountAnswer.{CountAnswer}
 use Rattle.refusal.specs.declared.CountAnswer.the-variants as count
 use Rattle.protocol.specs.declared.ProtocolType.{ProtocolType}
@@ -18,17 +18,18 @@ use Rattle.delivery.specs.Ends.{withOutput, ends, freshEnds}
 use Rattle.session.specs.Ends.{receiverOf, outputOf}
 use Rattle.host_drain.specs.Drain.{drainReceiver}
 
--- a receiver, and all bytes drained from it, joined
+-- a receiver, all bytes drained from it, joined, and the output as it was lent last
 pub record WithDrained (R : Type 0) : Type 0 where
   pub receiver : R
   pub drained : List ℕ
+  pub lent : List ℕ
 
-abbrev pub withDrained : {R : Type 0} → R → List ℕ → WithDrained R
-withDrained r drained = record { receiver = r; drained = drained }
+abbrev pub withDrained : {R : Type 0} → R → List ℕ → List ℕ → WithDrained R
+withDrained r drained lent = record { receiver = r; drained = drained; lent = lent }
 
 -- a receiver's call drains nothing
-abbrev pub notDraining : {R : Type 0} → List ℕ → Done R → Done (WithDrained R)
-notDraining drained d = done (withDrained (d .after) drained) (d .written) (d .isDone) (d .isRefused)
+abbrev pub notDraining : {R : Type 0} → WithDrained R → Done R → Done (WithDrained R)
+notDraining r d = done (withDrained (d .after) (r .drained) (r .lent)) (d .written) (d .isDone) (d .isRefused)
 
 -- the ends, the receiver's with what was drained; its output is what was drained and what is present
 abbrev pub drainable : Ends → Ends
@@ -39,18 +40,88 @@ drainable E = record {
   sendChunk = E .sendChunk;
   handleTimeout = E .handleTimeout;
   handleAck = E .handleAck;
-  handlePacket = λ r raw buffer. notDraining (r .drained) (E .handlePacket (r .receiver) raw buffer);
+  handlePacket = λ r raw buffer. notDraining r (E .handlePacket (r .receiver) raw buffer);
   senderBase = E .senderBase;
   receiverBase = λ r. E .receiverBase (r .receiver);
   output = λ r. r .drained ++ E .output (r .receiver);
   unwritten = λ r. E .unwritten (r .receiver);
 }
 
+-- A drain of the ends' receiver: what it asks; whether it is done, and not refused; where it is done, the bytes that
+-- are taken, and the receiver after it with the output that is lent from then on.
+pub record Draining (E : Ends) : Type 1 where
+  pub Asks : E .Receiver → Type 0
+  pub isDone : E .Receiver → Bool
+  pub taken : E .Receiver → List ℕ
+  pub emptied : E .Receiver → List ℕ → E .Receiver
+
 -- a call of demand 3; or a drain, and the output that is lent from then on, the same or another
 pub data DrainCall (Timeout : Type 0) : Type 0 where
   call : Call Timeout → DrainCall Timeout
   drain : List ℕ → DrainCall Timeout
 
+module _ (E : Ends) (X : Draining E) where
+  abbrev pub afterDrain : WithDrained (E .Receiver) → List ℕ → WithDrained (E .Receiver)
+  afterDrain r output =
+      cond (X .isDone (r .receiver))
+      (withDrained (X .emptied (r .receiver) output) (r .drained ++ X .taken (r .receiver)) output)
+      r
+
+  unfoldable pub drainStep : World (drainable E) → DrainCall (E .Timeout) → World (drainable E)
+  drainStep v (call c) = step (drainable E) v c
+  drainStep v (drain output) = record {
+    sender = v .sender;
+    receiver = afterDrain (v .receiver) output;
+    sent = v .sent;
+    replies = v .replies;
+  }
+
+  unfoldable pub drainRun : World (drainable E) → List (DrainCall (E .Timeout)) → World (drainable E)
+  drainRun v [] = v
+  drainRun v (c ∷ cs) = drainRun (drainStep v c) cs
+
+  abbrev pub DrainAdmissible : World (drainable E) → List (DrainCall (E .Timeout)) → Type 0
+  DrainAdmissible v [] = Unit {0}
+  DrainAdmissible v (call c ∷ cs) = Allowed v c × DrainAdmissible (drainStep v (call c)) cs
+  DrainAdmissible v (drain output ∷ cs) =
+      X .Asks (v .receiver .receiver) × DrainAdmissible (drainStep v (drain output)) cs
+
+  unfoldable pub drainFed : World (drainable E) → List (DrainCall (E .Timeout)) → List Fed
+  drainFed v [] = []
+  drainFed v (call c ∷ cs) = fedBy (drainable E) v c ∷ drainFed (drainStep v (call c)) cs
+  drainFed v (drain output ∷ cs) = drainFed (drainStep v (drain output)) cs
+
+  -- no drain of the list is refused
+  abbrev pub DrainsDone : World (drainable E) → List (DrainCall (E .Timeout)) → Type 0
+  DrainsDone v [] = Unit {0}
+  DrainsDone v (call c ∷ cs) = DrainsDone (drainStep v (call c)) cs
+  DrainsDone v (drain output ∷ cs) =
+      (X .isDone (v .receiver .receiver) ≡ true) × DrainsDone (drainStep v (drain output)) cs
+
+  abbrev pub plainAfterDrains : ProtocolType → ℕ → World (drainable E) → List (DrainCall (E .Timeout)) → PlainState
+  plainAfterDrains p w v cs = plainRun p w plainStart (drainFed v cs)
+
+-- nothing drained yet
+abbrev pub drainStart : {E : Ends} → World E → World (drainable E)
+drainStart {E} v = record {
+  sender = v .sender;
+  receiver = withDrained (v .receiver) [] (E .unwritten (v .receiver));
+  sent = v .sent;
+  replies = v .replies;
+}
+
+-- the output is all that was written of the one lent last
+pub record DrainClaim (E : Ends) (w : ℕ) (v : World (drainable E)) (s : PlainState) : Type 0 where
+  pub receiver-base : E .receiverBase (v .receiver .receiver) ≡ s .D
+  pub sender-base : E .senderBase (v .sender) ≡ s .A
+  pub first-delivered : v .receiver .drained ++ E .output (v .receiver .receiver) ≡ flatten (take (s .D) (s .sent))
+  pub nothing-else-written : E .unwritten (v .receiver .receiver)
+      ≡ drop (length (E .output (v .receiver .receiver))) (v .receiver .lent)
+  pub within-sent : s .D ≤ length (s .sent)
+  pub not-negative : s .A ≤ s .D
+  pub in-window : s .D - s .A ≤ w
+
+-- ---- the ends of a protocol
 -- the receiver after a drain that isn't refused
 abbrev pub emptiedEnd : (p : ProtocolType) → ends p .Receiver → List ℕ → ends p .Receiver
 emptiedEnd StopAndWait r output = withOutput (stopAndWait.withMark (r .receiver) 0) output
@@ -66,53 +137,18 @@ abbrev pub isDrained : CountAnswer → Bool
 isDrained (count.Count n) = true
 isDrained (count.Refused r) = false
 
-abbrev pub afterDrain : (p : ProtocolType) → WithDrained (ends p .Receiver) → List ℕ → WithDrained (ends p .Receiver)
-afterDrain p r output =
-    cond (isDrained (drainAnswer p (r .receiver)))
-    (withDrained (emptiedEnd p (r .receiver) output) (r .drained ++ ends p .output (r .receiver)))
-    r
+-- as many bytes of the output as are answered
+abbrev pub bytesTaken : CountAnswer → List ℕ → List ℕ
+bytesTaken (count.Count n) output = take n output
+bytesTaken (count.Refused r) output = []
 
-abbrev pub drainFresh : (p : ProtocolType) → ℕ → ℕ → List ℕ → List ℕ → List ℕ → World (drainable (ends p))
-drainFresh p w limit sending receiving output =
-    let v = freshEnds p w limit sending receiving output in
-    record { sender = v .sender; receiver = withDrained (v .receiver) []; sent = v .sent; replies = v .replies }
-
-unfoldable pub drainStep : (p : ProtocolType) → World (drainable (ends p)) → DrainCall (ends p .Timeout)
-    → World (drainable (ends p))
-drainStep p v (call c) = step (drainable (ends p)) v c
-drainStep p v (drain output) = record {
-  sender = v .sender;
-  receiver = afterDrain p (v .receiver) output;
-  sent = v .sent;
-  replies = v .replies;
+abbrev pub draining : (p : ProtocolType) → Draining (ends p)
+draining p = record {
+  Asks = λ r. Unit {0};
+  isDone = λ r. isDrained (drainAnswer p r);
+  taken = λ r. bytesTaken (drainAnswer p r) (outputOf p r);
+  emptied = emptiedEnd p;
 }
 
-unfoldable pub drainRun : (p : ProtocolType) → World (drainable (ends p)) → List (DrainCall (ends p .Timeout))
-    → World (drainable (ends p))
-drainRun p v [] = v
-drainRun p v (c ∷ cs) = drainRun p (drainStep p v c) cs
-
-abbrev pub DrainAdmissible : (p : ProtocolType) → World (drainable (ends p)) → List (DrainCall (ends p .Timeout))
-    → Type 0
-DrainAdmissible p v [] = Unit {0}
-DrainAdmissible p v (call c ∷ cs) = Allowed v c × DrainAdmissible p (drainStep p v (call c)) cs
-DrainAdmissible p v (drain output ∷ cs) = DrainAdmissible p (drainStep p v (drain output)) cs
-
-unfoldable pub drainFed : (p : ProtocolType) → World (drainable (ends p)) → List (DrainCall (ends p .Timeout))
-    → List Fed
-drainFed p v [] = []
-drainFed p v (call c ∷ cs) = fedBy (drainable (ends p)) v c ∷ drainFed p (drainStep p v (call c)) cs
-drainFed p v (drain output ∷ cs) = drainFed p (drainStep p v (drain output)) cs
-
-abbrev pub plainAfterDrains : (p : ProtocolType) → ℕ → World (drainable (ends p)) → List (DrainCall (ends p .Timeout))
-    → PlainState
-plainAfterDrains p w v cs = plainRun p w plainStart (drainFed p v cs)
-
-pub record DrainClaim (p : ProtocolType) (w : ℕ) (v : World (drainable (ends p))) (s : PlainState) : Type 0 where
-  pub receiver-base : ends p .receiverBase (v .receiver .receiver) ≡ s .D
-  pub sender-base : ends p .senderBase (v .sender) ≡ s .A
-  pub first-delivered : v .receiver .drained ++ ends p .output (v .receiver .receiver)
-      ≡ flatten (take (s .D) (s .sent))
-  pub within-sent : s .D ≤ length (s .sent)
-  pub not-negative : s .A ≤ s .D
-  pub in-window : s .D - s .A ≤ w
+abbrev pub drainFresh : (p : ProtocolType) → ℕ → ℕ → List ℕ → List ℕ → List ℕ → World (drainable (ends p))
+drainFresh p w limit sending receiving output = drainStart (freshEnds p w limit sending receiving output)
