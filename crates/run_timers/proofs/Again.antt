@@ -1,11 +1,10 @@
 -- A step sends a packet again only where a timer has run out.
 use Prim.Native.Nat.{ℕ, _<_}
 use native.Mathlib.Omega.{arith}
-use mathlib.Core.Path.{_≡_, refl, sym, ap, _∙_, subst}
+use mathlib.Core.Path.{_≡_, refl, sym, subst}
 use mathlib.Core.Bool.{Bool, true, false, cond, _||_}
 use mathlib.Core.List.{List, [], _∷_}
 use lib.Dec.{eqb}
-use lib.Ieee.{Float}
 use Rattle.timer.specs.Timer.{expiredAt}
 use Rattle.path.specs.declared.Stop.{Stop}
 use Rattle.path.specs.declared.Stop.the-variants as stop
@@ -19,7 +18,6 @@ use Rattle.sending.specs.Sending.{pumpSends}
 use Rattle.sending.specs.Retransmit.{ceilingMet}
 use Rattle.timeouts.specs.Timeouts.{FireState, FireExit, expired, byDue, fireTimers}
 use Rattle.timeouts.proofs.Laws.{numbers-timing, single-timing, timers-met, timers-due}
-use Rattle.arrivals.specs.Arrivals.{ArrivalState}
 use Rattle.departures.specs.Departures.{pumpOf, pumped, goesOn, sendDue}
 use Rattle.step.specs.State.{Given, chunksFor, RunState, fireOf, withArrivals}
 use Rattle.step.specs.Settle.{StepExit, unlessStopped}

@@ -8,7 +8,8 @@ pub mod Ahead
 pub mod Sends
 pub mod Held
 pub mod Served
+pub mod Again
+pub mod Resent
 pub mod Run
 pub mod Transfer
-pub mod Again
 pub mod Laws

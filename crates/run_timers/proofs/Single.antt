@@ -223,12 +223,12 @@ module _ (rolls : List Float) (rto now : ℕ) (s : Sender) (some : hasOutstandin
       by-stop false g = subst After (sym (all-stopped top Single rolls rto now (oldestOutstanding s) packet packets r o refl m g)) (λ on. absurd (true≢false (sym on ∙ g)))
 
 -- ---- a timeout sends the oldest number again
-record First (limit : ℕ) (v : SenderEnd) : Type 0 where
-  packet : List ℕ
-  packets : List (List ℕ)
-  are : resent v All .packets ≡ packet ∷ packets
-  retries : retriesOf (resent v All .after .sender .state) ≤ retriesOf (v .sender .state) + 1
-  limit-is : LimitIs limit (resent v All .after .sender .state)
+pub record First (limit : ℕ) (v : SenderEnd) : Type 0 where
+  pub packet : List ℕ
+  pub packets : List (List ℕ)
+  pub are : resent v All .packets ≡ packet ∷ packets
+  pub retries : retriesOf (resent v All .after .sender .state) ≤ retriesOf (v .sender .state) + 1
+  pub limit-is : LimitIs limit (resent v All .after .sender .state)
 
 by-equation : (limit : ℕ) (v u : SenderEnd) (n k : ℕ) → 0 < k → resentNumbers u n k ≡ resent v All → retriesOf (u .sender .state) ≤ retriesOf (v .sender .state) + 1 → LimitIs limit (u .sender .state) → First limit v
 by-equation limit v u n zero h e r l = absurd (omega arith)
@@ -244,7 +244,7 @@ by-equation limit v u n (suc k) h e r l =
 some-one : (n : ℕ) → 0 < n → 1 ≡ min 1 n
 some-one n h = omega arith
 
-all-again : (limit : ℕ) (v : SenderEnd) → SenderUnbroken v → hasOutstanding (v .sender) ≡ true → LimitIs limit (v .sender .state) → retriesOf (v .sender .state) < limit → First limit v
+pub all-again : (limit : ℕ) (v : SenderEnd) → SenderUnbroken v → hasOutstanding (v .sender) ≡ true → LimitIs limit (v .sender .state) → retriesOf (v .sender .state) < limit → First limit v
 all-again limit v h o i few = by-state (v .sender .state) (v .store) h (ltb-true 0 _ o) i few
   where
     left : (s : StopAndWaitSender) → s .«max_retries» ≡ limit → s .«current_retries» < limit → 0 < outstanding (stopAndWait.windowOf s) → 1 ≡ min (stopAndWait.retriesLeft s) (outstanding (stopAndWait.windowOf s))

@@ -1,4 +1,4 @@
--- app/transfer.rs, `fire_timers`: a packet is sent again only where a timer has run out.
+-- app/transfer.rs, `fire_timers`: a packet is sent again where a timer has run out, and only there.
 use Prim.Native.Nat.{ℕ, _<_}
 use mathlib.Core.Path.{_≡_}
 use mathlib.Core.Bool.{true}
@@ -13,6 +13,7 @@ use Rattle.arrivals.specs.Arrivals.{ArrivalState, serveArrivals}
 use Rattle.step.specs.State.{Given, RunState}
 use Rattle.step.specs.Step.{step}
 use Rattle.step.specs.declared.Plan.{Plan}
+use Rattle.step.specs.declared.Course.the-variants.{Going}
 
 -- the single timer with a number outstanding, or the timer of a number
 pub data RanOut (t : Timing) (now : ℕ) (a : ArrivalState) : Type 0 where
@@ -28,3 +29,8 @@ arrived p g s = serveArrivals (p .timing) (g .reverseRolls) (p .«total_chunks»
 abbrev pub AgainOnlyDue : Plan → Given → RunState → Type 0
 AgainOnlyDue p g s = s .resends .«retx_submitted» < step p g s .state .resends .«retx_submitted»
     → RanOut (p .timing) (s .time) (arrived p g s)
+
+-- of a step from s that goes on
+abbrev pub AgainWhereDue : Plan → Given → RunState → Type 0
+AgainWhereDue p g s = step p g s .course ≡ Going → RanOut (p .timing) (s .time) (arrived p g s)
+    → s .resends .«retx_submitted» < step p g s .state .resends .«retx_submitted»
