@@ -15,7 +15,8 @@ use Rattle.window.specs.State.{windowBroken, storeShort}
 use Rattle.session.specs.Sending.{SenderEnd, slotCount, newSender}
 use Rattle.session.specs.Receiving.{ReceiverEnd, receiverSlotCount, newReceiver}
 use Rattle.host_answer.specs.Answer.{packed, doneStatus, refusalAnswer}
-use Rattle.host_words.specs.Words.{stateWords, senderWord, receiverWord, wide, withKind, withSender, withReceiver}
+use Rattle.host_answer.specs.Exit.{wide}
+use Rattle.host_words.specs.Words.{stateWords, senderWord, receiverWord, withKind, withSender, withReceiver}
 use Rattle.host_ends.specs.Answers.{CallExit, callExit}
 
 -- the checks of making an end with so many slots

@@ -15,8 +15,9 @@ use Rattle.refusal.proofs.Laws.{none-of}
 use Rattle.rto.specs.declared.RtoEstimator.{RtoEstimator}
 use Rattle.rto.specs.declared.MaybeDuration.{MaybeDuration}
 use Rattle.rto.specs.declared.MaybeDuration.the-variants.{Unset, Set}
+use Rattle.host_answer.specs.Exit.{wide}
 use Rattle.host_estimator.specs.declared.HeldEstimator.the-variants as held
-use Rattle.host_estimator.specs.Words.{estimatorWords, estimatorDoubles, estimatorWord, isSet, timeOf, durationOf, durationBroken, durationAt, estimatorIn, wide, numbersBroken, brokenAt, durationsBroken, heldEstimator, firstWords, secondWords, thirdWords, wordsOf, doublesOf, withWords, withDoubles, Readable, Room}
+use Rattle.host_estimator.specs.Words.{estimatorWords, estimatorDoubles, estimatorWord, isSet, timeOf, durationOf, durationBroken, durationAt, estimatorIn, numbersBroken, brokenAt, durationsBroken, heldEstimator, firstWords, secondWords, thirdWords, wordsOf, doublesOf, withWords, withDoubles, Readable, Room}
 
 -- ---- durations that may be unset
 duration-words : (set time : ℕ) (b : Bool) → eqb set 1 ≡ b → cond b false (anyOf (not (eqb set 0) ∷ not (eqb time 0) ∷ [])) ≡ false

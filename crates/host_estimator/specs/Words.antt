@@ -17,6 +17,7 @@ use Rattle.rto.specs.declared.RtoStats.{RtoStats}
 use Rattle.rto.specs.declared.RtoEstimator.{RtoEstimator}
 use Rattle.rto.specs.declared.MaybeDuration.{MaybeDuration}
 use Rattle.rto.specs.declared.MaybeDuration.the-variants.{Unset, Set}
+use Rattle.host_answer.specs.Exit.{wide}
 use Rattle.host_estimator.specs.declared.HeldEstimator.{HeldEstimator}
 use Rattle.host_estimator.specs.declared.HeldEstimator.the-variants as held
 
@@ -87,10 +88,6 @@ estimatorIn s d =
       «consecutive_timeouts» = getD s 12 0;
       stats = statsIn s d;
     }
-
--- a word that isn't a number of 32 bits
-abbrev pub wide : ℕ → Bool
-wide n = ltb 4294967295 n
 
 -- too few words or doubles, another kind, a flag that is neither 0 nor 1, a count that isn't one of 32 bits
 unfoldable pub numbersBroken : List ℕ → List Float → Bool

@@ -28,10 +28,11 @@ use Rattle.multi_timer.specs.declared.CancelResult.{CancelResult}
 use Rattle.multi_timer.specs.declared.PopResult.{PopResult}
 use Rattle.multi_timer.specs.declared.EarliestAnswer.the-variants as earliestAnswers
 use Rattle.host_answer.specs.Answer.{packed, refusalAnswer}
+use Rattle.host_answer.specs.Exit.{wordsExit}
 use Rattle.host_timers.specs.declared.HeldTimers.{HeldTimers}
 use Rattle.host_timers.specs.declared.HeldTimers.the-variants as held
 use Rattle.host_timers.specs.Internal.{noneRan}
-use Rattle.host_timers.specs.Timers.{timersWords, timersWord, timersIn, unreadable, heldTimers, withTimers, wordsExit, startCode, started, startHeld, startKey, startWide, cancelCode, cancelled, cancelHeld, cancelKey, cancelWide, popCode, popped, poppedExit, popHeld, pop}
+use Rattle.host_timers.specs.Timers.{timersWords, timersWord, timersIn, unreadable, heldTimers, withTimers, startCode, started, startHeld, startKey, startWide, cancelCode, cancelled, cancelHeld, cancelKey, cancelWide, popCode, popped, poppedExit, popHeld, pop}
 
 -- words that hold a set
 pub record Readable (s : List ℕ) : Type 0 where

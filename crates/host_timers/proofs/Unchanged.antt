@@ -20,10 +20,11 @@ use Rattle.multi_timer.specs.declared.PopAnswer.the-variants as popAnswer
 use Rattle.multi_timer.specs.declared.PopResult.{PopResult}
 use Rattle.host_answer.specs.Answer.{refusalAnswer, Refusing}
 use Rattle.host_answer.proofs.Laws.{done-not-refusing}
+use Rattle.host_answer.specs.Exit.{WordsExit, wordsExit, wide}
 use Rattle.host_timers.specs.declared.HeldTimers.{HeldTimers}
 use Rattle.host_timers.specs.declared.HeldTimers.the-variants as held
 use Rattle.host_timers.specs.Timers as host
-use Rattle.host_timers.specs.Timers.{timersWords, wide, heldTimers, WordsExit, wordsExit, made, makeTimers, startCode, startHeld, start, cancelCode, cancelHeld, cancel, popCode, popHeld, pop}
+use Rattle.host_timers.specs.Timers.{timersWords, heldTimers, made, makeTimers, startCode, startHeld, start, cancelCode, cancelHeld, cancel, popCode, popHeld, pop}
 use Rattle.host_timers.proofs.Calls.{timers-back}
 
 -- the exit of a call that changed nothing, with its answer

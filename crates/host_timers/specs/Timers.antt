@@ -24,6 +24,7 @@ use Rattle.multi_timer.specs.declared.PopResult.{PopResult}
 use Rattle.multi_timer.specs.declared.EarliestAnswer.{EarliestAnswer}
 use Rattle.multi_timer.specs.declared.EarliestAnswer.the-variants as earliestAnswer
 use Rattle.host_answer.specs.Answer.{packed, doneStatus, nothingStatus, refusalAnswer}
+use Rattle.host_answer.specs.Exit.{WordsExit, wordsExit, wide, brokenWords}
 use Rattle.host_timers.specs.declared.HeldTimers.{HeldTimers}
 use Rattle.host_timers.specs.declared.HeldTimers.the-variants as held
 
@@ -45,18 +46,6 @@ heldTimers s = cond (unreadable s) held.Broken (held.Timers (timersIn s))
 unfoldable pub withTimers : List ℕ → MultiTimer → List ℕ
 withTimers s t = set (set (set s 0 timersWord) 1 (t .count)) 2 (t .«global_generation»)
 
--- the answer, and the words when the call returns
-pub record WordsExit : Type 0 where
-  pub answer : ℕ
-  pub words : List ℕ
-
-abbrev pub wordsExit : ℕ → List ℕ → WordsExit
-wordsExit answer words = record { answer = answer; words = words }
-
--- words that hold no set: 9, and nothing is changed
-abbrev pub broken : List ℕ → WordsExit
-broken state = wordsExit (refusalAnswer State) state
-
 -- making: 9 slices of unequal length, 5 too few words
 abbrev pub made : List ℕ → MultiTimer → WordsExit
 made state t = wordsExit (packed doneStatus 0) (withTimers state t)
@@ -67,10 +56,6 @@ makeTimers state ks ds =
     (verdict (check (not (eqb (length ks) (length ds))) State ∷ check (ltb (length state) timersWords) Full ∷ []))
     (λ r. timersExit (wordsExit (refusalAnswer r) state) ks ds)
     (answering (made state) (newUnchecked ks ds))
-
--- a key above 32 bits, which no lent key is: no timer runs for it, and no entry can hold it
-abbrev pub wide : ℕ → Bool
-wide key = ltb 4294967295 key
 
 -- a start; the generation is word 2
 unfoldable pub startCode : StartAnswer → ℕ
@@ -83,12 +68,12 @@ started state x = wordsExit (startCode (x .answer)) (withTimers state (x .timers
 unfoldable pub startHeld : HeldTimers → List ℕ → List ℕ → List ℕ → ℕ → ℕ → ℕ → TimersExit WordsExit
 startHeld (held.Timers t) state ks ds key now duration =
     answering (started state) (startTimerAt t ks ds key now duration)
-startHeld held.Broken state ks ds key now duration = timersExit (broken state) ks ds
+startHeld held.Broken state ks ds key now duration = timersExit (brokenWords state) ks ds
 
 abbrev pub startKey : List ℕ → List ℕ → List ℕ → ℕ → ℕ → ℕ → TimersExit WordsExit
 startKey state ks ds key now duration = startHeld (heldTimers state) state ks ds key now duration
 
--- of a wide key 9 and 10 as of any, and then 5
+-- no lent key is wide, so that no timer runs for a wide one and no entry can hold it: 9 and 10 as of any, then 5
 unfoldable pub startWide : HeldTimers → List ℕ → List ℕ → ℕ → ℕ → ℕ
 startWide (held.Timers t) ks ds now duration =
     decide
@@ -111,7 +96,7 @@ cancelled state x = wordsExit (cancelCode (x .answer)) (withTimers state (x .tim
 
 unfoldable pub cancelHeld : HeldTimers → List ℕ → List ℕ → List ℕ → ℕ → TimersExit WordsExit
 cancelHeld (held.Timers t) state ks ds key = answering (cancelled state) (cancelTimer t ks ds key)
-cancelHeld held.Broken state ks ds key = timersExit (broken state) ks ds
+cancelHeld held.Broken state ks ds key = timersExit (brokenWords state) ks ds
 
 abbrev pub cancelKey : List ℕ → List ℕ → List ℕ → ℕ → TimersExit WordsExit
 cancelKey state ks ds key = cancelHeld (heldTimers state) state ks ds key
@@ -139,7 +124,7 @@ poppedExit state x = popExit (answering (popped state) (x .rest)) (x .out)
 
 unfoldable pub popHeld : HeldTimers → List ℕ → List ℕ → List ℕ → ℕ → List ℕ → PopExit WordsExit
 popHeld (held.Timers t) state ks ds now out = poppedExit state (popExpiredAt t ks ds now out)
-popHeld held.Broken state ks ds now out = popExit (timersExit (broken state) ks ds) out
+popHeld held.Broken state ks ds now out = popExit (timersExit (brokenWords state) ks ds) out
 
 abbrev pub pop : List ℕ → List ℕ → List ℕ → ℕ → List ℕ → PopExit WordsExit
 pop state ks ds now out = popHeld (heldTimers state) state ks ds now out

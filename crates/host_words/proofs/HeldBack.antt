@@ -20,7 +20,8 @@ use Rattle.session.specs.declared.SenderState.{SenderState}
 use Rattle.session.specs.declared.SenderState.the-variants as senderState
 use Rattle.session.specs.declared.ReceiverState.{ReceiverState}
 use Rattle.session.specs.declared.ReceiverState.the-variants as receiverState
-use Rattle.host_words.specs.Words.{stateWords, senderWord, receiverWord, withKind, wide, senderUnreadable, notSingle, held, heldSender, withWindow, withStopAndWait, withSender, receiverUnreadable, heldBy, heldReceiver, withFields, receiverFields, withReceiver}
+use Rattle.host_answer.specs.Exit.{wide}
+use Rattle.host_words.specs.Words.{stateWords, senderWord, receiverWord, withKind, senderUnreadable, notSingle, held, heldSender, withWindow, withStopAndWait, withSender, receiverUnreadable, heldBy, heldReceiver, withFields, receiverFields, withReceiver}
 
 -- words of a kind, taken apart
 pub record Apart (s : List ℕ) (kind : ℕ) : Type 0 where

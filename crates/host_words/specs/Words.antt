@@ -24,6 +24,7 @@ use Rattle.session.specs.declared.SenderState.{SenderState}
 use Rattle.session.specs.declared.SenderState.the-variants as senderState
 use Rattle.session.specs.declared.ReceiverState.{ReceiverState}
 use Rattle.session.specs.declared.ReceiverState.the-variants as receiverState
+use Rattle.host_answer.specs.Exit.{wide}
 use Rattle.host_words.specs.declared.HeldSender.{HeldSender}
 use Rattle.host_words.specs.declared.HeldSender.the-variants as heldSenders
 use Rattle.host_words.specs.declared.HeldReceiver.{HeldReceiver}
@@ -52,10 +53,6 @@ receiverWord protocol.SelectiveRepeat = wordOfKind 6
 -- word 0 at making, and zeros in the words that not every kind has
 abbrev pub withKind : List ℕ → ℕ → List ℕ
 withKind s word = set (set (set s 0 word) 6 0) 7 0
-
--- a word that isn't a number of 32 bits
-abbrev pub wide : ℕ → Bool
-wide n = ltb 4294967295 n
 
 -- the sender that words hold
 abbrev pub windowIn : List ℕ → SendWindow
