@@ -177,7 +177,7 @@ pub extern "C" fn pindrelo_make_timers(
     keys: &mut [u32],
     deadlines: &mut [u64],
 ) -> u64
-    ensures { λ r. ⌜ timersExit (timers.wordsExit r (now (state .exit))) (now (keys .exit)) (now (deadlines .exit))
+    ensures { λ r. ⌜ timersExit (wordsExit r (now (state .exit))) (now (keys .exit)) (now (deadlines .exit))
         ≡ timers.makeTimers (now (state .entry)) (now (keys .entry)) (now (deadlines .entry)) ⌝ }
 {
     host_timers::make_timers(state, keys, deadlines)
@@ -192,7 +192,7 @@ pub extern "C" fn pindrelo_timer_start(
     now: u64,
     duration: u64,
 ) -> u64
-    ensures { λ r. ⌜ timersExit (timers.wordsExit r (state .exit .now)) (keys .exit .now) (deadlines .exit .now)
+    ensures { λ r. ⌜ timersExit (wordsExit r (state .exit .now)) (keys .exit .now) (deadlines .exit .now)
         ≡ timers.start (state .entry .now) (keys .entry .now) (deadlines .entry .now) key now duration ⌝ }
 {
     host_timers::start(state, keys, deadlines, key, now, duration)
@@ -205,7 +205,7 @@ pub extern "C" fn pindrelo_timer_cancel(
     deadlines: &mut [u64],
     key: u64,
 ) -> u64
-    ensures { λ r. ⌜ timersExit (timers.wordsExit r (now (state .exit))) (now (keys .exit)) (now (deadlines .exit))
+    ensures { λ r. ⌜ timersExit (wordsExit r (now (state .exit))) (now (keys .exit)) (now (deadlines .exit))
         ≡ timers.cancel (now (state .entry)) (now (keys .entry)) (now (deadlines .entry)) key ⌝ }
 {
     host_timers::cancel(state, keys, deadlines, key)
@@ -220,7 +220,7 @@ pub extern "C" fn pindrelo_timer_pop(
     out: &mut [u32],
 ) -> u64
     ensures { λ r. ⌜ popExit
-        (timersExit (timers.wordsExit r (state .exit .now)) (keys .exit .now) (deadlines .exit .now)) (out .exit .now)
+        (timersExit (wordsExit r (state .exit .now)) (keys .exit .now) (deadlines .exit .now)) (out .exit .now)
         ≡ timers.pop (state .entry .now) (keys .entry .now) (deadlines .entry .now) now (out .entry .now) ⌝ }
 {
     host_timers::pop(state, keys, deadlines, now, out)
