@@ -15,6 +15,7 @@ use Rattle.clock.proofs.Laws.{timers-within}
 use Rattle.session.specs.Sending.{windowOf}
 use Rattle.session.proofs.Laws.{unbroken-numbers}
 use Rattle.receiving.specs.Good.{GoodInbound}
+use Rattle.receiving.proofs.Laws.{good-can-serve}
 use Rattle.timeouts.specs.Good.{GoodFire}
 use Rattle.timeouts.proofs.Laws.{sender-unbroken}
 use Rattle.timeouts.specs.Timeouts.{FireExit}
@@ -52,7 +53,7 @@ module _ {p : Plan} {g : Given} {s : RunState} (good : GoodRun p g s) where
   can-arrive =
       let o = good .outgoing in
       record {
-        forward = record { sound = o .forward .sound; times = o .forward .times; cleared = o .forward .cleared; good = good .inbound; few = few-datas; in-time = o .notes .within };
+        forward = good-can-serve (o .forward) (good .inbound) few-datas (o .notes .within);
         acks = record { sender = sender-unbroken good-fire; estimator = good .estimator; clock = o .clock; notes = o .notes; scheduled = o .scheduled; duplicates = good .duplicates };
         replies = good .arrived .replies;
       }
