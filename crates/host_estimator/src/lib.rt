@@ -3,6 +3,7 @@ mod words;
 
 ghost use mathlib.Core.Path.{_≡_};
 ghost use Rattle.rto.specs.Rto.{defaultConfig, hasExceededRetryLimit};
+ghost use Rattle.host_estimator.specs.Words.{withWords, withDoubles, Room};
 ghost use Rattle.host_estimator.specs.Estimator.{estimatorExit, makeEstimator, updateCode, update, rtoCode};
 ghost use Rattle.host_estimator.specs.Estimator.{timeout, reset, exceeded, meanExit, meanTo, mean};
 use refusal::Refusal;
@@ -119,6 +120,14 @@ pub fn mean_rtt_ms(state: &[u64], doubles: &[f64], out: &mut [f64]) -> u64
         HeldEstimator::Estimator(e) => mean_to(e.mean_rtt_ms(), out),
         HeldEstimator::Broken => host_answer::refusal_answer(Refusal::State),
     }
+}
+
+pub fn put_estimator_unchecked(state: &mut [u64], doubles: &mut [f64], e: RtoEstimator)
+    requires { ⌜ Room (now state) (now doubles) ⌝ }
+    ensures { λ _. ⌜ now (state .exit) ≡ withWords (now (state .entry)) e ⌝ }
+    ensures { λ _. ⌜ now (doubles .exit) ≡ withDoubles (now (doubles .entry)) e ⌝ }
+{
+    words::put_estimator(state, doubles, e);
 }
 
 fn update_code(a: UpdateAnswer) -> u64
