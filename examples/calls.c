@@ -1,4 +1,4 @@
-/* calls: senders, packets and timers from C, each answer compared; prints a line for each that is wrong. */
+/* calls: senders, receivers, packets and timers from C, each answer compared; prints a line for each that is wrong. */
 #include "pindrelo.h"
 #include <stdio.h>
 #include <string.h>

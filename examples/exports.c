@@ -137,6 +137,50 @@ static void run(void)
     expect("samples", estimated[PINDRELO_ESTIMATOR_SAMPLES], 1);
 }
 
+/* one byte with one fault on every datagram, sent again three times at most: the outcome's words from the driver's on
+ * (driver, sender, receiver, forward, reverse), and the first copy's delay. Flipped: the run ends before the last copy
+ * comes. Slow: the byte is sent again while its ACK is on the way. */
+static const struct fault {
+    const char *name;
+    int chance;
+    uint64_t base_delay, words[28], delay;
+} faults[] = {
+    { "no fault", -1, 5,
+      { 0, 0, 1, 1, 1, 0, 0, 1,  1, 1, 0,  1, 1, 1, 0, 0,  1, 0, 0, 0, 0, 1,  1, 0, 0, 0, 0, 1 },
+      5 },
+    { "lost", PINDRELO_SETUP_LOSS, 5,
+      { 3, 0, 0, 0, 0, 0, 0, 4,  0, 4, 3,  0, 0, 0, 0, 0,  4, 4, 0, 0, 0, 0,  0, 0, 0, 0, 0, 0 },
+      0 },
+    { "twice", PINDRELO_SETUP_DUPLICATE, 5,
+      { 0, 0, 2, 2, 2, 1, 1, 1,  1, 1, 0,  1, 1, 2, 0, 1,  1, 0, 0, 1, 0, 2,  2, 0, 0, 0, 0, 2 },
+      5 },
+    { "late", PINDRELO_SETUP_REORDER, 5,
+      { 0, 0, 1, 1, 1, 0, 0, 1,  1, 1, 0,  1, 1, 1, 0, 0,  1, 0, 0, 0, 1, 1,  1, 0, 0, 0, 0, 1 },
+      12 },
+    { "flipped", PINDRELO_SETUP_CORRUPT, 5,
+      { 3, 0, 3, 0, 0, 0, 0, 4,  0, 4, 3,  0, 0, 3, 0, 0,  4, 0, 4, 0, 0, 4,  0, 0, 0, 0, 0, 0 },
+      5 },
+    { "slow", -1, 600,
+      { 1, 1, 2, 2, 2, 1, 1, 2,  1, 2, 1,  1, 1, 2, 0, 1,  2, 0, 0, 0, 0, 2,  2, 0, 0, 0, 0, 2 },
+      600 },
+};
+
+static void run_with_faults(void)
+{
+    numbers[PINDRELO_SETUP_REORDER_EXTRA_MS] = 7;
+    numbers[PINDRELO_SETUP_MAX_RETRANSMISSIONS] = 3;
+    for (size_t i = 0; i < sizeof faults / sizeof *faults; i++) {
+        const struct fault *f = &faults[i];
+        numbers[PINDRELO_SETUP_BASE_DELAY_MS] = f->base_delay;
+        for (int k = 0; k < 4; k++)
+            reals[k] = k == f->chance;
+        expect(f->name, pindrelo_status(run_with(13, 31)), PINDRELO_DONE);
+        for (int k = 0; k < 28; k++)
+            expect(f->name, words[PINDRELO_OUTCOME_DRIVER + k], f->words[k]);
+        expect(f->name, events[0][3], f->delay);
+    }
+}
+
 int main(void)
 {
     single_timer();
@@ -145,6 +189,7 @@ int main(void)
     drain(PINDRELO_GO_BACK_N);
     drain(PINDRELO_SELECTIVE_REPEAT);
     run();
+    run_with_faults();
     if (!wrong)
         puts("exports: as expected");
     return wrong;

@@ -1,6 +1,6 @@
 #!/bin/bash
 # The host interface from C, C++ and Rust: the header alone by each compiler that is here, its calls beside the archive's
-# symbols, calls.c, the example by each protocol, the Rust tests, and the fuzz driver.
+# symbols, calls.c and exports.c, the example by each protocol, the Rust tests, and both fuzz drivers.
 # usage: bash examples/test.sh [FUZZ_CALLS]      builds target/staticlib/libpindrelo.a, over what is proved
 set -eu
 cd "$(dirname "$0")/.."

@@ -5,7 +5,8 @@
  * system call and never blocks: two states may be used by two threads at once, one state by one thread at a time.
  *
  * What is promised of every call is proved: it ends on every input, its answer and every byte that it writes are
- * fixed by its contract (crates/pindrelo/src/lib.rt), and a refused call changes nothing. */
+ * fixed by its contract (crates/pindrelo/src/lib.rt; but for which NaN a NaN is), and a refused call changes
+ * nothing. */
 #ifndef PINDRELO_H
 #define PINDRELO_H
 
@@ -28,20 +29,21 @@ extern "C" {
  *      1  short     a datagram under 10 bytes; its length
  *      2  kind      byte 4 of a datagram is not 1 to 3; the byte
  *      3  cut       a datagram declares more payload than follows; declared and present
- *      4  setup     protocol, window or another number out of bounds, at making
+ *      4  setup     protocol, window or another number out of bounds, at making and of a run
  *      5  full      a lent buffer is shorter than this call writes
  *      6  long      a payload above 1,400 bytes
  *      7  numbers   the numbers are used up: 4,294,901,760; of write, a number of more than 32 bits or flags of
  *                   more than 8
  *      8  counts    a counter stands at 2^60 or more
  *      9  state     words, store or output that don't fit: zeros, another kind, fewer words, another version, an
- *                   output shorter than its fill mark. It is no check of integrity: other words may pass
+ *                   output shorter than its fill mark, slices of unequal length, too few numbers or doubles of a
+ *                   run. It is no check of integrity: other words may pass
  *     10  time      a time given, held or to be stored above 172,800 s, a duration above 86,400 s
  *     11  roll      a roll of a run is not at least 0 and below 1
  *     16  the window is full     17  not accepted     18  nothing     19  nothing to answer     20  invalid checksum
  *
  * 1 to 11 are refusals: no byte of anything lent has changed. The first that is true is answered, in the order 9,
- * 8, 10, 11, 4, 1, 2, 3, 6, 7, 5. (12 to 15 are kept for refusals to come.)
+ * 8, 10, 11, 4, 1, 2, 3, 6, 7, 5, but where a call names another. (12 to 15 are kept for refusals to come.)
  * From 16 on nothing failed; but for 19, which counts the datagram, nothing has changed then either. Where no value is
  * named it is 0.
  *
@@ -466,7 +468,8 @@ pindrelo_answer pindrelo_run(
  * one of another protocol's receiver, is taken for this one's: keep transfers apart by port, key or a number of the
  * host's own.
  *
- * At most window x 1,400 bytes are on their way at once, and nothing here slows a sender down for a busy line.
+ * At most window x 1,400 bytes of payload are outstanding at once; copies sent again come on top. Nothing here slows a
+ * sender down for a busy line.
  *
  * The end of a file is the host's: send its length first, or in another way. It is whole when the fill mark, and what
  * was drained before, is its length, with what was sent before it counted too. Then the receiver goes on answering for

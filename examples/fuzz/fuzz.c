@@ -1,11 +1,12 @@
-/* fuzz: every call of pindrelo.h with wild arguments, between calls that go on from one another.
+/* fuzz: every call of pindrelo.h but pindrelo_run (runs.c) with wild arguments, between calls that go on from one
+ * another.
  *
  *     fuzz [CALLS [SEED]]
  *
  * Lengths, words, stores, datagrams and times are random, boundary values or damaged (spoil.h); what is lent lies in
- * guarded memory (guarded.h). Each answer is compared with the one worked out from the header (expected.h), and every
- * lent byte that the call must not have written with what it was: after a refusal all of them. In a million calls or
- * more each call has to have met every status that the header names for it. */
+ * guarded memory (guarded.h). Each answer is compared with the one worked out from the header (expected.h,
+ * expected_timing.h), and every lent byte that the call must not have written with what it was: after a refusal all of
+ * them. In a million calls or more each call has to have met every status that the header names for it. */
 #define _GNU_SOURCE
 #include "checked.h"
 #include "timing.h"
