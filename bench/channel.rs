@@ -4,7 +4,10 @@ extern crate rand;
 extern crate reference;
 
 #[path = "../compare/channel_calls.rs"]
+#[allow(dead_code)]
 mod calls;
+#[path = "../compare/exports.rs"]
+mod exports;
 
 use calls::{process, Ours};
 use reference::channel::scheduler::ChannelScheduler;

@@ -1,17 +1,13 @@
 // Times the reference's packet.rs and the packet layer in one process on the same datagrams.
 // usage: packet [ROUNDS] [detail]      prints a Markdown table in ns a packet, each the least of ROUNDS / 8 interleaved rounds a layout
 extern crate reference;
+#[path = "../compare/exports.rs"]
+mod exports;
+
+use exports::*;
 use reference::packet::Packet;
 use std::hint::black_box;
 use std::time::Instant;
-
-extern "C" {
-    fn packet_compute_checksum(seq: u32, kind: u8, flags: u8, checksum: u16, payload: *const u8, len: usize, answer: *mut u64, n: usize) -> u8;
-    fn packet_write(seq: u32, kind: u8, flags: u8, payload: *const u8, len: usize, out: *mut u8, room: usize, answer: *mut u64, n: usize) -> u8;
-    fn packet_to_bytes(seq: u32, kind: u8, flags: u8, checksum: u16, payload: *const u8, len: usize, out: *mut u8, room: usize, answer: *mut u64, n: usize) -> u8;
-    fn packet_is_valid(raw: *const u8, len: usize, answer: *mut u64, n: usize) -> u8;
-    fn packet_payload_len(raw: *const u8, len: usize) -> usize;
-}
 
 const CALLS: u32 = 500;
 
@@ -36,41 +32,38 @@ fn layouts(n: usize, rounds: usize) -> Vec<Vec<(&'static str, f64, f64, usize)>>
         let second = vec![1u8; 64 + layout * 520];
         let mut q = p.clone();
         let mut out = vec![0u8; 1410];
-        let mut answer = [0u64; 4];
+        let whole = done(10 + n as u64);
         unsafe {
-            assert_eq!(packet_compute_checksum(p.seq_num, 1, 0, 0, payload.as_ptr(), n, answer.as_mut_ptr(), 4), 0);
-            assert_eq!(answer[0], p.checksum as u64);
-            assert_eq!(packet_write(p.seq_num, 1, 0, payload.as_ptr(), n, out.as_mut_ptr(), out.len(), answer.as_mut_ptr(), 4), 0);
+            assert_eq!(packet_compute_checksum(p.seq_num, 1, 0, 0, payload.as_ptr(), n), done(p.checksum as u64));
+            assert_eq!(pindrelo_write(1, p.seq_num as u64, 0, payload.as_ptr(), n, out.as_mut_ptr(), out.len()), whole);
             assert_eq!(out[..10 + n], raw[..]);
-            assert_eq!(packet_is_valid(raw.as_ptr(), raw.len(), answer.as_mut_ptr(), 4), 0);
-            assert_eq!(answer[0], 1);
-            assert_eq!(packet_payload_len(raw.as_ptr(), raw.len()), n);
+            assert_eq!(packet_to_bytes(p.seq_num, 1, 0, 7, payload.as_ptr(), n, out.as_mut_ptr(), out.len()), whole);
+            assert_eq!(pindrelo_validate(raw.as_ptr(), raw.len()), done(0));
+            assert_eq!(pindrelo_payload_length(raw.as_ptr(), raw.len()), done(n as u64));
         }
         let place = out.as_ptr() as usize % 4096;
         let (pay, data) = (&payload, &raw);
         let (buffer, room) = (out.as_mut_ptr(), out.len());
-        let mut a = [[0u64; 4]; 4];
-        let [a0, a1, a2, a3] = &mut a;
         let mut pairs: Vec<(&'static str, Box<dyn FnMut() -> u64 + '_>, Box<dyn FnMut() -> u64 + '_>)> = vec![
             (
                 "checksum",
                 Box::new(|| black_box(&p).compute_checksum() as u64),
-                Box::new(|| { let s: &[u8] = black_box(pay); unsafe { packet_compute_checksum(black_box(0x0102_0304), 1, 0, 0, s.as_ptr(), s.len(), a0.as_mut_ptr(), 4); } a0[0] }),
+                Box::new(|| { let s: &[u8] = black_box(pay); unsafe { packet_compute_checksum(black_box(0x0102_0304), 1, 0, 0, s.as_ptr(), s.len()) } }),
             ),
             (
                 "checksum and write",
                 Box::new(|| { let q = black_box(&mut q); q.compute_and_set_checksum(); black_box(q.to_bytes()).len() as u64 }),
-                Box::new(|| { let s: &[u8] = black_box(pay); unsafe { packet_write(black_box(0x0102_0304), 1, 0, s.as_ptr(), s.len(), buffer, room, a1.as_mut_ptr(), 4); } a1[0] }),
+                Box::new(|| { let s: &[u8] = black_box(pay); unsafe { pindrelo_write(1, black_box(0x0102_0304), 0, s.as_ptr(), s.len(), buffer, room) } }),
             ),
             (
                 "write alone",
                 Box::new(|| black_box(black_box(&p).to_bytes()).len() as u64),
-                Box::new(|| { let s: &[u8] = black_box(pay); unsafe { packet_to_bytes(black_box(0x0102_0304), 1, 0, 7, s.as_ptr(), s.len(), buffer, room, a3.as_mut_ptr(), 4); } a3[0] }),
+                Box::new(|| { let s: &[u8] = black_box(pay); unsafe { packet_to_bytes(black_box(0x0102_0304), 1, 0, 7, s.as_ptr(), s.len(), buffer, room) } }),
             ),
             (
                 "read and validate",
                 Box::new(|| { let s: &[u8] = black_box(data); match Packet::from_bytes(s) { Ok(p) => p.is_valid() as u64 + black_box(&p.payload).len() as u64, Err(_) => 0 } }),
-                Box::new(|| { let s: &[u8] = black_box(data); unsafe { packet_is_valid(s.as_ptr(), s.len(), a2.as_mut_ptr(), 4); a2[0] + packet_payload_len(s.as_ptr(), s.len()) as u64 } }),
+                Box::new(|| { let s: &[u8] = black_box(data); unsafe { pindrelo_validate(s.as_ptr(), s.len()) + pindrelo_payload_length(s.as_ptr(), s.len()) } }),
             ),
         ];
         let mut best: Vec<_> = pairs.iter().map(|x| (x.0, f64::MAX, f64::MAX, place)).collect();

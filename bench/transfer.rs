@@ -2,7 +2,10 @@
 // The reference draws its rolls from a fixed table, this library finds the same rolls in lent slices and looks at all of them at its start.
 extern crate rand;
 extern crate reference;
+#[path = "../compare/exports.rs"]
+mod exports;
 
+use exports::*;
 use reference::app::transfer::{run_transfer, TransferConfig};
 use reference::arq::ProtocolType;
 use std::ffi::c_void;
@@ -12,16 +15,6 @@ use std::time::{Duration, Instant};
 const WINDOW: usize = 32;
 const PLACES: usize = 2 * WINDOW;
 const SECOND: u64 = 1_000_000_000;
-
-extern "C" {
-    #[rustfmt::skip]
-    fn transfer_run(
-        numbers: *const u64, nn: usize, reals: *const f64, nr: usize, file: *const u8, nf: usize, forward_rolls: *const f64, nfr: usize, reverse_rolls: *const f64, nrr: usize,
-        sender_store: *mut u8, ns: usize, receiver_store: *mut u8, nrs: usize, output: *mut u8, no: usize, rows: *mut [u64; 7], nw: usize, events: *mut [u64; 7], ne: usize,
-        forward_records: *mut [u64; 4], nfc: usize, forward_places: *mut u8, nfp: usize, reverse_records: *mut [u64; 4], nrc: usize, reverse_places: *mut u8, nrp: usize,
-        keys: *mut u32, nk: usize, deadlines: *mut u64, nd: usize, answer: *mut u64, na: usize,
-    );
-}
 
 // What a run is lent. The reverse line's rolls are the forward line's.
 struct Lent {
@@ -41,16 +34,16 @@ struct Lent {
 impl Lent {
     fn new(c: &TransferConfig) -> Lent {
         let protocol = match c.protocol {
-            ProtocolType::StopAndWait => 0,
-            ProtocolType::GoBackN => 1,
-            ProtocolType::SelectiveRepeat => 2,
+            ProtocolType::StopAndWait => 1,
+            ProtocolType::GoBackN => 2,
+            ProtocolType::SelectiveRepeat => 3,
         };
         let nanos = |d: Duration| d.as_nanos() as u64;
         let packets = c.payload.len().div_ceil(c.chunk_size);
         Lent {
             numbers: [
                 protocol,
-                0,
+                1,
                 c.window_size as u64,
                 c.chunk_size as u64,
                 c.reorder_extra_ms,
@@ -76,25 +69,26 @@ impl Lent {
         }
     }
 
-    // Completed, the finishing time, the end, the fill mark, the packets of both lines.
+    // The answer, and the outcome.
     #[inline(never)]
-    fn run(&mut self) -> [u64; 6] {
-        let mut a = [7u64; 6];
+    fn run(&mut self) -> (u64, [u64; 31]) {
+        let (mut words, mut estimator, mut doubles) = ([7u64; 31], [7u64; 24], [7f64; 5]);
         let [sender, receiver] = &mut self.stores;
         let [notes, events] = &mut self.rows;
         let [fr, rr] = &mut self.records;
         let [fp, rp] = &mut self.places;
         let rolls = (self.rolls.as_ptr(), self.rolls.len());
         #[rustfmt::skip]
-        unsafe {
-            transfer_run(
+        let a = unsafe {
+            pindrelo_run(
                 self.numbers.as_ptr(), 13, self.reals.as_ptr(), 8, self.file.as_ptr(), self.file.len(), rolls.0, rolls.1, rolls.0, rolls.1,
                 sender.as_mut_ptr(), sender.len(), receiver.as_mut_ptr(), receiver.len(), self.output.as_mut_ptr(), self.output.len(),
                 notes.as_mut_ptr(), notes.len(), events.as_mut_ptr(), events.len(), fr.as_mut_ptr(), fr.len(), fp.as_mut_ptr(), fp.len(),
-                rr.as_mut_ptr(), rr.len(), rp.as_mut_ptr(), rp.len(), self.keys.as_mut_ptr(), self.keys.len(), self.deadlines.as_mut_ptr(), self.deadlines.len(), a.as_mut_ptr(), 6,
+                rr.as_mut_ptr(), rr.len(), rp.as_mut_ptr(), rp.len(), self.keys.as_mut_ptr(), self.keys.len(), self.deadlines.as_mut_ptr(), self.deadlines.len(),
+                words.as_mut_ptr(), 31, estimator.as_mut_ptr(), 24, doubles.as_mut_ptr(), 5,
             )
         };
-        a
+        (a, words)
     }
 }
 
@@ -139,9 +133,10 @@ fn times(c: &TransferConfig, rounds: usize, reference_rounds: usize) -> [f64; 2]
             black_box(&theirs);
         }
         let t = Instant::now();
-        let ours = black_box(&mut lent).run();
+        let (a, words) = black_box(&mut lent).run();
         best[1] = best[1].min(t.elapsed().as_nanos() as f64);
-        assert!(ours[0] == 1 && ours[2] == 0 && ours[3] == lent.file.len() as u64 && ours[4..] == [packets as u64; 2] && lent.output == lent.file);
+        // completed, ended by itself, the fill mark, the datagrams of both lines
+        assert!(a == done(1) && words[0] == 1 && words[2] == 0 && words[15] == lent.file.len() as u64 && [words[19], words[25]] == [packets as u64; 2] && lent.output == lent.file);
     }
     best.map(|ns| ns / packets as f64)
 }

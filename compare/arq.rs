@@ -1,10 +1,13 @@
-// Compares the protocol ends with the reference, and refusals and slots with a model of document 01.
+// Compares the protocol ends with the reference, and refusals and slots with a model of document 01: the exports for hosts and, of what hosts
+// don't have, those of crates/bench_ffi.
 // usage: arq SECONDS
 //        arq --sample DIR [SEED]      writes DIR/stdin (cases) and DIR/stdout (the reference's answers) for crates/arq_replay
 extern crate reference;
 
 #[path = "arq_calls.rs"]
 mod calls;
+#[path = "exports.rs"]
+mod exports;
 #[path = "generator.rs"]
 mod generator;
 
@@ -12,7 +15,7 @@ mod generator;
 #[allow(dead_code)]
 mod cases;
 
-use calls::{Answer, Protocol, Receiver, Sender};
+use calls::{Answer, Protocol, Receiver, Sender, Timeout};
 use cases::{crc, given, numbers, shown, Cases};
 use generator::{fail, verdict, Gen};
 use reference::arq::{GoBackNReceiver, GoBackNSender, SelectiveRepeatReceiver, SelectiveRepeatSender, StopAndWaitReceiver, StopAndWaitSender};
@@ -83,11 +86,15 @@ impl TheirSender {
             TheirSenderEnd::Sr(s) => s.handle_ack(&p),
         }
     }
-    fn timeout(&mut self, which: u64) -> Vec<Packet> {
+    fn timeout(&mut self, which: Timeout) -> Vec<Packet> {
         let packets: Vec<Packet> = match &mut self.end {
             TheirSenderEnd::Sw(s) => s.handle_timeout().into_iter().collect(),
             TheirSenderEnd::Gbn(s) => s.handle_timeout(),
-            TheirSenderEnd::Sr(s) => s.handle_timeout(which.saturating_sub(self.above) as u32).into_iter().collect(),
+            TheirSenderEnd::Sr(s) => match which {
+                Timeout::Number(n) if n >> 32 != 0 => vec![],
+                Timeout::Number(n) => s.handle_timeout(n.saturating_sub(self.above) as u32).into_iter().collect(),
+                _ => s.handle_timeout(s.send_base()).into_iter().collect(),
+            },
         };
         packets.into_iter().map(|q| raised(q, self.above)).collect()
     }
@@ -106,7 +113,8 @@ impl TheirSender {
             _ => 0,
         }
     }
-    fn getters(&self) -> Answer {
+    // can_send, in_flight_count, has_unacked_packets (is_waiting_for_ack)
+    fn getters(&self) -> [u64; 3] {
         match &self.end {
             TheirSenderEnd::Sw(s) => [s.can_send() as u64, s.is_waiting_for_ack() as u64, s.is_waiting_for_ack() as u64],
             TheirSenderEnd::Gbn(s) => [s.can_send() as u64, s.in_flight_count() as u64, s.has_unacked_packets() as u64],
@@ -161,6 +169,14 @@ impl TheirReceiver {
             TheirReceiverEnd::Sr(r) => r.delivered_chunks(),
         }
     }
+    fn drain(&mut self) -> Vec<u8> {
+        match &mut self.end {
+            TheirReceiverEnd::Sw(r) => r.drain_delivered(),
+            TheirReceiverEnd::Gbn(r) => r.drain_delivered(),
+            TheirReceiverEnd::Sr(r) => r.drain_delivered(),
+        }
+        .concat()
+    }
     fn base(&self) -> u64 {
         self.above
             + match &self.end {
@@ -197,6 +213,8 @@ struct Seen {
     several: u64,
     held: u64,
     unanswered: u64,
+    // drains of some bytes
+    drained: u64,
     // calls with numbers near 4,294,901,760
     high: u64,
     numbers: u64,
@@ -230,9 +248,16 @@ fn slot_bounds_bad(s: &[u8]) -> bool {
     1400 < u16::from_be_bytes([s[0], s[1]]) || 2 < s[2]
 }
 
+// Of words that hold a sender: Stop-and-Wait has a window of 1, and its retries have 32 bits.
+fn numbers_nine(s: &Sender) -> bool {
+    let [window, base, next, _, _, max, retries] = s.state;
+    let words = s.protocol == Protocol::StopAndWait && (window != 1 || (max | retries) >> 32 != 0);
+    words || window < 1 || 32 < window || next < base || window < next - base || LIMIT < next
+}
+
 fn sender_nine(s: &Sender) -> bool {
     let [window, base, next, ..] = s.state;
-    if window_bad(window, &s.store) || next < base || window < next - base || LIMIT < next {
+    if numbers_nine(s) || window_bad(window, &s.store) {
         return true;
     }
     (0..window).any(|k| {
@@ -242,13 +267,14 @@ fn sender_nine(s: &Sender) -> bool {
     })
 }
 
+// Of words that hold a receiver: those without a store have a window of 1.
 fn receiver_nine(r: &Receiver, output: usize) -> bool {
     let [window, base, filled, ..] = r.state;
     if LIMIT < base || (output as u64) < filled {
         return true;
     }
     if r.protocol != Protocol::SelectiveRepeat {
-        return false;
+        return window != 1;
     }
     if window_bad(window, &r.store) {
         return true;
@@ -385,26 +411,29 @@ fn expected_ack(before: &Sender, theirs: &mut TheirSender, raw: &[u8]) -> Expect
     for n in old..theirs.numbers()[0] {
         slot_mut(&mut store, window, n).fill(0);
     }
-    Expected { answer: [taken as u64, 0, 0], wrote: vec![], store }
+    Expected { answer: if taken { [1, packet.seq_num as u64, 0] } else { [0, 0, 0] }, wrote: vec![], store }
 }
 
 // The numbers that a timeout sends again, and how many bytes that takes.
-fn resent(before: &Sender, which: u64) -> (Vec<u64>, usize) {
+fn resent(before: &Sender, which: Timeout) -> (Vec<u64>, usize) {
     let [window, base, next, _, _, max, retries] = before.state;
     if sender_nine(before) {
         return (vec![], 0);
     }
     let numbers: Vec<u64> = match before.protocol {
         Protocol::StopAndWait => (base..next).filter(|_| retries < max).collect(),
-        Protocol::GoBackN => (base..next).take(if which == 1 { 1 } else { 32 }).collect(),
-        Protocol::SelectiveRepeat => (base..next).filter(|&n| n == which && slot(&before.store, window, n)[2] != 2).collect(),
+        Protocol::GoBackN => (base..next).take(if which == Timeout::Earliest { 1 } else { 32 }).collect(),
+        Protocol::SelectiveRepeat => {
+            let number = if let Timeout::Number(n) = which { n } else { base };
+            (base..next).filter(|&n| n == number && slot(&before.store, window, n)[2] != 2).collect()
+        }
     };
     let need = numbers.iter().map(|&n| 10 + u16::from_be_bytes([slot(&before.store, window, n)[0], slot(&before.store, window, n)[1]]) as usize).sum();
     (numbers, need)
 }
 
-// which: of Go-Back-N 0 all, 1 the earliest, which the reference doesn't have; of Selective Repeat the number.
-fn expected_timeout(before: &Sender, theirs: &mut TheirSender, which: u64, room: usize) -> Expected {
+// Of Go-Back-N's earliest the reference has no call.
+fn expected_timeout(before: &Sender, theirs: &mut TheirSender, which: Timeout, room: usize) -> Expected {
     let [window, _, _, sent, again, ..] = before.state;
     let (numbers, need) = resent(before, which);
     let code = verdict(&[(9, sender_nine(before)), (8, counts_bad(&[sent, again])), (5, room < need)]);
@@ -415,7 +444,7 @@ fn expected_timeout(before: &Sender, theirs: &mut TheirSender, which: u64, room:
     for &n in &numbers {
         slot_mut(&mut store, window, n)[3] |= 1;
     }
-    let packets = if before.protocol == Protocol::GoBackN && which == 1 {
+    let packets = if before.protocol == Protocol::GoBackN && which == Timeout::Earliest {
         numbers.iter().map(|&n| earliest_packet(slot(&store, window, n), n)).collect()
     } else {
         theirs.timeout(which)
@@ -454,7 +483,7 @@ fn one_send(g: &mut Gen, p: &mut SenderPair, made: &mut Vec<Vec<u8>>, payload: &
     let n = room(g, 10 + payload.len());
     let buffer = g.bytes(n);
     let mut out = buffer.clone();
-    let a = p.ours.send_chunk(payload, &mut out);
+    let a = p.ours.send(payload, &mut out);
     let e = expected_send(&before, &mut p.theirs, payload, n);
     check_call("send", p, &before, a, &e, &out, &buffer);
     if a[0] == 1 {
@@ -468,23 +497,23 @@ fn one_send(g: &mut Gen, p: &mut SenderPair, made: &mut Vec<Vec<u8>>, payload: &
 fn one_ack(p: &mut SenderPair, raw: &[u8], seen: &mut Seen) -> Answer {
     seen.calls += 1;
     let before = p.ours.clone();
-    let a = p.ours.handle_ack(raw);
+    let a = p.ours.acknowledge(raw);
     let e = expected_ack(&before, &mut p.theirs, raw);
     check_call("ack", p, &before, a, &e, &[], &[]);
     seen.acknowledged += (a[0] == 1) as u64;
     a
 }
 
-fn one_timeout(g: &mut Gen, p: &mut SenderPair, made: &mut Vec<Vec<u8>>, which: u64, seen: &mut Seen) -> Answer {
+fn one_timeout(g: &mut Gen, p: &mut SenderPair, made: &mut Vec<Vec<u8>>, which: Timeout, seen: &mut Seen) -> Answer {
     seen.calls += 1;
     let before = p.ours.clone();
     let (numbers, need) = resent(&before, which);
     let n = room(g, need);
     let buffer = g.bytes(n);
     let mut out = buffer.clone();
-    let a = p.ours.handle_timeout(which, &mut out);
+    let a = p.ours.timeout(which, &mut out);
     let e = expected_timeout(&before, &mut p.theirs, which, n);
-    if a[0] == 1 && p.ours.protocol == Protocol::GoBackN && which == 1 {
+    if a[0] == 1 && p.ours.protocol == Protocol::GoBackN && which == Timeout::Earliest {
         p.extra += numbers.len() as u64;
     }
     check_call("timeout", p, &before, a, &e, &out, &buffer);
@@ -500,14 +529,23 @@ fn one_timeout(g: &mut Gen, p: &mut SenderPair, made: &mut Vec<Vec<u8>>, which: 
     a
 }
 
+// The calls that only read, on any state: what is refused and, but where the store is broken, the reference's answers.
 fn read_sender(p: &SenderPair) {
-    let a = p.ours.read();
-    let mut want = p.theirs.getters();
-    if counts_bad(&p.ours.state[3..5]) {
-        want = [24, 24, if p.ours.protocol == Protocol::SelectiveRepeat { want[2] } else { 24 }];
+    let s = &p.ours;
+    let [window, base, next, sent, again, ..] = s.state;
+    let refusal = |nine: bool| verdict(&[(9, nine), (8, counts_bad(&[sent, again]))]);
+    let unless = |code: u64, value: u64| if code == 0 { [1, value, 0] } else { [code, 0, 0] };
+    let (numbers, all) = (refusal(numbers_nine(s)), refusal(sender_nine(s)));
+    let [can_send, in_flight, unacked] = if all == 0 { p.theirs.getters() } else { [(next.wrapping_sub(base) < window) as u64, 0, (base < next) as u64] };
+    let mut got = vec![s.can_send(), s.in_flight()];
+    let mut want = vec![unless(numbers, can_send), unless(all, in_flight)];
+    // it is given no words but numbers, of 32 bits
+    if s.protocol == Protocol::GoBackN && (base | next) >> 32 == 0 {
+        got.push(s.has_unacked_packets());
+        want.push(unless(numbers, unacked));
     }
-    if a != want {
-        fail("getters", format!("{:?} {:?} answer {a:?}, expected {want:?}", p.ours.protocol, p.ours.state));
+    if got != want {
+        fail("getters", format!("{:?} {:?} answers {got:?}, expected {want:?}", s.protocol, s.state));
     }
 }
 
@@ -591,7 +629,7 @@ fn one_packet(g: &mut Gen, p: &mut ReceiverPair, raw: &[u8], seen: &mut Seen) ->
     let buffer = g.bytes(n);
     let mut ack = buffer.clone();
     let mut output = p.output.clone();
-    let a = p.ours.handle_packet(raw, &mut output, &mut ack);
+    let a = p.ours.receive(raw, &mut output, &mut ack);
     let delivered = p.theirs.delivered().len();
     let buffered = p.theirs.buffered();
     let e = expected_packet(&before, &mut p.theirs, raw, output.len(), n);
@@ -625,6 +663,28 @@ fn one_packet(g: &mut Gen, p: &mut ReceiverPair, raw: &[u8], seen: &mut Seen) ->
     let want = if counts_bad(&counts) { [24, 0, 0] } else { [1, p.theirs.buffered(), 0] };
     if before.protocol == Protocol::SelectiveRepeat && p.ours.buffered_count() != want {
         fail("buffered_count", format!("{:?}, expected {want:?}", p.ours.buffered_count()));
+    }
+    a
+}
+
+// The bytes up to the fill mark are what the reference drains; the mark is 0 then, and nothing else changes.
+fn one_drain(p: &mut ReceiverPair, seen: &mut Seen) -> Answer {
+    seen.calls += 1;
+    let before = p.ours.clone();
+    let filled = before.state[2];
+    let code = verdict(&[(9, receiver_nine(&before, p.output.len())), (8, counts_bad(&before.state[3..]))]);
+    let mut want = before.clone();
+    let a = p.ours.drain(&p.output);
+    let expected = if code != 0 { [code, 0, 0] } else { [1, filled, 0] };
+    if code == 0 {
+        want.state[2] = 0;
+        if p.theirs.drain() != p.output[..filled as usize] {
+            fail("drained bytes", format!("{before:?}"));
+        }
+        seen.drained += (0 < filled) as u64;
+    }
+    if a != expected || p.ours != want {
+        fail("drain", format!("{:?} {:?} answer {a:?}, expected {expected:?}; then {:?}", before.protocol, before.state, p.ours.state));
     }
     a
 }
@@ -721,19 +781,21 @@ fn new_pair(g: &mut Gen, protocol: Protocol) -> (SenderPair, ReceiverPair) {
     let window = window_for(g, protocol);
     let retries = [0, 1, 3, u32::MAX as u64][g.below(4) as usize];
     let setting = if protocol == Protocol::StopAndWait { retries } else { window };
+    // Stop-and-Wait runs with a window of 1, whichever is asked for
+    let asked = if protocol == Protocol::StopAndWait { 1 + g.below(32) } else { window };
     let spare = g.below(3) as usize;
     let dirty = g.bytes(window as usize * SLOT + spare);
     let mut clean = dirty.clone();
     clean[..window as usize * SLOT].fill(0);
-    let (ours, a) = Sender::new(protocol, setting, dirty.clone());
-    if a != [0, 0, 0] || ours.store != clean {
-        fail("new sender", format!("{protocol:?} {setting} answer {a:?}"));
+    let (ours, a) = Sender::new(protocol, asked, retries, dirty.clone());
+    if a != [1, 0, 0] || ours.store != clean || ours.state[5] != if protocol == Protocol::StopAndWait { retries } else { 0 } {
+        fail("new sender", format!("{protocol:?} {asked} {retries} answer {a:?} {:?}", ours.state));
     }
     let s = SenderPair { ours, theirs: TheirSender::new(protocol, setting), window, extra: 0 };
     check_state("new sender", &s, &clean);
-    let (ours, a) = Receiver::new(protocol, window, dirty.clone());
-    let kept = if protocol == Protocol::SelectiveRepeat { clean } else { dirty };
-    if a != [0, 0, 0] || ours.store != kept || ours.state[1..] != [0; 5] {
+    let (ours, a) = Receiver::new(protocol, asked, dirty.clone());
+    let (kept, held) = if protocol == Protocol::SelectiveRepeat { (clean, window) } else { (dirty, 1) };
+    if a != [1, 0, 0] || ours.store != kept || ours.state != [held, 0, 0, 0, 0, 0] {
         fail("new receiver", format!("{protocol:?} {window} answer {a:?} {:?}", ours.state));
     }
     let n = [0, 20, 3000, 60000][g.below(4) as usize];
@@ -786,6 +848,9 @@ fn runs(g: &mut Gen, seen: &mut Seen) {
     }
     for _ in 0..40 + g.below(100) {
         seen.high += high as u64;
+        if g.below(32) == 0 {
+            one_drain(&mut r, seen);
+        }
         let a = match g.below(8) {
             0 | 1 => {
                 let n = length(g);
@@ -794,10 +859,14 @@ fn runs(g: &mut Gen, seen: &mut Seen) {
             }
             2 => {
                 // Go-Back-N's "earliest" leaves the reference's flags behind, so no whole timeout follows it
-                let which = match protocol {
-                    Protocol::GoBackN if 0 < s.extra => 1,
-                    Protocol::GoBackN => (g.below(16) == 0) as u64,
-                    _ => (s.ours.state[1] + g.below(s.window + 2)).saturating_sub(1),
+                let near = (s.ours.state[1] + g.below(s.window + 2)).saturating_sub(1);
+                let which = match (protocol, g.below(16)) {
+                    (Protocol::GoBackN, _) if 0 < s.extra => Timeout::Earliest,
+                    (_, 0) => Timeout::Earliest,
+                    (Protocol::GoBackN, 1) => Timeout::Number(g.next()),
+                    (Protocol::GoBackN, 2..=10) | (_, 1) => Timeout::All,
+                    (_, 2) => Timeout::Number(near + (1 << (32 + g.below(32)))),
+                    _ => Timeout::Number(near),
                 };
                 one_timeout(g, &mut s, &mut made, which, seen)
             }
@@ -812,9 +881,7 @@ fn runs(g: &mut Gen, seen: &mut Seen) {
         };
         seen.refused += (16 <= a[0]) as u64;
         seen.numbers += (a[0] == 16 + 7) as u64;
-        if !sender_nine(&s.ours) {
-            read_sender(&s);
-        }
+        read_sender(&s);
     }
 }
 
@@ -840,8 +907,11 @@ fn broken_states(g: &mut Gen, seen: &mut Seen) {
     let mut t = s.ours.clone();
     let mut q = r.ours.clone();
     let mut output = r.output.clone();
+    // whatever the model says of them
+    let (mut sender_broken, mut receiver_broken) = (false, false);
     match g.below(10) {
-        0 if protocol != Protocol::StopAndWait => {
+        0 => {
+            (sender_broken, receiver_broken) = (true, true);
             t.state[0] = [0, 33, u64::MAX, window + 1][g.below(4) as usize];
             q.state[0] = t.state[0];
         }
@@ -849,16 +919,26 @@ fn broken_states(g: &mut Gen, seen: &mut Seen) {
             t.store.truncate(window as usize * SLOT - 1);
             q.store.truncate(window as usize * SLOT - 1);
         }
-        2 if protocol != Protocol::StopAndWait => t.state[1 + g.below(2) as usize] += 1 + g.below(40),
+        2 => t.state[1 + g.below(2) as usize] += 1 + g.below(40),
         3 => {
-            t.state[1] = LIMIT + 1;
-            t.state[2] = LIMIT + 1;
-            q.state[1] = LIMIT + 1;
+            (sender_broken, receiver_broken) = (true, true);
+            // a number above its limit, or above 32 bits with those that were in its lower ones
+            let above = [LIMIT + 1 - t.state[1], LIMIT + 1, 1 << 32, 1 << 63][g.below(4) as usize];
+            t.state[1] += above;
+            t.state[2] += above;
+            q.state[1] += above.max(LIMIT + 1);
         }
-        4 => q.state[2] = output.len() as u64 + 1,
+        4 => {
+            receiver_broken = true;
+            q.state[2] = output.len() as u64 + 1;
+        }
         5 => t.state[3 + g.below(2) as usize] = COUNT + g.below(2),
         6 => q.state[3 + g.below(3) as usize] = COUNT + g.below(2),
-        7 => output.truncate(q.state[2] as usize),
+        7 => {
+            output.truncate(q.state[2] as usize);
+            sender_broken = protocol == Protocol::StopAndWait;
+            t.state[5 + g.below(2) as usize] |= 1 << (32 + g.below(32));
+        }
         _ => {
             let at = g.below(window) as usize * SLOT + g.below(4) as usize;
             let b = [0, 1, 2, 3, 5, 6, 255][g.below(7) as usize];
@@ -868,13 +948,16 @@ fn broken_states(g: &mut Gen, seen: &mut Seen) {
             }
         }
     }
-    if (sender_nine(&t) || counts_bad(&t.state[3..5])) && t.state[2] <= u32::MAX as u64 {
+    if sender_broken || sender_nine(&t) || counts_bad(&t.state[3..5]) {
         let mut p = SenderPair { ours: t, theirs: TheirSender::new(protocol, 1), window, extra: 0 };
         let payload = g.bytes(3);
+        read_sender(&p);
         for a in [
             one_send(g, &mut p, &mut made, &payload, seen),
             one_ack(&mut p, &made_packet(&mut Gen(1), PacketType::Ack, 0), seen),
-            one_timeout(g, &mut p, &mut vec![], 0, seen),
+            one_timeout(g, &mut p, &mut vec![], Timeout::Number(0), seen),
+            one_timeout(g, &mut p, &mut vec![], Timeout::All, seen),
+            one_timeout(g, &mut p, &mut vec![], Timeout::Earliest, seen),
         ] {
             seen.refused += 1;
             if a[0] < 16 {
@@ -882,35 +965,48 @@ fn broken_states(g: &mut Gen, seen: &mut Seen) {
             }
         }
     }
-    if receiver_nine(&q, output.len()) || counts_bad(&q.state[3..]) {
+    if receiver_broken || receiver_nine(&q, output.len()) || counts_bad(&q.state[3..]) {
         let mut p = ReceiverPair { ours: q, theirs: TheirReceiver::new(protocol, window), output, made: vec![] };
-        let a = one_packet(g, &mut p, &made_packet(&mut Gen(2), PacketType::Data, 0), seen);
-        seen.refused += 1;
-        if a[0] < 16 {
-            fail("broken receiver", format!("{:?} answer {a:?}", p.ours.state));
+        for a in [one_packet(g, &mut p, &made_packet(&mut Gen(2), PacketType::Data, 0), seen), one_drain(&mut p, seen)] {
+            seen.refused += 1;
+            if a[0] < 16 {
+                fail("broken receiver", format!("{:?} answer {a:?}", p.ours.state));
+            }
         }
     }
 }
 
-// Makings that are turned away: 9 for a short store, then 4 for the window.
+// Makings: 4 for a protocol that isn't known; then 9 for a short store, 4 for the window or the retries, 5 for too few words.
 fn makings(g: &mut Gen, seen: &mut Seen) {
-    let protocol = PROTOCOLS[g.below(3) as usize];
+    let protocol = [0, 1, 1, 2, 2, 3, 3, 3, 4, u64::MAX][g.below(10) as usize];
     let window = [0, 1, 2, 32, 33, u64::MAX, u64::MAX / 1404 + 1][g.below(7) as usize];
+    let retries = [0, 3, u32::MAX as u64, 1 << 32, u64::MAX][g.below(5) as usize];
+    let words = [0, 7, 8, 8, 8, 9][g.below(6) as usize];
     let n = [0, 1, 1403, 1404, 2 * 1404, 32 * 1404 - 1, 32 * 1404, 33 * 1404][g.below(8) as usize];
     let store = g.bytes(n);
-    let sized = if protocol == Protocol::StopAndWait { 1 } else { window };
-    let code = verdict(&[(9, ((n / SLOT) as u64) < sized), (4, sized < 1 || 32 < sized)]);
-    let (s, a) = Sender::new(protocol, if protocol == Protocol::StopAndWait { window & 0xffff_ffff } else { window }, store.clone());
-    if a[0] != code || code != 0 && s.store != store {
-        fail("new sender", format!("{protocol:?} window {window} store {n}: {a:?}, expected {code}"));
-    }
-    if protocol == Protocol::SelectiveRepeat {
-        let (r, a) = Receiver::new(protocol, window, store.clone());
-        if a[0] != code || code != 0 && r.store != store {
-            fail("new receiver", format!("window {window} store {n}: {a:?}, expected {code}"));
+    let known = (1..=3).contains(&protocol);
+    let code = |sized: u64, retries: u64| match known {
+        true => verdict(&[(9, ((n / SLOT) as u64) < sized), (4, window < 1 || 32 < window || retries >> 32 != 0), (5, words < 8)]),
+        false => 16 + 4,
+    };
+    let sender = code(if protocol == 1 { 1 } else { window }, retries);
+    let receiver = code(if protocol == 3 { window } else { 0 }, 0);
+    let (mut sent, mut held) = (store.clone(), store.clone());
+    let made = [Sender::make(protocol, window, retries, words, &mut sent), Receiver::make(protocol, window, words, &mut held)];
+    let cleared = |slots: u64| {
+        let mut s = store.clone();
+        s[..slots as usize * SLOT].fill(0);
+        s
+    };
+    let slots = [if protocol == 1 { 1 } else { window }, if protocol == 3 { window } else { 0 }];
+    let after = [sent, held];
+    for (i, want) in [sender, receiver].into_iter().enumerate() {
+        let good = if want == 0 { after[i] == cleared(slots[i]) } else { after[i] == store };
+        if made[i].1 != if want == 0 { [1, 0, 0] } else { [want, 0, 0] } || !good {
+            fail(["new sender", "new receiver"][i], format!("protocol {protocol} window {window} retries {retries} words {words} store {n}: {:?}, expected {want}", made[i].1));
         }
+        seen.refused += (want != 0) as u64;
     }
-    seen.refused += (code != 0) as u64;
 }
 
 // ---- cases for crates/arq_replay: see the head of its source
@@ -978,9 +1074,9 @@ impl Replayed {
         let [window, base, ..] = self.s.state;
         // of Go-Back-N always all: the number is passed over
         let number = if self.s.protocol == Protocol::GoBackN { 0 } else { (base + g.below(window + 1)).saturating_sub(g.below(8) / 7) };
-        let (_, need) = resent(&self.s, number);
+        let (_, need) = resent(&self.s, Timeout::Number(number));
         let room = room(g, need);
-        let e = expected_timeout(&self.s, &mut self.their_sender, number, room);
+        let e = expected_timeout(&self.s, &mut self.their_sender, Timeout::Number(number), room);
         cases.case(format!("o {number} {room}"), self.sender_text(e, "none", "", Some(room)));
     }
     fn ack(&mut self, g: &mut Gen, cases: &mut Cases) {
@@ -993,7 +1089,7 @@ impl Replayed {
     fn packet(&mut self, g: &mut Gen, cases: &mut Cases) {
         let [window, base, filled, ..] = self.r.state;
         let due = self.made.iter().rev().find(|m| m[..4] == (base as u32).to_be_bytes()).filter(|_| g.below(3) == 0).cloned();
-        let raw = due.unwrap_or_else(|| handed(g, &self.made, base, window));
+        let raw = due.unwrap_or_else(|| handed(g, &self.made, base, self.s.state[0]));
         let room = if g.below(12) == 0 { g.below(10) as usize } else { 10 + g.below(3) as usize };
         let e = expected_packet(&self.r, &mut self.their_receiver, &raw, self.output.len(), room);
         if e.answer[0] < 16 {
@@ -1137,7 +1233,7 @@ fn new_replayed(g: &mut Gen, protocol: Protocol, window: u64, retries: u64, case
     Replayed {
         s: Sender { protocol, state: [sized as u64, 0, 0, 0, 0, retries, 0], store: sent },
         their_sender: TheirSender::new(protocol, setting),
-        r: Receiver { protocol, state: [sized as u64, 0, 0, 0, 0, 0], store: held },
+        r: Receiver { protocol, state: [if protocol == Protocol::SelectiveRepeat { sized as u64 } else { 1 }, 0, 0, 0, 0, 0], store: held },
         their_receiver: TheirReceiver::new(protocol, sized as u64),
         output,
         made: vec![],
@@ -1211,6 +1307,6 @@ fn main() {
             makings(&mut g, &mut seen);
         }
     }
-    let Seen { calls, refused, sent, full, resent, acknowledged, delivered, several, held, unanswered, high, numbers } = seen;
-    println!("arq: no difference; {calls} calls, {refused} refused; {sent} chunks sent, {full} full windows, {resent} sent again, {acknowledged} ACKs accepted; {delivered} delivered, {several} times several at once, {held} held, {unanswered} packets unanswered; {high} calls near {LIMIT}, {numbers} of all refused by 7");
+    let Seen { calls, refused, sent, full, resent, acknowledged, delivered, several, held, unanswered, drained, high, numbers } = seen;
+    println!("arq: no difference; {calls} calls, {refused} refused; {sent} chunks sent, {full} full windows, {resent} sent again, {acknowledged} ACKs accepted; {delivered} delivered, {several} times several at once, {held} held, {unanswered} packets unanswered, {drained} drains; {high} calls near {LIMIT}, {numbers} of all refused by 7");
 }

@@ -1,4 +1,5 @@
-// The exported functions of crates/arq_ffi, for compare/arq.rs and bench/arq.rs.
+// The calls of the protocol ends, for compare/arq.rs.
+use crate::exports::*;
 
 #[derive(Clone, Copy, PartialEq, Eq, Debug)]
 pub enum Protocol {
@@ -7,27 +8,44 @@ pub enum Protocol {
     SelectiveRepeat = 2,
 }
 
-extern "C" {
-    fn arq_sender_new(protocol: u64, setting: u64, state: *mut u64, ns: usize, store: *mut u8, nt: usize, answer: *mut u64, na: usize);
-    fn arq_send_chunk(protocol: u64, state: *mut u64, ns: usize, store: *mut u8, nt: usize, payload: *const u8, np: usize, out: *mut u8, no: usize, answer: *mut u64, na: usize);
-    fn arq_handle_ack(protocol: u64, state: *mut u64, ns: usize, store: *mut u8, nt: usize, raw: *const u8, nr: usize, answer: *mut u64, na: usize);
-    fn arq_handle_timeout(protocol: u64, which: u64, state: *mut u64, ns: usize, store: *mut u8, nt: usize, out: *mut u8, no: usize, answer: *mut u64, na: usize);
-    fn arq_sender_read(protocol: u64, state: *const u64, ns: usize, store: *const u8, nt: usize, answer: *mut u64, na: usize);
-    fn arq_receiver_new(protocol: u64, window: u64, state: *mut u64, ns: usize, store: *mut u8, nt: usize, answer: *mut u64, na: usize);
-    fn arq_handle_packet(protocol: u64, state: *mut u64, ns: usize, store: *mut u8, nt: usize, raw: *const u8, nr: usize, output: *mut u8, no: usize, ack: *mut u8, nk: usize, answer: *mut u64, na: usize);
-    fn arq_buffered_count(state: *const u64, ns: usize, store: *const u8, nt: usize, answer: *mut u64, na: usize);
+#[derive(Clone, Copy, PartialEq, Eq, Debug)]
+pub enum Timeout {
+    All,
+    Earliest,
+    Number(u64),
 }
 
-// A kind (0 nothing, 1 done, 16 + n the refusal n) and two values.
+// A kind (0 nothing, 1 done, 16 + n the refusal n) and two values: the whole of what an export answers, or a kind of its own.
 pub type Answer = [u64; 3];
 
-fn ask(call: impl FnOnce(*mut u64)) -> Answer {
-    let mut a = [0u64; 3];
-    call(a.as_mut_ptr());
+// nothing: the status of this call's other ordinary answer.
+fn answer(a: u64, nothing: u64) -> Answer {
+    match status(a) {
+        DONE => [1, value(a), 0],
+        n @ 1..=15 => [16 + n, value(a) & 0xffff, value(a) >> 16],
+        n if n == nothing => [0, value(a), 0],
+        n => [1000 + n, value(a), 0],
+    }
+}
+
+// No other ordinary answer.
+const NONE: u64 = 255;
+
+// Calls with the state's words behind word 0, which no call changes but a maker.
+fn with_words<const N: usize>(kind: u64, state: &mut [u64; N], call: impl FnOnce(*mut u64, usize) -> u64) -> u64 {
+    let mut words = [0u64; 8];
+    words[0] = kind;
+    words[1..=N].copy_from_slice(state);
+    words[N + 1..].fill(UNUSED);
+    let a = call(words.as_mut_ptr(), 8);
+    assert!(words[0] == kind && words[N + 1..].iter().all(|w| *w == UNUSED), "words {words:?}");
+    state.copy_from_slice(&words[1..=N]);
     a
 }
 
-// state: window_size, send_base, next_seq_num, total_sent, retransmissions, max_retries, current_retries
+const UNUSED: u64 = 0xA5A5_A5A5_A5A5_A5A5;
+
+// state, words 1 to 7: window_size, send_base, next_seq_num, total_sent, retransmissions, max_retries, current_retries
 #[derive(Clone, PartialEq, Debug)]
 pub struct Sender {
     pub protocol: Protocol,
@@ -35,30 +53,62 @@ pub struct Sender {
     pub store: Vec<u8>,
 }
 
+// A maker's words: as they were where it is refused, else with the kind in word 0.
+fn made(a: u64, words: &[u64], kind: u64) -> Answer {
+    let unused = words.iter().all(|w| *w == UNUSED);
+    assert!(if status(a) == DONE { words[0] == kind && words[8..].iter().all(|w| *w == UNUSED) } else { unused }, "made {a} {words:?}");
+    answer(a, NONE)
+}
+
 impl Sender {
-    // setting: the window, or the greatest number of retries of Stop-and-Wait
-    pub fn new(protocol: Protocol, setting: u64, store: Vec<u8>) -> (Sender, Answer) {
-        let mut s = Sender { protocol, state: [0; 7], store };
-        let a = ask(|a| unsafe { arq_sender_new(protocol as u64, setting, s.state.as_mut_ptr(), 7, s.store.as_mut_ptr(), s.store.len(), a, 3) });
-        (s, a)
+    fn kind(&self) -> u64 {
+        257 + self.protocol as u64
     }
-    pub fn send_chunk(&mut self, payload: &[u8], out: &mut [u8]) -> Answer {
-        ask(|a| unsafe { arq_send_chunk(self.protocol as u64, self.state.as_mut_ptr(), 7, self.store.as_mut_ptr(), self.store.len(), payload.as_ptr(), payload.len(), out.as_mut_ptr(), out.len(), a, 3) })
+    // protocol: 1 to 3, or none. Answers the state's words too, as many as were lent.
+    pub fn make(protocol: u64, window: u64, max_retries: u64, words: usize, store: &mut [u8]) -> (Vec<u64>, Answer) {
+        let mut w = vec![UNUSED; words];
+        let a = unsafe { pindrelo_make_sender(protocol, window as usize, max_retries, w.as_mut_ptr(), words, store.as_mut_ptr(), store.len()) };
+        let a = made(a, &w, 256 + protocol);
+        (w, a)
     }
-    pub fn handle_ack(&mut self, raw: &[u8]) -> Answer {
-        ask(|a| unsafe { arq_handle_ack(self.protocol as u64, self.state.as_mut_ptr(), 7, self.store.as_mut_ptr(), self.store.len(), raw.as_ptr(), raw.len(), a, 3) })
+    pub fn new(protocol: Protocol, window: u64, max_retries: u64, mut store: Vec<u8>) -> (Sender, Answer) {
+        let (words, a) = Sender::make(1 + protocol as u64, window, max_retries, 9, &mut store);
+        (Sender { protocol, state: words[1..8].try_into().unwrap(), store }, a)
     }
-    // which: of Go-Back-N 0 all, 1 the earliest; of Selective Repeat the number
-    pub fn handle_timeout(&mut self, which: u64, out: &mut [u8]) -> Answer {
-        ask(|a| unsafe { arq_handle_timeout(self.protocol as u64, which, self.state.as_mut_ptr(), 7, self.store.as_mut_ptr(), self.store.len(), out.as_mut_ptr(), out.len(), a, 3) })
+    pub fn send(&mut self, payload: &[u8], out: &mut [u8]) -> Answer {
+        let (kind, t, nt) = (self.kind(), self.store.as_mut_ptr(), self.store.len());
+        answer(with_words(kind, &mut self.state, |w, n| unsafe { pindrelo_send(w, n, t, nt, payload.as_ptr(), payload.len(), out.as_mut_ptr(), out.len()) }), WINDOW_FULL)
     }
-    // can_send, in_flight_count, has_unacked_packets (is_waiting_for_ack); each 16 + n where it is refused
-    pub fn read(&self) -> Answer {
-        ask(|a| unsafe { arq_sender_read(self.protocol as u64, self.state.as_ptr(), 7, self.store.as_ptr(), self.store.len(), a, 3) })
+    pub fn acknowledge(&mut self, raw: &[u8]) -> Answer {
+        let (kind, t, nt) = (self.kind(), self.store.as_mut_ptr(), self.store.len());
+        answer(with_words(kind, &mut self.state, |w, n| unsafe { pindrelo_acknowledge(w, n, t, nt, raw.as_ptr(), raw.len()) }), NOT_ACCEPTED)
+    }
+    pub fn timeout(&mut self, which: Timeout, out: &mut [u8]) -> Answer {
+        let (kind, t, nt, o, no) = (self.kind(), self.store.as_mut_ptr(), self.store.len(), out.as_mut_ptr(), out.len());
+        let a = with_words(kind, &mut self.state, |w, n| unsafe {
+            match which {
+                Timeout::All => pindrelo_timeout_all(w, n, t, nt, o, no),
+                Timeout::Earliest => pindrelo_timeout_earliest(w, n, t, nt, o, no),
+                Timeout::Number(number) => pindrelo_timeout_number(w, n, t, nt, number, o, no),
+            }
+        });
+        answer(a, NOTHING)
+    }
+    pub fn can_send(&self) -> Answer {
+        let mut state = self.state;
+        answer(with_words(self.kind(), &mut state, |w, n| unsafe { pindrelo_can_send(w, n) }), NONE)
+    }
+    pub fn in_flight(&self) -> Answer {
+        let mut state = self.state;
+        answer(with_words(self.kind(), &mut state, |w, n| unsafe { pindrelo_in_flight(w, n, self.store.as_ptr(), self.store.len()) }), NONE)
+    }
+    // Go-Back-N's; no host has it
+    pub fn has_unacked_packets(&self) -> Answer {
+        answer(unsafe { arq_has_unacked_packets(self.state.as_ptr(), 7) }, NONE)
     }
 }
 
-// state: window_size, base, fill mark, three counters in the reference's order
+// state, words 1 to 6: window_size (1 but in Selective Repeat), base, fill mark, three counters in the reference's order
 #[derive(Clone, PartialEq, Debug)]
 pub struct Receiver {
     pub protocol: Protocol,
@@ -67,15 +117,30 @@ pub struct Receiver {
 }
 
 impl Receiver {
-    pub fn new(protocol: Protocol, window: u64, store: Vec<u8>) -> (Receiver, Answer) {
-        let mut r = Receiver { protocol, state: [window, 0, 0, 0, 0, 0], store };
-        let a = ask(|a| unsafe { arq_receiver_new(protocol as u64, window, r.state.as_mut_ptr(), 6, r.store.as_mut_ptr(), r.store.len(), a, 3) });
-        (r, a)
+    fn kind(&self) -> u64 {
+        260 + self.protocol as u64
     }
-    pub fn handle_packet(&mut self, raw: &[u8], output: &mut [u8], ack: &mut [u8]) -> Answer {
-        ask(|a| unsafe { arq_handle_packet(self.protocol as u64, self.state.as_mut_ptr(), 6, self.store.as_mut_ptr(), self.store.len(), raw.as_ptr(), raw.len(), output.as_mut_ptr(), output.len(), ack.as_mut_ptr(), ack.len(), a, 3) })
+    pub fn make(protocol: u64, window: u64, words: usize, store: &mut [u8]) -> (Vec<u64>, Answer) {
+        let mut w = vec![UNUSED; words];
+        let a = unsafe { pindrelo_make_receiver(protocol, window as usize, w.as_mut_ptr(), words, store.as_mut_ptr(), store.len()) };
+        let a = made(a, &w, 259 + protocol);
+        assert!(a[0] != 1 || w[7] == 0, "word 7 of {w:?}");
+        (w, a)
     }
+    pub fn new(protocol: Protocol, window: u64, mut store: Vec<u8>) -> (Receiver, Answer) {
+        let (words, a) = Receiver::make(1 + protocol as u64, window, 9, &mut store);
+        (Receiver { protocol, state: words[1..7].try_into().unwrap(), store }, a)
+    }
+    pub fn receive(&mut self, raw: &[u8], output: &mut [u8], ack: &mut [u8]) -> Answer {
+        let (kind, t, nt) = (self.kind(), self.store.as_mut_ptr(), self.store.len());
+        answer(with_words(kind, &mut self.state, |w, n| unsafe { pindrelo_receive(w, n, t, nt, raw.as_ptr(), raw.len(), output.as_mut_ptr(), output.len(), ack.as_mut_ptr(), ack.len()) }), SILENT)
+    }
+    pub fn drain(&mut self, output: &[u8]) -> Answer {
+        let (kind, t, nt) = (self.kind(), self.store.as_ptr(), self.store.len());
+        answer(with_words(kind, &mut self.state, |w, n| unsafe { pindrelo_drain(w, n, t, nt, output.as_ptr(), output.len()) }), NONE)
+    }
+    // Selective Repeat's; no host has it
     pub fn buffered_count(&self) -> Answer {
-        ask(|a| unsafe { arq_buffered_count(self.state.as_ptr(), 6, self.store.as_ptr(), self.store.len(), a, 3) })
+        answer(unsafe { arq_buffered_count(self.state.as_ptr(), 6, self.store.as_ptr(), self.store.len()) }, NONE)
     }
 }

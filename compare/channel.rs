@@ -6,6 +6,8 @@ extern crate reference;
 
 #[path = "channel_calls.rs"]
 mod calls;
+#[path = "exports.rs"]
+mod exports;
 #[path = "generator.rs"]
 mod generator;
 

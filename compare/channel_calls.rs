@@ -1,14 +1,5 @@
-// The exported functions of crates/channel_ffi, for compare/channel.rs and bench/channel.rs.
-extern "C" {
-    fn channel_new(reals: *const f64, nr: usize, numbers: *const u64, nn: usize) -> u64;
-    fn channel_process(reals: *const f64, nr: usize, numbers: *const u64, nn: usize, packet: *const u8, np: usize, out: *mut u8, no: usize, answer: *mut u64, na: usize);
-    fn schedule_new(records: *mut [u64; 4], nr: usize, places: *mut u8, np: usize, answer: *mut u64, na: usize);
-    fn schedule_at(records: *mut [u64; 4], nr: usize, places: *mut u8, np: usize, packet: *const u8, nk: usize, count: usize, now: u64, next: u64, copies: u64, first: u64, second: u64, answer: *mut u64, na: usize);
-    fn pop_ready_at(records: *mut [u64; 4], nr: usize, places: *mut u8, np: usize, out: *mut u8, no: usize, count: usize, now: u64, next: u64, answer: *mut u64, na: usize);
-    fn schedule_read(records: *const [u64; 4], nr: usize, places: *const u8, np: usize, count: usize, next: u64, answer: *mut u64, na: usize);
-    fn schedule_at_unchecked(records: *mut [u64; 4], nr: usize, places: *mut u8, np: usize, packet: *const u8, nk: usize, count: usize, now: u64, next: u64, delay: u64);
-    fn pop_ready_at_unchecked(records: *mut [u64; 4], nr: usize, places: *mut u8, np: usize, out: *mut u8, no: usize, count: usize, now: u64, next: u64) -> usize;
-}
+// The calls of the channel and the schedule, for compare/channel.rs and bench/channel.rs. No host has them: crates/bench_ffi exports them.
+use crate::exports::*;
 
 pub fn new_channel(reals: &[f64], numbers: &[u64]) -> u64 {
     unsafe { channel_new(reals.as_ptr(), reals.len(), numbers.as_ptr(), numbers.len()) }

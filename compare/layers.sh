@@ -7,7 +7,7 @@ if [ -n "$reference" ]; then
   reference=$(realpath "$reference")
 fi
 cd "$(dirname "$0")/.."
-# Layer L has compare/L.rs, bench/L.rs, crates/L_ffi and crates/L_replay.
+# Layer L has compare/L.rs, bench/L.rs and crates/L_replay.
 # shellcheck disable=SC2034
 layers="packet timing channel arq"
 if [ -z "$reference" ]; then

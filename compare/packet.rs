@@ -1,10 +1,12 @@
-// Compares the packet layer with the reference's packet.rs.
+// Compares the packet layer with the reference's packet.rs: the exports for hosts and, of what hosts don't have, those of crates/bench_ffi.
 // usage: packet SECONDS [SEED]      compares for about that long; exit status 1 at the first difference
 //        packet --sample DIR [SEED] writes DIR/stdin (cases) and DIR/stdout (the reference's answers) for crates/packet_replay
 // Where document 01 refuses and the reference does not (6: payload above 1,400; 5: buffer too short), the expected answer is document 01's.
 extern crate reference;
 #[path = "cases.rs"]
 mod cases;
+#[path = "exports.rs"]
+mod exports;
 
 use cases::{given, numbers, shown, Cases};
 use reference::packet::{self as rust, Packet, PacketError, PacketType};
@@ -12,68 +14,45 @@ use std::fmt::Write as _;
 use std::time::{Duration, Instant};
 
 mod ours {
-    mod export {
-        extern "C" {
-            pub fn packet_header_size() -> usize;
-            pub fn packet_max_payload_size() -> usize;
-            pub fn packet_flag_retransmitted() -> u8;
-            pub fn packet_try_from(byte: u8, answer: *mut u64, n: usize) -> u8;
-            pub fn packet_new_data(seq: u32, answer: *mut u64, n: usize) -> u8;
-            pub fn packet_new_ack(seq: u32, answer: *mut u64, n: usize) -> u8;
-            pub fn packet_new_fin(seq: u32, answer: *mut u64, n: usize) -> u8;
-            pub fn packet_is_retransmitted(seq: u32, kind: u8, flags: u8, checksum: u16, answer: *mut u64, n: usize) -> u8;
-            pub fn packet_set_retransmitted(seq: u32, kind: u8, flags: u8, checksum: u16, answer: *mut u64, n: usize) -> u8;
-            pub fn packet_compute_checksum(seq: u32, kind: u8, flags: u8, checksum: u16, payload: *const u8, len: usize, answer: *mut u64, n: usize) -> u8;
-            pub fn packet_compute_and_set_checksum(seq: u32, kind: u8, flags: u8, checksum: u16, payload: *const u8, len: usize, answer: *mut u64, n: usize) -> u8;
-            pub fn packet_to_bytes(seq: u32, kind: u8, flags: u8, checksum: u16, payload: *const u8, len: usize, out: *mut u8, room: usize, answer: *mut u64, n: usize) -> u8;
-            pub fn packet_write(seq: u32, kind: u8, flags: u8, payload: *const u8, len: usize, out: *mut u8, room: usize, answer: *mut u64, n: usize) -> u8;
-            pub fn packet_from_bytes(raw: *const u8, len: usize, answer: *mut u64, n: usize) -> u8;
-            pub fn packet_is_valid(raw: *const u8, len: usize, answer: *mut u64, n: usize) -> u8;
-            pub fn packet_payload_len(raw: *const u8, len: usize) -> usize;
-            pub fn packet_payload(raw: *const u8, len: usize, out: *mut u8, room: usize) -> usize;
-        }
-    }
+    use crate::exports::*;
     // The number of the refusal or 0, and the values.
     pub type Answer = (u8, [u64; 4]);
     pub const UNSET: u64 = 0xA5A5_A5A5_A5A5_A5A5;
-    // Calls with an answer of five places; the last must stay as it was.
-    fn ask(f: impl Fn(*mut u64, usize) -> u8) -> Answer {
+    // An export's answer whole: where it isn't refused, `value` says what its value is.
+    pub fn answer(a: u64, value: impl Fn(u64) -> [u64; 4]) -> Answer {
+        match status(a) {
+            DONE => (0, value(a >> 8)),
+            n @ 1..=15 => (n as u8, [a >> 8 & 0xffff, a >> 24 & 0xffff, a >> 40, 0]),
+            n => (n as u8, [a >> 8, 0, 0, 0]),
+        }
+    }
+    fn one(a: u64) -> Answer { answer(a, |v| [v, 0, 0, 0]) }
+    // A packet in the first four of five places; the last must stay as it was, and all where it is refused.
+    fn ask(f: impl Fn(*mut u64, usize) -> u64) -> Answer {
         let mut a = [UNSET; 5];
         let r = f(a.as_mut_ptr(), 5);
         assert_eq!(a[4], UNSET, "a place past the answer was written");
-        (r, [a[0], a[1], a[2], a[3]])
+        assert!(r == DONE || a == [UNSET; 5], "a refused call wrote its answer");
+        answer(r, |v| { assert_eq!(v, 0); [a[0], a[1], a[2], a[3]] })
     }
-    // The same with an answer that is too short: nothing is written.
-    fn ask_short(f: impl Fn(*mut u64, usize) -> u8) -> u8 {
-        let mut a = [UNSET; 4];
-        let r = f(a.as_mut_ptr(), 3);
-        assert_eq!(a, [UNSET; 4], "an answer that is too short was written");
-        r
-    }
-    use export::*;
     pub fn constants() -> (usize, usize, u8) { unsafe { (packet_header_size(), packet_max_payload_size(), packet_flag_retransmitted()) } }
-    pub fn try_from(b: u8) -> Answer { ask(|a, n| unsafe { packet_try_from(b, a, n) }) }
+    pub fn try_from(b: u8) -> Answer { one(unsafe { packet_try_from(b) }) }
     pub fn new_data(s: u32) -> Answer { ask(|a, n| unsafe { packet_new_data(s, a, n) }) }
     pub fn new_ack(s: u32) -> Answer { ask(|a, n| unsafe { packet_new_ack(s, a, n) }) }
     pub fn new_fin(s: u32) -> Answer { ask(|a, n| unsafe { packet_new_fin(s, a, n) }) }
     pub type Fields = (u32, u8, u8, u16);
-    pub fn is_retransmitted(f: Fields) -> Answer { ask(|a, n| unsafe { packet_is_retransmitted(f.0, f.1, f.2, f.3, a, n) }) }
+    pub fn is_retransmitted(f: Fields) -> Answer { one(unsafe { packet_is_retransmitted(f.0, f.1, f.2, f.3) }) }
     pub fn set_retransmitted(f: Fields) -> Answer { ask(|a, n| unsafe { packet_set_retransmitted(f.0, f.1, f.2, f.3, a, n) }) }
-    pub fn compute_checksum(f: Fields, p: &[u8]) -> Answer { ask(|a, n| unsafe { packet_compute_checksum(f.0, f.1, f.2, f.3, p.as_ptr(), p.len(), a, n) }) }
+    pub fn compute_checksum(f: Fields, p: &[u8]) -> Answer { one(unsafe { packet_compute_checksum(f.0, f.1, f.2, f.3, p.as_ptr(), p.len()) }) }
     pub fn compute_and_set_checksum(f: Fields, p: &[u8]) -> Answer { ask(|a, n| unsafe { packet_compute_and_set_checksum(f.0, f.1, f.2, f.3, p.as_ptr(), p.len(), a, n) }) }
-    pub fn to_bytes(f: Fields, p: &[u8], out: &mut [u8]) -> Answer {
-        let (o, m) = (out.as_mut_ptr(), out.len());
-        ask(|a, n| unsafe { packet_to_bytes(f.0, f.1, f.2, f.3, p.as_ptr(), p.len(), o, m, a, n) })
-    }
-    pub fn write(f: Fields, p: &[u8], out: &mut [u8]) -> Answer {
-        let (o, m) = (out.as_mut_ptr(), out.len());
-        ask(|a, n| unsafe { packet_write(f.0, f.1, f.2, p.as_ptr(), p.len(), o, m, a, n) })
-    }
+    pub fn to_bytes(f: Fields, p: &[u8], out: &mut [u8]) -> Answer { one(unsafe { packet_to_bytes(f.0, f.1, f.2, f.3, p.as_ptr(), p.len(), out.as_mut_ptr(), out.len()) }) }
     pub fn from_bytes(raw: &[u8]) -> Answer { ask(|a, n| unsafe { packet_from_bytes(raw.as_ptr(), raw.len(), a, n) }) }
-    pub fn from_bytes_short(raw: &[u8]) -> u8 { ask_short(|a, n| unsafe { packet_from_bytes(raw.as_ptr(), raw.len(), a, n) }) }
-    pub fn is_valid(raw: &[u8]) -> Answer { ask(|a, n| unsafe { packet_is_valid(raw.as_ptr(), raw.len(), a, n) }) }
-    pub fn payload_len(raw: &[u8]) -> usize { unsafe { packet_payload_len(raw.as_ptr(), raw.len()) } }
     pub fn payload(raw: &[u8], out: &mut [u8]) -> usize { unsafe { packet_payload(raw.as_ptr(), raw.len(), out.as_mut_ptr(), out.len()) } }
+    // The host's: number, kind and flags; nothing or `INVALID`; the length; a datagram with its checksum.
+    pub fn read(raw: &[u8]) -> Answer { answer(unsafe { pindrelo_read(raw.as_ptr(), raw.len()) }, |v| [v & 0xffff_ffff, v >> 32 & 0xff, v >> 40 & 0xff, v >> 48]) }
+    pub fn validate(raw: &[u8]) -> Answer { one(unsafe { pindrelo_validate(raw.as_ptr(), raw.len()) }) }
+    pub fn payload_length(raw: &[u8]) -> Answer { one(unsafe { pindrelo_payload_length(raw.as_ptr(), raw.len()) }) }
+    pub fn write(kind: u64, number: u64, flags: u64, p: &[u8], out: &mut [u8]) -> Answer { one(unsafe { pindrelo_write(kind, number, flags, p.as_ptr(), p.len(), out.as_mut_ptr(), out.len()) }) }
 }
 use ours::{Answer, Fields};
 
@@ -83,6 +62,7 @@ const KIND: u8 = 2;
 const CUT: u8 = 3;
 const FULL: u8 = 5;
 const LONG: u8 = 6;
+const NUMBERS: u8 = 7;
 
 struct Rng(u64);
 impl Rng {
@@ -116,6 +96,8 @@ fn same<T: PartialEq + std::fmt::Debug>(what: &str, input: impl Fn() -> String, 
 }
 fn one(x: u64) -> Answer { (0, [x, 0, 0, 0]) }
 fn refused(n: u8, a: u64, b: u64) -> Answer { (n, [a, b, 0, 0]) }
+const VALID: Answer = (0, [0; 4]);
+const INVALID: Answer = (exports::INVALID as u8, [0; 4]);
 fn fields(p: &Packet) -> Answer { (0, [p.seq_num as u64, p.pkt_type as u8 as u64, p.flags as u64, p.checksum as u64]) }
 fn error(e: &PacketError) -> Answer {
     match e {
@@ -136,13 +118,14 @@ fn read(c: &mut Count, raw: &[u8]) -> Answer {
     let input = || hex(raw);
     let kept = raw.to_vec();
     let (head, payload, valid) = match Packet::from_bytes(raw) {
-        Ok(p) => (fields(&p), p.payload.clone(), one(p.is_valid() as u64)),
+        Ok(p) => (fields(&p), p.payload.clone(), if p.is_valid() { VALID } else { INVALID }),
         Err(e) => (error(&e), Vec::new(), error(&e)),
     };
     same("from_bytes", input, head, ours::from_bytes(raw));
-    same("from_bytes, answer too short", input, head.0, ours::from_bytes_short(raw));
-    same("is_valid", input, valid, ours::is_valid(raw));
-    same("payload's length", input, payload.len(), ours::payload_len(raw));
+    same("read", input, if head.0 == 0 { (0, [head.1[0], head.1[1], head.1[2], 0]) } else { head }, ours::read(raw));
+    same("validate", input, valid, ours::validate(raw));
+    same("payload_length", input, if head.0 == 0 { one(payload.len() as u64) } else { head }, ours::payload_length(raw));
+    if head.0 == 0 && raw[10..10 + payload.len()] != payload[..] { differ("where the payload lies", input(), hex(&payload), hex(&raw[10..])); }
     let mut out = vec![GUARD; payload.len() + 3];
     same("payload", input, payload.len(), ours::payload(raw, &mut out));
     let mut expected = payload;
@@ -151,7 +134,7 @@ fn read(c: &mut Count, raw: &[u8]) -> Answer {
     if kept != raw { differ("datagram after reading", hex(&kept), hex(&kept), hex(raw)); }
     c.reads += 1;
     c.refusals[head.0 as usize] += 1;
-    if valid == one(1) { c.valid += 1; }
+    if valid == VALID { c.valid += 1; }
     valid
 }
 
@@ -175,11 +158,46 @@ fn write(c: &mut Count, f: Fields, payload: &[u8], room: usize) {
             one(bytes.len() as u64)
         };
         let mut out = vec![GUARD; room];
-        let got = if made { ours::write(f, payload, &mut out) } else { ours::to_bytes(f, payload, &mut out) };
+        let got = if made { ours::write(f.1 as u64, f.0 as u64, f.2 as u64, payload, &mut out) } else { ours::to_bytes(f, payload, &mut out) };
         same(what, input, answer, got);
         if expected != out { differ(&format!("{}: bytes", what), input(), hex(&expected), hex(&out)); }
         c.writes += 1;
         c.refusals[answer.0 as usize] += 1;
+    }
+}
+
+// A host's write with numbers that have no place in a header: 2, 6, 7, 5 in that order, as include/pindrelo.h has it; what fits is the reference's datagram.
+fn wide_writes(c: &mut Count) {
+    for kind in [0, 1, 2, 3, 4, 255, 256, 257, u64::MAX] {
+        for number in [0, u32::MAX as u64, 1 << 32, u64::MAX] {
+            for flags in [0, 1, 255, 256, u64::MAX] {
+                for n in [0usize, 5, 1400, 1401] {
+                    for room in [0, 9 + n, 10 + n] {
+                        let payload: Vec<u8> = (0..n).map(|i| (i * 31 + 7) as u8).collect();
+                        let mut expected = vec![GUARD; room];
+                        let answer = match () {
+                            _ if kind < 1 || 3 < kind => refused(KIND, kind.min(255), 0),
+                            _ if n > 1400 => refused(LONG, 0, 0),
+                            _ if number >> 32 != 0 || flags > 255 => refused(NUMBERS, 0, 0),
+                            _ if room < 10 + n => refused(FULL, 0, 0),
+                            _ => {
+                                let mut p = packet((number as u32, kind as u8, flags as u8, 0), &payload);
+                                p.compute_and_set_checksum();
+                                expected[..10 + n].copy_from_slice(&p.to_bytes());
+                                one(10 + n as u64)
+                            }
+                        };
+                        let mut out = vec![GUARD; room];
+                        let input = || format!("kind {kind} number {number} flags {flags} payload({n}) buffer {room}");
+                        same("write", input, answer, ours::write(kind, number, flags, &payload, &mut out));
+                        if expected != out { differ("write: bytes", input(), hex(&expected), hex(&out)); }
+                        c.writes += 1;
+                        c.written += (answer.0 == 0) as u64;
+                        if answer.0 != KIND { c.refusals[answer.0 as usize] += 1; }
+                    }
+                }
+            }
+        }
     }
 }
 
@@ -285,15 +303,15 @@ fn damaged(c: &mut Count, f: Fields, payload: &[u8], g: &mut Rng) {
     let mut p = packet(f, payload);
     p.compute_and_set_checksum();
     let mut raw = p.to_bytes();
-    same("made datagram", || hex(&raw), one(1), read(c, &raw));
+    same("made datagram", || hex(&raw), VALID, read(c, &raw));
     for i in 0..raw.len() {
         for b in 0..8 {
             raw[i] ^= 1 << b;
             let answer = read(c, &raw);
-            let valid = answer == one(1);
+            let valid = answer == VALID;
             if i == 6 || i == 7 {
                 c.length_flips += 1;
-                c.length_flips_read += (answer.0 == 0) as u64;
+                c.length_flips_read += (answer == VALID || answer == INVALID) as u64;
                 c.length_flips_valid += valid as u64;
             } else {
                 c.flips += 1;
@@ -313,6 +331,7 @@ fn compare(seconds: u64, seed: u64) {
     let mut g = Rng(seed);
     let mut c = Count::default();
     small(&mut c);
+    wide_writes(&mut c);
     short(&mut c);
     // K4 and the made datagram of payload FF FD: a flip in byte 7 that passes.
     damaged(&mut c, (0, 1, 0, 0), &[0xFF, 0xFD], &mut g);
@@ -327,8 +346,8 @@ fn compare(seconds: u64, seed: u64) {
         c.rounds += 1;
     }
     println!(
-        "packet: equal; seed {:#x}; {} rounds, {} reads ({} valid; refused 1: {}, 2: {}, 3: {}), {} writes ({} written; refused 5: {}, 6: {}), {} of kinds, flags, makers; flipped bits outside bytes 6-7: {} of {} valid, in bytes 6-7: {} of {} valid, {} readable; {:.1} s",
-        seed, c.rounds, c.reads, c.valid, c.refusals[1], c.refusals[2], c.refusals[3], c.writes, c.written, c.refusals[5], c.refusals[6], c.others,
+        "packet: equal; seed {:#x}; {} rounds, {} reads ({} valid; refused 1: {}, 2: {}, 3: {}), {} writes ({} written; refused 5: {}, 6: {}, 7: {}), {} of kinds, flags, makers; flipped bits outside bytes 6-7: {} of {} valid, in bytes 6-7: {} of {} valid, {} readable; {:.1} s",
+        seed, c.rounds, c.reads, c.valid, c.refusals[1], c.refusals[2], c.refusals[3], c.writes, c.written, c.refusals[5], c.refusals[6], c.refusals[7], c.others,
         c.flips_valid, c.flips, c.length_flips_valid, c.length_flips, c.length_flips_read, start.elapsed().as_secs_f64()
     );
 }

@@ -1,4 +1,5 @@
-// Compares the timing layer with the reference's timing/timer.rs and timing/rto.rs.
+// Compares the timing layer with the reference's timing/timer.rs and timing/rto.rs: the exports for hosts and, of what hosts don't have, those of
+// crates/bench_ffi.
 // usage: timing SECONDS [SEED]        compares for about that long; exit status 1 at the first difference
 //        timing --sample DIR [SEED]   writes DIR/stdin (cases) and DIR/stdout (the reference's answers)
 // Where document 01 refuses and the reference does not, the expected answer is document 01's and the state must stay as it was.
@@ -11,42 +12,29 @@ mod generator;
 #[path = "cases.rs"]
 #[allow(dead_code)]
 mod cases;
+#[path = "exports.rs"]
+mod exports;
 
 use cases::{numbers, Cases};
+use exports::*;
 use generator::{fail, verdict, Gen};
 use reference::rto::{RtoConfig, RtoEstimator};
 use reference::timer::{MultiTimer, RetransmissionTimer};
 use std::collections::BTreeMap;
 use std::time::{Duration, Instant};
 
-extern "C" {
-    fn timing_as_secs_f64(ns: u64) -> f64;
-    fn timing_from_secs_f64(x: f64, a: *mut u64, n: usize) -> u8;
-    fn timing_timer_start(s: *mut u64, n: usize, now: u64, d: u64) -> u8;
-    fn timing_timer_cancel(s: *mut u64, n: usize) -> u8;
-    fn timing_timer_active(s: *const u64, n: usize, a: *mut u64, m: usize) -> u8;
-    fn timing_timer_expired(s: *const u64, n: usize, now: u64, a: *mut u64, m: usize) -> u8;
-    fn timing_timer_expired_for(s: *const u64, n: usize, g: u64, now: u64, a: *mut u64, m: usize) -> u8;
-    fn timing_timer_remaining(s: *const u64, n: usize, now: u64, a: *mut u64, m: usize) -> u8;
-    fn timing_multi_new(s: *mut u64, n: usize, k: *mut u32, kn: usize, d: *mut u64, dn: usize) -> u8;
-    fn timing_multi_start(s: *mut u64, n: usize, k: *mut u32, kn: usize, d: *mut u64, dn: usize, key: u32, now: u64, dur: u64) -> u8;
-    fn timing_multi_cancel(s: *mut u64, n: usize, k: *mut u32, kn: usize, d: *mut u64, dn: usize, key: u32, a: *mut u64, m: usize) -> u8;
-    fn timing_multi_expired(s: *const u64, n: usize, k: *const u32, kn: usize, d: *const u64, dn: usize, key: u32, now: u64, a: *mut u64, m: usize) -> u8;
-    fn timing_multi_pop(s: *mut u64, n: usize, k: *mut u32, kn: usize, d: *mut u64, dn: usize, now: u64, o: *mut u32, on: usize, a: *mut u64, m: usize) -> u8;
-    fn timing_multi_earliest(s: *const u64, n: usize, k: *const u32, kn: usize, d: *const u64, dn: usize, a: *mut u64, m: usize) -> u8;
-    fn timing_multi_clear(s: *mut u64, n: usize, k: *mut u32, kn: usize, d: *mut u64, dn: usize) -> u8;
-    fn timing_rto_new(w: *mut u64, n: usize, d: *mut f64, m: usize);
-    fn timing_rto_with_config(w: *mut u64, n: usize, d: *mut f64, m: usize) -> u8;
-    fn timing_rto_update(w: *mut u64, n: usize, d: *mut f64, m: usize, sample: u64, again: bool, a: *mut u64, k: usize) -> u8;
-    fn timing_rto_timeout(w: *mut u64, n: usize, d: *mut f64, m: usize, a: *mut u64, k: usize) -> u8;
-    fn timing_rto_reset(w: *mut u64, n: usize, d: *mut f64, m: usize) -> u8;
-    fn timing_rto_limit(w: *const u64, n: usize, d: *const f64, m: usize, max: u32, a: *mut u64, k: usize) -> u8;
-    fn timing_rto_mean(w: *const u64, n: usize, d: *const f64, m: usize, a: *mut f64, k: usize) -> u8;
-}
-
 const DAY: u64 = 86_400_000_000_000;
 const TWO_DAYS: u64 = 2 * DAY;
-const NONE: u64 = u64::MAX;
+// A refusal of these layers, whole: it has no values.
+const STATE: u64 = 9;
+const COUNTS: u64 = 8;
+const TIME: u64 = 10;
+const SETUP: u64 = 4;
+const FULL: u64 = 5;
+// Word 0 of a state.
+const TIMERS: u64 = 263;
+const SINGLE_TIMER: u64 = 264;
+const ESTIMATOR: u64 = 265;
 
 impl Gen {
     fn of<T: Copy>(&mut self, xs: &[T]) -> T { xs[self.below(xs.len() as u64) as usize] }
@@ -84,71 +72,87 @@ fn durations(r: &mut Gen, n: &mut u64) {
         let mut a = [7u64];
         let got = unsafe { timing_from_secs_f64(y, a.as_mut_ptr(), 1) };
         if y >= 0.0 && y < 17179869184.0 {
-            same!((got, a[0]), (0, ns(Duration::from_secs_f64(y))), "from_secs_f64({y:?} {:x})", y.to_bits());
+            same!((got, a[0]), (done(0), ns(Duration::from_secs_f64(y))), "from_secs_f64({y:?} {:x})", y.to_bits());
         } else {
-            same!((got, a[0]), (255, 7), "from_secs_f64({y:?})");
+            same!((got, a[0]), (NOTHING, 7), "from_secs_f64({y:?})");
         }
         *n += 2;
     }
+}
+
+// All calls on a single timer; the words are the host's: kind, set, deadline, generation.
+fn timer_calls(s: &mut [u64], now: u64, d: u64, g: u64) -> [u64; 6] {
+    let (p, n) = (s.as_mut_ptr(), s.len());
+    unsafe { [
+        pindrelo_single_timer_cancel(p, n),
+        pindrelo_single_timer_start(p, n, now, d),
+        pindrelo_single_timer_is_active(p, n),
+        pindrelo_single_timer_is_expired(p, n, now),
+        pindrelo_single_timer_is_expired_for(p, n, g, now),
+        pindrelo_single_timer_remaining(p, n, now),
+    ] }
 }
 
 fn timers(r: &mut Gen, n: &mut u64) {
     let zero = Instant::now();
     let at = |x: u64| zero + Duration::from_nanos(x);
     let mut t = RetransmissionTimer::new();
-    let mut s = [0u64; 3];
+    // one word more than a timer has
+    let mut s = [7u64; 5];
+    same!((unsafe { pindrelo_make_single_timer(s.as_mut_ptr(), 3) }, s), (FULL, [7; 5]), "making, too few words");
+    same!((unsafe { pindrelo_make_single_timer(s.as_mut_ptr(), 5) }, s), (done(0), [SINGLE_TIMER, 0, 0, 0, 7]), "making");
     // the reference's generation can't be set; ours starts near the wrap half of the time, and the difference is kept
     let shift = if r.below(2) == 0 { 0u64 } else { u64::MAX - r.below(4) };
-    s[2] = shift;
+    s[3] = shift;
     for _ in 0..60 {
         let now = if r.below(30) == 0 { r.of(&[TWO_DAYS, TWO_DAYS + 1, u64::MAX]) } else { r.span() };
         let d = r.maybe_out();
         let before = s;
         match r.below(6) {
             0 | 1 => {
-                let got = unsafe { timing_timer_start(s.as_mut_ptr(), 3, now, d) };
-                if now > TWO_DAYS || d > DAY || now + d > TWO_DAYS { same!((got, s), (10, before), "start {now} {d}"); } else {
+                let got = unsafe { pindrelo_single_timer_start(s.as_mut_ptr(), 5, now, d) };
+                if now > TWO_DAYS || d > DAY || now + d > TWO_DAYS { same!((got, s), (TIME, before), "start {now} {d}"); } else {
                     let g = t.start_at(at(now), Duration::from_nanos(d));
-                    same!((got, s), (0, [1, now + d, g.wrapping_add(shift)]), "start {now} {d}");
+                    same!((got, s), (done(0), [SINGLE_TIMER, 1, now + d, g.wrapping_add(shift), 7]), "start {now} {d}");
                 }
             }
             2 => {
-                let got = unsafe { timing_timer_cancel(s.as_mut_ptr(), 3) };
+                let got = unsafe { pindrelo_single_timer_cancel(s.as_mut_ptr(), 5) };
                 let g = t.cancel();
-                same!((got, s), (0, [0, 0, g.wrapping_add(shift)]), "cancel");
+                same!((got, s), (done(0), [SINGLE_TIMER, 0, 0, g.wrapping_add(shift), 7]), "cancel");
             }
             _ => {
-                let mut a = [9u64; 4];
                 let late = now > TWO_DAYS;
                 let g = if r.below(2) == 0 { t.generation() } else { t.generation().wrapping_sub(r.below(3)) };
+                let (p, m) = (s.as_ptr(), s.len());
                 let got = unsafe { [
-                    timing_timer_active(s.as_ptr(), 3, a.as_mut_ptr(), 1),
-                    timing_timer_expired(s.as_ptr(), 3, now, a.as_mut_ptr().add(1), 1),
-                    timing_timer_expired_for(s.as_ptr(), 3, g.wrapping_add(shift), now, a.as_mut_ptr().add(2), 1),
-                    timing_timer_remaining(s.as_ptr(), 3, now, a.as_mut_ptr().add(3), 1),
+                    pindrelo_single_timer_is_active(p, m),
+                    pindrelo_single_timer_is_expired(p, m, now),
+                    pindrelo_single_timer_is_expired_for(p, m, g.wrapping_add(shift), now),
+                    pindrelo_single_timer_remaining(p, m, now),
                 ] };
-                if late { same!((got, a), ([0, 10, 10, 10], [t.is_active() as u64, 9, 9, 9]), "reads at {now}"); } else {
-                    same!((got, a), ([0; 4], [t.is_active() as u64, t.is_expired_at(at(now)) as u64, t.is_expired_for_at(g, at(now)) as u64, t.remaining_at(at(now)).map_or(NONE, ns)]), "reads at {now} of {s:?}");
-                }
+                let active = done(t.is_active() as u64);
+                let want = if late { [active, TIME, TIME, TIME] } else {
+                    [active, done(t.is_expired_at(at(now)) as u64), done(t.is_expired_for_at(g, at(now)) as u64), t.remaining_at(at(now)).map_or(NOTHING, |x| done(ns(x)))]
+                };
+                same!((got, s), (want, before), "reads at {now} of {s:?}");
             }
         }
         *n += 1;
     }
-    // a held deadline past its bound
+    // a held deadline past its bound; words that hold no timer, at a time that would be refused after them
     for late in [TWO_DAYS + 1, u64::MAX] {
-        let held = [1, late, 5];
-        let (mut s, mut a) = (held, [9u64; 4]);
-        let (p, q) = (s.as_mut_ptr(), a.as_mut_ptr());
-        let got = unsafe { [
-            timing_timer_cancel(p, 3),
-            timing_timer_start(p, 3, 0, 0),
-            timing_timer_active(p, 3, q, 1),
-            timing_timer_expired(p, 3, 0, q.add(1), 1),
-            timing_timer_expired_for(p, 3, 5, 0, q.add(2), 1),
-            timing_timer_remaining(p, 3, 0, q.add(3), 1),
-        ] };
-        same!((got, s, a), ([10; 6], held, [9; 4]), "held {held:?}");
+        let held = [SINGLE_TIMER, 1, late, 5];
+        let mut s = held;
+        same!((timer_calls(&mut s, 0, 0, 5), s), ([TIME; 6], held), "held {held:?}");
         *n += 6;
+    }
+    for held in [[0, 0, 0, 0], [TIMERS, 0, 0, 5], [SINGLE_TIMER + 256, 1, 2, 5], [SINGLE_TIMER, 2, 2, 5], [SINGLE_TIMER, u64::MAX, 0, 5], [SINGLE_TIMER, 0, 1, 5]] {
+        let mut s = held;
+        same!((timer_calls(&mut s, u64::MAX, 0, 5), s), ([STATE; 6], held), "no timer in {held:?}");
+        let mut s = [SINGLE_TIMER, 1, 2, 5];
+        same!((timer_calls(&mut s[..3], 0, 0, 5), s), ([STATE; 6], [SINGLE_TIMER, 1, 2, 5]), "too few words");
+        *n += 12;
     }
 }
 
@@ -157,58 +161,59 @@ enum Call { Start, Cancel, Expired, Pop, Earliest, Clear }
 use Call::*;
 const CALLS: [Call; 6] = [Start, Cancel, Expired, Pop, Earliest, Clear];
 
-// A timer set and all that a call on it can write.
+// A timer set and all that a call on it can write; the words are the host's: kind, count, generation.
 #[derive(Clone, Debug, PartialEq)]
-struct Set { s: [u64; 2], keys: Vec<u32>, deadlines: Vec<u64>, out: Vec<u32>, answer: u64 }
+struct Set { s: Vec<u64>, keys: Vec<u32>, deadlines: Vec<u64>, out: Vec<u32> }
 
 impl Set {
-    // Ours: the number of the refusal or 0.
-    fn call(&mut self, call: Call, key: u32, now: u64, d: u64) -> u8 {
-        let (s, k, kn, e, en) = (self.s.as_mut_ptr(), self.keys.as_mut_ptr(), self.keys.len(), self.deadlines.as_mut_ptr(), self.deadlines.len());
-        let (o, on, a) = (self.out.as_mut_ptr(), self.out.len(), &mut self.answer as *mut u64);
+    // Ours. Of two calls there is no export for hosts: they are made on what words hold.
+    fn call(&mut self, call: Call, key: u64, now: u64, d: u64) -> u64 {
+        let (s, n, k, kn, e, en) = (self.s.as_mut_ptr(), self.s.len(), self.keys.as_mut_ptr(), self.keys.len(), self.deadlines.as_mut_ptr(), self.deadlines.len());
+        let (o, on) = (self.out.as_mut_ptr(), self.out.len());
         unsafe {
             match call {
-                Start => timing_multi_start(s, 2, k, kn, e, en, key, now, d),
-                Cancel => timing_multi_cancel(s, 2, k, kn, e, en, key, a, 1),
-                Expired => timing_multi_expired(s, 2, k, kn, e, en, key, now, a, 1),
-                Pop => timing_multi_pop(s, 2, k, kn, e, en, now, o, on, a, 1),
-                Earliest => timing_multi_earliest(s, 2, k, kn, e, en, a, 1),
-                Clear => timing_multi_clear(s, 2, k, kn, e, en),
+                Start => pindrelo_timer_start(s, n, k, kn, e, en, key, now, d),
+                Cancel => pindrelo_timer_cancel(s, n, k, kn, e, en, key),
+                Expired => timing_multi_expired(s.add(1), n - 1, k, kn, e, en, key as u32, now),
+                Pop => pindrelo_timer_pop(s, n, k, kn, e, en, now, o, on),
+                Earliest => pindrelo_timer_earliest(s, n, k, kn, e, en),
+                Clear => timing_multi_clear(s.add(1), n - 1, k, kn, e, en),
             }
         }
     }
-    // The same as document 01 has it, on any state.
-    fn model(&mut self, call: Call, key: u32, now: u64, d: u64) -> u8 {
-        let (n, room) = (self.s[0] as usize, self.keys.len());
+    // The same as document 01 has it, on any state; what only hosts can give, other words and wide keys, as include/pindrelo.h has it.
+    fn model(&mut self, call: Call, key: u64, now: u64, d: u64) -> u64 {
+        if self.s.len() < 3 || self.s[0] != TIMERS { return STATE; }
+        let (n, room) = (self.s[1] as usize, self.keys.len());
         let nine = room != self.deadlines.len() || n > room || self.keys[..n].windows(2).any(|p| p[0] >= p[1]);
-        let mut map = BTreeMap::new();
-        if !nine { map = self.keys[..n].iter().copied().zip(self.deadlines[..n].iter().copied()).collect(); }
+        let mut map: BTreeMap<u64, u64> = BTreeMap::new();
+        if !nine { map = self.keys[..n].iter().map(|k| *k as u64).zip(self.deadlines[..n].iter().copied()).collect(); }
         let timed = matches!(call, Start | Expired | Pop) && now > TWO_DAYS;
         let started = call == Start && (d > DAY || now as u128 + d as u128 > TWO_DAYS as u128);
-        let due: Vec<u32> = map.iter().filter(|e| *e.1 <= now).map(|e| *e.0).collect();
-        let full = call == Start && n == room && !map.contains_key(&key) || call == Pop && due.len() > self.out.len();
+        let due: Vec<u32> = map.iter().filter(|e| *e.1 <= now).map(|e| *e.0 as u32).collect();
+        let full = call == Start && !map.contains_key(&key) && (n == room || key >> 32 != 0) || call == Pop && due.len() > self.out.len();
         let v = verdict(&[(9, nine), (10, timed || started || map.values().any(|x| *x > TWO_DAYS)), (5, full)]);
-        if v != 0 { return v as u8 - 16; }
-        match call {
-            Start => { map.insert(key, now + d); self.s[1] = self.s[1].wrapping_add(1); }
-            Cancel => self.answer = map.remove(&key).is_some() as u64,
-            Expired => self.answer = due.contains(&key) as u64,
+        if v != 0 { return v - 16; }
+        let answer = match call {
+            Start => { map.insert(key, now + d); self.s[2] = self.s[2].wrapping_add(1); done(0) }
+            Cancel => done(map.remove(&key).is_some() as u64),
+            Expired => done(due.contains(&(key as u32)) as u64),
             Pop => {
                 self.out[..due.len()].copy_from_slice(&due);
-                self.answer = due.len() as u64;
                 map.retain(|_, x| *x > now);
+                done(due.len() as u64)
             }
-            Earliest => self.answer = map.values().min().copied().unwrap_or(NONE),
-            Clear => map.clear(),
-        }
+            Earliest => map.values().min().map_or(NOTHING, |x| done(*x)),
+            Clear => { map.clear(); done(0) }
+        };
         self.keys[..n].fill(0);
         self.deadlines[..n].fill(0);
-        for (i, (k, x)) in map.iter().enumerate() { (self.keys[i], self.deadlines[i]) = (*k, *x); }
-        self.s[0] = map.len() as u64;
-        0
+        for (i, (k, x)) in map.iter().enumerate() { (self.keys[i], self.deadlines[i]) = (*k as u32, *x); }
+        self.s[1] = map.len() as u64;
+        answer
     }
     // One call by both; all that it can write is compared.
-    fn compared(&mut self, call: Call, key: u32, now: u64, d: u64) -> u8 {
+    fn compared(&mut self, call: Call, key: u64, now: u64, d: u64) -> u64 {
         let (before, mut m) = (self.clone(), self.clone());
         let (got, want) = (self.call(call, key, now, d), m.model(call, key, now, d));
         same!((got, &*self), (want, &m), "{call:?} {key} {now} {d} on {before:?}");
@@ -216,25 +221,29 @@ impl Set {
     }
 }
 
-fn new_set(set: &mut Set) -> u8 {
-    unsafe { timing_multi_new(set.s.as_mut_ptr(), 2, set.keys.as_mut_ptr(), set.keys.len(), set.deadlines.as_mut_ptr(), set.deadlines.len()) }
+fn new_set(set: &mut Set) -> u64 {
+    unsafe { pindrelo_make_timers(set.s.as_mut_ptr(), set.s.len(), set.keys.as_mut_ptr(), set.keys.len(), set.deadlines.as_mut_ptr(), set.deadlines.len()) }
 }
 
 fn timer_sets(r: &mut Gen, n: &mut u64) {
     let zero = Instant::now();
     let at = |x: u64| zero + Duration::from_nanos(x);
     let room = r.of(&[0usize, 1, 2, 3, 8, 32, 33]);
-    let mut set = Set { s: [77, 78], keys: vec![7; room], deadlines: vec![9; room], out: vec![], answer: 99 };
-    for (kn, dn) in [(room, room + 1), (room + 1, room)] {
-        let mut unequal = Set { keys: vec![7; kn], deadlines: vec![9; dn], ..set.clone() };
+    // one word more than a set has
+    let mut set = Set { s: vec![77, 78, 79, 80], keys: vec![7; room], deadlines: vec![9; room], out: vec![] };
+    for (kn, dn, words) in [(room, room + 1, 4), (room + 1, room, 4), (room, room + 1, 2)] {
+        let mut unequal = Set { s: vec![77; words], keys: vec![7; kn], deadlines: vec![9; dn], ..set.clone() };
         let before = unequal.clone();
-        same!((new_set(&mut unequal), &unequal), (9, &before), "new of unequal slices");
+        same!((new_set(&mut unequal), &unequal), (STATE, &before), "new of unequal slices");
     }
-    let empty = Set { s: [0, 0], keys: vec![0; room], deadlines: vec![0; room], ..set.clone() };
-    same!((new_set(&mut set), &set), (0, &empty), "new");
+    let mut short = Set { s: vec![77; r.below(3) as usize], ..set.clone() };
+    let before = short.clone();
+    same!((new_set(&mut short), &short), (FULL, &before), "new, too few words");
+    let empty = Set { s: vec![TIMERS, 0, 0, 80], keys: vec![0; room], deadlines: vec![0; room], ..set.clone() };
+    same!((new_set(&mut set), &set), (done(0), &empty), "new");
     // the reference's generation can't be set; ours starts near the wrap half of the time, and the difference is kept
     let shift = if r.below(2) == 0 { 0 } else { u64::MAX - r.below(2) };
-    set.s[1] = shift;
+    set.s[2] = shift;
     let mut t: MultiTimer<u32> = MultiTimer::new();
     let pool = 1 + r.below(48) as u32;
     for _ in 0..120 {
@@ -243,22 +252,28 @@ fn timer_sets(r: &mut Gen, n: &mut u64) {
         let d = r.maybe_out();
         let call = match r.below(108) { 0..=51 => Start, 52..=63 => Cancel, 64..=78 => Expired, 79..=90 => Pop, 91..=106 => Earliest, _ => Clear };
         set.out = vec![5; r.below(room as u64 + 2) as usize];
-        set.answer = 99;
-        if set.compared(call, key, now, d) == 0 {
+        // a key that no timer of the reference can have
+        if matches!(call, Start | Cancel) && r.below(20) == 0 {
+            set.compared(call, key as u64 + (1 << (32 + r.below(32))), now, d);
+            *n += 1;
+            continue;
+        }
+        let a = set.compared(call, key as u64, now, d);
+        if status(a) == DONE || status(a) == NOTHING {
             match call {
-                Start => same!(set.s[1], t.start_timer_at(key, at(now), Duration::from_nanos(d)).wrapping_add(shift), "start {key} {now} {d}, generation"),
-                Cancel => same!(set.answer, t.cancel_timer(&key) as u64, "cancel {key}"),
-                Expired => same!(set.answer, t.is_expired_at(&key, at(now)) as u64, "expired {key} {now}"),
+                Start => same!(set.s[2], t.start_timer_at(key, at(now), Duration::from_nanos(d)).wrapping_add(shift), "start {key} {now} {d}, generation"),
+                Cancel => same!(a, done(t.cancel_timer(&key) as u64), "cancel {key}"),
+                Expired => same!(a, done(t.is_expired_at(&key, at(now)) as u64), "expired {key} {now}"),
                 Pop => {
                     let mut theirs = t.pop_expired_at(at(now));
                     theirs.sort();
-                    same!(set.out[..set.answer as usize], theirs[..], "pop {now}");
+                    same!(set.out[..value(a) as usize], theirs[..], "pop {now}");
                 }
-                Earliest => same!(set.answer, t.earliest_deadline().map_or(NONE, |i| ns(i - zero)), "earliest"),
+                Earliest => same!(a, t.earliest_deadline().map_or(NOTHING, |i| done(ns(i - zero))), "earliest"),
                 Clear => t.clear(),
             }
         }
-        same!(set.s[0], t.len() as u64, "how many");
+        same!(set.s[1], t.len() as u64, "how many");
         *n += 1;
     }
 }
@@ -266,7 +281,7 @@ fn timer_sets(r: &mut Gen, n: &mut u64) {
 // Sets of so many entries with one place changed, at every position: each call against the model.
 fn changed_sets(r: &mut Gen, count: usize, n: &mut u64) {
     let spare = r.below(3) as usize;
-    let mut good = Set { s: [count as u64, r.of(&[6, u64::MAX])], keys: vec![], deadlines: vec![], out: vec![3; r.of(&[0, count / 2, count, 40])], answer: 99 };
+    let mut good = Set { s: vec![TIMERS, count as u64, r.of(&[6, u64::MAX])], keys: vec![], deadlines: vec![], out: vec![3; r.of(&[0, count / 2, count, 40])] };
     let mut key = r.below(9) as u32 + 1;
     for _ in 0..count {
         good.keys.push(key);
@@ -285,10 +300,10 @@ fn changed_sets(r: &mut Gen, count: usize, n: &mut u64) {
         x.keys.resize(kn, 7);
         x.deadlines.resize(dn, 7);
         sets.push(x.clone());
-        x.s[0] = kn.min(dn).min(count) as u64;
+        x.s[1] = kn.min(dn).min(count) as u64;
         sets.push(x);
     }
-    for c in [all as u64 + 1, 1 << 32, u64::MAX] { sets.push(Set { s: [c, 6], ..good.clone() }); }
+    for c in [all as u64 + 1, 1 << 32, u64::MAX] { sets.push(Set { s: vec![TIMERS, c, 6], ..good.clone() }); }
     for i in 0..count {
         let mut with = |k: u32, d: u64| {
             let mut x = good.clone();
@@ -302,43 +317,61 @@ fn changed_sets(r: &mut Gen, count: usize, n: &mut u64) {
     }
     for x in sets {
         for call in CALLS {
-            let key = if count > 0 && r.below(2) == 0 { good.keys[r.below(count as u64) as usize] } else { r.below(99) as u32 };
+            let mut key = if count > 0 && r.below(2) == 0 { good.keys[r.below(count as u64) as usize] as u64 } else { r.below(99) };
+            if matches!(call, Start | Cancel) && r.below(8) == 0 { key += 1 << (32 + r.below(32)); }
             let now = match r.below(20) { 0 => TWO_DAYS + 1, 1..=4 => TWO_DAYS, 5..=7 => 0, _ => r.span() };
             x.clone().compared(call, key, now, r.of(&[0, 1, DAY]));
             *n += 1;
         }
     }
+    // words that hold no set
+    for s in [vec![], vec![TIMERS, 0], vec![0, count as u64, 6], vec![SINGLE_TIMER, count as u64, 6], vec![TIMERS + 256, count as u64, 6]] {
+        for call in [Start, Cancel, Pop, Earliest] {
+            Set { s: s.clone(), ..good.clone() }.compared(call, r.of(&[0, 1 << 32]), r.of(&[0, u64::MAX]), 1);
+            *n += 1;
+        }
+    }
 }
 
-// What of the reference's estimator can be read, as our words and doubles.
-fn words(e: &RtoEstimator) -> ([u64; 23], [u64; 5]) {
+// What of the reference's estimator can be read, as the host's words and doubles.
+fn words(e: &RtoEstimator) -> ([u64; 24], [u64; 5]) {
     let c = e.config();
     let o = |x: Option<Duration>| x.map_or((0, 0), |d| (1, ns(d)));
     let (a, b, lo, hi, la) = (o(e.srtt()), o(e.rttvar()), o(e.stats.min_rtt), o(e.stats.max_rtt), o(e.stats.latest_rtt));
-    ([ns(c.initial_rto), ns(c.min_rto), ns(c.max_rto), ns(c.granularity), a.0, a.1, b.0, b.1, ns(e.current_rto()), ns(e.base_rto()), e.is_in_backoff() as u64, e.consecutive_timeouts() as u64,
+    ([ESTIMATOR, ns(c.initial_rto), ns(c.min_rto), ns(c.max_rto), ns(c.granularity), a.0, a.1, b.0, b.1, ns(e.current_rto()), ns(e.base_rto()), e.is_in_backoff() as u64, e.consecutive_timeouts() as u64,
       e.stats.sample_count, e.stats.karn_rejected_count, e.stats.timeout_count, e.stats.backoff_count, lo.0, lo.1, hi.0, hi.1, la.0, la.1, e.stats.max_consecutive_timeouts as u64],
      [c.alpha.to_bits(), c.beta.to_bits(), c.k.to_bits(), c.rto_multiplier.to_bits(), e.stats.sum_rtt_millis.to_bits()])
 }
 fn bits(d: &[f64; 5]) -> [u64; 5] { [d[0].to_bits(), d[1].to_bits(), d[2].to_bits(), d[3].to_bits(), d[4].to_bits()] }
 
 // Each call on an estimator that all of them refuse; nothing changes.
-fn estimator_refuses(w: [u64; 23], d: [f64; 5], want: u8, what: &str) {
-    let (mut x, mut y, mut a, mut m) = (w, d, [9u64; 3], [7f64]);
-    let (p, q, b) = (x.as_mut_ptr(), y.as_mut_ptr(), a.as_mut_ptr());
+fn estimator_refuses(w: [u64; 24], d: [f64; 5], want: u64, what: &str) { estimator_refuses_parts(w, 24, d, 5, want, what) }
+
+// The same of its first words and doubles.
+fn estimator_refuses_parts(w: [u64; 24], n: usize, d: [f64; 5], m: usize, want: u64, what: &str) {
+    let (mut x, mut y, mut mean) = (w, d, [7f64]);
+    let (p, q) = (x.as_mut_ptr(), y.as_mut_ptr());
     let got = unsafe { [
-        timing_rto_update(p, 23, q, 5, 1, false, b, 1),
-        timing_rto_update(p, 23, q, 5, 1, true, b, 1),
-        timing_rto_timeout(p, 23, q, 5, b.add(1), 1),
-        timing_rto_reset(p, 23, q, 5),
-        timing_rto_limit(p, 23, q, 5, 0, b.add(2), 1),
-        timing_rto_mean(p, 23, q, 5, m.as_mut_ptr(), 1),
+        pindrelo_estimator_sample(p, n, q, m, 1, 0),
+        pindrelo_estimator_sample(p, n, q, m, 1, 1),
+        pindrelo_estimator_timeout(p, n, q, m),
+        pindrelo_estimator_reset_backoff(p, n, q, m),
+        pindrelo_estimator_exceeded(p, n, q, m, 0),
+        pindrelo_estimator_mean(p, n, q, m, mean.as_mut_ptr(), 1),
     ] };
-    same!((got, x, bits(&y), a, m), ([want; 6], w, bits(&d), [9; 3], [7.0]), "{what}");
+    same!((got, x, bits(&y), mean), ([want; 6], w, bits(&d), [7.0]), "{what}");
+}
+
+fn make_estimator(w: &mut [u64], d: &mut [f64], c: &RtoConfig) -> u64 {
+    unsafe { pindrelo_make_estimator(w.as_mut_ptr(), w.len(), d.as_mut_ptr(), d.len(), ns(c.initial_rto), ns(c.min_rto), ns(c.max_rto), ns(c.granularity), c.alpha, c.beta, c.k, c.rto_multiplier) }
 }
 
 fn estimators(r: &mut Gen, n: &mut u64) {
-    let (mut w, mut d) = ([3u64; 23], [3f64; 5]);
-    unsafe { timing_rto_new(w.as_mut_ptr(), 23, d.as_mut_ptr(), 5) };
+    let (mut w, mut d) = ([3u64; 24], [3f64; 5]);
+    let (kept, kept_doubles) = (w, bits(&d));
+    same!((unsafe { pindrelo_make_default_estimator(w.as_mut_ptr(), 23, d.as_mut_ptr(), 5) }, w, bits(&d)), (FULL, kept, kept_doubles), "new, too few words");
+    same!((unsafe { pindrelo_make_default_estimator(w.as_mut_ptr(), 24, d.as_mut_ptr(), 4) }, w, bits(&d)), (FULL, kept, kept_doubles), "new, too few doubles");
+    same!(unsafe { pindrelo_make_default_estimator(w.as_mut_ptr(), 24, d.as_mut_ptr(), 5) }, done(0), "new");
     same!((w, bits(&d)), words(&RtoEstimator::new()), "new");
     let (lo, hi) = { let (a, b) = (r.span(), r.span()); (a.min(b), a.max(b)) };
     let mut c = RtoConfig { initial_rto: Duration::from_nanos(r.span()), min_rto: Duration::from_nanos(lo), max_rto: Duration::from_nanos(hi), granularity: Duration::from_nanos(r.span() % 1_000_000_001), alpha: r.chance(), beta: r.chance(), k: r.factor(), rto_multiplier: r.factor() };
@@ -356,85 +389,97 @@ fn estimators(r: &mut Gen, n: &mut u64) {
             _ => { c.min_rto = Duration::from_nanos(DAY + 1); c.max_rto = Duration::from_nanos(DAY + 2); }
         }
     }
-    w[0] = ns(c.initial_rto);
-    w[1] = ns(c.min_rto);
-    w[2] = ns(c.max_rto);
-    w[3] = ns(c.granularity);
-    d[0] = c.alpha;
-    d[1] = c.beta;
-    d[2] = c.k;
-    d[3] = c.rto_multiplier;
     let (w0, d0) = (w, bits(&d));
-    let got = unsafe { timing_rto_with_config(w.as_mut_ptr(), 23, d.as_mut_ptr(), 5) };
-    let mut a = [9u64];
     if broken {
-        same!((got, w, bits(&d)), (4, w0, d0), "with_config {c:?}");
-        estimator_refuses(w, d, 9, &format!("held {c:?}"));
-        *n += 7;
+        // a 4 before a 5
+        for (words, doubles) in [(24, 5), (23, 5), (24, 4)] {
+            same!((make_estimator(&mut w[..words], &mut d[..doubles], &c), w, bits(&d)), (SETUP, w0, d0), "with_config {c:?}");
+        }
+        w[1..5].copy_from_slice(&[ns(c.initial_rto), ns(c.min_rto), ns(c.max_rto), ns(c.granularity)]);
+        d[..4].copy_from_slice(&[c.alpha, c.beta, c.k, c.rto_multiplier]);
+        estimator_refuses(w, d, STATE, &format!("held {c:?}"));
+        *n += 9;
         return;
     }
-    same!(got, 0, "with_config {c:?}");
+    for (words, doubles) in [(23, 5), (24, 4), (0, 0)] {
+        same!((make_estimator(&mut w[..words], &mut d[..doubles], &c), w, bits(&d)), (FULL, w0, d0), "with_config, {words} words, {doubles} doubles");
+    }
+    same!(make_estimator(&mut w, &mut d, &c), done(0), "with_config {c:?}");
     let mut e = RtoEstimator::with_config(c.clone());
     let around = r.span();
     for _ in 0..80 {
         same!((w, bits(&d)), words(&e), "state under {c:?}");
         let (w0, d0) = (w, bits(&d));
-        a = [9];
+        let (p, q) = (w.as_mut_ptr(), d.as_mut_ptr());
         match r.below(10) {
             0..=5 => {
                 let x = if r.below(2) == 0 { (around + r.below(around / 4 + 2)).min(DAY) } else { r.maybe_out() };
                 let again = r.below(6) == 0;
                 let before = words(&e);
-                let got = unsafe { timing_rto_update(w.as_mut_ptr(), 23, d.as_mut_ptr(), 5, x, again, a.as_mut_ptr(), 1) };
-                if x > DAY { same!((got, w, bits(&d), a), (10, w0, d0, [9]), "update {x}"); } else {
+                let got = unsafe { pindrelo_estimator_sample(p, 24, q, 5, x, if again { r.of(&[1, 2, 1 << 32, u64::MAX]) } else { 0 }) };
+                if x > DAY { same!((got, w, bits(&d)), (TIME, w0, d0), "update {x}"); } else {
                     let want = e.update_rtt(Duration::from_nanos(x), again);
-                    same!((got, a[0]), (0, want as u64), "update {x} {again}");
+                    same!(got, done(want as u64), "update {x} {again}");
                     same!((w, bits(&d)), words(&e), "after update {x} {again} of {before:?}");
                 }
             }
-            6 | 7 => {
-                let got = unsafe { timing_rto_timeout(w.as_mut_ptr(), 23, d.as_mut_ptr(), 5, a.as_mut_ptr(), 1) };
-                same!((got, a[0]), (0, ns(e.on_timeout())), "timeout");
-            }
+            6 | 7 => same!(unsafe { pindrelo_estimator_timeout(p, 24, q, 5) }, done(ns(e.on_timeout())), "timeout"),
             8 => {
-                same!(unsafe { timing_rto_reset(w.as_mut_ptr(), 23, d.as_mut_ptr(), 5) }, 0, "reset");
+                same!(unsafe { pindrelo_estimator_reset_backoff(p, 24, q, 5) }, done(0), "reset");
                 e.reset_backoff();
             }
             _ => {
-                let max = r.below(4) as u32;
+                let max = r.below(4);
+                same!(unsafe { pindrelo_estimator_exceeded(p, 24, q, 5, max) }, done(e.has_exceeded_retry_limit(max as u32) as u64), "limit {max}");
+                same!(unsafe { pindrelo_estimator_exceeded(p, 24, q, 5, max + (1 << (32 + r.below(32)))) }, done(0), "limit {max} above 32 bits");
                 let mut m = [7f64];
-                same!((unsafe { timing_rto_limit(w.as_ptr(), 23, d.as_ptr(), 5, max, a.as_mut_ptr(), 1) }, a[0]), (0, e.has_exceeded_retry_limit(max) as u64), "limit {max}");
-                same!((unsafe { timing_rto_mean(w.as_ptr(), 23, d.as_ptr(), 5, m.as_mut_ptr(), 1) }, m[0].to_bits()), (0, e.mean_rtt_ms().to_bits()), "mean");
+                same!((unsafe { pindrelo_estimator_mean(p, 24, q, 5, m.as_mut_ptr(), 0) }, m[0]), (FULL, 7.0), "mean, no room");
+                same!((unsafe { pindrelo_estimator_mean(p, 24, q, 5, m.as_mut_ptr(), 1) }, m[0].to_bits()), (done(0), e.mean_rtt_ms().to_bits()), "mean");
             }
         }
         *n += 1;
     }
-    // held states that 9, 8 and 10 turn away, in that order
-    for (i, v, want) in [(5usize, 86_401_000_000_001u64, 9u8), (7, 86_401_000_000_001, 9), (12, 1 << 60, 8), (13, 1 << 60, 8), (14, 1 << 60, 8), (15, u64::MAX, 8), (8, DAY + 1, 10), (9, DAY + 1, 10), (17, DAY + 1, 10), (19, DAY + 1, 10), (21, DAY + 1, 10)] {
+    // words and doubles that hold no estimator: too few, another kind or version, a flag of 2, a value without its flag, a count above 32 bits
+    estimator_refuses_parts(w, 23, d, 5, STATE, "too few words");
+    estimator_refuses_parts(w, 24, d, 4, STATE, "too few doubles");
+    for (i, v) in [(0usize, 0u64), (0, TIMERS), (0, ESTIMATOR + 256), (11, 2), (11, u64::MAX), (12, 1 << 32), (23, 1 << 32), (23, u64::MAX)] {
         let mut x = w;
-        x[4] = 1;
-        x[6] = 1;
-        for j in [16, 18, 20] { x[j] = 1; }
-        for j in [5usize, 7, 8, 9, 17, 19, 21] { x[j] = x[j].min(DAY); }
         x[i] = v;
-        if want == 9 { x[12] = 1 << 60; x[8] = DAY + 1; }
-        if want == 8 { x[8] = DAY + 1; }
+        estimator_refuses(x, d, STATE, &format!("word {i} is {v}"));
+    }
+    for i in [5usize, 7, 17, 19, 21] {
+        for pair in [[0, 1], [2, 0], [2, 5], [u64::MAX, 1]] {
+            let mut x = w;
+            x[i..i + 2].copy_from_slice(&pair);
+            estimator_refuses(x, d, STATE, &format!("words {i} and {} are {pair:?}", i + 1));
+        }
+    }
+    *n += 6 * 30;
+    // held states that 9, 8 and 10 turn away, in that order
+    for (i, v, want) in [(6usize, 86_401_000_000_001u64, STATE), (8, 86_401_000_000_001, STATE), (13, 1 << 60, COUNTS), (14, 1 << 60, COUNTS), (15, 1 << 60, COUNTS), (16, u64::MAX, COUNTS), (9, DAY + 1, TIME), (10, DAY + 1, TIME), (18, DAY + 1, TIME), (20, DAY + 1, TIME), (22, DAY + 1, TIME)] {
+        let mut x = w;
+        for j in [5, 7, 17, 19, 21] { x[j] = 1; }
+        for j in [6usize, 8, 9, 10, 18, 20, 22] { x[j] = x[j].min(DAY); }
+        x[i] = v;
+        if want == STATE { x[13] = 1 << 60; x[9] = DAY + 1; }
+        if want == COUNTS { x[9] = DAY + 1; }
         estimator_refuses(x, d, want, &format!("held {i} {v}"));
-        for (j, what) in [(6usize, "only SRTT set"), (4, "only RTTVAR set")] {
+        for (j, what) in [(7usize, "only SRTT set"), (5, "only RTTVAR set")] {
             let mut one = x;
             one[i] = one[i].min(DAY);
             (one[j], one[j + 1]) = (0, 0);
-            estimator_refuses(one, d, 9, what);
+            estimator_refuses(one, d, STATE, what);
         }
         *n += 18;
     }
     // held values at their bounds
     let mut x = w;
-    for j in [4, 6, 16, 18, 20] { x[j] = 1; }
-    for j in [5, 7] { x[j] = 86_401_000_000_000; }
-    for j in [8, 9, 17, 19, 21] { x[j] = DAY; }
-    for j in 12..16 { x[j] = (1 << 60) - 1; }
-    same!(unsafe { (timing_rto_limit(x.as_ptr(), 23, d.as_ptr(), 5, 0, a.as_mut_ptr(), 1), timing_rto_timeout(x.as_mut_ptr(), 23, d.as_mut_ptr(), 5, a.as_mut_ptr(), 1)) }, (0, 0), "held at the bounds");
+    for j in [5, 7, 17, 19, 21] { x[j] = 1; }
+    for j in [6, 8] { x[j] = 86_401_000_000_000; }
+    for j in [9, 10, 18, 20, 22] { x[j] = DAY; }
+    for j in 13..17 { x[j] = (1 << 60) - 1; }
+    let got = unsafe { (status(pindrelo_estimator_exceeded(x.as_ptr(), 24, d.as_ptr(), 5, 0)), status(pindrelo_estimator_timeout(x.as_mut_ptr(), 24, d.as_mut_ptr(), 5))) };
+    same!(got, (DONE, DONE), "held at the bounds");
     *n += 2;
 }
 
