@@ -1,9 +1,9 @@
-/* plain: what examples/pagelink.c does without the library: the same bytes in datagrams of the same lengths, each answered
- * by ten bytes, a window of them outstanding, by sendto and recvfrom. No number, checksum, timer or second copy: it only
- * ends where the line loses nothing.
+/* plain: what examples/pagelink.c does, without the library: a file in datagrams of the same lengths, each answered by ten
+ * bytes, a window of them outstanding, by sendto and recvfrom. No number, checksum, timer or second copy: it ends only
+ * where the line loses nothing.
  *
- *     plain receive PORT FILE        PORT 0: any; the port is printed
- *     plain send PORT FILE WINDOW */
+ *     plain receive PORT FILE BYTES      PORT 0: any; the port is printed
+ *     plain send PORT FILE WINDOW        prints MB a second */
 #define _GNU_SOURCE
 #include <arpa/inet.h>
 #include <fcntl.h>
@@ -12,6 +12,7 @@
 #include <stdio.h>
 #include <stdlib.h>
 #include <string.h>
+#include <sys/mman.h>
 #include <sys/socket.h>
 #include <sys/stat.h>
 #include <time.h>
@@ -29,11 +30,11 @@ static void die(const char *what)
     exit(1);
 }
 
-static uint64_t clock_ns(void)
+static double seconds(void)
 {
     struct timespec t;
     clock_gettime(CLOCK_MONOTONIC, &t);
-    return (uint64_t)t.tv_sec * 1000000000u + (uint64_t)t.tv_nsec;
+    return (double)t.tv_sec + (double)t.tv_nsec / 1e9;
 }
 
 static void wait_for_datagram(void)
@@ -44,71 +45,51 @@ static void wait_for_datagram(void)
     }
 }
 
-/* the file behind the 8 bytes of its length */
-static uint8_t *read_stream(const char *path, uint64_t *length)
+static int send_file(const char *path, struct sockaddr_in to, size_t window)
 {
     int fd = open(path, O_RDONLY);
     struct stat st;
     if (fd < 0 || fstat(fd, &st) < 0)
         die(path);
-    *length = (uint64_t)st.st_size + 8;
-    uint8_t *stream = malloc(*length);
-    for (int i = 0; i < 8; i++)
-        stream[i] = (uint8_t)((uint64_t)st.st_size >> (56 - 8 * i));
-    for (uint64_t got = 8; got < *length;) {
-        ssize_t n = read(fd, stream + got, *length - got);
-        if (n <= 0)
-            die("read");
-        got += (uint64_t)n;
-    }
-    close(fd);
-    return stream;
-}
-
-static int send_file(const char *path, struct sockaddr_in to, unsigned window)
-{
-    uint64_t length, at = 0, out = 0;
-    uint8_t *stream = read_stream(path, &length), in[65536], d[HEADER + PAYLOAD] = {0};
-    uint64_t begun = clock_ns();
-    while (at < length || out) {
-        for (; at < length && out < window; out++) {
+    size_t length = (size_t)st.st_size, at = 0, outstanding = 0;
+    const uint8_t *file = mmap(NULL, length, PROT_READ, MAP_PRIVATE | MAP_POPULATE, fd, 0);
+    if (file == MAP_FAILED)
+        die("mmap");
+    uint8_t in[65536], d[HEADER + PAYLOAD] = {0};
+    double begun = seconds();
+    while (at < length || outstanding) {
+        for (; at < length && outstanding < window; outstanding++) {
             size_t n = length - at < PAYLOAD ? length - at : PAYLOAD;
-            memcpy(d + HEADER, stream + at, n);
+            memcpy(d + HEADER, file + at, n);
             if (sendto(line, d, HEADER + n, 0, (struct sockaddr *)&to, sizeof to) < 0)
                 die("sendto");
             at += n;
         }
         wait_for_datagram();
-        while (recv(line, in, sizeof in, MSG_DONTWAIT) >= 0)
-            out--;
+        while (outstanding && recv(line, in, sizeof in, MSG_DONTWAIT) >= 0)
+            outstanding--;
     }
-    uint64_t ns = clock_ns() - begun;
-    printf("%.1f\n", (double)(length - 8) * 1e3 / (double)ns);
-    free(stream);
+    printf("%.1f\n", (double)length / 1e6 / (seconds() - begun));
     return 0;
 }
 
-static int receive_file(const char *path)
+static int receive_file(const char *path, size_t length)
 {
     uint8_t in[65536], ack[HEADER] = {0};
-    uint64_t length = UINT64_MAX, got = 0;
     int fd = open(path, O_WRONLY | O_CREAT | O_TRUNC, 0644);
     if (fd < 0)
         die(path);
-    while (got < 8 || got - 8 < length) {
+    for (size_t got = 0; got < length;) {
         wait_for_datagram();
         struct sockaddr_in from;
-        socklen_t fromlen = sizeof from;
-        ssize_t n = recvfrom(line, in, sizeof in, MSG_DONTWAIT, (struct sockaddr *)&from, &fromlen);
+        socklen_t size = sizeof from;
+        ssize_t n = recvfrom(line, in, sizeof in, MSG_DONTWAIT, (struct sockaddr *)&from, &size);
         if (n < HEADER)
             continue;
-        size_t start = HEADER;
-        for (; start < (size_t)n && got < 8; start++, got++)
-            length = length << 8 | in[start];
-        if (write(fd, in + start, (size_t)n - start) != n - (ssize_t)start)
+        if (write(fd, in + HEADER, (size_t)n - HEADER) != n - HEADER)
             die("write");
-        got += (uint64_t)n - start;
-        if (sendto(line, ack, sizeof ack, 0, (struct sockaddr *)&from, fromlen) < 0)
+        got += (size_t)n - HEADER;
+        if (sendto(line, ack, sizeof ack, 0, (struct sockaddr *)&from, size) < 0)
             die("sendto");
     }
     return close(fd) != 0;
@@ -116,8 +97,8 @@ static int receive_file(const char *path)
 
 int main(int argc, char **argv)
 {
-    if (argc < 4) {
-        fprintf(stderr, "usage: plain receive PORT FILE | plain send PORT FILE WINDOW\n");
+    if (argc != 5) {
+        fprintf(stderr, "usage: plain receive PORT FILE BYTES | plain send PORT FILE WINDOW\n");
         return 2;
     }
     struct sockaddr_in address = {.sin_family = AF_INET, .sin_port = htons((uint16_t)atoi(argv[2])),
@@ -127,11 +108,11 @@ int main(int argc, char **argv)
     line = socket(AF_INET, SOCK_DGRAM, 0);
     setsockopt(line, SOL_SOCKET, SO_RCVBUF, &big, sizeof big);
     if (!strcmp(argv[1], "send"))
-        return send_file(argv[3], address, argc > 4 ? (unsigned)atoi(argv[4]) : 32);
+        return send_file(argv[3], address, strtoul(argv[4], NULL, 10));
     if (bind(line, (struct sockaddr *)&address, sizeof address) < 0 ||
         getsockname(line, (struct sockaddr *)&address, &size) < 0)
         die("bind");
     printf("%u\n", ntohs(address.sin_port));
     fflush(stdout);
-    return receive_file(argv[3]);
+    return receive_file(argv[3], strtoul(argv[4], NULL, 10));
 }
