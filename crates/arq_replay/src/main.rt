@@ -60,13 +60,22 @@ struct Ends {
 }
 
 fn main() {
-    let mut text = [0u8; 524288];
+    let mut text = replay_io::buffer();
     let n = io::read_full(STDIN_FILENO, &mut text);
-    let mut sent = [0u8; 46332];
-    let mut held = [0u8; 46332];
-    let mut output = [0u8; 65536];
+    let mut sent = no_slots();
+    let mut held = no_slots();
+    let mut output = no_output();
     replay_io::print_if_full(&text, n);
     replay(&text[..n], start(), &mut sent, &mut held, &mut output);
+}
+
+// Functions for the reason of `replay_io::buffer`.
+fn no_slots() -> [u8; 46332] {
+    [0u8; 46332]
+}
+
+fn no_output() -> [u8; 65536] {
+    [0u8; 65536]
 }
 
 fn start() -> Ends {
@@ -379,8 +388,13 @@ fn send_chunk(sender: Sender, store: &mut [u8], payload: &[u8], out: &mut [u8]) 
 }
 
 fn timed_out(n: u32, room: usize, s: Sender, store: &mut [u8]) -> Sender {
-    let mut out = [0xa5u8; 46080];
+    let mut out = marked();
     timeout_within(n, room, s, store, &mut out)
+}
+
+// A function for the reason of `replay_io::buffer`.
+fn marked() -> [u8; 46080] {
+    [0xa5u8; 46080]
 }
 
 fn timeout_within(n: u32, room: usize, s: Sender, store: &mut [u8], out: &mut [u8]) -> Sender {

@@ -43,12 +43,17 @@ struct State {
 }
 
 fn main() {
-    let mut text = [0u8; 524288];
+    let mut text = replay_io::buffer();
     let n = io::read_full(STDIN_FILENO, &mut text);
     let mut records = [[0u64; 4]; 320];
-    let mut places = [0u8; 423000];
+    let mut places = no_places();
     replay_io::print_if_full(&text, n);
     replay(&text[..n], start(), &mut records, &mut places);
+}
+
+// A function for the reason of `replay_io::buffer`.
+fn no_places() -> [u8; 423000] {
+    [0u8; 423000]
 }
 
 fn start() -> State {

@@ -87,33 +87,35 @@ selectiveRepeat =
     send (65 ∷ []) buffer ∷ send (66 ∷ []) buffer ∷ toReceiver (flipped 0 10 3) buffer ∷ toReceiver (whole 1) buffer ∷ toReceiver (whole 1) buffer
     ∷ timeout 0 buffer ∷ toReceiver (whole 2) buffer ∷ toSender (whole 2) ∷ toSender (whole 2) ∷ []
 
-pub computed : Computed StopAndWait 1 3 stopAndWait (timeout one buffer ∷ toReceiver (whole 3) buffer ∷ toSender (whole 2) ∷ timeout one buffer ∷ []) (65 ∷ []) 1 1
-    × Computed GoBackN 2 0 goBackN (timeout earliest buffer ∷ toReceiver (whole 4) buffer ∷ toSender (whole 2) ∷ timeout all buffer ∷ []) (65 ∷ []) 1 1
-    × Computed SelectiveRepeat 2 0 selectiveRepeat (timeout 0 buffer ∷ timeout 1 buffer ∷ toReceiver (whole 3) buffer ∷ toSender (whole 3) ∷ []) (65 ∷ 66 ∷ []) 2 1
+pub stop-and-wait-computed : Computed StopAndWait 1 3 stopAndWait (timeout one buffer ∷ toReceiver (whole 3) buffer ∷ toSender (whole 2) ∷ timeout one buffer ∷ []) (65 ∷ []) 1 1
 unfolding words onesAdd onesSum checksum flip anyOf order orElse numbered firstOf verdict decide headerBytes datagram checksumOf matches readChecks headerOf payloadPart payloadOf readDatagram slotAt slotBytes putSlot slot.slotPayload anyBelow senderSlotBroken senderSlotsBroken receiverSlotBroken receiverSlotsBroken markedRun payloadsFrom windowBroken storeShort window.numbersBroken window.stateBroken window.countsBroken fresh hold markRetransmitted datagramFor emptyFrom release sendChecks sendChunk datagramsFrom markFrom resend ackDecision byDecision countsBroken ackAfter roomMissing applied receive acknowledgeOne sr.stateBroken sr.receivingBroken sr.dataDecision sr.decision sr.deliveredBytes datagrams step run stopAndWaitReceiver.decision stopAndWaitReceiver.dataDecision goBackNReceiver.decision goBackNReceiver.dataDecision receiverState.stateBroken fedBy fedIn plainStart plainSend plainData plainAck plainCall plainStep plainRun plainOutstanding
-computed = (
-  record {
-    fair = (byte 65 (lit< tt), ((lit< tt, lit< tt, lit< tt, (λ e. let z : _≡_ {A = ℕ} 10 6 = e in omega arith), (λ e. let z : _≡_ {A = ℕ} 10 7 = e in omega arith)), (tt, (lit< tt, (lit< tt, (byte 66 (lit< tt), (lit< tt, (lit< tt, tt))))))));
-    output-is = refl;
-    receiver-at = refl;
-    sender-at = refl;
-    resending = (refl, ((refl, refl, refl), ((refl, refl, refl), (refl, (refl, refl, refl)))));
-  },
-  record {
-    fair = (byte 65 (lit< tt), (byte 66 (lit< tt), (lit< tt, ((lit< tt, lit< tt, lit< tt, (λ e. let z : _≡_ {A = ℕ} 10 6 = e in omega arith), (λ e. let z : _≡_ {A = ℕ} 10 7 = e in omega arith)), (tt, (lit< tt, (lit< tt, (lit< tt, tt))))))));
-    output-is = refl;
-    receiver-at = refl;
-    sender-at = refl;
-    resending = (refl, ((refl, refl, refl), ((refl, refl, refl), (refl, (refl, refl, refl)))));
-  },
-  record {
-    fair = (byte 65 (lit< tt), (byte 66 (lit< tt), ((lit< tt, lit< tt, lit< tt, (λ e. let z : _≡_ {A = ℕ} 10 6 = e in omega arith), (λ e. let z : _≡_ {A = ℕ} 10 7 = e in omega arith)), (lit< tt, (lit< tt, (tt, (lit< tt, (lit< tt, (lit< tt, tt)))))))));
-    output-is = refl;
-    receiver-at = refl;
-    sender-at = refl;
-    resending = (refl, (refl, ((refl, refl, refl), ((refl, refl, refl), (refl, refl, refl)))));
-  },
-)
+stop-and-wait-computed = record {
+  fair = (byte 65 (lit< tt), ((lit< tt, lit< tt, lit< tt, (λ e. let z : _≡_ {A = ℕ} 10 6 = e in omega arith), (λ e. let z : _≡_ {A = ℕ} 10 7 = e in omega arith)), (tt, (lit< tt, (lit< tt, (byte 66 (lit< tt), (lit< tt, (lit< tt, tt))))))));
+  output-is = refl;
+  receiver-at = refl;
+  sender-at = refl;
+  resending = (refl, ((refl, refl, refl), ((refl, refl, refl), (refl, (refl, refl, refl)))));
+}
+
+pub go-back-n-computed : Computed GoBackN 2 0 goBackN (timeout earliest buffer ∷ toReceiver (whole 4) buffer ∷ toSender (whole 2) ∷ timeout all buffer ∷ []) (65 ∷ []) 1 1
+unfolding words onesAdd onesSum checksum flip anyOf order orElse numbered firstOf verdict decide headerBytes datagram checksumOf matches readChecks headerOf payloadPart payloadOf readDatagram slotAt slotBytes putSlot slot.slotPayload anyBelow senderSlotBroken senderSlotsBroken receiverSlotBroken receiverSlotsBroken markedRun payloadsFrom windowBroken storeShort window.numbersBroken window.stateBroken window.countsBroken fresh hold markRetransmitted datagramFor emptyFrom release sendChecks sendChunk datagramsFrom markFrom resend ackDecision byDecision countsBroken ackAfter roomMissing applied receive acknowledgeOne sr.stateBroken sr.receivingBroken sr.dataDecision sr.decision sr.deliveredBytes datagrams step run stopAndWaitReceiver.decision stopAndWaitReceiver.dataDecision goBackNReceiver.decision goBackNReceiver.dataDecision receiverState.stateBroken fedBy fedIn plainStart plainSend plainData plainAck plainCall plainStep plainRun plainOutstanding
+go-back-n-computed = record {
+  fair = (byte 65 (lit< tt), (byte 66 (lit< tt), (lit< tt, ((lit< tt, lit< tt, lit< tt, (λ e. let z : _≡_ {A = ℕ} 10 6 = e in omega arith), (λ e. let z : _≡_ {A = ℕ} 10 7 = e in omega arith)), (tt, (lit< tt, (lit< tt, (lit< tt, tt))))))));
+  output-is = refl;
+  receiver-at = refl;
+  sender-at = refl;
+  resending = (refl, ((refl, refl, refl), ((refl, refl, refl), (refl, (refl, refl, refl)))));
+}
+
+pub selective-repeat-computed : Computed SelectiveRepeat 2 0 selectiveRepeat (timeout 0 buffer ∷ timeout 1 buffer ∷ toReceiver (whole 3) buffer ∷ toSender (whole 3) ∷ []) (65 ∷ 66 ∷ []) 2 1
+unfolding words onesAdd onesSum checksum flip anyOf order orElse numbered firstOf verdict decide headerBytes datagram checksumOf matches readChecks headerOf payloadPart payloadOf readDatagram slotAt slotBytes putSlot slot.slotPayload anyBelow senderSlotBroken senderSlotsBroken receiverSlotBroken receiverSlotsBroken markedRun payloadsFrom windowBroken storeShort window.numbersBroken window.stateBroken window.countsBroken fresh hold markRetransmitted datagramFor emptyFrom release sendChecks sendChunk datagramsFrom markFrom resend ackDecision byDecision countsBroken ackAfter roomMissing applied receive acknowledgeOne sr.stateBroken sr.receivingBroken sr.dataDecision sr.decision sr.deliveredBytes datagrams step run stopAndWaitReceiver.decision stopAndWaitReceiver.dataDecision goBackNReceiver.decision goBackNReceiver.dataDecision receiverState.stateBroken fedBy fedIn plainStart plainSend plainData plainAck plainCall plainStep plainRun plainOutstanding
+selective-repeat-computed = record {
+  fair = (byte 65 (lit< tt), (byte 66 (lit< tt), ((lit< tt, lit< tt, lit< tt, (λ e. let z : _≡_ {A = ℕ} 10 6 = e in omega arith), (λ e. let z : _≡_ {A = ℕ} 10 7 = e in omega arith)), (lit< tt, (lit< tt, (tt, (lit< tt, (lit< tt, (lit< tt, tt)))))))));
+  output-is = refl;
+  receiver-at = refl;
+  sender-at = refl;
+  resending = (refl, (refl, ((refl, refl, refl), ((refl, refl, refl), (refl, refl, refl)))));
+}
 
 -- the theorems speak of such ends
 pub made : (p : ProtocolType) (w : ℕ) → windowBroken w ≡ false → WindowFits p w → Made p w (replicate (w * 1404) 7) (replicate (w * 1404) 7)
@@ -138,7 +140,7 @@ unfolding windowBroken anyOf
 two-made p o = made p 2 refl o
 
 admitted : Demand3 SelectiveRepeat 2 (ends SelectiveRepeat) (start SelectiveRepeat 2 0) selectiveRepeat
-admitted = demand-3 SelectiveRepeat 2 0 (replicate (2 * 1404) 7) (replicate (2 * 1404) 7) (0 ∷ 0 ∷ 0 ∷ []) (two-made SelectiveRepeat tt) selectiveRepeat (computed .2 .fair)
+admitted = demand-3 SelectiveRepeat 2 0 (replicate (2 * 1404) 7) (replicate (2 * 1404) 7) (0 ∷ 0 ∷ 0 ∷ []) (two-made SelectiveRepeat tt) selectiveRepeat (selective-repeat-computed .fair)
 
 -- and the lists have room enough
 room : length buffer ≡ 2820
@@ -159,7 +161,7 @@ stop-and-wait-suffices = record {
   buffers = (a-chunk, (an-ack, (again 1 (omega arith), (an-ack, (tt, (a-chunk, (an-ack, (tt, tt))))))));
   output = omega arith;
   numbers = lit≤ tt;
-  datagrams = lt-of-le-of-lt (sent-within StopAndWait 1 3 _ _ _ stop-and-wait-made stopAndWait (computed .0 .fair)) (lit< tt);
+  datagrams = lt-of-le-of-lt (sent-within StopAndWait 1 3 _ _ _ stop-and-wait-made stopAndWait (stop-and-wait-computed .fair)) (lit< tt);
   calls = lit< tt;
 }
 
@@ -169,7 +171,7 @@ go-back-n-suffices = record {
   buffers = (a-chunk, (a-chunk, (an-ack, (an-ack, (again 2 (omega arith), (an-ack, (an-ack, (tt, tt))))))));
   output = omega arith;
   numbers = lit≤ tt;
-  datagrams = lt-of-le-of-lt (sent-within GoBackN 2 0 _ _ _ (two-made GoBackN tt) goBackN (computed .1 .fair)) (lit< tt);
+  datagrams = lt-of-le-of-lt (sent-within GoBackN 2 0 _ _ _ (two-made GoBackN tt) goBackN (go-back-n-computed .fair)) (lit< tt);
   calls = lit< tt;
 }
 
@@ -179,7 +181,7 @@ selective-repeat-suffices = record {
   buffers = (a-chunk, (a-chunk, (an-ack, (an-ack, (an-ack, (again 1 (omega arith), (an-ack, (tt, (tt, tt)))))))));
   output = omega arith;
   numbers = lit≤ tt;
-  datagrams = lt-of-le-of-lt (sent-within SelectiveRepeat 2 0 _ _ _ (two-made SelectiveRepeat tt) selectiveRepeat (computed .2 .fair)) (lit< tt);
+  datagrams = lt-of-le-of-lt (sent-within SelectiveRepeat 2 0 _ _ _ (two-made SelectiveRepeat tt) selectiveRepeat (selective-repeat-computed .fair)) (lit< tt);
   calls = lit< tt;
 }
 

@@ -9,7 +9,7 @@ use text::PlaceAnswer;
 use transfer::RunAnswer;
 
 fn main() {
-    let mut text = [0u8; 131072];
+    let mut text = replay_io::buffer();
     let n = io::read_full(STDIN_FILENO, &mut text);
     replay_io::print_if_full(&text, n);
     replay(&text[..n]);

@@ -17,7 +17,7 @@ use packet::ValidityAnswer;
 use replay_io::Fields;
 
 fn main() {
-    let mut text = [0u8; 524288];
+    let mut text = replay_io::buffer();
     let n = io::read_full(STDIN_FILENO, &mut text);
     replay_io::print_if_full(&text, n);
     replay(&text[..n]);

@@ -337,6 +337,12 @@ fn crc_bit(crc: u32) -> u32 {
     (crc / 2) ^ 0xEDB8_8320
 }
 
+// A buffer for the input. Of an array that a function answers a proof knows the length by its type, and doesn't count
+// the elements.
+pub fn buffer() -> [u8; 524288] {
+    [0u8; 524288]
+}
+
 // For an input of n bytes read into `text`: whether there may be more of it.
 pub fn print_if_full(text: &[u8], n: usize) {
     if text.len() <= n {

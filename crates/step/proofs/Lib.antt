@@ -2,6 +2,7 @@ pub mod Settling
 pub mod Rounds
 pub mod Good
 pub mod RoundParts
+pub mod FinishParts
 pub mod Returns
 pub mod Moves
 pub mod Kept

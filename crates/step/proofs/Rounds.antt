@@ -29,6 +29,10 @@ pub is-going : (b : Bool) → not b ≡ false → b ≡ true
 is-going true n = refl
 is-going false n = absurd (true≢false n)
 
+pub or-false : (b : Bool) → (b || false) ≡ b
+or-false true = refl
+or-false false = refl
+
 module _ (p : Plan) (g : Given) (s : RunState) where
   -- ---- what is left of a step after each of its parts
   abbrev pub afterSending : Bool → RunState → FireExit → StepExit

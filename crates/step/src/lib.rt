@@ -8,23 +8,20 @@ ghost use Rattle.step.specs.Good.{GoodPlan, GoodRun};
 use arrivals::Arrivals;
 use clock::Timing;
 use ends::exhausted;
-use ends::going;
 use ends::over;
-use ends::settle;
 use ends::stopped;
 use events::Event;
+use finish::finish_round;
 use notes::Note;
 use parts::either;
 use parts::round_less;
-use parts::with_fired;
 use parts::with_forward;
-use parts::with_pumped;
 use parts::with_reverse;
 use schedule::ScheduledRow;
 use sending::Resends;
-use submission::Outbound;
 
 mod ends;
+mod finish;
 mod parts;
 
 // The parts of a setup that a step looks at.
@@ -68,7 +65,7 @@ pub struct StepResult {
 }
 
 // One round at one moment: what is due on both lines, the timers, new chunks; if nothing happened, the move to the next
-// deadline. A part is called only where it has something to do, and no part has the whole state: each copy of it costs.
+// deadline. A part is called only where it has something to do, and none hands the whole state back: each copy costs.
 pub fn step_unchecked(
     plan: Plan,
     state: State,
@@ -161,109 +158,22 @@ pub fn step_unchecked(
         state = with_reverse(state, served);
         progress = either(progress, served.progress);
     }
-    let arrivals = state.arrivals;
-    let acks = arrivals.acks;
-    let sender = acks.sender;
-    let clock = acks.clock;
-    let resends = state.resends;
-    let due = timeouts::due::timers_due_unchecked(
-        sender,
-        resends,
-        clock,
-        timing,
-        plan.max_retransmissions,
-        now,
-        keys,
-        deadlines,
-    );
-    if due {
-        let estimator = acks.estimator;
-        let forward = arrivals.forward;
-        let notes = arrivals.notes;
-        let outbound = Outbound {
-            forward,
-            events: state.events,
-            notes,
-            clock,
-        };
-        let fired = timeouts::fire_timers_unchecked(
-            sender,
-            estimator,
-            resends,
-            outbound,
-            timing,
-            plan.max_retransmissions,
-            now,
-            forward_rolls,
-            sender_store,
-            rows,
-            events,
-            forward_records,
-            forward_places,
-            keys,
-            deadlines,
-        );
-        let stop = fired.stop;
-        state = with_fired(state, fired);
-        let on = path::is_going(stop);
-        if !on {
-            return stopped(state, stop);
-        }
-        progress = either(progress, fired.progress);
-    }
-    let resends = state.resends;
-    if resends.exhausted {
-        return over(state, End::Ended, now);
-    }
-    let arrivals = state.arrivals;
-    let acks = arrivals.acks;
-    let sender = acks.sender;
-    let due = sending::can_pump_unchecked(sender, plan.total_chunks);
-    if due {
-        let estimator = acks.estimator;
-        let forward = arrivals.forward;
-        let notes = arrivals.notes;
-        let clock = acks.clock;
-        let outbound = Outbound {
-            forward,
-            events: state.events,
-            notes,
-            clock,
-        };
-        let pumped = sending::pump_sends_unchecked(
-            sender,
-            outbound,
-            timing,
-            estimator.current_rto,
-            plan.total_chunks,
-            plan.chunk_size,
-            now,
-            file,
-            forward_rolls,
-            sender_store,
-            rows,
-            events,
-            forward_records,
-            forward_places,
-            keys,
-            deadlines,
-        );
-        let stop = pumped.stop;
-        state = with_pumped(state, pumped);
-        let on = path::is_going(stop);
-        if !on {
-            return stopped(state, stop);
-        }
-        progress = either(progress, pumped.progress);
-    }
-    if progress {
-        return going(state);
-    }
-    settle(
+    finish_round(
         plan,
         state,
+        progress,
+        file,
+        forward_rolls,
+        reverse_rolls,
+        sender_store,
+        receiver_store,
+        output,
+        rows,
+        events,
         forward_records,
+        forward_places,
         reverse_records,
+        reverse_places,
         keys,
         deadlines,
     )

@@ -123,9 +123,9 @@ two-received-no-8 c d = go-back-n-receiver-no-8 (c ∷ d ∷ []) (lit< tt)
 pub lists-not-refused : NoneRefused (ends StopAndWait) (delivery.start StopAndWait 1 3) delivery.stopAndWait × NoneRefused (ends GoBackN) (delivery.start GoBackN 2 0) delivery.goBackN
     × NoneRefused (ends SelectiveRepeat) (delivery.start SelectiveRepeat 2 0) delivery.selectiveRepeat
 lists-not-refused = (
-  none-refused StopAndWait 1 3 _ _ _ delivery.stop-and-wait-made delivery.stopAndWait (delivery.computed .0 .fair) delivery.stop-and-wait-suffices,
-  none-refused GoBackN 2 0 _ _ _ (delivery.two-made GoBackN tt) delivery.goBackN (delivery.computed .1 .fair) delivery.go-back-n-suffices,
-  none-refused SelectiveRepeat 2 0 _ _ _ (delivery.two-made SelectiveRepeat tt) delivery.selectiveRepeat (delivery.computed .2 .fair) delivery.selective-repeat-suffices,
+  none-refused StopAndWait 1 3 _ _ _ delivery.stop-and-wait-made delivery.stopAndWait (delivery.stop-and-wait-computed .fair) delivery.stop-and-wait-suffices,
+  none-refused GoBackN 2 0 _ _ _ (delivery.two-made GoBackN tt) delivery.goBackN (delivery.go-back-n-computed .fair) delivery.go-back-n-suffices,
+  none-refused SelectiveRepeat 2 0 _ _ _ (delivery.two-made SelectiveRepeat tt) delivery.selectiveRepeat (delivery.selective-repeat-computed .fair) delivery.selective-repeat-suffices,
 )
 
 -- ---- lists after which a resending exists
@@ -137,7 +137,7 @@ CanResend p w limit o cs =
 pub lists-resent : CanResend StopAndWait 1 3 (delivery.stop-and-wait-made .window) delivery.stopAndWait × CanResend GoBackN 2 0 tt delivery.goBackN
     × CanResend SelectiveRepeat 2 0 tt delivery.selectiveRepeat
 lists-resent = (
-  some-resending StopAndWait 1 3 _ _ _ delivery.stop-and-wait-made delivery.stopAndWait (delivery.computed .0 .fair) (delivery.also-computed .1 .0 .0) (delivery.also-computed .1 .0 .1),
-  some-resending GoBackN 2 0 _ _ _ (delivery.two-made GoBackN tt) delivery.goBackN (delivery.computed .1 .fair) (delivery.also-computed .1 .1 .0) (delivery.also-computed .1 .1 .1),
-  some-resending SelectiveRepeat 2 0 _ _ _ (delivery.two-made SelectiveRepeat tt) delivery.selectiveRepeat (delivery.computed .2 .fair) (delivery.also-computed .1 .2 .0) (delivery.also-computed .1 .2 .1),
+  some-resending StopAndWait 1 3 _ _ _ delivery.stop-and-wait-made delivery.stopAndWait (delivery.stop-and-wait-computed .fair) (delivery.also-computed .1 .0 .0) (delivery.also-computed .1 .0 .1),
+  some-resending GoBackN 2 0 _ _ _ (delivery.two-made GoBackN tt) delivery.goBackN (delivery.go-back-n-computed .fair) (delivery.also-computed .1 .1 .0) (delivery.also-computed .1 .1 .1),
+  some-resending SelectiveRepeat 2 0 _ _ _ (delivery.two-made SelectiveRepeat tt) delivery.selectiveRepeat (delivery.selective-repeat-computed .fair) (delivery.also-computed .1 .2 .0) (delivery.also-computed .1 .2 .1),
 )

@@ -55,7 +55,7 @@ struct State {
 }
 
 fn main() {
-    let mut text = [0u8; 524288];
+    let mut text = replay_io::buffer();
     let n = io::read_full(STDIN_FILENO, &mut text);
     let mut keys = [0u32; 40];
     let mut deadlines = [0u64; 40];

@@ -52,6 +52,27 @@ pub const PLACES: usize = 451204;
 
 pub const TIMERS: usize = 64;
 
+// The long ones among them, as functions for the reason of `replay_io::buffer`.
+pub fn no_file() -> [u8; FILE] {
+    [0u8; FILE]
+}
+
+pub fn no_rolls() -> [f64; ROLLS] {
+    [0.0f64; ROLLS]
+}
+
+pub fn marked_store() -> [u8; STORE] {
+    [0xA5u8; STORE]
+}
+
+pub fn marked_output() -> [u8; OUTPUT] {
+    [0xA5u8; OUTPUT]
+}
+
+pub fn marked_places() -> [u8; PLACES] {
+    [0xA5u8; PLACES]
+}
+
 // The numbers of the lines p, c, t and m, the file's length, and the rolls.
 pub struct Setup {
     pub run: [u64; 12],

@@ -5,8 +5,8 @@ use replay_io::Fields;
 use transfer_cases::Setup;
 
 fn main() {
-    let mut text = [0u8; 524288];
-    let mut file = [0u8; transfer_cases::FILE];
+    let mut text = replay_io::buffer();
+    let mut file = transfer_cases::no_file();
     let n = io::read_full(STDIN_FILENO, &mut text);
     replay_io::print_if_full(&text, n);
     replay(&text[..n], transfer_cases::start(), &mut file);
@@ -48,8 +48,8 @@ fn call(f: Fields, line: &[u8], setup: Setup, file: &mut [u8]) -> Setup {
 fn run_case(setup: Setup, file: &[u8]) {
     let forward = setup.forward;
     let reverse = setup.reverse;
-    let mut forward_rolls = [0.0f64; transfer_cases::ROLLS];
-    let mut reverse_rolls = [0.0f64; transfer_cases::ROLLS];
+    let mut forward_rolls = transfer_cases::no_rolls();
+    let mut reverse_rolls = transfer_cases::no_rolls();
     let nf = replay_io::min(forward.count, transfer_cases::ROLLS);
     let nr = replay_io::min(reverse.count, transfer_cases::ROLLS);
     run_on_rolls(
@@ -66,9 +66,9 @@ fn run_on_rolls(setup: Setup, file: &[u8], forward_rolls: &mut [f64], reverse_ro
     let reverse = setup.reverse;
     transfer_cases::fill_rolls(forward_rolls, forward);
     transfer_cases::fill_rolls(reverse_rolls, reverse);
-    let mut sender_store = [0xA5u8; transfer_cases::STORE];
-    let mut receiver_store = [0xA5u8; transfer_cases::STORE];
-    let mut output = [0xA5u8; transfer_cases::OUTPUT];
+    let mut sender_store = transfer_cases::marked_store();
+    let mut receiver_store = transfer_cases::marked_store();
+    let mut output = transfer_cases::marked_output();
     let ns = replay_io::min(v[0] as usize, transfer_cases::STORE);
     let nr = replay_io::min(v[1] as usize, transfer_cases::STORE);
     let no = replay_io::min(v[2] as usize, transfer_cases::OUTPUT);
@@ -122,9 +122,9 @@ fn run_on_rows(
     events: &mut [[u64; 7]],
 ) {
     let mut forward_records = [[5u64; 4]; transfer_cases::RECORDS];
-    let mut forward_places = [0xA5u8; transfer_cases::PLACES];
+    let mut forward_places = transfer_cases::marked_places();
     let mut reverse_records = [[5u64; 4]; transfer_cases::RECORDS];
-    let mut reverse_places = [0xA5u8; transfer_cases::PLACES];
+    let mut reverse_places = transfer_cases::marked_places();
     run_on_lines(
         setup,
         file,
