@@ -1,19 +1,7 @@
-/* calls: senders, receivers, packets and timers from C, each answer compared; prints a line for each that is wrong. */
-#include "pindrelo.h"
-#include <stdio.h>
+/* calls: senders, receivers, packets and timers from C, each answer compared. */
+#define TEST "calls"
+#include "expect.h"
 #include <string.h>
-
-static int wrong;
-
-static void expect(const char *what, uint64_t got, uint64_t wanted)
-{
-    if (got != wanted) {
-        printf("calls: %s: %llu, not %llu\n", what, (unsigned long long)got, (unsigned long long)wanted);
-        wrong = 1;
-    }
-}
-
-#define DONE(value) ((uint64_t)(value) << 8)
 
 static void senders(void)
 {
@@ -147,7 +135,5 @@ int main(void)
     packets();
     timers();
     ends();
-    if (!wrong)
-        printf("calls: as expected\n");
-    return wrong;
+    return verdict();
 }

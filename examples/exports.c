@@ -1,20 +1,7 @@
-/* exports: the single timer, the estimator, drain and a run from C, each answer compared; prints a line for each that
- * is wrong, or "as expected". */
-#include "pindrelo.h"
-#include <stdio.h>
+/* exports: the single timer, the estimator, drain and a run from C, each answer compared. */
+#define TEST "exports"
+#include "expect.h"
 #include <string.h>
-
-static int wrong;
-
-static void expect(const char *what, uint64_t got, uint64_t wanted)
-{
-    if (got != wanted) {
-        printf("exports: %s: %llu, not %llu\n", what, (unsigned long long)got, (unsigned long long)wanted);
-        wrong = 1;
-    }
-}
-
-#define DONE(value) ((uint64_t)(value) << 8)
 
 static void single_timer(void)
 {
@@ -190,7 +177,5 @@ int main(void)
     drain(PINDRELO_SELECTIVE_REPEAT);
     run();
     run_with_faults();
-    if (!wrong)
-        puts("exports: as expected");
-    return wrong;
+    return verdict();
 }

@@ -388,7 +388,8 @@ pindrelo_answer pindrelo_estimator_mean(const uint64_t *state, size_t words, con
  *
  * A whole transfer of a file over a line that is made up, on a virtual clock: both ends, the line in both directions
  * and the timers, to try a setup. The line's faults come from rolls, doubles at least 0 and below 1: eight for each
- * datagram and each ACK, in the order loss, duplicate, reorder, corrupt, byte, bit, jitter, the duplicate's jitter. */
+ * datagram and each ACK, in the order loss, duplicate, reorder, corrupt, byte, bit, jitter, the duplicate's jitter. The
+ * way back has the same delays and jitter and no faults: of an ACK's rolls only the seventh counts. */
 
 #define PINDRELO_SETUP_NUMBERS 13
 #define PINDRELO_SETUP_DOUBLES 8
@@ -397,8 +398,9 @@ pindrelo_answer pindrelo_estimator_mean(const uint64_t *state, size_t words, con
 /* the setup: numbers, and doubles */
 enum {
     PINDRELO_SETUP_PROTOCOL = 0, /* 1 to 3 */
-    PINDRELO_SETUP_CLOCK = 1,    /* 1 the source's timing; 2 RFC 6298 section 5, not with Selective Repeat */
-    PINDRELO_SETUP_WINDOW = 2,
+    PINDRELO_SETUP_CLOCK = 1,    /* 1 the source's timing; 2 RFC 6298 section 5: not with Selective Repeat, and only
+                                    with 1 s, 1 s, 60 s, 1 ms in 7 to 10 and 1/8, 1/4, 4, 1 in the doubles 4 to 7 */
+    PINDRELO_SETUP_WINDOW = 2,   /* 1 to 32; Stop-and-Wait runs with 1 */
     PINDRELO_SETUP_CHUNK = 3, /* 1 to 1,400 bytes; at most 65,536 chunks */
     PINDRELO_SETUP_REORDER_EXTRA_MS = 4,
     PINDRELO_SETUP_BASE_DELAY_MS = 5,
@@ -407,8 +409,8 @@ enum {
     PINDRELO_SETUP_MIN_RTO = 8,
     PINDRELO_SETUP_MAX_RTO = 9,
     PINDRELO_SETUP_GRANULARITY = 10, /* these four in ns, as an estimator's */
-    PINDRELO_SETUP_MAX_VIRTUAL_TIME = 11,
-    PINDRELO_SETUP_MAX_RETRANSMISSIONS = 12
+    PINDRELO_SETUP_MAX_VIRTUAL_TIME = 11,   /* ns, at most 86,400 s */
+    PINDRELO_SETUP_MAX_RETRANSMISSIONS = 12 /* of all datagrams together; with 0 nothing is sent */
 };
 
 enum {
@@ -430,20 +432,21 @@ enum {
     PINDRELO_OUTCOME_DRIVER = 3, /* sent again, too early, data received, ACKs sent, ACKs received, duplicate data,
                                     duplicate ACKs, events: eight words */
     PINDRELO_OUTCOME_SENDER = 11,   /* base, sent, sent again */
-    PINDRELO_OUTCOME_RECEIVER = 14, /* base, the fill mark, received, and its second and third word */
+    PINDRELO_OUTCOME_RECEIVER = 14, /* base, fill mark, then as a receiver's words TOTAL, SECOND, THIRD */
     PINDRELO_OUTCOME_FILLED = 15,
     PINDRELO_OUTCOME_FORWARD = 19, /* datagrams, lost, corrupted, duplicated, reordered, copies */
     PINDRELO_OUTCOME_REVERSE = 25
 };
 
-/* What is lent: stores as for the ends; an output not shorter than the file; a note for each chunk; events, one row a
- * datagram (its number, 1 if sent again, copies, two delays in ms, two sums of bytes); of each direction records and
- * places of 1,410 bytes for the copies on their way; of Selective Repeat a key and a deadline for each number of the
- * window. With N = chunks + max_retransmissions these end a run in no other way than "ended": N events, 8 N forward and
- * 16 N reverse rolls, 2 N records and 2 N places in each direction.
+/* What is lent: stores as for the ends; an output not shorter than the file; a note for each chunk, of an empty file
+ * one; events, one row a datagram (its number, 1 if sent again, copies, two delays in ms, two sums of bytes); of each
+ * direction records and places of 1,410 bytes for the copies on their way; as many keys as deadlines, of Selective
+ * Repeat one for each number of the window. With N = chunks + max_retransmissions these end a run in no other way than
+ * "ended": N events, 8 N forward and 16 N reverse rolls, 2 N records and 2 N places in each direction.
  * Done: 1 where the run completed, else 0; the outcome, and the estimator as AN RTO ESTIMATOR has it. Completed with
- * the fill mark at the file's length means that exactly the file was written. 9 too few numbers or doubles; 4 an
- * unknown protocol or clock; then 9, 11 (a roll, used or not), 4, 5, with too few words for the outcome a 5. */
+ * the fill mark at the file's length means that exactly the file was written; the mark is never above that. 9 too few
+ * numbers or doubles; 4 an unknown protocol or clock; then 9, 11 (a roll, used or not), 4, 5, with too few words for
+ * the outcome or the estimator, or doubles for it, a 5. */
 pindrelo_answer pindrelo_run(
     const uint64_t *numbers, size_t number_count, const double *reals, size_t real_count,
     const uint8_t *file, size_t length, const double *forward_rolls, size_t forward_roll_count,

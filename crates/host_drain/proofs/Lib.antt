@@ -4,3 +4,4 @@ pub mod Follow
 pub mod EveryList
 pub mod Delivered
 pub mod Room
+pub mod Examples

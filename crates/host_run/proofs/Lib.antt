@@ -1,2 +1,4 @@
 pub mod Ends
 pub mod Unchanged
+pub mod Fields
+pub mod Made

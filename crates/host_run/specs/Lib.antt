@@ -1,3 +1,5 @@
 pub mod Setup
 pub mod Outcome
 pub mod Run
+pub mod Layout
+pub mod Made

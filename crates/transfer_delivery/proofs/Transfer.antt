@@ -14,7 +14,7 @@ use Rattle.session.specs.Sending.{slotCount}
 use Rattle.setup.specs.Setup.{CanStart}
 use Rattle.setup.specs.declared.TransferConfig.{TransferConfig}
 use Rattle.completion.proofs.Laws.{Start, Begun, new-begun, new-sender-slots, new-receiver-slots, runs-start, runs-delivered, runs-completed}
-use Rattle.prefixes.proofs.Laws.{prefixed-start, prefixed-written, prefixed-completed}
+use Rattle.prefixes.proofs.Laws.{prefixed-start, prefixed-written, prefixed-fill, prefixed-completed}
 use Rattle.step.specs.State.{Given, Lent}
 use Rattle.step.specs.Settle.{StepExit}
 use Rattle.transfer.specs.Start.{planFor, reverseConfig, newRun, startOf}
@@ -68,6 +68,7 @@ module _ (k : Ceilings) (c : TransferConfig) (g : Given) (l : Lent) (h : CanStar
         record {
           first = λ flips. runs-delivered (q .runs) flips;
           whole = λ flips done. runs-completed (last .state .arrivals .inbound) (q .runs) flips (q .completed) done;
+          fill = prefixed-fill (q .prefixed);
           prefixes = prefixed-written (q .prefixed);
           said = λ all. q .completed ∙ ap not (le-ltb _ _ all);
           same-length = λ done e. prefixed-completed (last .state .arrivals .inbound) (q .prefixed) (q .completed) done e;

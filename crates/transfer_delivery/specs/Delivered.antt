@@ -33,14 +33,16 @@ writtenAt o l = take (filled (o .receiver)) (l .output)
 
 -- Where no bit was flipped in the length bytes: the delivered chunks are the first ones, the distance is within the
 -- window, nothing else was written, and a run that says completed has written exactly the file. On any rolls: each
--- delivered part is a prefix of its chunk, and a run that says completed with the fill mark at the file's length has
--- written exactly the file; a run that delivered as many parts as there are chunks says completed.
+-- delivered part is a prefix of its chunk, the fill mark is at most the file's length, and a run that says completed
+-- with the mark at that length has written exactly the file; one that delivered as many parts as there are chunks says
+-- completed.
 pub record Delivered (c : TransferConfig) (g : Given) (before : Lent) (o : Outcome) (after : Lent) : Type 0 where
   pub first : FlipsOutside (c .channel) (g .forwardRolls) (fileChunks c g) (eventsAt o after)
       → FirstDelivered (fileChunks c g) (slotCount (c .protocol) (c .«window_size»)) (before .output) (senderAt o after)
       (receiverAt o after) (after .output)
   pub whole : FlipsOutside (c .channel) (g .forwardRolls) (fileChunks c g) (eventsAt o after)
       → o .completed ≡ true → writtenAt o after ≡ g .file
+  pub fill : filled (o .receiver) ≤ length (g .file)
   pub prefixes : PrefixesWritten (fileChunks c g) (before .output) (receiverAt o after) (after .output)
   pub said : length (fileChunks c g) ≤ deliveredTo (receiverAt o after) → o .completed ≡ true
   pub same-length : o .completed ≡ true → filled (o .receiver) ≡ length (g .file) → writtenAt o after ≡ g .file
