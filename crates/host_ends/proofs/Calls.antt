@@ -5,6 +5,12 @@ use mathlib.Core.List.{List, [], _∷_}
 use mathlib.Core.Bool.{Bool, true, false, cond}
 use lib.Dec.{eqb}
 use Rattle.refusal.specs.declared.Refusal.the-variants.{State}
+use Rattle.refusal.specs.declared.Verdict.{Verdict}
+use Rattle.refusal.specs.declared.Verdict.the-variants.{Accepted}
+use Rattle.refusal.proofs.Laws.{accepted-none-true}
+use Rattle.window.specs.State.{countsBroken}
+use Rattle.window.proofs.Laws.{Sound, sound}
+use Rattle.session.specs.GoodSender.{isSelective, senderBroken}
 use Rattle.refusal.specs.Order.{order, orElse, numbered, firstOf, verdict, decide, heldChecks}
 use Rattle.window.specs.declared.SendAnswer.{SendAnswer}
 use Rattle.window.specs.declared.AckAnswer.{AckAnswer}
@@ -12,37 +18,37 @@ use Rattle.window.specs.declared.TimeoutAnswer.{TimeoutAnswer}
 use Rattle.window.specs.Sending.{SendExit, sendExit}
 use Rattle.window.specs.Acknowledgement.{AckExit, ackExit}
 use Rattle.window.specs.Resending.{TimeoutExit, timeoutExit, timeoutDecision}
-use Rattle.window.specs.declared.TimeoutDecision.{TimeoutDecision}
 use Rattle.window.specs.declared.TimeoutDecision.the-variants as decision
 use Rattle.receiver.specs.declared.ReceiveAnswer.{ReceiveAnswer}
 use Rattle.receiver.specs.Receive.{ReceiveExit, receiveExit}
 use Rattle.session.specs.declared.Sender.{Sender}
 use Rattle.session.specs.declared.Receiver.{Receiver}
 use Rattle.session.specs.declared.Timeout.{Timeout}
-use Rattle.session.specs.Sending.{SenderEnd, senderEnd, sendChunk, handleAck, handleTimeout}
+use Rattle.session.specs.Sending.{SenderEnd, senderEnd, windowOf, sendChunk, handleAck, handleTimeout}
 use Rattle.session.specs.Receiving.{ReceiverEnd, receiverEnd, handlePacket}
 use Rattle.host_answer.specs.Answer.{refusalAnswer}
 use Rattle.host_words.specs.declared.HeldSender.the-variants as heldSenders
 use Rattle.host_words.specs.declared.HeldReceiver.the-variants as heldReceivers
 use Rattle.host_words.specs.Words.{heldSender, heldReceiver, withSender, withReceiver}
 use Rattle.host_ends.specs.Answers.{callExit, sendCode, ackCode, timeoutCode, receiveCode}
-use Rattle.host_ends.specs.Sender.{sent, sendHeld, send, numberOf, acknowledged, acknowledgeHeld, acknowledge, timedOut, timeoutHeld, timeout}
-use Rattle.host_ends.specs.Internal.{unlessRefused}
+use Rattle.host_ends.specs.Sender.{senderVerdict, sent, sendHeld, send, numberOf, acknowledged, acknowledgeHeld, acknowledge, timedOut, timeoutHeld, timeout}
+use Rattle.host_ends.specs.Internal.{verdictOf}
 use Rattle.host_ends.specs.Receiver.{received, receiveHeld, receive}
 
 -- a decision on a timeout is refused as the state's checks are
-pub decided : (b c : Bool) (n k answer : ℕ) → unlessRefused (timeoutDecision b c n k) answer ≡ decide (verdict (heldChecks b c)) refusalAnswer answer
-unfolding timeoutDecision unlessRefused verdict firstOf numbered orElse order decide
-decided true c n k answer = refl
-decided false true n k answer = refl
-decided false false n k answer = by-count (eqb k 0) where
-  by-count : (e : Bool) → unlessRefused (cond e decision.Nothing (decision.Resend n k)) answer ≡ answer
+pub decision-verdict : (b c : Bool) (n k : ℕ) → verdictOf (timeoutDecision b c n k) ≡ verdict (heldChecks b c)
+unfolding timeoutDecision verdictOf verdict firstOf numbered orElse order decide
+decision-verdict true c n k = refl
+decision-verdict false true n k = refl
+decision-verdict false false n k = by-count (eqb k 0) where
+  by-count : (e : Bool) → verdictOf (cond e decision.Nothing (decision.Resend n k)) ≡ Accepted
   by-count true = refl
   by-count false = refl
 
-pub decided-by : {x given other : ℕ} {d : TimeoutDecision} (b c : Bool) (n k : ℕ) → x ≡ unlessRefused d given → d ≡ timeoutDecision b c n k → given ≡ other
-    → x ≡ decide (verdict (heldChecks b c)) refusalAnswer other
-decided-by {x} {given} {other} b c n k p q r = rw (p, q, r) (decided b c n k other)
+-- what an accepted sender and its store are like
+pub sender-sound : (s : Sender) (store : List ℕ) {x : Verdict} → x ≡ senderVerdict (senderEnd s store) → x ≡ Accepted → Sound (isSelective (s .state)) (windowOf s) store
+sender-sound s store e a =
+    let v = senderEnd s store in sound _ _ store (accepted-none-true (heldChecks (senderBroken v) (countsBroken (windowOf s))) (sym e ∙ a) .0)
 
 module _ (state store payload out : List ℕ) where
   pub on-sent : {s v : Sender} {a : SendAnswer} {x : ℕ} {state' store' out' : List ℕ} → heldSender state ≡ heldSenders.Sender s

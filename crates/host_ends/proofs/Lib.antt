@@ -3,3 +3,4 @@ pub mod Unchanged
 pub mod Fits
 pub mod ReceiveFits
 pub mod Numbers
+pub mod Again

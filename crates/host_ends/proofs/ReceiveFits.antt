@@ -1,4 +1,5 @@
--- The values of what receiving answers survive the packing: the number of an ACK, and the values of a refusal.
+-- The values of what a receiver answers survive the packing: the number of an ACK, how many payloads are held, and the
+-- values of a refusal.
 use Prim.Native.Nat.{ℕ, _+_, _-_, _<_}
 use mathlib.Core.Path.{_≡_}
 use mathlib.Core.Bool.{Bool, true, false, cond, _&&_}
@@ -9,7 +10,10 @@ use lib.Dec.{ltb, leb, eqb}
 use Rattle.bounds.specs.Bounds.{seqNumLimit}
 use Rattle.octets.specs.Octets.{Octets}
 use Rattle.refusal.specs.Order.{heldChecks}
+use Rattle.refusal.specs.declared.CountAnswer.the-variants as count
 use Rattle.refusal.proofs.Laws.{NoneTrue, EachRefusal, none-of}
+use Rattle.store.specs.Numbers.{markedCount}
+use Rattle.store.proofs.Laws.{count-within}
 use Rattle.packet.specs.Reading.{readDatagram, readingChecks}
 use Rattle.packet.specs.declared.PacketType.{PacketType}
 use Rattle.packet.specs.declared.PacketType.the-variants as packetType
@@ -34,12 +38,14 @@ use Rattle.go_back_n.specs.Receiver as goBackNReceiver
 use Rattle.go_back_n.specs.declared.GoBackNReceiver.{GoBackNReceiver}
 use Rattle.go_back_n.specs.declared.GoBackNDecision.{GoBackNDecision}
 use Rattle.selective_repeat.specs.Receiver as sr
+use Rattle.selective_repeat.proofs.Laws.{ready}
 use Rattle.selective_repeat.specs.declared.SelectiveRepeatDecision.{SelectiveRepeatDecision}
 use Rattle.session.specs.declared.ReceiverState.{ReceiverState}
 use Rattle.session.specs.declared.ReceiverState.the-variants as receiverState
 use Rattle.session.specs.Receiving.{ReceiverEnd, handlePacketIn, handlePacket}
 use Rattle.host_answer.specs.Answer.{valueLimit, ValuesFit}
-use Rattle.host_answer.proofs.Laws.{of-answer, full-fits, numbers-fits, counts-fits, state-fits}
+use Rattle.host_answer.proofs.Laws.{of-answer, full-fits, numbers-fits, counts-fits, state-fits, CountFits}
+use Rattle.host_ends.specs.Receiver.{noneHeld, bufferedCountIn}
 use Rattle.host_ends.proofs.Fits.{ReadingFits, reading-fits}
 
 abbrev pub ReceiveFits : ReceiveAnswer → Type 0
@@ -150,3 +156,19 @@ module _ (store raw output ack : List ℕ) (o : Octets raw) where
 pub packet-fits : (v : ReceiverEnd) (raw output ack : List ℕ) → Octets raw → ReceiveFits (handlePacket v raw output ack .answer)
 unfolding handlePacket
 packet-fits v raw output ack o = packet-fits-in (v .store) raw output ack o (v .receiver .state)
+
+none-held-fits : (base : ℕ) (counts : Bool) → CountFits (noneHeld base counts)
+unfolding noneHeld
+none-held-fits base counts = of-answer CountFits (heldChecks (ltb seqNumLimit base) counts) count.Refused (count.Count 0) (state-fits, (counts-fits, tt)) (λ none. omega arith)
+
+pub buffered-count-fits : (x : ReceiverState) (store : List ℕ) → CountFits (bufferedCountIn x store)
+unfolding bufferedCountIn sr.bufferedCount
+buffered-count-fits (receiverState.StopAndWait r) store = none-held-fits _ _
+buffered-count-fits (receiverState.GoBackN r) store = none-held-fits _ _
+buffered-count-fits (receiverState.SelectiveRepeat r) store =
+    let w = r .«window_size» in
+    of-answer CountFits (heldChecks (sr.stateBroken r store) (sr.countersBroken r)) count.Refused (count.Count (markedCount 1 store w (r .«recv_base») w)) (state-fits, (counts-fits, tt))
+    (λ none.
+    let few = count-within 1 store w (r .«recv_base») w in
+    let small = ready r store (none .0) .small in
+    omega (arith, few, small))

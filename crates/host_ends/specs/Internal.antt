@@ -1,11 +1,11 @@
 -- What the functions below the entry points answer.
-use Prim.Native.Nat.{ℕ}
+use Rattle.refusal.specs.declared.Verdict.{Verdict}
+use Rattle.refusal.specs.declared.Verdict.the-variants.{Accepted, Refused}
 use Rattle.window.specs.declared.TimeoutDecision.{TimeoutDecision}
 use Rattle.window.specs.declared.TimeoutDecision.the-variants as decision
-use Rattle.host_answer.specs.Answer.{refusalAnswer}
 
--- the answer, unless the state was refused
-unfoldable pub unlessRefused : TimeoutDecision → ℕ → ℕ
-unlessRefused (decision.Resend n k) answer = answer
-unlessRefused decision.Nothing answer = answer
-unlessRefused (decision.Refused r) answer = refusalAnswer r
+-- whether the state was refused
+unfoldable pub verdictOf : TimeoutDecision → Verdict
+verdictOf (decision.Resend n k) = Accepted
+verdictOf decision.Nothing = Accepted
+verdictOf (decision.Refused r) = Refused r

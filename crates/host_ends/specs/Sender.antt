@@ -1,27 +1,32 @@
 -- The calls of a sender over lent words: the protocol's own on the sender that the words hold.
 use Prim.Native.Nat.{ℕ}
 use mathlib.Core.List.{List, [], _∷_}
-use mathlib.Core.Bool.{false}
+use mathlib.Core.Bool.{cond}
 use Rattle.refusal.specs.declared.Refusal.the-variants.{State}
+use Rattle.refusal.specs.declared.Verdict.{Verdict}
 use Rattle.refusal.specs.Order.{verdict, decide, heldChecks}
+use Rattle.packet.specs.Format as packet
 use Rattle.packet.specs.Reading.{fromBytes}
 use Rattle.packet.specs.declared.PacketAnswer.{PacketAnswer}
 use Rattle.packet.specs.declared.PacketAnswer.the-variants as packetAnswer
 use Rattle.refusal.specs.declared.TestAnswer.{TestAnswer}
-use Rattle.window.specs.State.{stateBroken, countsBroken}
+use Rattle.refusal.specs.declared.TestAnswer.the-variants as test
+use Rattle.window.specs.State.{countsBroken}
 use Rattle.window.specs.Slots as slots
+use Rattle.window.specs.Slots.{packetFor}
 use Rattle.window.specs.Outstanding as window
 use Rattle.window.specs.Sending.{SendExit}
-use Rattle.window.specs.Acknowledgement.{AckExit}
+use Rattle.window.specs.Acknowledgement.{inWindow, AckExit}
 use Rattle.window.specs.Resending.{TimeoutExit}
-use Rattle.window.specs.declared.SendWindow.{SendWindow}
 use Rattle.stop_and_wait.specs.Sender as stopAndWait
 use Rattle.selective_repeat.specs.Sender as selectiveRepeat
-use Rattle.session.specs.Sending.{SenderEnd, senderEnd, sendChunk, handleAck, handleTimeout}
+use Rattle.session.specs.Sending.{SenderEnd, senderEnd, senderIn, windowOf, windowEnd}
+use Rattle.session.specs.Sending.{sendChunk, handleAck, handleTimeout}
+use Rattle.session.specs.GoodSender.{senderBroken}
 use Rattle.session.specs.declared.SenderState.{SenderState}
 use Rattle.session.specs.declared.SenderState.the-variants as senderState
 use Rattle.session.specs.declared.Timeout.{Timeout}
-use Rattle.host_answer.specs.Answer.{refusalAnswer, testAnswer, countAnswer}
+use Rattle.host_answer.specs.Answer.{packed, nothingStatus, refusalAnswer, testAnswer, countAnswer}
 use Rattle.host_words.specs.declared.HeldSender.{HeldSender}
 use Rattle.host_words.specs.declared.HeldSender.the-variants as heldSenders
 use Rattle.host_words.specs.Words.{heldSender, withSender}
@@ -83,17 +88,19 @@ canSendHeld heldSenders.Broken = refusalAnswer State
 abbrev pub canSend : List ℕ → ℕ
 canSend state = canSendHeld (heldSender state)
 
--- 9 and 8 of the window and its store
-abbrev pub unlessBroken : SendWindow → List ℕ → ℕ → ℕ
-unlessBroken w store answer =
-    decide (verdict (heldChecks (stateBroken false w store) (countsBroken w))) refusalAnswer answer
+-- 9 and 8 of a sender and its store
+abbrev pub senderVerdict : SenderEnd → Verdict
+senderVerdict v = verdict (heldChecks (senderBroken v) (countsBroken (windowOf (v .sender))))
+
+abbrev pub unlessBroken : SenderEnd → ℕ → ℕ
+unlessBroken v answer = decide (senderVerdict v) refusalAnswer answer
 
 -- how many numbers are outstanding; of Selective Repeat those not acknowledged
 unfoldable pub inFlightIn : SenderState → List ℕ → ℕ
 inFlightIn (senderState.StopAndWait s) store =
-    unlessBroken (stopAndWait.windowOf s) store (testAnswer (stopAndWait.isWaitingForAck s))
+    unlessBroken (senderIn (senderState.StopAndWait s) store) (testAnswer (stopAndWait.isWaitingForAck s))
 inFlightIn (senderState.GoBackN s) store =
-    unlessBroken (s .window) store (countAnswer (window.inFlightCount (s .window)))
+    unlessBroken (senderIn (senderState.GoBackN s) store) (countAnswer (window.inFlightCount (s .window)))
 inFlightIn (senderState.SelectiveRepeat s) store =
     countAnswer (selectiveRepeat.inFlightCount (slots.sender (s .window) store))
 
@@ -103,3 +110,17 @@ inFlightHeld heldSenders.Broken store = refusalAnswer State
 
 abbrev pub inFlight : List ℕ → List ℕ → ℕ
 inFlight state store = inFlightHeld (heldSender state) store
+
+-- whether number n was sent again, as its packet says; nothing where it isn't outstanding
+unfoldable pub sentAgain : slots.Sender → ℕ → ℕ
+sentAgain v n =
+    cond (inWindow (v .window) n) (testAnswer (test.Is (packet.isRetransmitted (packetFor v n))))
+    (packed nothingStatus 0)
+
+unfoldable pub isRetransmittedHeld : HeldSender → List ℕ → ℕ → ℕ
+isRetransmittedHeld (heldSenders.Sender s) store n =
+    let v = senderEnd s store in unlessBroken v (sentAgain (windowEnd v) n)
+isRetransmittedHeld heldSenders.Broken store n = refusalAnswer State
+
+abbrev pub isRetransmitted : List ℕ → List ℕ → ℕ → ℕ
+isRetransmitted state store n = isRetransmittedHeld (heldSender state) store n

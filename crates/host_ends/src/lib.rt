@@ -2,14 +2,19 @@
 // any words; those that hold no such end are a 9.
 ghost use mathlib.Core.Path.{_≡_};
 ghost use mathlib.Core.List.{[], _∷_};
-ghost use Prim.Native.Nat.{min};
-ghost use Rattle.session.specs.Sending.{slotCount};
+ghost use Prim.Native.Nat.{_*_, _≤_, _<_, min};
+ghost use lib.ListN.{length};
+ghost use Rattle.bounds.specs.Bounds.{slotSize};
+ghost use Rattle.window.specs.Slots as slots;
+ghost use Rattle.session.specs.Sending.{slotCount, senderIn, senderEnd, windowEnd};
 ghost use Rattle.session.specs.Receiving.{receiverSlotCount};
 ghost use Rattle.host_ends.specs.Answers.{callExit, sendCode, ackCode, timeoutCode, receiveCode};
 ghost use Rattle.host_ends.specs.Sender.{send, numberOf, acknowledge, timeout, canSendIn, canSend, inFlightIn};
-ghost use Rattle.host_ends.specs.Sender.{inFlight};
-ghost use Rattle.host_ends.specs.Internal.{unlessRefused};
-ghost use Rattle.host_ends.specs.Receiver.{receive};
+ghost use Rattle.host_ends.specs.Sender.{inFlight, senderVerdict, unlessBroken, sentAgain, isRetransmitted};
+ghost use Rattle.host_ends.specs.Internal.{verdictOf};
+ghost use Rattle.host_ends.specs.Receiver.{receive, noneHeld, bufferedCountIn, bufferedCount};
+ghost use Rattle.refusal.specs.Order.{decide};
+ghost use Rattle.host_answer.specs.Answer.{refusalAnswer};
 ghost use Rattle.host_ends.specs.Making.{makeSenderOf, makeReceiverOf, makeSender, makeReceiver};
 use host_words::HeldReceiver;
 use host_words::HeldSender;
@@ -17,14 +22,18 @@ use packet::Packet;
 use packet::PacketAnswer;
 use protocol::ProtocolType;
 use receiver::ReceiveAnswer;
+use refusal::CountAnswer;
 use refusal::Refusal;
 use refusal::TestAnswer;
+use refusal::Verdict;
 use session::Receiver;
+use session::ReceiverState;
 use session::Sender;
 use session::SenderState;
 use session::Timeout;
 use window::AckAnswer;
 use window::SendAnswer;
+use window::SendWindow;
 use window::TimeoutAnswer;
 use window::TimeoutDecision;
 
@@ -158,6 +167,16 @@ pub fn in_flight(state: &[u64], store: &[u8]) -> u64
     }
 }
 
+// Whether a number was sent again: done with 1 or 0, nothing where it isn't outstanding, or refused.
+pub fn is_retransmitted(state: &[u64], store: &[u8], seq_num: u64) -> u64
+    ensures { λ r. ⌜ r ≡ isRetransmitted (now (state .entry)) (now (store .entry)) «seq_num» ⌝ }
+{
+    match host_words::held_sender(state) {
+        HeldSender::Sender(sender) => is_retransmitted_in(sender, store, seq_num),
+        HeldSender::Broken => host_answer::refusal_answer(Refusal::State),
+    }
+}
+
 // A datagram: done with the number of the ACK that was written, silent, or refused.
 pub fn receive(
     state: &mut [u64],
@@ -178,6 +197,19 @@ pub fn receive(
             let answer = result.answer;
             host_words::put_receiver_unchecked(state, receiver);
             receive_code(answer)
+        }
+        HeldReceiver::Broken => host_answer::refusal_answer(Refusal::State),
+    }
+}
+
+// How many payloads are held: done with the count, or refused.
+pub fn buffered_count(state: &[u64], store: &[u8]) -> u64
+    ensures { λ r. ⌜ r ≡ bufferedCount (now (state .entry)) (now (store .entry)) ⌝ }
+{
+    match host_words::held_receiver(state) {
+        HeldReceiver::Receiver(receiver) => {
+            let held = receiver.state;
+            host_answer::count_answer(buffered_count_in(held, store))
         }
         HeldReceiver::Broken => host_answer::refusal_answer(Refusal::State),
     }
@@ -273,25 +305,107 @@ fn in_flight_in(state: SenderState, store: &[u8]) -> u64
     match state {
         SenderState::StopAndWait(s) => {
             let answer = host_answer::test_answer(s.is_waiting_for_ack());
-            unless_refused(s.decide_timeout(store), answer)
+            unless_refused(check_sender(state, store), answer)
         }
         SenderState::GoBackN(s) => {
-            let window = s.window;
             let answer = host_answer::count_answer(s.in_flight_count());
-            unless_refused(window.decide_timeout(store, 0), answer)
+            unless_refused(check_sender(state, store), answer)
         }
         SenderState::SelectiveRepeat(s) => host_answer::count_answer(s.in_flight_count(store)),
     }
 }
 
-// The answer, unless the state was refused.
-fn unless_refused(decision: TimeoutDecision, answer: u64) -> u64
-    ensures { λ r. ⌜ r ≡ unlessRefused decision answer ⌝ }
+fn is_retransmitted_in(sender: Sender, store: &[u8], seq_num: u64) -> u64
+    ensures { λ r. ⌜ r ≡ unlessBroken (senderEnd sender (now (store .entry)))
+        (sentAgain (windowEnd (senderEnd sender (now (store .entry)))) «seq_num») ⌝ }
+{
+    let held = sender.state;
+    match check_sender(held, store) {
+        Verdict::Accepted => sent_again(sender.window_unchecked(), store, seq_num),
+        Verdict::Refused(r) => host_answer::refusal_answer(r),
+    }
+}
+
+// By the flags in the number's slot.
+fn sent_again(window: SendWindow, store: &[u8], seq_num: u64) -> u64
+    requires { ⌜ 0 < window .«window_size» ⌝ }
+    requires { ⌜ window .«window_size» * slotSize ≤ length (now store) ⌝ }
+    ensures { λ r. ⌜ r ≡ sentAgain (slots.sender window (now (store .entry))) «seq_num» ⌝ }
+{
+    if seq_num < window.send_base as u64 {
+        return host_answer::pack_unchecked(host_answer::NOTHING, 0);
+    }
+    if window.next_seq_num as u64 <= seq_num {
+        return host_answer::pack_unchecked(host_answer::NOTHING, 0);
+    }
+    let slot = seq_num as usize % window.window_size;
+    let again = store::flags_unchecked(store, slot) % 2 == 1;
+    host_answer::test_answer(TestAnswer::Is(again))
+}
+
+// Checks 9 and 8 of a sender and its store.
+fn check_sender(state: SenderState, store: &[u8]) -> Verdict
+    ensures { λ r. ⌜ r ≡ senderVerdict (senderIn state (now (store .entry))) ⌝ }
+{
+    match state {
+        SenderState::StopAndWait(s) => verdict_of(s.decide_timeout(store)),
+        SenderState::GoBackN(s) => {
+            let window = s.window;
+            refusal::held_verdict(window.state_broken(false, store), window.counts_broken())
+        }
+        SenderState::SelectiveRepeat(s) => {
+            let window = s.window;
+            refusal::held_verdict(window.state_broken(true, store), window.counts_broken())
+        }
+    }
+}
+
+fn verdict_of(decision: TimeoutDecision) -> Verdict
+    ensures { λ r. ⌜ r ≡ verdictOf decision ⌝ }
 {
     match decision {
-        TimeoutDecision::Refused(r) => host_answer::refusal_answer(r),
-        TimeoutDecision::Nothing => answer,
-        TimeoutDecision::Resend { first: _, count: _ } => answer,
+        TimeoutDecision::Refused(r) => Verdict::Refused(r),
+        TimeoutDecision::Nothing => Verdict::Accepted,
+        TimeoutDecision::Resend { first: _, count: _ } => Verdict::Accepted,
+    }
+}
+
+// The answer, unless the state was refused.
+fn unless_refused(verdict: Verdict, answer: u64) -> u64
+    ensures { λ r. ⌜ r ≡ decide verdict refusalAnswer answer ⌝ }
+{
+    match verdict {
+        Verdict::Accepted => answer,
+        Verdict::Refused(r) => host_answer::refusal_answer(r),
+    }
+}
+
+fn buffered_count_in(state: ReceiverState, store: &[u8]) -> CountAnswer
+    ensures { λ r. ⌜ r ≡ bufferedCountIn state (now (store .entry)) ⌝ }
+{
+    match state {
+        ReceiverState::StopAndWait(r) => none_held(
+            r.expected_seq,
+            receiver::counts_broken(r.total_received, r.duplicates_count, r.corrupted_count),
+        ),
+        ReceiverState::GoBackN(r) => none_held(
+            r.expected_seq,
+            receiver::counts_broken(
+                r.total_received,
+                r.discarded_out_of_order,
+                r.duplicate_acks_sent,
+            ),
+        ),
+        ReceiverState::SelectiveRepeat(r) => r.buffered_count(store),
+    }
+}
+
+fn none_held(base: u32, counts_broken: bool) -> CountAnswer
+    ensures { λ r. ⌜ r ≡ noneHeld base «counts_broken» ⌝ }
+{
+    match refusal::held_verdict(bounds::SEQ_NUM_LIMIT < base, counts_broken) {
+        Verdict::Accepted => CountAnswer::Count(0),
+        Verdict::Refused(r) => CountAnswer::Refused(r),
     }
 }
 

@@ -20,19 +20,20 @@ use Rattle.refusal.specs.Order.{check, order, orElse, numbered, firstOf, verdic
 use Rattle.bounds.specs.Bounds.{maxTime, maxDuration}
 use Rattle.duration.specs.Bounds.{startLate}
 use Rattle.multi_timer.specs.MultiTimer as multi
-use Rattle.multi_timer.specs.MultiTimer.{TimersExit, timersExit, answering, newUnchecked, startTimerAt, heldTooLate, heldChecks, cancelTimer, isExpiredAt, PopExit, popExit, popExpiredAt, earliestAnswer, earliestDeadline}
+use Rattle.multi_timer.specs.MultiTimer.{TimersExit, timersExit, answering, newUnchecked, startTimerAt, heldTooLate, heldChecks, cancelTimer, isExpiredAt, PopExit, popExit, popExpiredAt, earliestAnswer, earliestDeadline, clearTimers}
 use Rattle.multi_timer.specs.Map.{deadlinesOf, earliest}
 use Rattle.multi_timer.specs.declared.MultiTimer.{MultiTimer}
 use Rattle.multi_timer.specs.declared.StartResult.{StartResult}
 use Rattle.multi_timer.specs.declared.CancelResult.{CancelResult}
 use Rattle.multi_timer.specs.declared.PopResult.{PopResult}
 use Rattle.multi_timer.specs.declared.EarliestAnswer.the-variants as earliestAnswers
-use Rattle.host_answer.specs.Answer.{packed, refusalAnswer}
+use Rattle.multi_timer.specs.declared.ClearResult.{ClearResult}
+use Rattle.host_answer.specs.Answer.{packed, refusalAnswer, doneAnswer}
 use Rattle.host_answer.specs.Exit.{wordsExit}
 use Rattle.host_timers.specs.declared.HeldTimers.{HeldTimers}
 use Rattle.host_timers.specs.declared.HeldTimers.the-variants as held
 use Rattle.host_timers.specs.Internal.{noneRan}
-use Rattle.host_timers.specs.Timers.{timersWords, timersWord, timersIn, unreadable, heldTimers, withTimers, startCode, started, startHeld, startKey, startWide, cancelCode, cancelled, cancelHeld, cancelKey, cancelWide, popCode, popped, poppedExit, popHeld, pop}
+use Rattle.host_timers.specs.Timers.{timersWords, timersWord, timersIn, unreadable, heldTimers, withTimers, startCode, started, startHeld, startKey, startWide, cancelCode, cancelled, cancelHeld, cancelKey, cancelWide, popCode, popped, poppedExit, popHeld, pop, cleared, clearHeld, clear}
 
 -- words that hold a set
 pub record Readable (s : List ℕ) : Type 0 where
@@ -80,6 +81,12 @@ module _ (state ks ds : List ℕ) where
       → popExit (timersExit (wordsExit x state') ks' ds') out' ≡ pop state ks ds now out
   unfolding popHeld
   on-popped now out h e p q = rw (h, p, q) (ap (poppedExit state) e)
+
+  pub on-cleared : {t : MultiTimer} {r : ClearResult} {x : ℕ} {state' ks' ds' : List ℕ} → heldTimers state ≡ held.Timers t
+      → timersExit r ks' ds' ≡ clearTimers t ks ds → state' ≡ withTimers state (r .timers) → x ≡ doneAnswer (r .answer)
+      → timersExit (wordsExit x state') ks' ds' ≡ clear state ks ds
+  unfolding clearHeld
+  on-cleared h e p q = rw (h, p, q) (ap (answering (cleared state)) e)
 
 -- ---- wide keys
 -- what a start is refused for, from the answer of a call that only reads: b a broken set, h a late deadline, n a late

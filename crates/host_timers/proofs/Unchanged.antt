@@ -8,7 +8,7 @@ use lib.Dec.{ltb, eqb}
 use Rattle.refusal.specs.declared.Refusal.the-variants.{State, Full}
 use Rattle.refusal.specs.Order.{check, verdict}
 use Rattle.refusal.proofs.Laws.{either-answer}
-use Rattle.multi_timer.specs.MultiTimer.{TimersExit, timersExit, answering, newUnchecked, startChecks, startResult, started, startTimerAtUnchecked, startTimerAt, heldChecks, cancelResult, cancelled, cancelTimerUnchecked, cancelTimer, used, popChecks, PopExit, popExit, popResult, popExpiredAtUnchecked, popExpiredAt}
+use Rattle.multi_timer.specs.MultiTimer.{TimersExit, timersExit, answering, newUnchecked, startChecks, startResult, started, startTimerAtUnchecked, startTimerAt, heldChecks, cancelResult, cancelled, cancelTimerUnchecked, cancelTimer, used, popChecks, PopExit, popExit, popResult, popExpiredAtUnchecked, popExpiredAt, clearResult, clearUnchecked, clearTimers}
 use Rattle.multi_timer.specs.MultiTimer as multi
 use Rattle.multi_timer.specs.Map.{isSome, lookup, dueKeys}
 use Rattle.multi_timer.specs.declared.MultiTimer.{MultiTimer}
@@ -18,13 +18,15 @@ use Rattle.multi_timer.specs.declared.CancelAnswer.the-variants as cancelAnswer
 use Rattle.multi_timer.specs.declared.CancelResult.{CancelResult}
 use Rattle.multi_timer.specs.declared.PopAnswer.the-variants as popAnswer
 use Rattle.multi_timer.specs.declared.PopResult.{PopResult}
-use Rattle.host_answer.specs.Answer.{refusalAnswer, Refusing}
+use Rattle.multi_timer.specs.declared.ClearResult.{ClearResult}
+use Rattle.refusal.specs.declared.DoneAnswer.the-variants as doneAnswers
+use Rattle.host_answer.specs.Answer.{refusalAnswer, doneAnswer, Refusing}
 use Rattle.host_answer.proofs.Laws.{done-not-refusing}
 use Rattle.host_answer.specs.Exit.{WordsExit, wordsExit, wide}
 use Rattle.host_timers.specs.declared.HeldTimers.{HeldTimers}
 use Rattle.host_timers.specs.declared.HeldTimers.the-variants as held
 use Rattle.host_timers.specs.Timers as host
-use Rattle.host_timers.specs.Timers.{timersWords, heldTimers, made, makeTimers, startCode, startHeld, start, cancelCode, cancelHeld, cancel, popCode, popHeld, pop}
+use Rattle.host_timers.specs.Timers.{timersWords, heldTimers, made, makeTimers, startCode, startHeld, start, cancelCode, cancelHeld, cancel, popCode, popHeld, pop, clearHeld, clear}
 use Rattle.host_timers.proofs.Calls.{timers-back}
 
 -- the exit of a call that changed nothing, with its answer
@@ -99,3 +101,21 @@ module _ (state ks ds : List ℕ) where
 
   pub pop-refused : (now : ℕ) (out : List ℕ) → PopSame out (pop state ks ds now out)
   pop-refused now out = pop-same (heldTimers state) now out refl
+
+  abbrev ClearKept : MultiTimer → TimersExit ClearResult → Type 0
+  ClearKept t x = Refusing (doneAnswer (x .answer .answer)) → x ≡ timersExit (clearResult t (x .answer .answer)) ks ds
+
+  clear-kept : (t : MultiTimer) → ClearKept t (clearTimers t ks ds)
+  unfolding clearTimers doneAnswer
+  clear-kept t =
+      either-answer (ClearKept t) (verdict (heldChecks t ks ds)) (λ r. timersExit (clearResult t (doneAnswers.Refused r)) ks ds)
+      (answering multi.cleared (clearUnchecked t ks ds)) (λ r h. refl) (λ e h. absurd (done-not-refusing 0 h))
+
+  clear-same : (h : HeldTimers) → heldTimers state ≡ h → Same state ks ds (clearHeld h state ks ds)
+  unfolding clearHeld
+  clear-same (held.Timers t) e r =
+      ap (answering (host.cleared state)) (clear-kept t r) ∙ ap (λ (w : List ℕ). timersExit (wordsExit (doneAnswer (clearTimers t ks ds .answer .answer)) w) ks ds) (timers-back state e)
+  clear-same held.Broken e r = refl
+
+  pub clear-refused : Same state ks ds (clear state ks ds)
+  clear-refused = clear-same (heldTimers state) refl

@@ -11,6 +11,7 @@ use Rattle.refusal.specs.Order.{check, verdict, decide}
 use Rattle.multi_timer.specs.MultiTimer as multi
 use Rattle.multi_timer.specs.MultiTimer.{TimersExit, timersExit, answering, timers, newUnchecked, startTimerAt}
 use Rattle.multi_timer.specs.MultiTimer.{startTooLate, heldChecks, cancelTimer, PopExit, popExit, popExpiredAt, earliestDeadline}
+use Rattle.multi_timer.specs.MultiTimer.{clearTimers}
 use Rattle.multi_timer.specs.declared.MultiTimer.{MultiTimer}
 use Rattle.multi_timer.specs.declared.StartAnswer.{StartAnswer}
 use Rattle.multi_timer.specs.declared.StartAnswer.the-variants as startAnswer
@@ -23,7 +24,8 @@ use Rattle.multi_timer.specs.declared.PopAnswer.the-variants as popAnswer
 use Rattle.multi_timer.specs.declared.PopResult.{PopResult}
 use Rattle.multi_timer.specs.declared.EarliestAnswer.{EarliestAnswer}
 use Rattle.multi_timer.specs.declared.EarliestAnswer.the-variants as earliestAnswer
-use Rattle.host_answer.specs.Answer.{packed, doneStatus, nothingStatus, refusalAnswer}
+use Rattle.multi_timer.specs.declared.ClearResult.{ClearResult}
+use Rattle.host_answer.specs.Answer.{packed, doneStatus, nothingStatus, refusalAnswer, doneAnswer}
 use Rattle.host_answer.specs.Exit.{WordsExit, wordsExit, wide, brokenWords}
 use Rattle.host_timers.specs.declared.HeldTimers.{HeldTimers}
 use Rattle.host_timers.specs.declared.HeldTimers.the-variants as held
@@ -141,3 +143,14 @@ earliestHeld held.Broken ks ds = refusalAnswer State
 
 abbrev pub earliest : List ℕ → List ℕ → List ℕ → ℕ
 earliest state ks ds = earliestHeld (heldTimers state) ks ds
+
+-- no timer runs any more; the generation stays
+abbrev pub cleared : List ℕ → ClearResult → WordsExit
+cleared state x = wordsExit (doneAnswer (x .answer)) (withTimers state (x .timers))
+
+unfoldable pub clearHeld : HeldTimers → List ℕ → List ℕ → List ℕ → TimersExit WordsExit
+clearHeld (held.Timers t) state ks ds = answering (cleared state) (clearTimers t ks ds)
+clearHeld held.Broken state ks ds = timersExit (brokenWords state) ks ds
+
+abbrev pub clear : List ℕ → List ℕ → List ℕ → TimersExit WordsExit
+clear state ks ds = clearHeld (heldTimers state) state ks ds

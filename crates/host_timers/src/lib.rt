@@ -6,7 +6,7 @@ ghost use Rattle.multi_timer.specs.MultiTimer.{timersExit, popExit};
 ghost use Rattle.host_answer.specs.Exit.{wordsExit};
 ghost use Rattle.host_timers.specs.Timers.{timersWords, heldTimers, withTimers, makeTimers};
 ghost use Rattle.host_timers.specs.Timers.{startCode, startKey, startWide, start, cancelCode, cancelKey};
-ghost use Rattle.host_timers.specs.Timers.{cancelWide, cancel, popCode, pop, earliestCode, earliest};
+ghost use Rattle.host_timers.specs.Timers.{cancelWide, cancel, popCode, pop, earliestCode, earliest, clear};
 ghost use Rattle.host_timers.specs.Internal.{noneRan};
 use multi_timer::CancelAnswer;
 use multi_timer::EarliestAnswer;
@@ -176,6 +176,23 @@ pub fn earliest(state: &[u64], keys: &[u32], deadlines: &[u64]) -> u64
 {
     match held_timers(state) {
         HeldTimers::Timers(t) => earliest_code(t.earliest_deadline(keys, deadlines)),
+        HeldTimers::Broken => host_answer::refusal_answer(Refusal::State),
+    }
+}
+
+// Stops all timers: done, or refused.
+pub fn clear(state: &mut [u64], keys: &mut [u32], deadlines: &mut [u64]) -> u64
+    ensures { λ r. ⌜ timersExit (wordsExit r (now (state .exit))) (now (keys .exit)) (now (deadlines .exit))
+        ≡ clear (now (state .entry)) (now (keys .entry)) (now (deadlines .entry)) ⌝ }
+{
+    match held_timers(state) {
+        HeldTimers::Timers(t) => {
+            let result = t.clear(keys, deadlines);
+            let t = result.timers;
+            let answer = result.answer;
+            put_timers(state, t);
+            host_answer::done_answer(answer)
+        }
         HeldTimers::Broken => host_answer::refusal_answer(Refusal::State),
     }
 }

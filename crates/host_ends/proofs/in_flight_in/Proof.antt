@@ -1,7 +1,4 @@
-use mathlib.Core.Path.{sym, ap, _∙_}
-use Rattle.host_answer.specs.Answer.{testAnswer, countAnswer}
 use Rattle.host_ends.specs.Sender.{inFlightIn}
-use Rattle.host_ends.proofs.Calls.{decided-by}
 use borrow.Author.Needs.{needs}
 use Rattle.host_ends.proofs.in_flight_in.Statement.{statement}
 use Rattle.host_ends.proofs.in_flight_in.Tie as tie
@@ -15,8 +12,8 @@ is-waiting-for-ack-requires c κs = search needs
 test-answer-requires : tie.Need-test-answer-requires
 test-answer-requires c κs = search needs
 
-decide-timeout-requires : tie.Need-decide-timeout-requires
-decide-timeout-requires c κs = search needs
+check-sender-requires : tie.Need-check-sender-requires
+check-sender-requires c κs = search needs
 
 unless-refused-requires : tie.Need-unless-refused-requires
 unless-refused-requires c κs = search needs
@@ -30,8 +27,8 @@ in-flight-count-requires c κs = search needs
 count-answer-requires : tie.Need-count-answer-requires
 count-answer-requires c κs = search needs
 
-decide-timeout-requires-2 : tie.Need-decide-timeout-requires-2
-decide-timeout-requires-2 c κs = search needs
+check-sender-requires-2 : tie.Need-check-sender-requires-2
+check-sender-requires-2 c κs = search needs
 
 unless-refused-requires-2 : tie.Need-unless-refused-requires-2
 unless-refused-requires-2 c κs = search needs
@@ -47,17 +44,11 @@ count-answer-requires-2 c κs = search needs
 
 returns : tie.Need-returns
 unfolding inFlightIn
-returns c =
-    rw (c .before .before .before .before .before .state .given .1)
-    (decided-by _ _ _ _ (c .unless-refused .ensures) (c .before .decide-timeout .ensures)
-    (c .before .before .test-answer .ensures ∙ ap testAnswer (c .before .before .before .is-waiting-for-ack .ensures)))
+returns c = rw (c .unless-refused .ensures, c .before .check-sender .ensures, c .before .before .test-answer .ensures, c .before .before .before .is-waiting-for-ack .ensures, c .before .before .before .before .before .state .given .1)
 
 returns-2 : tie.Need-returns-2
 unfolding inFlightIn
-returns-2 c =
-    rw (c .before .before .before .before .before .before .state2 .given .1)
-    (decided-by _ _ _ _ (c .unless-refused2 .ensures) (c .before .decide-timeout2 .ensures)
-    (c .before .before .count-answer .ensures ∙ ap countAnswer (c .before .before .before .in-flight-count .ensures)))
+returns-2 c = rw (c .unless-refused2 .ensures, c .before .check-sender2 .ensures, c .before .before .count-answer .ensures, c .before .before .before .in-flight-count .ensures, c .before .before .before .before .before .state2 .given .1)
 
 returns-3 : tie.Need-returns-3
 unfolding inFlightIn
@@ -70,12 +61,12 @@ in-flight-in-spec =
     enum-known-state
     is-waiting-for-ack-requires
     test-answer-requires
-    decide-timeout-requires
+    check-sender-requires
     unless-refused-requires
     enum-known-state-2
     in-flight-count-requires
     count-answer-requires
-    decide-timeout-requires-2
+    check-sender-requires-2
     unless-refused-requires-2
     enum-known-state-3
     in-flight-count-requires-2
