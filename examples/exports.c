@@ -1,4 +1,5 @@
-/* exports: the single timer, the estimator, drain and a run from C, each answer compared. */
+/* exports: the single timer, the estimator, drain, the calls that look into a store, clear and a run from C, each
+ * answer compared. */
 #define TEST "exports"
 #include "expect.h"
 #include <string.h>
@@ -78,6 +79,64 @@ static void drain(uint64_t protocol)
         expect("drained", pindrelo_drain(r, 8, receiving, sizeof receiving, output, sizeof output), DONE(0));
     }
     expect("a sender's words", pindrelo_drain(s, 8, sending, sizeof sending, output, sizeof output), PINDRELO_STATE);
+}
+
+/* three chunks, 0 lost and sent again: what is outstanding, what was sent again, what is held */
+static void stores(uint64_t protocol)
+{
+    int single = protocol == PINDRELO_STOP_AND_WAIT, selective = protocol == PINDRELO_SELECTIVE_REPEAT;
+    uint64_t s[PINDRELO_STATE_WORDS], r[PINDRELO_STATE_WORDS], count = single ? 1 : 3, size = sizeof sending;
+    uint8_t d[PINDRELO_RESEND_SIZE(4)], output[30], ack[PINDRELO_ACK_SIZE];
+    pindrelo_make_sender(protocol, 4, 2, s, 8, sending, size);
+    pindrelo_make_receiver(protocol, 4, r, 8, receiving, size);
+    expect("none is outstanding", pindrelo_is_retransmitted(s, 8, sending, size, 0), PINDRELO_NOTHING);
+    for (uint64_t i = 0; i < count; i++) {
+        pindrelo_send(s, 8, sending, size, (const uint8_t *)"0123456789", 10, d, sizeof d);
+        expect("sent once", pindrelo_is_retransmitted(s, 8, sending, size, i), DONE(0));
+        if (i > 0)
+            pindrelo_receive(r, 8, receiving, size, d, 20, output, sizeof output, ack, sizeof ack);
+    }
+    expect("held", pindrelo_buffered_count(r, 8, receiving, size), DONE(selective ? 2 : 0));
+    expect("held, without a store", pindrelo_buffered_count(r, 8, NULL, 0), selective ? PINDRELO_STATE : DONE(0));
+    expect("a sender's words", pindrelo_buffered_count(s, 8, receiving, size), PINDRELO_STATE);
+    expect("a receiver's words", pindrelo_is_retransmitted(r, 8, sending, size, 0), PINDRELO_STATE);
+    expect("without a store", pindrelo_is_retransmitted(s, 8, NULL, 0, 0), PINDRELO_STATE);
+    expect("the next number", pindrelo_is_retransmitted(s, 8, sending, size, count), PINDRELO_NOTHING);
+    expect("a number of 33 bits", pindrelo_is_retransmitted(s, 8, sending, size, (uint64_t)1 << 32), PINDRELO_NOTHING);
+    expect("timeout", pindrelo_timeout_number(s, 8, sending, size, 0, d, sizeof d),
+           DONE(protocol == PINDRELO_GO_BACK_N ? 60 : 20));
+    for (uint64_t i = 0; i < count; i++)
+        expect("sent again", pindrelo_is_retransmitted(s, 8, sending, size, i), DONE(i == 0 || !selective));
+    pindrelo_receive(r, 8, receiving, size, d, 20, output, sizeof output, ack, sizeof ack);
+    expect("none held", pindrelo_buffered_count(r, 8, receiving, size), DONE(0));
+    expect("acknowledge", pindrelo_acknowledge(s, 8, sending, size, ack, sizeof ack), DONE(0));
+    expect("outstanding no more", pindrelo_is_retransmitted(s, 8, sending, size, 0), PINDRELO_NOTHING);
+    s[PINDRELO_SENDER_TOTAL_SENT] = r[PINDRELO_RECEIVER_TOTAL] = (uint64_t)1 << 60;
+    expect("a sender's count", pindrelo_is_retransmitted(s, 8, sending, size, 0), PINDRELO_COUNTS);
+    expect("a receiver's count", pindrelo_buffered_count(r, 8, receiving, size), PINDRELO_COUNTS);
+    r[PINDRELO_RECEIVER_BASE] = 4294901761u;
+    expect("a base too high", pindrelo_buffered_count(r, 8, receiving, size), PINDRELO_STATE);
+}
+
+static void clear(void)
+{
+    uint64_t t[3] = { 0 }, at[3] = { 0, 0, 9 };
+    uint32_t k[3] = { 0, 0, 9 };
+    expect("zeros", pindrelo_timer_clear(t, 3, k, 2, at, 2), PINDRELO_STATE);
+    pindrelo_make_timers(t, 3, k, 2, at, 2);
+    expect("none ran", pindrelo_timer_clear(t, 3, k, 2, at, 2), DONE(0));
+    pindrelo_timer_start(t, 3, k, 2, at, 2, 7, 100, 20);
+    pindrelo_timer_start(t, 3, k, 2, at, 2, 5, 100, 30);
+    expect("unequal", pindrelo_timer_clear(t, 3, k, 2, at, 3), PINDRELO_STATE);
+    expect("kept", pindrelo_timer_earliest(t, 3, k, 2, at, 2), DONE(120));
+    expect("clear", pindrelo_timer_clear(t, 3, k, 2, at, 2), DONE(0));
+    expect("none runs", pindrelo_timer_earliest(t, 3, k, 2, at, 2), PINDRELO_NOTHING);
+    expect("entries", k[0] + k[1] + at[0] + at[1], 0);
+    expect("past the entries", k[2] + at[2], 18);
+    expect("the generation", t[2], 2);
+    t[1] = 1, at[0] = PINDRELO_MAX_TIME + 1;
+    expect("a late deadline", pindrelo_timer_clear(t, 3, k, 2, at, 2), PINDRELO_TIME);
+    expect("a late deadline kept", at[0], PINDRELO_MAX_TIME + 1);
 }
 
 static uint64_t numbers[PINDRELO_SETUP_NUMBERS] = { 3, 1, 4, 1, 0, 5, 0, 1000000000, 1000000000, 60000000000u, 1000000,
@@ -172,9 +231,11 @@ int main(void)
 {
     single_timer();
     estimator();
-    drain(PINDRELO_STOP_AND_WAIT);
-    drain(PINDRELO_GO_BACK_N);
-    drain(PINDRELO_SELECTIVE_REPEAT);
+    for (uint64_t protocol = PINDRELO_STOP_AND_WAIT; protocol <= PINDRELO_SELECTIVE_REPEAT; protocol++) {
+        drain(protocol);
+        stores(protocol);
+    }
+    clear();
     run();
     run_with_faults();
     return verdict();

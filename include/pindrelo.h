@@ -146,16 +146,24 @@ enum { PINDRELO_STOP_AND_WAIT = 1, PINDRELO_GO_BACK_N = 2, PINDRELO_SELECTIVE_RE
 
 /* ---- HOW A HOST USES IT                                       (examples/pagelink.c does so, over UDP)
  *
- * A receiver: pindrelo_make_receiver, then pindrelo_receive for each datagram that comes.
- *     done                  send the ACK to where the datagram came from
- *     SILENT                nothing is to be sent
+ * A receiver, here of a window of 8 and with an output that the file fits in:
+ *     uint64_t state[PINDRELO_STATE_WORDS];
+ *     uint8_t store[PINDRELO_STORE_SIZE(8)], ack[PINDRELO_ACK_SIZE];
+ *     pindrelo_make_receiver(PINDRELO_SELECTIVE_REPEAT, 8, state, PINDRELO_STATE_WORDS, store, sizeof store);
+ * and for each datagram that comes, n bytes at d:
+ *     pindrelo_answer a = pindrelo_receive(state, PINDRELO_STATE_WORDS, store, sizeof store, d, n,
+ *                                          output, sizeof output, ack, sizeof ack);
+ *     status DONE           send the ACK to where the datagram came from
+ *     status SILENT         nothing is to be sent
  *     pindrelo_from_line    count it: nothing has changed
  *     any other             the host's own mistake, such as a file longer than the output
- * The output up to word FILLED is what is delivered; pindrelo_drain makes room in it. How the end is known: WHAT THE
- * HOST DECIDES, below.
+ * The output up to state[PINDRELO_RECEIVER_FILLED] is what is delivered; pindrelo_drain makes room in it. How the end
+ * is known: WHAT THE HOST DECIDES, below.
  *
- * A sender: pindrelo_make_sender, pindrelo_make_timers and pindrelo_make_estimator, whose RTO is every timer's
- * duration; then, until all is sent and word BASE is word NEXT:
+ * A sender: pindrelo_make_sender; pindrelo_make_timers, with a key and a deadline for each number of the window; and
+ * pindrelo_make_default_estimator, or another estimator, whose word PINDRELO_ESTIMATOR_RTO is every timer's duration.
+ * The host notes of each outstanding number, at number % window, when it was sent and whether again. Times are in
+ * nanoseconds since the transfer began. Then, until all is sent and word BASE is word NEXT:
  *  1  pindrelo_send, as long as there are chunks and the answer isn't WINDOW_FULL. Send the datagram, note the time for
  *     its number, which was word NEXT, and start the number's timer.
  *  2  Wait for a datagram, at most until pindrelo_timer_earliest.
@@ -209,6 +217,11 @@ pindrelo_answer pindrelo_can_send(const uint64_t *state, size_t words);
 /* Done: how many numbers are outstanding and not acknowledged. 9, 8. */
 pindrelo_answer pindrelo_in_flight(const uint64_t *state, size_t words, const uint8_t *store, size_t store_size);
 
+/* Done: 1 where the number was sent again, else 0, as a sample wants to know. Else NOTHING: the number isn't from word
+ * BASE on and below NEXT; so ask before its ACK is given to the sender. 9, 8. */
+pindrelo_answer pindrelo_is_retransmitted(const uint64_t *state, size_t words, const uint8_t *store, size_t store_size,
+                                          uint64_t number);
+
 /* ---- A RECEIVER
  *
  * Payloads go to the output in order, from the fill mark on; it is the same output in every call, but right after a
@@ -226,6 +239,10 @@ pindrelo_answer pindrelo_make_receiver(uint64_t protocol, size_t window,
 pindrelo_answer pindrelo_receive(uint64_t *state, size_t words, uint8_t *store, size_t store_size,
                                  const uint8_t *datagram, size_t length, uint8_t *output, size_t output_size,
                                  uint8_t *ack, size_t ack_size);
+
+/* Done: how many payloads are held for their turn; 0 in Stop-and-Wait and Go-Back-N, where the store isn't looked at.
+ * 9, 8. */
+pindrelo_answer pindrelo_buffered_count(const uint64_t *state, size_t words, const uint8_t *store, size_t store_size);
 
 /* ---- A TIMER SET
  *
@@ -255,6 +272,10 @@ pindrelo_answer pindrelo_timer_pop(uint64_t *state, size_t words, uint32_t *keys
 /* Done: the earliest deadline. Else NOTHING. 9, 10. */
 pindrelo_answer pindrelo_timer_earliest(const uint64_t *state, size_t words, const uint32_t *keys, size_t key_count,
                                         const uint64_t *deadlines, size_t deadline_count);
+
+/* No timer runs any more. 9, 10. */
+pindrelo_answer pindrelo_timer_clear(uint64_t *state, size_t words, uint32_t *keys, size_t key_count,
+                                     uint64_t *deadlines, size_t deadline_count);
 
 /* ---- PACKETS
  *

@@ -4,10 +4,12 @@
 
 mod estimator;
 mod packets;
+mod run;
 mod timers;
 
 pub use estimator::{Estimator, EstimatorSetup, ESTIMATOR_DOUBLES, ESTIMATOR_WORDS};
 pub use packets::{payload, read, validate, write, Packet, PacketKind};
+pub use run::{run, Clock, DriverCounts, End, Event, Line, LineCounts, Outcome, RunSetup, OUTCOME_WORDS, ROLLS};
 pub use timers::{SingleTimer, Timers, SINGLE_TIMER_WORDS, TIMERS_WORDS};
 
 mod raw {
@@ -33,6 +35,9 @@ mod raw {
         ) -> u64;
         pub fn pindrelo_can_send(state: *const u64, words: usize) -> u64;
         pub fn pindrelo_in_flight(state: *const u64, words: usize, store: *const u8, size: usize) -> u64;
+        pub fn pindrelo_is_retransmitted(
+            state: *const u64, words: usize, store: *const u8, size: usize, number: u64,
+        ) -> u64;
         pub fn pindrelo_make_receiver(
             protocol: u64, window: usize, state: *mut u64, words: usize, store: *mut u8, size: usize,
         ) -> u64;
@@ -40,6 +45,7 @@ mod raw {
             state: *mut u64, words: usize, store: *mut u8, size: usize, datagram: *const u8, length: usize,
             output: *mut u8, capacity: usize, ack: *mut u8, room: usize,
         ) -> u64;
+        pub fn pindrelo_buffered_count(state: *const u64, words: usize, store: *const u8, size: usize) -> u64;
         pub fn pindrelo_drain(
             state: *mut u64, words: usize, store: *const u8, size: usize, output: *const u8, capacity: usize,
         ) -> u64;
@@ -77,6 +83,7 @@ pub enum Refusal {
     Counts,
     State,
     Time,
+    Roll,
     /// A refusal that this wrapper has no word for.
     Other { status: u8 },
 }
@@ -113,7 +120,8 @@ pub(crate) fn answer(a: u64) -> Result<Option<u64>, Refusal> {
         8 => Refusal::Counts,
         9 => Refusal::State,
         10 => Refusal::Time,
-        status @ 11..=15 => Refusal::Other { status },
+        11 => Refusal::Roll,
+        status @ 12..=15 => Refusal::Other { status },
         16.. => return Ok(None),
     })
 }
@@ -208,6 +216,13 @@ impl Sender {
         Ok(answer(a)?.unwrap_or(0) as usize)
     }
 
+    /// Whether an outstanding number was sent again; `None`: it isn't outstanding. Ask before its ACK is given.
+    pub fn is_retransmitted(&self, number: u64) -> Result<Option<bool>, Refusal> {
+        let (words, store) = (self.words.as_ptr(), self.store.as_ptr());
+        let a = unsafe { raw::pindrelo_is_retransmitted(words, STATE_WORDS, store, self.store.len(), number) };
+        Ok(answer(a)?.map(|again| again == 1))
+    }
+
     /// The lowest number not acknowledged; of a restored state its word, whatever that is.
     pub fn base(&self) -> u64 {
         self.words[2]
@@ -265,6 +280,13 @@ impl Receiver {
             )
         };
         Ok(answer(a)?.map(|n| n as u32))
+    }
+
+    /// How many payloads are held for their turn; only Selective Repeat's receiver holds any.
+    pub fn buffered_count(&self) -> Result<usize, Refusal> {
+        let (words, store) = (self.words.as_ptr(), self.store.as_ptr());
+        let a = unsafe { raw::pindrelo_buffered_count(words, STATE_WORDS, store, self.store.len()) };
+        Ok(answer(a)?.unwrap_or(0) as usize)
     }
 
     /// What was delivered since the last drain; the next packet is delivered to the start of the output.

@@ -1,6 +1,7 @@
 //! `rustc --edition 2021 -O --test rust/tests.rs -L native=target/staticlib -l static=pindrelo -o target/rust_tests`
 mod pindrelo;
-use pindrelo::{Estimator, EstimatorSetup, Packet, PacketKind, Protocol, Receiver, Refusal, Sender, SingleTimer, Timers};
+use pindrelo::{Clock, End, Estimator, EstimatorSetup, Line, Packet, PacketKind, Protocol, Receiver, Refusal, RunSetup};
+use pindrelo::{Sender, SingleTimer, Timers, OUTCOME_WORDS};
 use pindrelo::{ACK_SIZE, HEADER_SIZE, MAX_DATAGRAM, MAX_DURATION, MAX_PAYLOAD, MAX_TIME, MAX_WINDOW};
 
 const PROTOCOLS: [Protocol; 3] = [Protocol::StopAndWait, Protocol::GoBackN, Protocol::SelectiveRepeat];
@@ -108,6 +109,7 @@ fn number(e: Refusal) -> usize {
         Refusal::Counts => 8,
         Refusal::State => 9,
         Refusal::Time => 10,
+        Refusal::Roll => 11,
         Refusal::Other { status } => status as usize,
     }
 }
@@ -205,10 +207,11 @@ fn refused_timers_change_nothing() {
         let mut due = vec![7; rng.below(4)];
         let now = [0, 3, 9, MAX_TIME, MAX_TIME + 1][rng.below(5)];
         let before = (t.clone(), due.clone());
-        let done = match rng.below(4) {
+        let done = match rng.below(5) {
             0 => t.start(rng.below(8) as u32, now, [0, 9, MAX_DURATION, MAX_DURATION + 1][rng.below(4)]),
             1 => t.cancel(rng.below(8) as u32).map(|_| ()),
             2 => t.pop(now, &mut due).map(|_| ()),
+            3 => t.clear(),
             _ => t.earliest().map(|_| ()),
         };
         if let Err(e) = done {
@@ -237,6 +240,10 @@ fn timers() {
     assert_eq!(t.cancel(u32::MAX), Ok(false));
     assert_eq!(t.cancel(4), Ok(true));
     assert_eq!(t.earliest(), Ok(None));
+    assert_eq!((t.start(7, 100, 20), t.start(5, 100, 30)), (Ok(()), Ok(())));
+    assert_eq!((t.clear(), t.earliest(), t.clear()), (Ok(()), Ok(None), Ok(())));
+    assert_eq!((t.keys(), t.deadlines()), (&[0, 0][..], &[0, 0][..]));
+    assert_eq!(Timers::restore([0; 3], vec![], vec![]).clear(), Err(Refusal::State));
 }
 
 #[test]
@@ -305,6 +312,157 @@ fn drained() {
         }
         assert_eq!(Receiver::restore([0; 8], vec![], vec![]).drain(), Err(Refusal::State));
     }
+}
+
+/// Three chunks, the first of them lost: what was sent again, what is held.
+#[test]
+fn sent_again_and_held() {
+    let (mut d, mut ack) = ([0; 4 * MAX_DATAGRAM], [0; ACK_SIZE]);
+    for p in PROTOCOLS {
+        let selective = p == Protocol::SelectiveRepeat;
+        let count = if p == Protocol::StopAndWait { 1 } else { 3 };
+        let mut s = Sender::new(p, 4, 2).unwrap();
+        let mut r = Receiver::new(p, 4, vec![0; 6]).unwrap();
+        assert_eq!(s.is_retransmitted(0), Ok(None));
+        for i in 0..count {
+            let n = s.send(b"ab", &mut d).unwrap().unwrap();
+            assert_eq!(s.is_retransmitted(i), Ok(Some(false)));
+            if i > 0 {
+                r.receive(&d[..n], &mut ack).unwrap();
+            }
+        }
+        assert_eq!((s.is_retransmitted(count), s.is_retransmitted(1 << 32)), (Ok(None), Ok(None)));
+        assert_eq!(r.buffered_count(), Ok(if selective { 2 } else { 0 }));
+        s.timeout_number(0, &mut d).unwrap().unwrap();
+        for i in 0..count {
+            assert_eq!(s.is_retransmitted(i), Ok(Some(i == 0 || !selective)));
+        }
+        r.receive(&d[..12], &mut ack).unwrap().unwrap();
+        assert_eq!((r.buffered_count(), s.acknowledge(&ack)), (Ok(0), Ok(Some(0))));
+        assert_eq!(s.is_retransmitted(0), Ok(None));
+        assert_eq!(Sender::restore([0; 8], vec![]).is_retransmitted(0), Err(Refusal::State));
+        assert_eq!(Receiver::restore([0; 8], vec![], vec![]).buffered_count(), Err(Refusal::State));
+    }
+}
+
+/// linkrun's setup.
+fn linkrun() -> RunSetup {
+    RunSetup {
+        protocol: Protocol::SelectiveRepeat,
+        clock: Clock::Source,
+        window: 4,
+        chunk: 1,
+        line: Line {
+            loss: 0.0,
+            duplicate: 0.0,
+            reorder: 0.0,
+            corrupt: 0.0,
+            reorder_extra_ms: 0,
+            base_delay_ms: 5,
+            jitter_ms: 0,
+        },
+        estimator: EstimatorSetup {
+            initial_rto: 1_000_000_000,
+            min_rto: 1_000_000_000,
+            max_rto: 60_000_000_000,
+            granularity: 1_000_000,
+            alpha: 0.125,
+            beta: 0.25,
+            k: 4.0,
+            rto_multiplier: 1.0,
+        },
+        max_virtual_time: 60_000_000_000,
+        max_retransmissions: 10,
+    }
+}
+
+/// The two bytes of README's example, and each word of the outcome.
+#[test]
+fn one_run() {
+    let o = pindrelo::run(&linkrun(), &[0xFF, 0x41], &[0.0; 96], &[0.0; 192]).unwrap();
+    assert_eq!((linkrun().rolls(2), linkrun().rolls(0)), (Some((96, 192)), Some((88, 176))));
+    assert_eq!((o.completed, o.end, o.finished_at, o.is_whole()), (true, End::Ended, 5_000_000, true));
+    assert_eq!((o.filled(), o.delivered()), (2, &[0xFF, 0x41][..]));
+    let rows: Vec<_> = o.events.iter().map(|e| (e.number, e.again, e.copies, e.delays_ms[0], e.sums[0])).collect();
+    assert_eq!(rows, [(0, false, 1, 5, 765), (1, false, 1, 5, 510)]);
+    let expected: [u64; OUTCOME_WORDS] = [
+        1, 5_000_000, 0, 0, 0, 2, 2, 2, 0, 0, 2, 2, 2, 0, 2, 2, 2, 0, 0, 2, 0, 0, 0, 0, 2, 2, 0, 0, 0, 0, 2,
+    ];
+    assert_eq!(o.words(), &expected);
+    assert_eq!((o.driver.acks_received, o.driver.events, o.forward.copies, o.reverse.datagrams), (2, 2, 2, 2));
+    assert_eq!((o.estimator.srtt(), o.estimator.words()[13]), (Some(10_000_000), 2));
+    assert!(o.estimator.clone().sample(10_000_000, false).unwrap());
+}
+
+/// Faults from a seed, both clocks: with the rolls that `rolls` names a run ends by itself, and what it says is whole
+/// is the file; with fewer rolls it doesn't go on.
+#[test]
+fn runs() {
+    let mut rng = Rng(19);
+    let (mut whole, mut spent) = (0, 0);
+    for i in 0..400 {
+        let mut setup = linkrun();
+        setup.protocol = PROTOCOLS[i % 3];
+        setup.clock = if i % 3 < 2 && rng.below(2) == 0 { Clock::Edition } else { Clock::Source };
+        setup.window = 1 + rng.below(MAX_WINDOW);
+        setup.chunk = 1 + rng.below(MAX_PAYLOAD);
+        setup.max_retransmissions = 1 + rng.below(60) as u64;
+        let mut chance = || if rng.below(2) == 0 { 0.0 } else { 0.2 };
+        let (loss, duplicate, reorder) = (chance(), chance(), chance());
+        setup.line = Line { loss, duplicate, reorder, corrupt: chance(), reorder_extra_ms: 7, ..setup.line };
+        let file: Vec<u8> = (0..rng.below(20 * setup.chunk)).map(|_| rng.below(256) as u8).collect();
+        let (there, back) = setup.rolls(file.len()).unwrap();
+        let mut rolls = |n: usize| -> Vec<f64> { (0..n).map(|_| rng.below(1 << 20) as f64 / 1048576.0).collect() };
+        let (there, back) = (rolls(there), rolls(back));
+        let o = pindrelo::run(&setup, &file, &there, &back).unwrap();
+        assert_eq!(o.end, End::Ended);
+        assert_eq!(o.events.len() as u64, o.forward.datagrams);
+        if o.is_whole() {
+            assert!(o.delivered() == file);
+            whole += 1;
+        }
+        if setup.line.corrupt == 0.0 {
+            assert!(file.starts_with(o.delivered()) && o.completed == o.is_whole());
+        }
+        let fewer = pindrelo::run(&setup, &file, &there[..there.len() / 2], &back).unwrap();
+        assert!(fewer == o || fewer.end == End::RollsSpent && !fewer.completed);
+        spent += (fewer.end == End::RollsSpent) as usize;
+        let none = pindrelo::run(&setup, &file, &[], &back).unwrap();
+        assert_eq!((none.end, none.filled()), (End::RollsSpent, 0));
+    }
+    assert!(whole > 100 && spent > 100, "{whole} {spent}");
+}
+
+#[test]
+fn refused_runs() {
+    let refused = |change: fn(&mut RunSetup), file: &[u8], there: &[f64]| {
+        let mut setup = linkrun();
+        change(&mut setup);
+        pindrelo::run(&setup, file, there, &[0.0; 96]).map(|o| o.end)
+    };
+    assert_eq!(refused(|_| (), b"ab", &[0.0; 96]), Ok(End::Ended));
+    assert_eq!(refused(|s| s.max_retransmissions = u64::MAX, b"ab", &[0.0; 96]), Ok(End::Ended));
+    assert_eq!(refused(|_| (), b"ab", &[1.0]), Err(Refusal::Roll));
+    assert_eq!(refused(|_| (), b"ab", &[f64::NAN]), Err(Refusal::Roll));
+    assert_eq!(refused(|_| (), &[0; 65_537], &[]), Err(Refusal::Setup));
+    for change in [
+        (|s| s.window = 0) as fn(&mut RunSetup),
+        |s| s.window = MAX_WINDOW + 1,
+        |s| s.window = usize::MAX,
+        |s| s.chunk = 0,
+        |s| s.chunk = MAX_PAYLOAD + 1,
+        |s| s.clock = Clock::Edition,
+        |s| s.line.loss = 1.5,
+        |s| s.line.corrupt = f64::NAN,
+        |s| s.line.jitter_ms = 60_001,
+        |s| s.estimator.k = -1.0,
+        |s| s.max_virtual_time = MAX_DURATION + 1,
+    ] {
+        assert_eq!(refused(change, b"ab", &[0.0; 96]), Err(Refusal::Setup));
+    }
+    let mut setup = linkrun();
+    setup.max_retransmissions = u64::MAX;
+    assert_eq!(setup.rolls(1), None);
 }
 
 #[test]

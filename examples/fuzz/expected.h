@@ -212,6 +212,16 @@ static uint64_t expect_in_flight(struct words s, struct bytes store)
     return answer_of(0, count);
 }
 
+static uint64_t expect_is_retransmitted(struct words s, struct bytes store, uint64_t number)
+{
+    uint64_t refused = sender_held(s, sender_broken(s, store));
+    if (refused)
+        return refused;
+    if (number < s.at[2] || number >= s.at[3])
+        return PINDRELO_NOTHING;
+    return answer_of(0, slot_of(store, s.at[1], number)[3] & 1);
+}
+
 /* ---- a receiver */
 
 static int receiver_broken(struct words r, struct bytes store, size_t capacity)
@@ -271,6 +281,17 @@ static uint64_t expect_receive(struct words r, struct bytes store, struct bytes 
     if (delivered > capacity - r.at[3] || (ack != NONE && room < 10))
         return PINDRELO_FULL;
     return ack == NONE ? PINDRELO_SILENT : answer_of(0, ack);
+}
+
+/* no output is lent: whatever the fill mark */
+static uint64_t expect_buffered_count(struct words r, struct bytes store)
+{
+    uint64_t refused = receiver_held(r, store, SIZE_MAX), count = 0;
+    if (refused)
+        return refused;
+    for (uint64_t k = 0; r.at[0] == 262 && k < r.at[1]; k++)
+        count += slot_of(store, r.at[1], k)[2];
+    return answer_of(0, count);
 }
 
 static uint64_t expect_drain(struct words r, struct bytes store, size_t capacity)

@@ -51,6 +51,11 @@ static uint64_t expect_cancel(struct timers t, uint64_t key)
     return refused ? refused : answer_of(0, (uint64_t)runs(t, key));
 }
 
+static uint64_t expect_clear(struct timers t)
+{
+    return timers_held(t);
+}
+
 static uint64_t expect_pop(struct timers t, uint64_t now, size_t room)
 {
     uint64_t refused = timers_held(t), due = 0;

@@ -106,14 +106,27 @@ static void timeout(void)
 
 static void look(void)
 {
-    int flight = chance(2);
-    name = flight ? "in_flight" : "can_send";
+    int which = (int)below(3);
+    static const char *names[] = {"can_send", "in_flight", "is_retransmitted"};
+    name = names[which];
+    uint64_t number = wild ? boundary(sender.words[2]) : sender.words[2] + below(4);
     uint64_t *s = give_words(sender.words, 8);
     uint8_t *store = give_store(&sender);
-    if (flight)
+    if (which == 0)
+        check(pindrelo_can_send(STATE_SLICE), expect_can_send(state_lent()), HELD);
+    else if (which == 1)
         check(pindrelo_in_flight(STATE_SLICE, STORE_SLICE), expect_in_flight(state_lent(), lent(STORE)), HELD);
     else
-        check(pindrelo_can_send(STATE_SLICE), expect_can_send(state_lent()), HELD);
+        check(pindrelo_is_retransmitted(STATE_SLICE, STORE_SLICE, number),
+              expect_is_retransmitted(state_lent(), lent(STORE), number), HELD | ONE(18));
+}
+
+static void buffered_count(void)
+{
+    name = "buffered_count";
+    uint64_t *s = give_words(receiver.words, 8);
+    uint8_t *store = give_store(&receiver);
+    check(pindrelo_buffered_count(STATE_SLICE, STORE_SLICE), expect_buffered_count(state_lent(), lent(STORE)), HELD);
 }
 
 static void receive(void)
@@ -231,7 +244,7 @@ static void without_store(void)
 
 static void one_call(void)
 {
-    switch (below(32)) {
+    switch (below(34)) {
     case 0: make_end(&sender, 1); return;
     case 1: make_end(&receiver, 0); return;
     case 2: case 3: case 4: case 5: send(); return;
@@ -245,6 +258,8 @@ static void one_call(void)
     case 24: make_single(); return;
     case 25: make_estimator(); return;
     case 26: case 27: estimate(); return;
+    case 28: look(); return;
+    case 29: buffered_count(); return;
     default: timers(); return;
     }
 }

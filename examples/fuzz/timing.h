@@ -7,8 +7,9 @@
 
 static void timers(void)
 {
-    int which = (int)below(5);
-    static const char *names[] = {"make_timers", "timer_start", "timer_cancel", "timer_pop", "timer_earliest"};
+    int which = (int)below(6);
+    static const char *names[] = {"make_timers", "timer_start", "timer_cancel", "timer_pop", "timer_earliest",
+                                  "timer_clear"};
     name = names[which];
     uint64_t *s = give_words(timer_words, 3), key = wild ? boundary(3) : below(8);
     uint32_t *k = give(KEYS, keys, sizeof keys, 4 * length(TIMERS, TIMERS + 2)), due[TIMERS] = {0};
@@ -23,21 +24,33 @@ static void timers(void)
     struct timers t = {state_lent(), k, d, n, m};
     uint64_t at = wild && chance(3) ? boundary(PINDRELO_MAX_TIME) : now, wait = wild ? boundary(9) : below(50);
     uint64_t expected = which == 0 ? expect_make_timers(t) : which == 1 ? expect_start(t, key, at, wait)
-                      : which == 2 ? expect_cancel(t, key) : which == 3 ? expect_pop(t, at, room) : expect_earliest(t);
+                      : which == 2 ? expect_cancel(t, key) : which == 3 ? expect_pop(t, at, room)
+                      : which == 4 ? expect_earliest(t) : expect_clear(t);
+    size_t used = which == 5 && !expected ? s[1] : 0;
     if (which < 4) {
         may_write(STATE, 0, 24);
         may_write(KEYS, 0, regions[KEYS].length);
         may_write(DEADLINES, 0, regions[DEADLINES].length);
+    } else if (which == 5) {
+        may_write(STATE, 8, 16);
+        may_write(KEYS, 0, 4 * used);
+        may_write(DEADLINES, 0, 8 * used);
     }
     may_write(OUT, 0, which == 3 && !pindrelo_status(expected) ? 4 * pindrelo_value(expected) : 0);
     pindrelo_answer a = which == 0   ? pindrelo_make_timers(STATE_SLICE, k, n, d, m)
                         : which == 1 ? pindrelo_timer_start(STATE_SLICE, k, n, d, m, key, at, wait)
                         : which == 2 ? pindrelo_timer_cancel(STATE_SLICE, k, n, d, m, key)
                         : which == 3 ? pindrelo_timer_pop(STATE_SLICE, k, n, d, m, at, out, room)
-                                     : pindrelo_timer_earliest(STATE_SLICE, k, n, d, m);
+                        : which == 4 ? pindrelo_timer_earliest(STATE_SLICE, k, n, d, m)
+                                     : pindrelo_timer_clear(STATE_SLICE, k, n, d, m);
     static const uint32_t statuses[] = {ONE(0) | ONE(5) | ONE(9), TIMER | ONE(5), TIMER, TIMER | ONE(5),
-                                        TIMER | ONE(18)};
-    if (check(a, expected, statuses[which]) && n == TIMERS && m == TIMERS) {
+                                        TIMER | ONE(18), TIMER};
+    int done = check(a, expected, statuses[which]);
+    if (done && which == 5)
+        for (size_t i = 0; i < used || i == 0; i++)
+            if (s[1] || (used && (k[i] || d[i])))
+                fail("timers left", a, expected);
+    if (done && n == TIMERS && m == TIMERS) {
         memcpy(timer_words, s, 24);
         memcpy(keys, k, sizeof keys);
         memcpy(deadlines, d, sizeof deadlines);

@@ -20,6 +20,9 @@ extern "C" {
     fn pindrelo_timer_earliest(
         state: *const u64, words: usize, keys: *const u32, key_count: usize, deadlines: *const u64, count: usize,
     ) -> u64;
+    fn pindrelo_timer_clear(
+        state: *mut u64, words: usize, keys: *mut u32, key_count: usize, deadlines: *mut u64, count: usize,
+    ) -> u64;
     fn pindrelo_make_single_timer(state: *mut u64, words: usize) -> u64;
     fn pindrelo_single_timer_start(state: *mut u64, words: usize, now: u64, duration: u64) -> u64;
     fn pindrelo_single_timer_cancel(state: *mut u64, words: usize) -> u64;
@@ -97,6 +100,13 @@ impl Timers {
         let (words, keys, deadlines) = (self.words.as_ptr(), self.keys.as_ptr(), self.deadlines.as_ptr());
         let (n, m) = (self.keys.len(), self.deadlines.len());
         answer(unsafe { pindrelo_timer_earliest(words, TIMERS_WORDS, keys, n, deadlines, m) })
+    }
+
+    /// No timer runs any more.
+    pub fn clear(&mut self) -> Result<(), Refusal> {
+        let (n, m) = (self.keys.len(), self.deadlines.len());
+        let (words, keys, deadlines) = self.lent();
+        answer(unsafe { pindrelo_timer_clear(words, TIMERS_WORDS, keys, n, deadlines, m) }).map(|_| ())
     }
 
     fn lent(&mut self) -> (*mut u64, *mut u32, *mut u64) {

@@ -108,6 +108,13 @@ pub extern "C" fn pindrelo_in_flight(state: &[u64], store: &[u8]) -> u64
 }
 
 #[no_mangle]
+pub extern "C" fn pindrelo_is_retransmitted(state: &[u64], store: &[u8], seq_num: u64) -> u64
+    ensures { λ r. ⌜ r ≡ sender.isRetransmitted (now (state .entry)) (now (store .entry)) «seq_num» ⌝ }
+{
+    host_ends::is_retransmitted(state, store, seq_num)
+}
+
+#[no_mangle]
 pub extern "C" fn pindrelo_make_receiver(
     protocol: u64,
     window: usize,
@@ -134,6 +141,13 @@ pub extern "C" fn pindrelo_receive(
         (now (ack .entry)) ⌝ }
 {
     host_ends::receive(state, store, raw, output, ack)
+}
+
+#[no_mangle]
+pub extern "C" fn pindrelo_buffered_count(state: &[u64], store: &[u8]) -> u64
+    ensures { λ r. ⌜ r ≡ receiver.bufferedCount (now (state .entry)) (now (store .entry)) ⌝ }
+{
+    host_ends::buffered_count(state, store)
 }
 
 #[no_mangle]
@@ -231,6 +245,18 @@ pub extern "C" fn pindrelo_timer_earliest(state: &[u64], keys: &[u32], deadlines
     ensures { λ r. ⌜ r ≡ timers.earliest (now (state .entry)) (now (keys .entry)) (now (deadlines .entry)) ⌝ }
 {
     host_timers::earliest(state, keys, deadlines)
+}
+
+#[no_mangle]
+pub extern "C" fn pindrelo_timer_clear(
+    state: &mut [u64],
+    keys: &mut [u32],
+    deadlines: &mut [u64],
+) -> u64
+    ensures { λ r. ⌜ timersExit (wordsExit r (now (state .exit))) (now (keys .exit)) (now (deadlines .exit))
+        ≡ timers.clear (now (state .entry)) (now (keys .entry)) (now (deadlines .entry)) ⌝ }
+{
+    host_timers::clear(state, keys, deadlines)
 }
 
 #[no_mangle]
