@@ -16,12 +16,17 @@ prepare() { # OUT LAYER
 }
 
 # Makes a list of cases by the MODE of compare/LAYER.rs, --sample or --list, and compares the replay's answers with the list's.
+# On a busy machine a program may be stopped by its time limit, which says nothing of its answers: it is then run again, three times in all.
 compare_list() { # OUT LAYER MODE SEED
+  local try
   "$1/$2" "$3" "$room/crates/$2_replay" "$4" >"$room/made"
-  # The interpreter gives up on long lists: the three compiled programs decide.
-  (cd "$room" && rt try "$2_replay") >"$room/log" 2>&1 || true
-  [ "$(grep -c '^ok: the native program' "$room/log")" -eq 3 ] && return
+  for try in 1 2 3; do
+    # The interpreter gives up on long lists: the three compiled programs decide.
+    (cd "$room" && rt try "$2_replay") >"$room/log" 2>&1 || true
+    [ "$(grep -c '^ok: the native program' "$room/log")" -eq 3 ] && return
+    grep -q 'did not end within the time limit' "$room/log" || break
+  done
   cat "$room/log"
-  echo "$2_replay differs from the Rust on the cases of seed $4" >&2
+  echo "$2_replay: other answers than the Rust's on the cases of seed $4, or none within the time limit (try $try)" >&2
   return 1
 }
