@@ -97,8 +97,8 @@ fn put_timers(s: &mut [u64], t: MultiTimer) {
     put(s, 1, t.global_generation);
 }
 
-// `update_rtt` of each of these samples, by a new estimator of the default setup: the RTO then. The one place that calls
-// `update_rtt`, so that it is inlined here.
+// `update_rtt` of each of these samples, by a new estimator of the default setup: the RTO then. The one place that
+// calls `update_rtt`, so that it is inlined here.
 #[no_mangle]
 pub extern "C" fn timing_update_rtt_each(samples: &[u64]) -> u64 {
     let mut e = RtoEstimator::new();

@@ -33,8 +33,8 @@ receiveHeld heldReceivers.Broken state store raw output ack = broken (state ∷ 
 abbrev pub receive : List ℕ → List ℕ → List ℕ → List ℕ → List ℕ → CallExit
 receive state store raw output ack = receiveHeld (heldReceiver state) state store raw output ack
 
--- how many payloads are held: none by a receiver that takes them in order. No output is lent, so that 9 doesn't speak of
--- the fill mark
+-- how many payloads are held: none by a receiver that takes them in order. No output is lent, so that 9 doesn't speak
+-- of the fill mark
 unfoldable pub noneHeld : ℕ → Bool → CountAnswer
 noneHeld base countsBroken =
     decide (verdict (heldChecks (ltb seqNumLimit base) countsBroken)) count.Refused (count.Count 0)

@@ -5,6 +5,7 @@ use native.Mathlib.Nat.{le-trans}
 use mathlib.Core.Path.{_≡_, refl, sym, ap, _∙_, subst}
 use mathlib.Core.Bool.{Bool, true, false, cond}
 use mathlib.Core.List.{List, [], _∷_}
+use lib.Dec.{eqb}
 use lib.Ieee.{Float}
 use lib.ListN.{length, getD}
 use Rattle.octets.specs.Octets.{Octets}
@@ -22,7 +23,7 @@ use Rattle.step.specs.State.{Given, Lent}
 use Rattle.transfer.specs.Transfer.{defaultCeilings, RunExit}
 use Rattle.transfer_delivery.specs.Delivered.{fileChunks, eventsAt, Delivered}
 use Rattle.transfer_delivery.proofs.Laws.{transfer-delivered}
-use Rattle.host_run.specs.Layout.{SetupAt}
+use Rattle.host_run.specs.Layout.{protocolNumber, SetupAt}
 use Rattle.host_run.specs.Run.{Results, HostRunExit, run}
 use Rattle.host_run.specs.Made.{RunMade, IsDone}
 use Rattle.host_run.proofs.Fields.{channel-is}
@@ -35,10 +36,10 @@ set-word : (b : Bool) → _≡_ {A = ℕ} (cond b 1 0) 1 → b ≡ true
 set-word true e = refl
 set-word false e = absurd (omega arith)
 
-slots-within : (p : ProtocolType) (w : ℕ) → 1 ≤ w → slotCount p w ≤ w
-slots-within protocol.StopAndWait w h = h
-slots-within protocol.GoBackN w h = omega arith
-slots-within protocol.SelectiveRepeat w h = omega arith
+window-is : (p : ProtocolType) {a b w : ℕ} → a ≡ protocolNumber p → b ≡ w → cond (eqb a 1) 1 b ≡ slotCount p w
+window-is protocol.StopAndWait e h = rw (e) refl
+window-is protocol.GoBackN e h = rw (e) h
+window-is protocol.SelectiveRepeat e h = rw (e) h
 
 factors-in : {c : TransferConfig} {s : List ℕ} {d : List Float} → SetupAt c s d → Doubles d → Factors (c .rto)
 factors-in h doubles =
@@ -50,8 +51,8 @@ factors-in h doubles =
       multiplier = rw (← h .rto-multiplier) (doubles .each 7 (omega (arith, long)));
     }
 
-near : {a b w a' b' w' slots : ℕ} → a' ≡ a → b' ≡ b → w' ≡ w → slots ≤ w → b ≤ a + slots → b' ≤ a' + w'
-near p q r h k = omega arith
+near : {a b w a' b' w' : ℕ} → a' ≡ a → b' ≡ b → w' ≡ w → b ≤ a + w → b' ≤ a' + w'
+near p q r k = omega arith
 
 flips-same : {a b : ChannelConfig} {rolls : List Float} {cs ds : List (List ℕ)} {es fs : List ForwardEvent} → a ≡ b → cs ≡ ds → es ≡ fs → FlipsOutside a rolls cs es → FlipsOutside b rolls ds fs
 flips-same p q r f = rw (← p, ← q, ← r) f
@@ -84,7 +85,7 @@ module _ (s : List ℕ) (d : List Float) (g : Given) (l : Lent) (x : Results) (s
         whole = λ f e. rw (words .fill-mark) (q .whole (flips f) (done e));
         first = λ f. rw (words .fill-mark, words .receiver-base, at .chunk) (q .first (flips f) .first-written);
         not-negative = λ f. rw (words .sender-base, words .receiver-base) (q .first (flips f) .not-negative);
-        in-window = λ f. near (words .sender-base) (words .receiver-base) (at .window) (slots-within (m .config .protocol) (m .config .«window_size») (start .window-some)) (q .first (flips f) .in-window);
+        in-window = λ f. near (words .sender-base) (words .receiver-base) (window-is (m .config .protocol) (at .protocol) (at .window)) (q .first (flips f) .in-window);
       }
 
   pub run-exact : RunExact s d g l x (run s d g l x)

@@ -2,7 +2,9 @@
 -- setup, the words of the outcome, the events and the output.
 use Prim.Native.Nat.{ℕ, _+_, _≤_}
 use mathlib.Core.Path.{_≡_}
+use mathlib.Core.Bool.{cond}
 use mathlib.Core.List.{List, flatten}
+use lib.Dec.{eqb}
 use lib.Ieee.{Float}
 use lib.ListN.{length, getD, take, drop}
 use Rattle.chunks.specs.Chunks.{chunksOf}
@@ -36,12 +38,12 @@ fillMark y = word y 15
 abbrev pub written : HostRunExit → List ℕ
 written y = take (fillMark y) (y .lent .output)
 
--- the file's chunks, and the window, by the numbers of the setup
+-- the file's chunks, and the window, by the numbers of the setup: Stop-and-Wait's is 1, whatever they name
 abbrev pub chunksIn : List ℕ → Given → List (List ℕ)
 chunksIn s g = chunksOf (getD s 3 0) (g .file)
 
 abbrev pub windowIn : List ℕ → ℕ
-windowIn s = getD s 2 0
+windowIn s = cond (eqb (getD s 0 0) 1) 1 (getD s 2 0)
 
 -- no bit was flipped in the length bytes: of the events that were written, by the channel of the setup and the rolls
 abbrev pub NoLengthFlips : List ℕ → List Float → Given → HostRunExit → Type 0

@@ -10,8 +10,8 @@ use Rattle.refusal.specs.declared.Refusal.the-variants.{State, Time, Full}
 use Rattle.refusal.specs.Order.{check, verdict, decide}
 use Rattle.multi_timer.specs.MultiTimer as multi
 use Rattle.multi_timer.specs.MultiTimer.{TimersExit, timersExit, answering, timers, newUnchecked, startTimerAt}
-use Rattle.multi_timer.specs.MultiTimer.{startTooLate, heldChecks, cancelTimer, PopExit, popExit, popExpiredAt, earliestDeadline}
-use Rattle.multi_timer.specs.MultiTimer.{clearTimers}
+use Rattle.multi_timer.specs.MultiTimer.{startTooLate, heldChecks, cancelTimer, PopExit, popExit, popExpiredAt}
+use Rattle.multi_timer.specs.MultiTimer.{earliestDeadline, clearTimers}
 use Rattle.multi_timer.specs.declared.MultiTimer.{MultiTimer}
 use Rattle.multi_timer.specs.declared.StartAnswer.{StartAnswer}
 use Rattle.multi_timer.specs.declared.StartAnswer.the-variants as startAnswer
