@@ -3,8 +3,8 @@ use mathlib.Core.Path.{_≡_, refl, sym, _∙_, ap}
 use Prim.Native.Nat.{ℕ, _+_, _<_, _≤_}
 use native.Mathlib.Omega.{arith}
 use mathlib.Core.Bool.{Bool, true, false, cond, not, _&&_, and-eq-true-iff, true≢false, false≢true}
-use mathlib.Core.List.{List, _++_}
-use lib.ListN.{length, take, drop, length-append}
+use mathlib.Core.List.{List, _++_, append-nil}
+use lib.ListN.{length, take, drop, length-append, drop-of-length-le}
 use lib.Seq.{take-at, drop-at, length-take-le}
 use lib.Dec.{ltb}
 use lib.Ieee.{lt}
@@ -84,6 +84,11 @@ module _ (c : ChannelConfig) (r : Rolls) (n : ℕ) where
   unfolding isCorrupted
   corrupted-some h = ltb-true 0 n (and-eq-true-iff (lt (r .«corrupt_roll») (c .corrupt)) (ltb 0 n) .0 (and-eq-true-iff (not (isLost c r)) (lt (r .«corrupt_roll») (c .corrupt) && ltb 0 n) .0 h .1) .1)
 
+-- nor has a lost one
+pub uncorrupted-lost : (c : ChannelConfig) (r : Rolls) (n : ℕ) → isLost c r ≡ true → isCorrupted c r n ≡ false
+unfolding isCorrupted
+uncorrupted-lost c r n h = sym (unless-lost (isLost c r) _ h)
+
 module _ (c : ChannelConfig) (r : Rolls) (p : List ℕ) where
   pub corrupt-law : {i b : ℕ} {o : List ℕ} → isCorrupted c r (length p) ≡ true → i ≡ byteAt r (length p) → b ≡ bitAt r → o ≡ flip p i b → o ≡ carriedBytes c r p
   unfolding carriedBytes
@@ -135,3 +140,17 @@ module _ (ch : Channel) (p : List ℕ) (r : Rolls) (out : List ℕ) where
 
   pub can-process : verdict (processChecks ch r (length p) (length out)) ≡ Accepted → CanProcess ch p r out
   can-process e = let n = accepted-none-true (processChecks ch r (length p) (length out)) e in record { config = n .0; counts = n .1 .0; rolls = n .1 .1 .0; short = n .1 .1 .1 .0; room = n .1 .1 .1 .1 .0 }
+
+module _ (ch : Channel) (p : List ℕ) (r : Rolls) where
+  -- where the packet lies: a lost one is left as it is
+  pub in-place-law : {d : List ℕ} {s : ChannelStats} {ds : Deliveries} → s ≡ countedStats (ch .config) r (length p) (ch .stats) → d ≡ carriedBytes (ch .config) r p → ds ≡ deliveriesOf (ch .config) r
+      → transitExit d (record { channel = channelOf (ch .config) s; deliveries = ds }) ≡ processUnchecked ch p r p
+  unfolding processUnchecked
+  in-place-law {d} {s} {ds} e f h = picked e (f ∙ kept (isLost (ch .config) r) refl) h
+    where
+      kept : (x : Bool) → isLost (ch .config) r ≡ x → carriedBytes (ch .config) r p ≡ cond x p (carriedBytes (ch .config) r p ++ drop (length p) p)
+      kept true a = sym (uncorrupted-law (ch .config) r p (uncorrupted-lost (ch .config) r (length p) a))
+      kept false a = sym (ap (λ (xs : List ℕ). carriedBytes (ch .config) r p ++ xs) (drop-of-length-le p {i = length p} (omega arith)) ∙ append-nil (carriedBytes (ch .config) r p))
+
+      picked : {u v : List ℕ} {s t : ChannelStats} {d e : Deliveries} → s ≡ t → u ≡ v → d ≡ e → transitExit u (record { channel = channelOf (ch .config) s; deliveries = d }) ≡ transitExit v (record { channel = channelOf (ch .config) t; deliveries = e })
+      picked a b d = rw (a, b, d)

@@ -27,14 +27,14 @@ use Rattle.schedule.specs.declared.Deliveries.the-variants.{Lost, One, Two}
 use Rattle.schedule.proofs.Laws.{DelaysInBounds, delays-in-time}
 use Rattle.channel.specs.Bounds.{configBroken, rollsBroken, Doubles}
 use Rattle.channel.specs.Faults.{isLost, isDuplicated, isReordered, isCorrupted, byteAt, bitAt, carriedBytes, holdOf, delayOf, deliveriesOf}
-use Rattle.channel.specs.Process.{newChannel, newChannelUnchecked, processChecks, processUnchecked, ProcessExit, transited, process, CanProcess}
+use Rattle.channel.specs.Process.{newChannel, newChannelUnchecked, processChecks, TransitExit, processUnchecked, ProcessExit, transited, process, CanProcess}
 use Rattle.channel.specs.declared.ChannelConfig.{ChannelConfig}
 use Rattle.channel.specs.declared.Channel.{Channel}
 use Rattle.channel.specs.declared.ChannelAnswer.the-variants as making
 use Rattle.channel.specs.declared.ProcessAnswer.the-variants as outcome
 use Rattle.channel.specs.declared.Rolls.{Rolls}
 use Rattle.channel.proofs.Limits.{delays-within, rolls-within}
-use Rattle.channel.proofs.Carrying.{unless-lost, deliveries-lost, corrupt-law, uncorrupted-law}
+use Rattle.channel.proofs.Carrying.{unless-lost, deliveries-lost, corrupt-law, uncorrupted-law, uncorrupted-lost, in-place-law}
 pub use Rattle.channel.proofs.Carrying.{granted-lost, granted-one, granted-two, granted-le, corrupted-some}
 pub use Rattle.channel.proofs.Carrying.{can-process}
 pub use Rattle.channel.proofs.Tallies.{processed, history, refused-are}
@@ -65,6 +65,10 @@ module _ (ch : Channel) (p : List ℕ) (r : Rolls) (out : List ℕ) where
   pub process-writes : isLost (ch .config) r ≡ false → processUnchecked ch p r out .out ≡ carriedBytes (ch .config) r p ++ drop (length p) out
   unfolding processUnchecked
   process-writes e = ap (λ (b : Bool). cond b out (carriedBytes (ch .config) r p ++ drop (length p) out)) e
+
+-- the same where the packet lies
+pub in-place-bytes : (ch : Channel) (p : List ℕ) (r : Rolls) → processUnchecked ch p r p .out ≡ carriedBytes (ch .config) r p
+in-place-bytes ch p r = sym (ap (λ (x : TransitExit). x .out) (in-place-law ch p r refl refl refl))
 
 -- ---- where the rolls point: no clamp is needed
 module _ (r : Rolls) (d : Doubles r) (good : rollsBroken r ≡ false) where
@@ -122,8 +126,8 @@ deliveries-within c r now d good fine h = delays-in-time now (deliveriesOf c r) 
 
 -- a lost packet is neither duplicated nor held back nor corrupted, and has no copy
 pub lost-only : (c : ChannelConfig) (r : Rolls) (n : ℕ) → isLost c r ≡ true → (isDuplicated c r ≡ false) × (isReordered c r ≡ false) × (isCorrupted c r n ≡ false) × (deliveriesOf c r ≡ Lost)
-unfolding isDuplicated isReordered isCorrupted
-lost-only c r n h = (sym (unless-lost (isLost c r) _ h), sym (unless-lost (isLost c r) _ h), sym (unless-lost (isLost c r) _ h), sym (deliveries-lost c r h))
+unfolding isDuplicated isReordered
+lost-only c r n h = (sym (unless-lost (isLost c r) _ h), sym (unless-lost (isLost c r) _ h), uncorrupted-lost c r n h, sym (deliveries-lost c r h))
 
 -- ---- the bytes of the copies
 module _ (c : ChannelConfig) (r : Rolls) (p : List ℕ) where

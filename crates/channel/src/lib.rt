@@ -152,4 +152,23 @@ impl Channel {
             deliveries: deliveries_of(config, rolls),
         }
     }
+
+    // The same where the packet lies: its bytes become those of its copies.
+    pub fn process_in_place_unchecked(self, packet: &mut [u8], rolls: Rolls) -> Transit
+        requires { ⌜ CanProcess self (now packet) rolls (now packet) ⌝ }
+        ensures { λ r. ⌜ transitExit (now (packet .exit)) r
+            ≡ processUnchecked self (now (packet .entry)) rolls (now (packet .entry)) ⌝ }
+    {
+        let config = self.config;
+        let before = self.stats;
+        let stats = counted(config, rolls, packet.len(), before);
+        corrupt(config, rolls, packet);
+        Transit {
+            channel: Channel {
+                config: config,
+                stats: stats,
+            },
+            deliveries: deliveries_of(config, rolls),
+        }
+    }
 }

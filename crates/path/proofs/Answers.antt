@@ -172,7 +172,7 @@ module _ (d : Direction) (rolls : List Float) (entryFree : Bool) (now : ℕ) (wi
   -- ---- the same answers by the entry points: `process` delivers, then `schedule_at` is done, or refuses the copies as full
   module _ (can : CanCarry d rolls now wire) (left : rollsSpent (d .path) rolls ≡ false) where
     pub process-is : process (d .path .channel) wire (nextRolls d rolls) (replicate maxDatagram 0) ≡ transited (sent (d .path) rolls wire)
-    process-is = process-accepted (d .path .channel) wire (nextRolls d rolls) (replicate maxDatagram 0) (process-accepts (d .path .channel) wire (nextRolls d rolls) (replicate maxDatagram 0) (can-process d rolls entryFree now wire left can refl (length-replicate {A = ℕ} maxDatagram 0)))
+    process-is = process-accepted (d .path .channel) wire (nextRolls d rolls) (replicate maxDatagram 0) (process-accepts (d .path .channel) wire (nextRolls d rolls) (replicate maxDatagram 0) (can-process d rolls entryFree now wire left can refl (rw (length-replicate {A = ℕ} maxDatagram 0) (can .short))))
 
     size : length (sentBytes (sent (d .path) rolls wire) wire) ≡ length wire
     size = sent-length (d .path .channel) wire (nextRolls d rolls) (replicate maxDatagram 0) (rw (length-replicate {A = ℕ} maxDatagram 0) (can .short))

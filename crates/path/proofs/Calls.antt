@@ -26,13 +26,21 @@ cons-broken : (l : List Float) (i : ℕ) → i < length l → rollsBroken (drop 
 unfolding rollsBroken
 cons-broken l i h = rw (add-one, drop-cons l i nan)
 
--- one roll looked at
-pub scan-step : (l : List Float) (i : ℕ) {b t : Bool} → i < length l → rollsBroken (drop i l) ≡ rollsBroken l → b ≡ rollInBounds (rollAt l i) → not b ≡ t → (t || rollsBroken (drop (i + 1) l)) ≡ rollsBroken l
-scan-step l i h e p q = sym (ap (λ (x : Bool). x || rollsBroken (drop (i + 1) l)) (sym (ap not p) ∙ q)) ∙ sym (cons-broken l i h) ∙ e
+-- one roll looked at, where `a` is found so far
+pub scan-step : (l : List Float) (i : ℕ) (a : Bool) {b : Bool} → i < length l → (a || rollsBroken (drop i l)) ≡ rollsBroken l → b ≡ rollInBounds (rollAt l i) → ((a || not b) || rollsBroken (drop (i + 1) l)) ≡ rollsBroken l
+scan-step l i a {b} h e p = go a e
+  where
+    go : (a : Bool) → (a || rollsBroken (drop i l)) ≡ rollsBroken l → ((a || not b) || rollsBroken (drop (i + 1) l)) ≡ rollsBroken l
+    go true e = e
+    go false e = ap (λ (x : Bool). not x || rollsBroken (drop (i + 1) l)) p ∙ sym (cons-broken l i h) ∙ e
 
-pub scan-end : (l : List Float) (i : ℕ) → length l ≤ i → rollsBroken (drop i l) ≡ rollsBroken l → false ≡ rollsBroken l
+pub scan-end : (l : List Float) (i : ℕ) (a : Bool) → length l ≤ i → (a || rollsBroken (drop i l)) ≡ rollsBroken l → a ≡ rollsBroken l
 unfolding rollsBroken
-scan-end l i h e = sym (ap rollsBroken (drop-of-length-le l h)) ∙ e
+scan-end l i a h e = go a (sym (ap (λ (xs : List Float). a || rollsBroken xs) (drop-of-length-le l h)) ∙ e)
+  where
+    go : (a : Bool) → (a || false) ≡ rollsBroken l → a ≡ rollsBroken l
+    go true e = e
+    go false e = e
 
 -- ---- rolls that are left
 pub spent-all : (n u : ℕ) → n < u → true ≡ ltb n (u + packetRolls)

@@ -1,6 +1,7 @@
 pub mod Calls
 pub mod Packets
 pub mod Answers
+pub mod InPlace
 pub mod Copies
 pub mod Orders
 pub mod NotDue

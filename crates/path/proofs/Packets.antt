@@ -87,13 +87,6 @@ module _ (d : Direction) (x : TransitExit) (now : ℕ) (wire : List ℕ) where
       → onCarry (onPath (scheduleAtUnchecked (scheduleOf d) now (sentBytes x wire) (x .result .deliveries)) (x .result .channel) (d .path .used + packetRolls)) (Carried (x .result .deliveries) (copyFold (x .result .deliveries) (sentBytes x wire))) ≡ carryBy d x now wire
   by-room h = simp h
 
--- the copy as long as the packet
-pub cut-fits : (wire o : List ℕ) → length o ≡ maxDatagram → length wire ≤ maxDatagram → length wire ≤ length o
-cut-fits wire o p h = rw p h
-
-pub cut-length : (wire o : List ℕ) → length o ≡ maxDatagram → length wire ≤ maxDatagram → length (take (length wire) o) ≡ length wire
-cut-length wire o p h = length-take-le (length wire) o (cut-fits wire o p h)
-
 module _ (d : Direction) (rolls : List Float) (entryFree : Bool) (now : ℕ) (wire : List ℕ) where
   pub carry-spent : rollsSpent (d .path) rolls ≡ true → onCarry d RollsSpent ≡ carry d rolls entryFree now wire
   unfolding carry
@@ -114,14 +107,14 @@ module _ (d : Direction) (rolls : List Float) (entryFree : Bool) (now : ℕ) (wi
     pub used-fits : (k : ℕ) → k ≤ packetRolls → d .path .used + k < 2 ^ 64
     used-fits k h = omega (arith, rolls-left left, can .good .doubles .size)
 
-    pub can-process : {r : Rolls} {out : List ℕ} → r ≡ rollsAt rolls (d .path .used) → length out ≡ maxDatagram → CanProcess (d .path .channel) wire r out
+    pub can-process : {r : Rolls} {out : List ℕ} → r ≡ rollsAt rolls (d .path .used) → length wire ≤ length out → CanProcess (d .path .channel) wire r out
     can-process {r} {out} e size =
         record {
           config = can .good .config;
           counts = stats-below (d .path .channel .stats) (d .path .scheduler .«next_order») (d .path .used) (length rolls) (can .good .counted) (can .good .used) (can .good .doubles .size);
           rolls = ap channel-bounds.rollsBroken e ∙ rolls-fine rolls (d .path .used) (rolls-left left) (can .good .in-bounds);
           short = le-ltb maxDatagram (length wire) (can .short);
-          room = rw (le-ltb (length out) (length wire) (rw size (can .short))) (and-false (not (isLost (d .path .channel .config) r)));
+          room = rw (le-ltb (length out) (length wire) size) (and-false (not (isLost (d .path .channel .config) r)));
         }
 
     -- the schedule takes the copies that these rolls grant
@@ -133,24 +126,3 @@ module _ (d : Direction) (rolls : List Float) (entryFree : Bool) (now : ℕ) (wi
 
     pub can-put : {packet : List ℕ} → lacksRoom (scheduleOf d) (copies (deliveriesOf (d .path .channel .config) (rollsAt rolls (d .path .used)))) ≡ false → length packet ≡ length wire → CanSchedule (scheduleOf d) now packet (deliveriesOf (d .path .channel .config) (rollsAt rolls (d .path .used)))
     can-put {packet} h s = record { sound = can .good .sound; counts = orders-below d rolls (can .good); times = delays-fine; short = le-ltb maxDatagram (length packet) (rw s (can .short)); room = h }
-
-  module _ {r : Rolls} {t : Transit} {o : List ℕ} (left : rollsSpent (d .path) rolls ≡ false) (free : not entryFree ≡ false) (e : r ≡ rollsAt rolls (d .path .used)) (done : transitExit o t ≡ processUnchecked (d .path .channel) wire r (replicate maxDatagram 0)) where
-    through : carryBy d (transitExit o t) now wire ≡ carry d rolls entryFree now wire
-    through = ap (λ (x : TransitExit). carryBy d x now wire) (done ∙ ap (λ (x : Rolls). processUnchecked (d .path .channel) wire x (replicate maxDatagram 0)) e) ∙ carry-by left free
-
-    pub carry-full : {n k : ℕ} → n ≡ roomOf (scheduleOf d) → k ≡ copies (t .deliveries) → n < k → onCarry d ScheduleFull ≡ carry d rolls entryFree now wire
-    carry-full {n} {k} p q h = by-full d (transitExit o t) now wire (room-lacks (scheduleOf d) (copies (t .deliveries)) (rw (← p, ← q) h)) ∙ through
-
-    pub can-schedule : {n k : ℕ} {packet : List ℕ} → CanCarry d rolls now wire → n ≡ roomOf (scheduleOf d) → k ≡ copies (t .deliveries) → k ≤ n → length packet ≡ length wire → CanSchedule (scheduleOf d) now packet (t .deliveries)
-    unfolding processUnchecked
-    can-schedule {n} {k} {packet} can p q h s = subst (λ (ds : Deliveries). CanSchedule (scheduleOf d) now packet ds) (sym granted) (can-put left can (rw (← granted) (room-enough (scheduleOf d) (copies (t .deliveries)) (rw (← q, ← p) h))) s)
-      where
-        granted : t .deliveries ≡ deliveriesOf (d .path .channel .config) (rollsAt rolls (d .path .used))
-        granted = ap (λ (x : TransitExit). x .result .deliveries) done ∙ ap (deliveriesOf (d .path .channel .config)) e
-
-    pub carry-done : {n k fold : ℕ} {rs : List (List ℕ)} {ps : List ℕ} {s : ChannelScheduler} → n ≡ roomOf (scheduleOf d) → k ≡ copies (t .deliveries) → k ≤ n → fold ≡ copyFold (t .deliveries) (take (length wire) o) → schedule rs ps s ≡ scheduleAtUnchecked (scheduleOf d) now (take (length wire) o) (t .deliveries)
-        → carryExit rs ps (record { path = pathOf (t .channel) s (d .path .used + packetRolls); answer = Carried (t .deliveries) fold }) ≡ carry d rolls entryFree now wire
-    carry-done {n} {k} {fold} p q h f m =
-        ap (λ (x : Schedule). onCarry (onPath x (t .channel) (d .path .used + packetRolls)) (Carried (t .deliveries) fold)) m
-        ∙ ap (λ (y : ℕ). onCarry (onPath (scheduleAtUnchecked (scheduleOf d) now (take (length wire) o) (t .deliveries)) (t .channel) (d .path .used + packetRolls)) (Carried (t .deliveries) y)) f
-        ∙ by-room d (transitExit o t) now wire (room-enough (scheduleOf d) (copies (t .deliveries)) (rw (← p, ← q) h)) ∙ through

@@ -19,6 +19,7 @@ use Rattle.schedule.specs.declared.ReadyAnswer.{ReadyAnswer}
 use Rattle.schedule.specs.declared.ReadyAnswer.the-variants as ready
 use Rattle.schedule.specs.declared.DeadlineAnswer.{DeadlineAnswer}
 use Rattle.schedule.specs.declared.DeadlineAnswer.the-variants as answered
+use Rattle.channel.specs.Faults.{carriedBytes}
 use Rattle.channel.specs.Process.{newChannelUnchecked, TransitExit, processUnchecked}
 use Rattle.channel.specs.declared.Channel.{Channel}
 use Rattle.channel.specs.declared.ChannelConfig.{ChannelConfig}
@@ -87,6 +88,12 @@ carry d rolls entryFree now wire =
     (onCarry
     (onPath (scheduleAtUnchecked (scheduleOf d) now bytes ds) (x .result .channel) (d .path .used + packetRolls))
     (Carried ds (copyFold ds bytes)))))
+
+-- what is left where the packet lay: the bytes of its copies, once the channel has it
+unfoldable pub wireAfter : Path → List Float → Bool → List ℕ → List ℕ
+wireAfter p rolls entryFree wire =
+    cond (rollsSpent p rolls) wire
+    (cond (not entryFree) wire (carriedBytes (p .channel .config) (rollsAt rolls (p .used)) wire))
 
 -- why a run ends at this packet, or that it goes on
 abbrev pub stopOf : Carriage → Stop

@@ -6,9 +6,8 @@ ghost use lib.ListN.{length};
 ghost use Rattle.schedule.specs.Schedule.{firstDue};
 ghost use Rattle.path.specs.Rolls.{packetRolls, rollsAt, rollsBroken, Doubles};
 ghost use Rattle.path.specs.Direction.{direction};
-ghost use Rattle.path.specs.Path.{newPath, rollsSpent, copyFold, carryExit, carry, CanCarry};
+ghost use Rattle.path.specs.Path.{newPath, rollsSpent, copyFold, carryExit, carry, wireAfter, CanCarry};
 ghost use Rattle.path.specs.Path.{stopOf, isGoing, removeFirst, CanRemove, isDue, nextDeadline, isEmpty};
-use bounds::MAX_DATAGRAM_SIZE;
 use channel::Channel;
 use channel::ChannelConfig;
 use channel::Rolls;
@@ -60,14 +59,13 @@ pub enum NextDeadline {
 pub fn rolls_broken(rolls: &[f64]) -> bool
     ensures { λ r. ⌜ (r ≡ rollsBroken (now (rolls .entry))) × Doubles (now (rolls .entry)) ⌝ }
 {
+    let mut broken = false;
     let mut i: usize = 0;
     while i < rolls.len() {
-        if !float::roll_in_bounds(rolls[i]) {
-            return true;
-        }
+        broken = broken | !float::roll_in_bounds(rolls[i]);
         i += 1;
     }
-    false
+    broken
 }
 
 pub fn stop_of(answer: Carriage) -> Stop
@@ -111,8 +109,8 @@ impl Path {
         }
     }
 
-    // A packet that is due: through the channel, and its copies into the schedule. `entry_free`: whether the list of
-    // events has a free entry; a direction without events passes true.
+    // A packet that is due: through the channel, and its copies into the schedule; `wire` is left with their bytes.
+    // `entry_free`: whether the list of events has a free entry; a direction without events passes true.
     pub fn carry_unchecked(
         self,
         rolls: &[f64],
@@ -120,12 +118,13 @@ impl Path {
         records: &mut [ScheduledRow],
         places: &mut [u8],
         now: u64,
-        wire: &[u8],
+        wire: &mut [u8],
     ) -> CarryResult
         requires { ⌜ CanCarry (direction (records .now) (places .now) self) (rolls .now) now (wire .now) ⌝ }
         ensures { λ r. ⌜ carryExit (records .exit .now) (places .exit .now) r
             ≡ carry (direction (records .entry .now) (places .entry .now) self) (rolls .entry .now) «entry_free» now
             (wire .entry .now) ⌝ }
+        ensures { λ _. ⌜ wire .exit .now ≡ wireAfter self (rolls .entry .now) «entry_free» (wire .entry .now) ⌝ }
     {
         if self.rolls_spent(rolls) {
             return CarryResult {
@@ -142,8 +141,7 @@ impl Path {
         let at = self.used;
         let channel = self.channel;
         let scheduler = self.scheduler;
-        let mut copy = [0u8; MAX_DATAGRAM_SIZE];
-        let done = channel.process_unchecked(wire, rolls_at(rolls, at), &mut copy);
+        let done = channel.process_in_place_unchecked(wire, rolls_at(rolls, at));
         let deliveries = done.deliveries;
         if scheduler.room_unchecked(records, places) < copies_of(deliveries) {
             return CarryResult {
@@ -151,16 +149,8 @@ impl Path {
                 answer: Carriage::ScheduleFull,
             };
         }
-        let len = wire.len();
-        let fold = copy_fold(deliveries, &copy[..len]);
-        let next = scheduler.schedule_at_unchecked(
-            records,
-            places,
-            now,
-            &copy[..len],
-            deliveries,
-            true,
-        );
+        let fold = copy_fold(deliveries, wire);
+        let next = scheduler.schedule_at_unchecked(records, places, now, wire, deliveries, true);
         let after = done.channel;
         CarryResult {
             path: Path {

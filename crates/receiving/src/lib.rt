@@ -1,14 +1,14 @@
 // The receiving side of a run: what is due on the forward line to the receiver, its ACKs to the reverse line.
 // app/transfer.rs of the reference.
 ghost use mathlib.Core.Path.{_≡_};
-ghost use mathlib.Core.Bool.{_&&_, cond};
+ghost use mathlib.Core.Bool.{true, _&&_, cond};
 ghost use mathlib.Core.List.{List};
 ghost use Prim.Native.Nat.{ℕ, _+_, _-_, _^_, _≤_, _<_};
 ghost use lib.ListN.{length};
 ghost use Rattle.packet.specs.Reading.{readDatagram};
 ghost use Rattle.notes.specs.Notes.{segMetas, markAckScheduled, ScheduledBelow};
 ghost use Rattle.path.specs.Direction.{direction};
-ghost use Rattle.path.specs.Path.{CanCarry};
+ghost use Rattle.path.specs.Path.{wireAfter, CanCarry};
 ghost use Rattle.session.specs.Receiving.{gbnAlreadyDelivered};
 ghost use Rattle.receiving.specs.Receiving.{inbound, forwardExit, newDuplicates, delivered, absorb};
 ghost use Rattle.receiving.specs.Receiving.{newSide, anyCopies, submitAck, onForward};
@@ -233,7 +233,7 @@ pub fn on_forward_unchecked(
                         notes,
                         now,
                         n,
-                        &ack,
+                        &mut ack,
                         rolls,
                         rows,
                         records,
@@ -322,7 +322,7 @@ fn submit_ack(
     notes: Notes,
     now: u64,
     seq: u32,
-    wire: &[u8],
+    wire: &mut [u8],
     rolls: &[f64],
     rows: &mut [Note],
     records: &mut [ScheduledRow],
@@ -337,6 +337,7 @@ fn submit_ack(
         ≡ submitAck (rolls .entry .now) now seq (wire .entry .now)
         (inbound side store output (segMetas notes (rows .entry .now))
         (direction (records .entry .now) (places .entry .now) reverse))) ⌝ }
+    ensures { λ _. ⌜ wire .exit .now ≡ wireAfter reverse (rolls .entry .now) true (wire .entry .now) ⌝ }
 {
     let receiver = side.receiver;
     let carried = reverse.carry_unchecked(rolls, true, records, places, now, wire);

@@ -1,8 +1,10 @@
 // A packet to the forward line: the reference's `submit`, with the note on its segment, its event and its timer.
 ghost use mathlib.Core.Path.{_≡_};
 ghost use Prim.Native.Nat.{_≤_, _<_};
+ghost use lib.Dec.{ltb};
 ghost use lib.ListN.{length};
 ghost use Rattle.path.specs.Direction.{direction};
+ghost use Rattle.path.specs.Path.{wireAfter};
 ghost use Rattle.notes.specs.Notes.{segMetas};
 ghost use Rattle.multi_timer.specs.MultiTimer.{timersExit};
 ghost use Rattle.submission.specs.Submission.{outgoing, noteBefore, noteAfter, submitExit, submit, CanSubmit};
@@ -33,7 +35,8 @@ pub struct SubmitResult {
     pub stop: Stop,
 }
 
-// A datagram of number `seq`; `rto` is the current one, `oldest` the lowest outstanding number.
+// A datagram of number `seq`, left with the bytes of its copies; `rto` is the current one, `oldest` the lowest
+// outstanding number.
 pub fn submit_unchecked(
     outbound: Outbound,
     timing: Timing,
@@ -42,7 +45,7 @@ pub fn submit_unchecked(
     oldest: Oldest,
     seq: u32,
     retransmission: bool,
-    wire: &[u8],
+    wire: &mut [u8],
     rolls: &[f64],
     rows: &mut [Note],
     events: &mut [Event],
@@ -64,6 +67,8 @@ pub fn submit_unchecked(
         (outgoing (direction (records .entry .now) (places .entry .now) (outbound .forward))
         (segMetas (outbound .notes) (rows .entry .now)) (outbound .events) (events .entry .now)
         (timersExit (outbound .clock) (keys .entry .now) (deadlines .entry .now))) ⌝ }
+    ensures { λ _. ⌜ wire .exit .now ≡ wireAfter (outbound .forward) (rolls .entry .now)
+        (ltb (outbound .events) (length (events .entry .now))) (wire .entry .now) ⌝ }
 {
     let at = outbound.events;
     let notes = outbound.notes;

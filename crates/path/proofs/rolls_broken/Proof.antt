@@ -1,5 +1,6 @@
 use Prim.Native.Nat.{_≤_, _-_}
 use mathlib.Core.Path.{_≡_, refl}
+use mathlib.Core.Bool.{_||_}
 use native.Mathlib.Omega.{arith}
 use borrow.Author.Needs.{needs}
 use lib.ListN.{length, drop}
@@ -9,10 +10,10 @@ use Rattle.path.proofs.rolls_broken.Statement.{statement}
 use Rattle.path.proofs.rolls_broken.Tie as tie
 
 abbrev Inv-loop : tie.InvT-loop
-Inv-loop rolls i₀ i = (i ≤ length rolls) × (rollsBroken (drop i rolls) ≡ rollsBroken rolls)
+Inv-loop rolls broken₀ i₀ broken i = (i ≤ length rolls) × ((broken || rollsBroken (drop i rolls)) ≡ rollsBroken rolls)
 
 abbrev μ-loop : tie.MeasureT-loop
-μ-loop rolls i₀ i = length rolls - i
+μ-loop rolls broken₀ i₀ broken i = length rolls - i
 
 loop-holds : tie.Need-loop-holds Inv-loop μ-loop
 loop-holds c = (omega arith, refl)
@@ -26,9 +27,6 @@ shared-slice-read-roll-in-bounds c = omega arith
 roll-in-bounds-requires : tie.Need-roll-in-bounds-requires Inv-loop μ-loop
 roll-in-bounds-requires c κs = search needs
 
-returns : tie.Need-returns Inv-loop μ-loop
-returns c = (scan-step _ _ (c .before .before .before .loop-test .taken) (c .before .before .before .before .loop .inv .1) (c .before .roll-in-bounds .ensures) (c .if1 .taken), record { each = λ i l. c .before .before .before .before .before .shared-slice-known .given i; size = c .before .before .before .before .before .before .good .0 .1 })
-
 add-i : tie.Need-add-i Inv-loop μ-loop
 add-i c = omega arith
 
@@ -36,10 +34,10 @@ loop-less : tie.Need-loop-less Inv-loop μ-loop
 loop-less c = omega arith
 
 loop-again : tie.Need-loop-again Inv-loop μ-loop
-loop-again c = (omega arith, scan-step _ _ (c .before .before .before .loop-test .taken) (c .before .before .before .before .loop .inv .1) (c .before .roll-in-bounds .ensures) (c .if1 .left))
+loop-again c = (omega arith, scan-step _ _ (c .before .before .before .loop .broken) (c .before .before .loop-test .taken) (c .before .before .before .loop .inv .1) (c .roll-in-bounds .ensures))
 
-returns-2 : tie.Need-returns-2 Inv-loop μ-loop
-returns-2 c = (scan-end _ _ (c .loop-test .left) (c .before .loop .inv .1), record { each = λ i l. c .before .before .shared-slice-known .given i; size = c .before .before .before .good .0 .1 })
+returns : tie.Need-returns Inv-loop μ-loop
+returns c = (scan-end _ _ (c .before .loop .broken) (c .loop-test .left) (c .before .loop .inv .1), record { each = λ i l. c .before .before .shared-slice-known .given i; size = c .before .before .before .good .0 .1 })
 
 pub rolls-broken-spec : {M : Type 1} → statement M
 rolls-broken-spec =
@@ -51,8 +49,7 @@ rolls-broken-spec =
     mul-roll-in-bounds
     shared-slice-read-roll-in-bounds
     roll-in-bounds-requires
-    returns
     add-i
     loop-less
     loop-again
-    returns-2)
+    returns)

@@ -32,8 +32,11 @@ same-length-2 c = search needs
 same-length-3 : tie.Need-same-length-3
 same-length-3 c = search needs
 
+same-length-4 : tie.Need-same-length-4
+same-length-4 c = search needs
+
 returns : tie.Need-returns
-returns c = submits (c .before .before .before .before .before .before .before .before .before .before .before .before .before .before .before .before .before .before .args .rolls .now) (c .before .before .before .before .before .before .before .before .before .before .before .before .before .before .before .before .before .before .args .now) (c .before .before .before .before .before .before .before .before .before .before .before .before .before .before .before .before .before .before .args .seq) (c .before .before .before .before .before .before .before .before .before .before .before .before .before .before .before .before .before .before .args .wire .now) (c .before .before .before .before .before .before .before .before .before .before .before .before .before .before .before .before .before .before .args .side) (segMetas (c .before .before .before .before .before .before .before .before .before .before .before .before .before .before .before .before .before .before .args .notes) (c .before .before .before .before .before .before .before .before .before .before .before .before .before .before .before .before .before .before .args .rows .now)) (direction (c .before .before .before .before .before .before .before .before .before .before .before .before .before .before .before .before .before .before .args .records .now) (c .before .before .before .before .before .before .before .before .before .before .before .before .before .before .before .before .before .before .args .places .now) (c .before .before .before .before .before .before .before .before .before .before .before .before .before .before .before .before .before .before .args .reverse)) (c .before .before .before .before .before .before .before .before .before .before .before .carry-unchecked .ensures) (c .before .before .before .before .before .is-cumulative .ensures) (c .before .before .before .before .any-copies .ensures) (c .before .before .before .ack-scheduled .ensures) (c .stop-of .ensures)
+returns c = (submits (c .before .before .before .before .before .before .before .before .before .before .before .before .before .before .before .before .before .before .before .before .before .args .rolls .now) (c .before .before .before .before .before .before .before .before .before .before .before .before .before .before .before .before .before .before .before .before .before .args .now) (c .before .before .before .before .before .before .before .before .before .before .before .before .before .before .before .before .before .before .before .before .before .args .seq) (c .before .before .before .before .before .before .before .before .before .before .before .before .before .before .before .before .before .before .before .before .before .args .wire .now) (c .before .before .before .before .before .before .before .before .before .before .before .before .before .before .before .before .before .before .before .before .before .args .side) (segMetas (c .before .before .before .before .before .before .before .before .before .before .before .before .before .before .before .before .before .before .before .before .before .args .notes) (c .before .before .before .before .before .before .before .before .before .before .before .before .before .before .before .before .before .before .before .before .before .args .rows .now)) (direction (c .before .before .before .before .before .before .before .before .before .before .before .before .before .before .before .before .before .before .before .before .before .args .records .now) (c .before .before .before .before .before .before .before .before .before .before .before .before .before .before .before .before .before .before .before .before .before .args .places .now) (c .before .before .before .before .before .before .before .before .before .before .before .before .before .before .before .before .before .before .before .before .before .args .reverse)) (c .before .before .before .before .before .before .before .before .before .before .before .before .before .carry-unchecked .ensures .0) (c .before .before .before .before .before .is-cumulative .ensures) (c .before .before .before .before .any-copies .ensures) (c .before .before .before .ack-scheduled .ensures) (c .stop-of .ensures), c .before .before .before .before .before .before .before .before .before .before .before .before .before .carry-unchecked .ensures .1)
 
 pub submit-ack-spec : {M : Type 1} → statement M
 submit-ack-spec =
@@ -48,4 +51,5 @@ submit-ack-spec =
     same-length
     same-length-2
     same-length-3
+    same-length-4
     returns)
