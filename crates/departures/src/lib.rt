@@ -1,2 +1,2 @@
-// What a run sends at a moment. Definitions in specs/, proofs in proofs/; no code: a step of a run calls `fire_timers` and
-// `pump_sends` itself.
+// What a run sends at a moment. Definitions in specs/, proofs in proofs/; no code: a step of a run calls `fire_timers`
+// and `pump_sends` itself.

@@ -1,6 +1,6 @@
 -- Making, by a protocol's number: 1 Stop-and-Wait, 2 Go-Back-N, 3 Selective Repeat, any other a 4. Document 01, "Turned
--- away": 9 a store shorter than its slots, 4 the window out of bounds or a limit of retries above 32 bits, 5 fewer words
--- than the state has.
+-- away": 9 a store shorter than its slots, 4 the window out of bounds or a limit of retries above 32 bits, 5 fewer
+-- words than the state has.
 use Prim.Native.Nat.{ℕ}
 use mathlib.Core.List.{List, [], _∷_}
 use mathlib.Core.Bool.{Bool, cond}

@@ -270,13 +270,18 @@ impl Packet {
         !checksum::ones_sum_unchecked(header, payload)
     }
 
-    pub fn compute_and_set_checksum_unchecked(mut self, payload: &[u8]) -> Packet
+    pub fn compute_and_set_checksum_unchecked(self, payload: &[u8]) -> Packet
         requires { ⌜ length (now payload) ≤ 65535 ⌝ }
         ensures { λ r. ⌜ r ≡ withChecksum self (now (payload .entry)) ⌝ }
     {
         let checksum = self.compute_checksum_unchecked(payload);
-        self.checksum = checksum;
-        self
+        let pkt_type = self.pkt_type;
+        Packet {
+            seq_num: self.seq_num,
+            pkt_type,
+            flags: self.flags,
+            checksum,
+        }
     }
 
     pub fn is_valid_unchecked(self, payload: &[u8]) -> bool

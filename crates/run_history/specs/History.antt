@@ -90,8 +90,8 @@ pub record History (k : Ceilings) (c : TransferConfig) (g : Given) (before : Len
   pub calls : List Call
   pub tell : Tell c g (startEnds k c before) calls o l
 
--- what follows for the answer and the rows alone: a row for each event, no more Data and ACKs than copies, and at most a
--- sample for each ACK
+-- what follows for the answer and the rows alone: a row for each event, no more Data and ACKs than copies, and at most
+-- a sample for each ACK
 pub record Few (o : Outcome) (l : Lent) : Type 0 where
   pub events : o .driver .events ≤ length (l .events)
   pub datas : o .driver .«data_received» ≤ o .forward .«copies_delivered»

@@ -1,1 +1,2 @@
-// Along every run on the source's timing: what is outstanding has a timer. Specs and proofs only.
+// Along every run: what is outstanding has a timer, and a run that ended is completed or met a ceiling. Definitions in
+// specs/, proofs in proofs/; no code.
