@@ -4,10 +4,10 @@ use native.Mathlib.Omega.{arith}
 use native.Mathlib.Nat.{le-trans}
 use mathlib.Core.Path.{_≡_, refl, sym, ap, _∙_, subst}
 use mathlib.Core.Bool.{Bool, true, false, _&&_, and-eq-true-iff}
-use mathlib.Core.List.{List, []}
+use mathlib.Core.List.{List, [], _++_}
 use lib.Dec.{ltb, lit≤}
 use lib.Ieee.{Float}
-use lib.ListN.{length, getD, take, replicate, length-take, length-replicate}
+use lib.ListN.{length, getD, take, drop, replicate, length-take, length-drop, length-append, length-replicate}
 use lib.Seq.{length-take-le}
 use borrow.Author.Tests.{ltb-true}
 use Rattle.bounds.specs.Bounds.{headerSize, maxPayload, maxDatagram, maxChunks, seqNumLimit, countLimit}
@@ -36,7 +36,7 @@ use Rattle.submission.specs.Submission.{SubmitExit, submit, CanSubmit}
 use Rattle.submission.proofs.Laws.{can-submit, submit-good, submit-keeps, submit-within, submit-first-count}
 use Rattle.sending.specs.Sending.{PumpState, pumpState, PumpExit, pumpExit, nextNumber, canPump, submitSent, sendOne}
 use Rattle.sending.specs.Good.{GoodPump, CanPump}
-use Rattle.sending.proofs.Sends.{SentOne, sent-one}
+use Rattle.sending.proofs.Sends.{SentOne, sent-one, sent-same, written-same}
 
 -- ---- numbers
 before : {a b c d : ℕ} → a ≡ b → b < c → c ≤ d → a < d
@@ -55,8 +55,20 @@ counted-low a b c h = omega arith
 good-low : (v : SenderEnd) (l n : ℕ) → senderBroken v ≡ false → windowOf (v .sender) .«total_sent» + n < l → windowOf (v .sender) .retransmissions < l → GoodSender v (l - 1)
 good-low v l n e a b = record { state = e; sent = omega arith; again = omega arith }
 
+pub as-long : {m n : ℕ} → m ≡ n → n ≤ m
+as-long e = omega arith
+
 pub ample : maxDatagram ≤ length {A = ℕ} (replicate maxDatagram 0)
-ample = let e = length-replicate {A = ℕ} maxDatagram 0 in omega (arith, e)
+ample = as-long (length-replicate {A = ℕ} maxDatagram 0)
+
+-- a buffer whose start was lent is as long as before
+pub relent-length : {payload chunk : List ℕ} → payload ≡ chunk → (w x v : List ℕ) → length x ≡ length (take (headerSize + length payload) w) → length w ≡ length v → length (x ++ drop (headerSize + length payload) w) ≡ length v
+relent-length {payload} p w x v e f =
+    let n = headerSize + length payload in
+    let a = length-append x (drop n w) in
+    let b = length-take n w in
+    let d = length-drop n w in
+    omega (arith, a, b, d, e, f)
 
 take-short : (n m : ℕ) (xs : List ℕ) → n ≤ m → length (take n xs) ≤ m
 take-short n m xs h = let e = length-take n xs in omega (arith, e, h)
@@ -129,14 +141,28 @@ module _ (total : ℕ) (s : Sender) {b : Bool} (e : b ≡ canSend s) where
 
 -- ---- the return
 module _ (t : Timing) (rolls : List Float) (chunks : List (List ℕ)) (rto now : ℕ) (s : PumpState) where
-  pub sends-one : {seq : ℕ} {payload out wire : List ℕ} {after : SenderEnd} {oldest : Oldest} {y : SubmitExit} → seq ≡ nextNumber s → payload ≡ getD chunks seq []
-      → sendExit (sendAnswer.Sent (headerSize + length payload)) after out ≡ sendChunk (s .sender) payload (replicate maxDatagram 0) → oldest ≡ oldestOutstanding (after .sender)
+  -- what is submitted does not depend on what the buffer held
+  abbrev submitted : ℕ → SenderEnd → List ℕ → PumpExit
+  submitted seq after bytes =
+      let y = submit t rolls (record { time = now; seq = seq; rto = rto; retransmission = false; oldest = oldestOutstanding (after .sender) }) bytes (s .outgoing) in
+      pumpExit (pumpState after (y .outgoing)) true (y .stop)
+
+  anywhere : (seq : ℕ) (payload a b : List ℕ) → CanSendChunk (s .sender) payload a → CanSendChunk (s .sender) payload b
+      → submitSent t rolls rto now seq (s .outgoing) (sendChunk (s .sender) payload a) ≡ submitSent t rolls rto now seq (s .outgoing) (sendChunk (s .sender) payload b)
+  anywhere seq payload a b h k =
+      ap (λ (v : SenderEnd). submitted seq v (bytesSent (sendChunk (s .sender) payload a .answer) (sendChunk (s .sender) payload a .out))) (sent-same payload a b (s .sender) h k)
+      ∙ ap (submitted seq (sendChunk (s .sender) payload b .after)) (written-same (s .sender) payload a b h k)
+
+  pub sends-one : {seq : ℕ} {payload old out wire : List ℕ} {after : SenderEnd} {oldest : Oldest} {y : SubmitExit} → seq ≡ nextNumber s → payload ≡ getD chunks seq []
+      → CanSendChunk (s .sender) payload old → CanSendChunk (s .sender) payload (replicate maxDatagram 0)
+      → sendExit (sendAnswer.Sent (headerSize + length payload)) after out ≡ sendChunk (s .sender) payload old → oldest ≡ oldestOutstanding (after .sender)
       → wire ≡ take (headerSize + length payload) out → y ≡ submit t rolls (record { time = now; seq = seq; rto = rto; retransmission = false; oldest = oldest }) wire (s .outgoing)
       → pumpExit (pumpState after (y .outgoing)) true (y .stop) ≡ sendOne t rolls chunks rto now s
   unfolding sendOne
-  sends-one {seq} {payload} {out} {wire} {after} {oldest} {y} e p f o w g =
+  sends-one {seq} {payload} {old} {out} {wire} {after} {oldest} {y} e p h k f o w g =
       ap (λ (z : SubmitExit). pumpExit (pumpState after (z .outgoing)) true (z .stop)) (g ∙ rw (o, w))
       ∙ ap (submitSent t rolls rto now seq (s .outgoing)) f
+      ∙ anywhere seq payload old (replicate maxDatagram 0) h k
       ∙ ap (λ (l : List ℕ). submitSent t rolls rto now seq (s .outgoing) (sendChunk (s .sender) l (replicate maxDatagram 0))) p
       ∙ ap (λ (n : ℕ). submitSent t rolls rto now n (s .outgoing) (sendChunk (s .sender) (getD chunks n []) (replicate maxDatagram 0))) e
 

@@ -1,7 +1,7 @@
 -- A sender after a chunk was sent.
 use Prim.Native.Nat.{ℕ, _+_, _-_, _<_}
 use native.Mathlib.Omega.{arith}
-use mathlib.Core.Path.{_≡_, refl, sym, subst}
+use mathlib.Core.Path.{_≡_, refl, sym, ap, _∙_, subst}
 use mathlib.Core.Bool.{Bool, true, false, cond}
 use mathlib.Core.List.{List, _++_}
 use lib.ListN.{length, take, drop}
@@ -21,8 +21,8 @@ use Rattle.stop_and_wait.specs.declared.StopAndWaitSender.{StopAndWaitSender}
 use Rattle.delivery.specs.Ends.{bytesSent}
 use Rattle.session.specs.declared.SenderState.{SenderState}
 use Rattle.session.specs.declared.SenderState.the-variants as senderState
-use Rattle.session.specs.Sending.{SenderEnd, senderIn, windowOf, windowEnd, sendChunkIn, sendChunk}
-use Rattle.session.specs.GoodSender.{CanSendChunk}
+use Rattle.session.specs.Sending.{SenderEnd, stopAndWaitEnd, goBackNEnd, selectiveRepeatEnd, senderIn, windowOf, windowEnd, sendChunkIn, sendChunk}
+use Rattle.session.specs.GoodSender.{isSelective, CanSendChunk}
 use Rattle.session.proofs.Laws.{send-unchecked}
 
 -- the window u after it: the next number is used, and one more datagram is counted; what was written is the chunk's
@@ -65,3 +65,22 @@ sent-one v payload out h = by-state (v .sender .state) (v .store) h
     by-state (senderState.StopAndWait s) store h = stop-and-wait s store payload out h
     by-state (senderState.GoBackN s) store h = windowed (senderIn (senderState.GoBackN s) store) payload out (send-unchecked (senderIn (senderState.GoBackN s) store) payload out h)
     by-state (senderState.SelectiveRepeat s) store h = windowed (senderIn (senderState.SelectiveRepeat s) store) payload out (send-unchecked (senderIn (senderState.SelectiveRepeat s) store) payload out h)
+
+-- whatever the buffer held: the sender after it, and what was written
+module _ (payload a b : List ℕ) where
+  same-end : (v : SenderEnd) (end : SendExit slots.Sender → SenderEnd) → (end (window.sendChunkUnchecked (windowEnd v) payload a) ≡ end (window.sendChunkUnchecked (windowEnd v) payload b))
+      → CanSendChunk v payload a → CanSendChunk v payload b → end (window.sendChunk (isSelective (v .sender .state)) (windowEnd v) payload a) ≡ end (window.sendChunk (isSelective (v .sender .state)) (windowEnd v) payload b)
+  same-end v end e h k = ap end (send-unchecked v payload a h) ∙ e ∙ sym (ap end (send-unchecked v payload b k))
+
+  end-same : (s : SenderState) (store : List ℕ) → CanSendChunk (senderIn s store) payload a → CanSendChunk (senderIn s store) payload b → sendChunkIn s store payload a .after ≡ sendChunkIn s store payload b .after
+  end-same (senderState.StopAndWait s) store h k = same-end (senderIn (senderState.StopAndWait s) store) (λ x. stopAndWaitEnd (stopAndWait.sent s x .after)) refl h k
+  end-same (senderState.GoBackN s) store h k = same-end (senderIn (senderState.GoBackN s) store) (λ x. goBackNEnd (x .after)) refl h k
+  end-same (senderState.SelectiveRepeat s) store h k = same-end (senderIn (senderState.SelectiveRepeat s) store) (λ x. selectiveRepeatEnd (x .after)) refl h k
+
+  pub sent-same : (v : SenderEnd) → CanSendChunk v payload a → CanSendChunk v payload b → sendChunk v payload a .after ≡ sendChunk v payload b .after
+  unfolding sendChunk
+  sent-same v h k = end-same (v .sender .state) (v .store) h k
+
+pub written-same : (v : SenderEnd) (payload a b : List ℕ) → CanSendChunk v payload a → CanSendChunk v payload b
+    → bytesSent (sendChunk v payload a .answer) (sendChunk v payload a .out) ≡ bytesSent (sendChunk v payload b .answer) (sendChunk v payload b .out)
+written-same v payload a b h k = sent-one v payload a h .bytes ∙ sym (sent-one v payload b k .bytes)

@@ -2,7 +2,9 @@
 ghost use mathlib.Core.Path.{_≡_};
 ghost use mathlib.Core.Bool.{true, false};
 ghost use mathlib.Core.List.{map};
+ghost use lib.ListN.{length};
 ghost use Prim.Native.Nat.{_+_, _^_, _<_};
+ghost use Rattle.bounds.specs.Bounds.{maxDatagram};
 ghost use Rattle.protocol.specs.Runs.{upFrom};
 ghost use Rattle.window.specs.State.{numbersBroken};
 ghost use Rattle.window.specs.Slots.{datagramFor};
@@ -58,7 +60,7 @@ pub fn can_pump_unchecked(sender: Sender, total_chunks: u32) -> bool
     false
 }
 
-// The next chunk of the file.
+// The next chunk of the file, by way of a lent buffer.
 fn send_one(
     sender: Sender,
     outbound: Outbound,
@@ -76,12 +78,13 @@ fn send_one(
     places: &mut [u8],
     keys: &mut [u32],
     deadlines: &mut [u64],
+    wire: &mut [u8],
 ) -> PumpResult
     requires { ⌜ CanPump timing (rolls .now) «chunk_size» (file .now) «total_chunks» rto now
         (pumpState (senderEnd sender (store .now))
         (outgoing (direction (records .now) (places .now) (outbound .forward)) (segMetas (outbound .notes) (rows .now))
         (outbound .events) (events .now) (timersExit (outbound .clock) (keys .now) (deadlines .now)))) ⌝ }
-    requires { ⌜ canPump «total_chunks» sender ≡ true ⌝ }
+    requires { ⌜ (canPump «total_chunks» sender ≡ true) × (length (wire .now) ≡ maxDatagram) ⌝ }
     ensures { λ r. ⌜ pumpExit (pumpState (senderEnd (r .sender) (store .exit .now))
         (outgoing (direction (records .exit .now) (places .exit .now) (r .outbound .forward))
         (segMetas (r .outbound .notes) (rows .exit .now)) (r .outbound .events) (events .exit .now)
@@ -95,8 +98,7 @@ fn send_one(
     let seq = sender.next_seq_num_unchecked();
     let payload = chunks::chunk_unchecked(file, chunk_size, seq);
     let len = HEADER_SIZE + payload.len();
-    let mut wire = [0u8; MAX_DATAGRAM_SIZE];
-    let sender = sender.send_chunk_unchecked(store, payload, &mut wire);
+    let sender = sender.send_chunk_unchecked(store, payload, wire);
     let oldest = sender.oldest_outstanding_unchecked();
     let submitted = submission::submit_unchecked(
         outbound,
@@ -161,6 +163,7 @@ pub fn pump_sends_unchecked(
     let mut sender = sender;
     let mut outbound = outbound;
     let mut progress = false;
+    let mut wire = [0u8; MAX_DATAGRAM_SIZE];
     while can_pump_unchecked(sender, total_chunks) {
         let sent = send_one(
             sender,
@@ -179,6 +182,7 @@ pub fn pump_sends_unchecked(
             places,
             keys,
             deadlines,
+            &mut wire,
         );
         let stop = sent.stop;
         let going = path::is_going(stop);
