@@ -24,12 +24,13 @@ use Rattle.receiver.specs.Receive.{ReceiveExit, receiveExit}
 use Rattle.session.specs.declared.Sender.{Sender}
 use Rattle.session.specs.declared.Receiver.{Receiver}
 use Rattle.session.specs.declared.Timeout.{Timeout}
-use Rattle.session.specs.Sending.{SenderEnd, senderEnd, windowOf, sendChunk, handleAck, handleTimeout}
+use Rattle.session.specs.declared.SenderState.{SenderState}
+use Rattle.session.specs.Sending.{SenderEnd, senderEnd, senderIn, windowOf, sendChunkIn, sendChunk, handleAckIn, handleAck, handleTimeout}
 use Rattle.session.specs.Receiving.{ReceiverEnd, receiverEnd, handlePacket}
 use Rattle.host_answer.specs.Answer.{refusalAnswer}
 use Rattle.host_words.specs.declared.HeldSender.the-variants as heldSenders
 use Rattle.host_words.specs.declared.HeldReceiver.the-variants as heldReceivers
-use Rattle.host_words.specs.Words.{heldSender, heldReceiver, withSender, withReceiver}
+use Rattle.host_words.specs.Words.{held, heldSender, heldReceiver, withSender, withReceiver}
 use Rattle.host_ends.specs.Answers.{callExit, sendCode, ackCode, timeoutCode, receiveCode}
 use Rattle.host_ends.specs.Sender.{senderVerdict, sent, sendHeld, send, numberOf, acknowledged, acknowledgeHeld, acknowledge, timedOut, timeoutHeld, timeout}
 use Rattle.host_ends.specs.Internal.{verdictOf}
@@ -57,6 +58,13 @@ module _ (state store payload out : List ℕ) where
   unfolding sendHeld
   on-sent h e p q = rw (h, p, q) (ap (λ (y : SendExit SenderEnd). sent state y) e)
 
+  -- by the protocol's own call
+  pub sent-of : {w y v : SenderState} {a : SendAnswer} {x : ℕ} {state' store' out' : List ℕ} → heldSender state ≡ held y → w ≡ y
+      → sendExit a (senderIn v store') out' ≡ sendChunkIn w store payload out → state' ≡ withSender state v → x ≡ sendCode a
+      → callExit x (state' ∷ store' ∷ out' ∷ []) ≡ send state store payload out
+  unfolding sendChunk
+  sent-of h i e p q = on-sent (h ∙ ap held (sym i)) e p q
+
   pub on-send-broken : {x : ℕ} → heldSender state ≡ heldSenders.Broken → x ≡ refusalAnswer State → callExit x (state ∷ store ∷ out ∷ []) ≡ send state store payload out
   unfolding sendHeld
   on-send-broken h q = rw (h, q)
@@ -67,6 +75,12 @@ module _ (state store raw : List ℕ) where
       → callExit x (state' ∷ store' ∷ []) ≡ acknowledge state store raw
   unfolding acknowledgeHeld
   on-acknowledged h e p r q = rw (h, p, q, r) (ap (λ (y : AckExit SenderEnd). acknowledged (numberOf raw) state y) e)
+
+  pub acknowledged-of : {w y v : SenderState} {a : AckAnswer} {n x : ℕ} {state' store' : List ℕ} → heldSender state ≡ held y → w ≡ y
+      → ackExit a (senderIn v store') ≡ handleAckIn w store raw → state' ≡ withSender state v → n ≡ numberOf raw → x ≡ ackCode n a
+      → callExit x (state' ∷ store' ∷ []) ≡ acknowledge state store raw
+  unfolding handleAck
+  acknowledged-of h i e p r q = on-acknowledged (h ∙ ap held (sym i)) e p r q
 
   pub on-acknowledge-broken : {x : ℕ} → heldSender state ≡ heldSenders.Broken → x ≡ refusalAnswer State → callExit x (state ∷ store ∷ []) ≡ acknowledge state store raw
   unfolding acknowledgeHeld

@@ -16,8 +16,10 @@ ghost use Rattle.host_ends.specs.Receiver.{receive, noneHeld, bufferedCo
 ghost use Rattle.refusal.specs.Order.{decide};
 ghost use Rattle.host_answer.specs.Answer.{refusalAnswer};
 ghost use Rattle.host_ends.specs.Making.{makeSenderOf, makeReceiverOf, makeSender, makeReceiver};
+use go_back_n::GoBackNSender;
 use host_words::HeldReceiver;
 use host_words::HeldSender;
+use host_words::Kind;
 use packet::Packet;
 use packet::PacketAnswer;
 use protocol::ProtocolType;
@@ -26,6 +28,7 @@ use refusal::CountAnswer;
 use refusal::Refusal;
 use refusal::TestAnswer;
 use refusal::Verdict;
+use selective_repeat::SelectiveRepeatSender;
 use session::Receiver;
 use session::ReceiverState;
 use session::Sender;
@@ -87,15 +90,32 @@ pub fn send(state: &mut [u64], store: &mut [u8], payload: &[u8], out: &mut [u8])
     ensures { λ r. ⌜ callExit r (now (state .exit) ∷ now (store .exit) ∷ now (out .exit) ∷ [])
         ≡ send (now (state .entry)) (now (store .entry)) (now (payload .entry)) (now (out .entry)) ⌝ }
 {
-    match host_words::held_sender(state) {
-        HeldSender::Sender(sender) => {
-            let result = host_session::send_chunk(sender, store, payload, out);
+    match host_words::sender_kind(state) {
+        Kind::StopAndWait => {
+            let sender = host_words::stop_and_wait_in_unchecked(state);
+            let result = sender.send_chunk(store, payload, out);
             let sender = result.sender;
             let answer = result.answer;
-            host_words::put_sender_unchecked(state, sender);
+            host_words::put_stop_and_wait_unchecked(state, sender);
             send_code(answer)
         }
-        HeldSender::Broken => host_answer::refusal_answer(Refusal::State),
+        Kind::GoBackN => {
+            let window = host_words::window_in_unchecked(state);
+            let result = GoBackNSender { window }.send_chunk(store, payload, out);
+            let sender = result.sender;
+            let answer = result.answer;
+            host_words::put_window_unchecked(state, sender.window);
+            send_code(answer)
+        }
+        Kind::SelectiveRepeat => {
+            let window = host_words::window_in_unchecked(state);
+            let result = SelectiveRepeatSender { window }.send_chunk(store, payload, out);
+            let sender = result.sender;
+            let answer = result.answer;
+            host_words::put_window_unchecked(state, sender.window);
+            send_code(answer)
+        }
+        Kind::Broken => host_answer::refusal_answer(Refusal::State),
     }
 }
 
@@ -104,15 +124,32 @@ pub fn acknowledge(state: &mut [u64], store: &mut [u8], raw: &[u8]) -> u64
     ensures { λ r. ⌜ callExit r (now (state .exit) ∷ now (store .exit) ∷ [])
         ≡ acknowledge (now (state .entry)) (now (store .entry)) (now (raw .entry)) ⌝ }
 {
-    match host_words::held_sender(state) {
-        HeldSender::Sender(sender) => {
-            let result = host_session::handle_ack(sender, store, raw);
+    match host_words::sender_kind(state) {
+        Kind::StopAndWait => {
+            let sender = host_words::stop_and_wait_in_unchecked(state);
+            let result = sender.handle_ack(store, raw);
             let sender = result.sender;
             let answer = result.answer;
-            host_words::put_sender_unchecked(state, sender);
+            host_words::put_stop_and_wait_unchecked(state, sender);
             ack_code(number_of(raw), answer)
         }
-        HeldSender::Broken => host_answer::refusal_answer(Refusal::State),
+        Kind::GoBackN => {
+            let window = host_words::window_in_unchecked(state);
+            let result = GoBackNSender { window }.handle_ack(store, raw);
+            let sender = result.sender;
+            let answer = result.answer;
+            host_words::put_window_unchecked(state, sender.window);
+            ack_code(number_of(raw), answer)
+        }
+        Kind::SelectiveRepeat => {
+            let window = host_words::window_in_unchecked(state);
+            let result = SelectiveRepeatSender { window }.handle_ack(store, raw);
+            let sender = result.sender;
+            let answer = result.answer;
+            host_words::put_window_unchecked(state, sender.window);
+            ack_code(number_of(raw), answer)
+        }
+        Kind::Broken => host_answer::refusal_answer(Refusal::State),
     }
 }
 

@@ -20,11 +20,12 @@ use Rattle.session.specs.declared.SenderState.{SenderState}
 use Rattle.session.specs.declared.SenderState.the-variants as senderState
 use Rattle.session.specs.declared.ReceiverState.{ReceiverState}
 use Rattle.session.specs.declared.ReceiverState.the-variants as receiverState
+use Rattle.host_words.specs.declared.Kind.{Kind}
 use Rattle.host_words.specs.declared.HeldSender.{HeldSender}
 use Rattle.host_words.specs.declared.HeldSender.the-variants as heldSenders
 use Rattle.host_words.specs.declared.HeldReceiver.{HeldReceiver}
 use Rattle.host_words.specs.declared.HeldReceiver.the-variants as heldReceivers
-use Rattle.host_words.specs.Words.{stateWords, senderWord, receiverWord, windowIn, stopAndWaitIn, senderUnreadable, notSingle, held, heldSender, withWindow, withStopAndWait, withSender, selectiveRepeatReceiverIn, goBackNReceiverIn, stopAndWaitReceiverIn, receiverUnreadable, heldBy, heldReceiver, withFields, receiverFields, withReceiver, SenderReadable, RetriesReadable, ReceiverReadable}
+use Rattle.host_words.specs.Words.{stateWords, senderWord, receiverWord, windowIn, stopAndWaitIn, senderUnreadable, notSingle, held, heldSender, withWindow, withStopAndWait, withSender, selectiveRepeatReceiverIn, goBackNReceiverIn, stopAndWaitReceiverIn, receiverUnreadable, heldBy, heldReceiver, withFields, receiverFields, withReceiver, SenderReadable, RetriesReadable, SenderAs, ReceiverReadable}
 
 pub sender-readable : (s : List ℕ) → senderUnreadable s ≡ false → SenderReadable s
 unfolding senderUnreadable
@@ -43,6 +44,9 @@ receiver-readable s e =
     let none = none-of _ e in record { long = ltb-false _ _ (none .0); base = ltb-false _ _ (none .1 .0) }
 
 -- ---- a sender
+pub sender-as : (s : List ℕ) {k l : Kind} → k ≡ l → SenderAs s k → SenderAs s l
+sender-as s e known = subst (SenderAs s) e known
+
 -- the words with the sender put back that they held
 abbrev putBack : List ℕ → HeldSender → List ℕ
 putBack s (heldSenders.Sender x) = withSender s (x .state)

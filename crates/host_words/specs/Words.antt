@@ -5,6 +5,7 @@
 -- A receiver: 1 window_size, Stop-and-Wait's and Go-Back-N's 1, 2 the number expected or base, 3 the fill mark, 4
 -- total_received, 5 and 6 its other two counters in the source's order.
 use Prim.Native.Nat.{ℕ, _+_, _*_, _≤_}
+use mathlib.Core.Path.{_≡_}
 use mathlib.Core.List.{List, [], _∷_}
 use mathlib.Core.Bool.{Bool, cond, not, _&&_}
 use lib.ListN.{length, getD, set}
@@ -25,6 +26,8 @@ use Rattle.session.specs.declared.SenderState.the-variants as senderState
 use Rattle.session.specs.declared.ReceiverState.{ReceiverState}
 use Rattle.session.specs.declared.ReceiverState.the-variants as receiverState
 use Rattle.host_answer.specs.Exit.{wide}
+use Rattle.host_words.specs.declared.Kind.{Kind}
+use Rattle.host_words.specs.declared.Kind.the-variants as kinds
 use Rattle.host_words.specs.declared.HeldSender.{HeldSender}
 use Rattle.host_words.specs.declared.HeldSender.the-variants as heldSenders
 use Rattle.host_words.specs.declared.HeldReceiver.{HeldReceiver}
@@ -205,6 +208,16 @@ pub record SenderReadable (s : List ℕ) : Type 0 where
 pub record RetriesReadable (s : List ℕ) : Type 0 where
   pub max : getD s 6 0 ≤ 4294967295
   pub current : getD s 7 0 ≤ 4294967295
+
+-- what a sender's kind says of its words
+abbrev pub SenderAs : List ℕ → Kind → Type 0
+SenderAs s kinds.StopAndWait =
+    SenderReadable s × RetriesReadable s × (heldSender s ≡ held (senderState.StopAndWait (stopAndWaitIn s)))
+SenderAs s kinds.GoBackN =
+    SenderReadable s × (heldSender s ≡ held (senderState.GoBackN (record { window = windowIn s })))
+SenderAs s kinds.SelectiveRepeat =
+    SenderReadable s × (heldSender s ≡ held (senderState.SelectiveRepeat (record { window = windowIn s })))
+SenderAs s kinds.Broken = heldSender s ≡ heldSenders.Broken
 
 pub record ReceiverReadable (s : List ℕ) : Type 0 where
   pub long : stateWords ≤ length s

@@ -1,14 +1,14 @@
 // The states of the ends in lent words: what words hold, and words with a state put into them.
 ghost use mathlib.Core.Path.{_≡_};
 ghost use mathlib.Core.Bool.{cond};
-ghost use Prim.Native.Nat.{_+_, _≤_};
-ghost use lib.ListN.{length};
+ghost use Prim.Native.Nat.{_+_, _≤_, _<_};
+ghost use lib.ListN.{length, set};
 ghost use Rattle.host_words.specs.Words.{stateWords, senderWord, receiverWord, windowIn, stopAndWaitIn, withKind};
 ghost use Rattle.host_words.specs.Words.{senderUnreadable, notSingle, heldSender, withWindow, withStopAndWait};
 ghost use Rattle.host_words.specs.Words.{withSender, stopAndWaitReceiverIn, goBackNReceiverIn};
 ghost use Rattle.host_words.specs.Words.{selectiveRepeatReceiverIn, receiverUnreadable, heldReceiver, withFields};
 ghost use Rattle.host_words.specs.Words.{receiverFields, withReceiver};
-ghost use Rattle.host_words.specs.Words.{SenderReadable, RetriesReadable, ReceiverReadable};
+ghost use Rattle.host_words.specs.Words.{SenderReadable, RetriesReadable, SenderAs, ReceiverReadable};
 use go_back_n::GoBackNReceiver;
 use go_back_n::GoBackNSender;
 use protocol::ProtocolType;
@@ -39,6 +39,14 @@ pub const STATE_WORDS: usize = 8;
 
 const MAX_U32: u64 = 4_294_967_295;
 
+// The protocol of the end in words, or that they hold none.
+pub enum Kind {
+    StopAndWait,
+    GoBackN,
+    SelectiveRepeat,
+    Broken,
+}
+
 // What the words of a sender hold.
 pub enum HeldSender {
     Sender(Sender),
@@ -61,34 +69,52 @@ pub struct ReceiverFields {
     pub third: u64,
 }
 
-pub fn held_sender(state: &[u64]) -> HeldSender
-    ensures { λ r. ⌜ r ≡ heldSender (now (state .entry)) ⌝ }
+pub fn sender_kind(state: &[u64]) -> Kind
+    ensures { λ r. ⌜ SenderAs (now (state .entry)) r ⌝ }
 {
     if sender_unreadable(state) {
-        return HeldSender::Broken;
+        return Kind::Broken;
     }
     let kind = state[0];
     if kind == SELECTIVE_REPEAT_SENDER {
-        let window = window_in(state);
-        return HeldSender::Sender(Sender {
-            state: SenderState::SelectiveRepeat(SelectiveRepeatSender { window }),
-        });
+        return Kind::SelectiveRepeat;
     }
     if kind == GO_BACK_N_SENDER {
-        let window = window_in(state);
-        return HeldSender::Sender(Sender {
-            state: SenderState::GoBackN(GoBackNSender { window }),
-        });
+        return Kind::GoBackN;
     }
     if kind == STOP_AND_WAIT_SENDER {
         if not_single(state) {
-            return HeldSender::Broken;
+            return Kind::Broken;
         }
-        return HeldSender::Sender(Sender {
-            state: SenderState::StopAndWait(stop_and_wait_in(state)),
-        });
+        return Kind::StopAndWait;
     }
-    HeldSender::Broken
+    Kind::Broken
+}
+
+pub fn held_sender(state: &[u64]) -> HeldSender
+    ensures { λ r. ⌜ r ≡ heldSender (now (state .entry)) ⌝ }
+{
+    match sender_kind(state) {
+        Kind::StopAndWait => {
+            let sender = stop_and_wait_in_unchecked(state);
+            HeldSender::Sender(Sender {
+                state: SenderState::StopAndWait(sender),
+            })
+        }
+        Kind::GoBackN => {
+            let window = window_in_unchecked(state);
+            HeldSender::Sender(Sender {
+                state: SenderState::GoBackN(GoBackNSender { window }),
+            })
+        }
+        Kind::SelectiveRepeat => {
+            let window = window_in_unchecked(state);
+            HeldSender::Sender(Sender {
+                state: SenderState::SelectiveRepeat(SelectiveRepeatSender { window }),
+            })
+        }
+        Kind::Broken => HeldSender::Broken,
+    }
 }
 
 pub fn held_receiver(state: &[u64]) -> HeldReceiver
@@ -134,9 +160,9 @@ pub fn put_sender_unchecked(state: &mut [u64], sender: Sender)
 {
     let held = sender.state;
     match held {
-        SenderState::StopAndWait(s) => put_stop_and_wait(state, s),
-        SenderState::GoBackN(s) => put_window(state, s.window),
-        SenderState::SelectiveRepeat(s) => put_window(state, s.window),
+        SenderState::StopAndWait(s) => put_stop_and_wait_unchecked(state, s),
+        SenderState::GoBackN(s) => put_window_unchecked(state, s.window),
+        SenderState::SelectiveRepeat(s) => put_window_unchecked(state, s.window),
     }
 }
 
@@ -205,7 +231,7 @@ fn not_single(state: &[u64]) -> bool
     true
 }
 
-fn window_in(state: &[u64]) -> SendWindow
+pub fn window_in_unchecked(state: &[u64]) -> SendWindow
     requires { ⌜ SenderReadable (now state) ⌝ }
     ensures { λ r. ⌜ r ≡ windowIn (now (state .entry)) ⌝ }
 {
@@ -218,7 +244,7 @@ fn window_in(state: &[u64]) -> SendWindow
     }
 }
 
-fn stop_and_wait_in(state: &[u64]) -> StopAndWaitSender
+pub fn stop_and_wait_in_unchecked(state: &[u64]) -> StopAndWaitSender
     requires { ⌜ SenderReadable (now state) × RetriesReadable (now state) ⌝ }
     ensures { λ r. ⌜ r ≡ stopAndWaitIn (now (state .entry)) ⌝ }
 {
@@ -232,30 +258,41 @@ fn stop_and_wait_in(state: &[u64]) -> StopAndWaitSender
     }
 }
 
-fn put_window(state: &mut [u64], w: SendWindow)
+pub fn put_window_unchecked(state: &mut [u64], w: SendWindow)
     requires { ⌜ stateWords ≤ length (now state) ⌝ }
     ensures { λ _. ⌜ now (state .exit) ≡ withWindow (now (state .entry)) w ⌝ }
 {
-    state[1] = w.window_size as u64;
-    state[2] = w.send_base as u64;
-    state[3] = w.next_seq_num as u64;
-    state[4] = w.total_sent;
-    state[5] = w.retransmissions;
+    put_word(state, 1, w.window_size as u64);
+    put_word(state, 2, w.send_base as u64);
+    put_word(state, 3, w.next_seq_num as u64);
+    put_word(state, 4, w.total_sent);
+    put_word(state, 5, w.retransmissions);
 }
 
-fn put_stop_and_wait(state: &mut [u64], s: StopAndWaitSender)
+pub fn put_stop_and_wait_unchecked(state: &mut [u64], s: StopAndWaitSender)
     requires { ⌜ stateWords ≤ length (now state) ⌝ }
     ensures { λ _. ⌜ now (state .exit) ≡ withStopAndWait (now (state .entry)) s ⌝ }
 {
     let base = s.current_seq as u64;
     let next = next_number(s.in_flight, base);
-    state[1] = 1;
-    state[2] = base;
-    state[3] = next;
-    state[4] = s.total_sent;
-    state[5] = s.retransmissions;
-    state[6] = s.max_retries as u64;
-    state[7] = s.current_retries as u64;
+    put_word(state, 1, 1);
+    put_word(state, 2, base);
+    put_word(state, 3, next);
+    put_word(state, 4, s.total_sent);
+    put_word(state, 5, s.retransmissions);
+    put_word(state, 6, s.max_retries as u64);
+    put_word(state, 7, s.current_retries as u64);
+}
+
+// Stored only where it differs: without the tests the compiler loads two fields at once that a call has just stored one
+// by one, and the processor waits for them.
+fn put_word(state: &mut [u64], i: usize, word: u64)
+    requires { ⌜ i < length (now state) ⌝ }
+    ensures { λ _. ⌜ now (state .exit) ≡ set (now (state .entry)) i word ⌝ }
+{
+    if state[i] != word {
+        state[i] = word;
+    }
 }
 
 fn next_number(in_flight: bool, base: u64) -> u64

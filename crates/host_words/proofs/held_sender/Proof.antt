@@ -1,67 +1,58 @@
-use mathlib.Core.Path.{sym, _∙_}
-use borrow.Author.Tests.{lt-ltb, le-ltb, eq-eqb, ne-eqb}
-use native.Mathlib.Omega.{arith}
-use Rattle.host_words.proofs.Words.{sender-readable, retries-readable}
-use Rattle.host_words.specs.Words.{heldSender}
+use mathlib.Core.Path.{sym}
+use Rattle.host_words.proofs.Words.{sender-as}
 use borrow.Author.Needs.{needs}
 use Rattle.host_words.proofs.held_sender.Statement.{statement}
 use Rattle.host_words.proofs.held_sender.Tie as tie
 
-sender-unreadable-requires : tie.Need-sender-unreadable-requires
-sender-unreadable-requires c κs = search needs
+sender-kind-requires : tie.Need-sender-kind-requires
+sender-kind-requires c κs = search needs
+
+enum-told : tie.Need-enum-told
+enum-told c = search needs
+
+stop-and-wait-in-unchecked-requires : tie.Need-stop-and-wait-in-unchecked-requires
+stop-and-wait-in-unchecked-requires c κs = let k = sender-as (c .before .before .before .before .args .state .now) (c .enum-told .given .1) (c .before .before .sender-kind .ensures) in (k .0, k .1)
+
+enum-told-2 : tie.Need-enum-told-2
+enum-told-2 c = search needs
+
+window-in-unchecked-requires : tie.Need-window-in-unchecked-requires
+window-in-unchecked-requires c κs = (sender-as (c .before .before .before .before .args .state .now) (c .enum-told2 .given .1) (c .before .before .sender-kind .ensures)) .0
+
+enum-told-3 : tie.Need-enum-told-3
+enum-told-3 c = search needs
+
+window-in-unchecked-requires-2 : tie.Need-window-in-unchecked-requires-2
+window-in-unchecked-requires-2 c κs = (sender-as (c .before .before .before .before .args .state .now) (c .enum-told3 .given .1) (c .before .before .sender-kind .ensures)) .0
+
+enum-told-4 : tie.Need-enum-told-4
+enum-told-4 c = search needs
 
 returns : tie.Need-returns
-unfolding heldSender
-returns c = simp (sym (c .before .sender-unreadable .ensures) ∙ c .if1 .taken)
-
-shared-slice-read-kind : tie.Need-shared-slice-read-kind
-shared-slice-read-kind c = let h = sender-readable (c .before .before .before .before .args .state .now) (sym (c .before .before .sender-unreadable .ensures) ∙ c .before .if1 .left) .long in omega arith
-
-window-in-requires : tie.Need-window-in-requires
-window-in-requires c κs = sender-readable (c .before .before .before .before .before .args .state .now) (sym (c .before .before .before .sender-unreadable .ensures) ∙ c .before .before .if1 .left)
+returns c = rw (c .stop-and-wait-in-unchecked .ensures) (sym ((sender-as (c .before .before .before .before .before .args .state .now) (c .before .enum-told .given .1) (c .before .before .before .sender-kind .ensures)) .2))
 
 returns-2 : tie.Need-returns-2
-unfolding heldSender
-returns-2 c = simp ((sym (c .before .before .before .before .sender-unreadable .ensures) ∙ c .before .before .before .if1 .left), eq-eqb _ _ (c .before .if2 .taken), c .window-in .ensures)
-
-window-in-requires-2 : tie.Need-window-in-requires-2
-window-in-requires-2 c κs = sender-readable (c .before .before .before .before .before .before .args .state .now) (sym (c .before .before .before .before .sender-unreadable .ensures) ∙ c .before .before .before .if1 .left)
+returns-2 c = rw (c .window-in-unchecked .ensures) (sym ((sender-as (c .before .before .before .before .before .args .state .now) (c .before .enum-told2 .given .1) (c .before .before .before .sender-kind .ensures)) .1))
 
 returns-3 : tie.Need-returns-3
-unfolding heldSender
-returns-3 c = simp ((sym (c .before .before .before .before .before .sender-unreadable .ensures) ∙ c .before .before .before .before .if1 .left), ne-eqb _ _ (c .before .before .if2 .left), eq-eqb _ _ (c .before .if3 .taken), c .window-in2 .ensures)
-
-not-single-requires : tie.Need-not-single-requires
-not-single-requires c κs = sender-readable (c .before .before .before .before .before .before .before .args .state .now) (sym (c .before .before .before .before .before .sender-unreadable .ensures) ∙ c .before .before .before .before .if1 .left)
+returns-3 c = rw (c .window-in-unchecked2 .ensures) (sym ((sender-as (c .before .before .before .before .before .args .state .now) (c .before .enum-told3 .given .1) (c .before .before .before .sender-kind .ensures)) .1))
 
 returns-4 : tie.Need-returns-4
-unfolding heldSender
-returns-4 c = simp ((sym (c .before .before .before .before .before .before .before .sender-unreadable .ensures) ∙ c .before .before .before .before .before .before .if1 .left), ne-eqb _ _ (c .before .before .before .before .if2 .left), ne-eqb _ _ (c .before .before .before .if3 .left), eq-eqb _ _ (c .before .before .if4 .taken), sym (c .before .not-single .ensures) ∙ c .if5 .taken)
-
-stop-and-wait-in-requires : tie.Need-stop-and-wait-in-requires
-stop-and-wait-in-requires c κs = (sender-readable (c .before .before .before .before .before .before .before .before .before .args .state .now) (sym (c .before .before .before .before .before .before .before .sender-unreadable .ensures) ∙ c .before .before .before .before .before .before .if1 .left), retries-readable (c .before .before .before .before .before .before .before .before .before .args .state .now) (sym (c .before .not-single .ensures) ∙ c .if5 .left))
-
-returns-5 : tie.Need-returns-5
-unfolding heldSender
-returns-5 c = simp ((sym (c .before .before .before .before .before .before .before .before .sender-unreadable .ensures) ∙ c .before .before .before .before .before .before .before .if1 .left), ne-eqb _ _ (c .before .before .before .before .before .if2 .left), ne-eqb _ _ (c .before .before .before .before .if3 .left), eq-eqb _ _ (c .before .before .before .if4 .taken), (sym (c .before .before .not-single .ensures) ∙ c .before .if5 .left), c .stop-and-wait-in .ensures)
-
-returns-6 : tie.Need-returns-6
-unfolding heldSender
-returns-6 c = simp ((sym (c .before .before .before .before .before .sender-unreadable .ensures) ∙ c .before .before .before .before .if1 .left), ne-eqb _ _ (c .before .before .if2 .left), ne-eqb _ _ (c .before .if3 .left), ne-eqb _ _ (c .if4 .left))
+returns-4 c = sym (sender-as (c .before .before .before .before .args .state .now) (c .enum-told4 .given .1) (c .before .before .sender-kind .ensures))
 
 pub held-sender-spec : {M : Type 1} → statement M
 held-sender-spec =
     tie.close
     (tie.spec
-    sender-unreadable-requires
+    sender-kind-requires
+    enum-told
+    stop-and-wait-in-unchecked-requires
+    enum-told-2
+    window-in-unchecked-requires
+    enum-told-3
+    window-in-unchecked-requires-2
+    enum-told-4
     returns
-    shared-slice-read-kind
-    window-in-requires
     returns-2
-    window-in-requires-2
     returns-3
-    not-single-requires
-    returns-4
-    stop-and-wait-in-requires
-    returns-5
-    returns-6)
+    returns-4)
