@@ -55,7 +55,7 @@ module _ (v : SenderEnd) (raw : List ℕ) (h : SenderUnbroken v) where
   pub acked-unbroken : SenderUnbroken (handleAck v raw .after)
   acked-unbroken =
       let low = counts-low (windowOf (v .sender)) (h .counts) in
-      good-unbroken (ack-good v raw (countLimit - 1) (record { state = h .state; sent = most _ countLimit (low .0); again = most _ countLimit (low .1) })) (last countLimit (lit< tt))
+      good-unbroken (ack-good v raw (countLimit - 1) (record { state = record { state = h .state; clean = h .clean }; sent = most _ countLimit (low .0); again = most _ countLimit (low .1) })) (last countLimit (lit< tt))
     where
       most : (a l : ℕ) → a < l → a ≤ l - 1
       most a l h = omega arith

@@ -2,9 +2,9 @@
 ghost use mathlib.Core.Path.{_≡_};
 ghost use Prim.Native.Nat.{_*_, _≤_, _<_};
 ghost use lib.ListN.{length};
-ghost use mathlib.Core.Bool.{false};
+ghost use mathlib.Core.Bool.{true, false};
 ghost use Rattle.bounds.specs.Bounds.{countLimit, seqNumLimit, slotSize};
-ghost use Rattle.window.specs.Slots.{sender};
+ghost use Rattle.window.specs.Slots.{sender, Clean};
 ghost use Rattle.window.specs.Sending.{makeExit, makeWindow, sendExit, sendChunk};
 ghost use Rattle.window.specs.Acknowledgement.{ackExit};
 ghost use Rattle.window.specs.Resending.{timeoutExit};
@@ -90,7 +90,7 @@ impl GoBackNSender {
     {
         match self.decide_ack(store, raw) {
             AckDecision::Accept { seq_num, base: _ } => GoBackNAckResult {
-                sender: self.acknowledge_unchecked(store, seq_num),
+                sender: self.acknowledge_unchecked(store, seq_num, false),
                 answer: AckAnswer::Accepted,
             },
             AckDecision::NotAccepted => GoBackNAckResult {
@@ -143,16 +143,18 @@ impl GoBackNSender {
         window.decide_ack(false, store, raw)
     }
 
-    // What the accepted ACK of an outstanding number does.
-    pub fn acknowledge_unchecked(self, store: &mut [u8], seq_num: u32) -> GoBackNSender
+    // What the accepted ACK of an outstanding number does. `clean`: whether the bytes of the slots past their lengths
+    // are zeros.
+    pub fn acknowledge_unchecked(self, store: &mut [u8], seq_num: u32, clean: bool) -> GoBackNSender
         requires { ⌜ (0 < self .window .«window_size»)
             × (self .window .«window_size» * slotSize ≤ length (now store)) ⌝ }
         requires { ⌜ (self .window .«send_base» ≤ «seq_num») × («seq_num» < seqNumLimit) ⌝ }
+        requires { ⌜ (clean ≡ true → Clean (sender (self .window) (now store))) ⌝ }
         ensures { λ r. ⌜ sender (r .window) (now (store .exit))
             ≡ acknowledged (sender (self .window) (now (store .entry))) «seq_num» ⌝ }
     {
         let window = self.window;
-        let window = window.release_unchecked(store, seq_num + 1);
+        let window = window.release_unchecked(store, seq_num + 1, clean);
         GoBackNSender { window }
     }
 

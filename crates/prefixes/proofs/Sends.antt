@@ -72,7 +72,7 @@ module _ (size : ℕ) (file : List ℕ) where
       subst (λ (y : PumpExit). PumpSends (y .state)) (sym (send-is can free))
       (record {
         sender = record {
-          window = chunk-held chunks (w .sender) (getD chunks n []) (blank can free) (can .good .sender) o refl (q .sender .window);
+          window = chunk-held chunks (w .sender) (getD chunks n []) (blank can free) (can .good .sender .state) o refl (q .sender .window);
           sent = omega (arith, next, left);
         };
         waiting = submit-waits chunks t rolls (given can free) _ (w .outgoing) n submits (first-data chunks (w .sender) (getD chunks n []) (blank can free) (can-send can free) o refl left) (q .waiting);

@@ -46,5 +46,5 @@ resent-short v t unbroken =
     let r = resent-as v t unbroken in
     let w = r .within in
     let s = windowOf (v .sender) in
-    let good : GoodSender v (s .«total_sent» + s .retransmissions) = record { state = unbroken .state; sent = omega arith; again = omega arith } in
-    subst Short (sym (r .packets-are)) (short-made (resent v t .after) (r .count) (r .first) (resent-good v t _ good .state) (record { from = rw (r .same .base) (w .from); below = rw (r .same .next) (w .below) }))
+    let good : GoodSender v (s .«total_sent» + s .retransmissions) = record { state = record { state = unbroken .state; clean = unbroken .clean }; sent = omega arith; again = omega arith } in
+    subst Short (sym (r .packets-are)) (short-made (resent v t .after) (r .count) (r .first) (resent-good v t _ good .state .state) (record { from = rw (r .same .base) (w .from); below = rw (r .same .next) (w .below) }))

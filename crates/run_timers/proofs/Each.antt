@@ -147,7 +147,7 @@ module _ (top now : ℕ) (rolls : List Float) (samples : ℕ) where
           record {
             each = λ k e.
                 started-some n k _ _ _ (number-lookup rolls again packet (cancelled s n .outgoing) can (going-is _ on) k)
-                (λ other. cancelled-has (s .outgoing .clock) n k (g .outgoing .clock) other (h .each k (again-before (s .sender) (g .sender) n k e)));
+                (λ other. cancelled-has (s .outgoing .clock) n k (g .outgoing .clock) other (h .each k (again-before (s .sender) (g .sender .state) n k e)));
           }
 
     number-each : ceilingMet top (s .resends) ≡ false → isGoing (fireNumber top rolls now n s .stop) ≡ true → Of (fireNumber top rolls now n s .state)

@@ -372,7 +372,7 @@ module _ (limit top now : ℕ) (rolls : List Float) (enough : top ≤ limit) whe
         fits = ap (λ (y : Outgoing). y .metas .notes .count) (sym is) ∙ grown
 
         ordered : windowOf (s .sender .sender) .«send_base» ≤ nextNumber s
-        ordered = sound (isSelective (s .sender .sender .state)) (windowOf (s .sender .sender)) (s .sender .store) (can .good .sender) .ordered
+        ordered = sound (isSelective (s .sender .sender .state)) (windowOf (s .sender .sender)) (s .sender .store) (can .good .sender .state) .ordered
 
         some : hasOutstanding (v .sender) ≡ true
         some = let b = sent-next can free .base in let n = sent-next can free .next in let o = ordered in lt-ltb 0 (outstanding (windowOf (v .sender))) (omega (arith, b, n, o))

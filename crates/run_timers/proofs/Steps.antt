@@ -42,8 +42,8 @@ sent-unbroken {t} {rolls} {size} {file} {now = now} top s can g = by-test (goesO
   where
     by-test : (b : Bool) → goesOn (fired top can) ≡ b
         → senderBroken (cond b (pumped (fired top can) (pumpSends t rolls (chunksOf size file) (fired top can .state .estimator .«current_rto») now (pumpOf (fired top can .state)))) (fired top can) .state .sender) ≡ false
-    by-test true e = pump-can (can-pump top can e) .good .sender
-    by-test false e = fire-timers-keeps g top .sender
+    by-test true e = pump-can (can-pump top can e) .good .sender .state
+    by-test false e = fire-timers-keeps g top .sender .state
 
 -- ---- of both lines, the ends and the timers, how many packets were sent again, and the time
 abbrev pub Kept : Type 1
@@ -91,7 +91,7 @@ pub ended-last : (Q : Kept) → Lasting Q → (p : Plan) (g : Given) → GoodPla
 ended-last Q lasting p g plan u good q both over =
     record {
       kept = step-at Q lasting p g u q both over;
-      unbroken = step-at (λ a n time. senderBroken (a .sender) ≡ false) (λ a n now later l h. h) p g u (good .sender) (λ on. sent-unbroken (p .«max_retransmissions») _ (can-send-due (arrived-good good) plan) (good-fire (arrived-good good))) over;
+      unbroken = step-at (λ a n time. senderBroken (a .sender) ≡ false) (λ a n now later l h. h) p g u (good .sender .state) (λ on. sent-unbroken (p .«max_retransmissions») _ (can-send-due (arrived-good good) plan) (good-fire (arrived-good good))) over;
     }
 
 -- the run's end is its last step's

@@ -5,7 +5,7 @@ ghost use mathlib.Core.Bool.{true, false};
 ghost use lib.ListN.{length};
 ghost use Rattle.bounds.specs.Bounds.{countLimit, maxPayload, maxWindow, slotSize};
 ghost use Rattle.window.specs.State as windowState;
-ghost use Rattle.window.specs.Slots.{sender};
+ghost use Rattle.window.specs.Slots.{sender, Clean};
 ghost use Rattle.window.specs.Sending.{makeExit, makeWindow, sendExit, sendChunk};
 ghost use Rattle.window.specs.Acknowledgement.{inWindow, ackExit};
 ghost use Rattle.window.specs.Resending.{timeoutExit};
@@ -101,7 +101,7 @@ impl SelectiveRepeatSender {
     {
         match self.decide_ack(store, raw) {
             AckDecision::Accept { seq_num, base } => {
-                let window = acknowledge_one(self.window, store, seq_num, base);
+                let window = acknowledge_one(self.window, store, seq_num, base, false);
                 SelectiveRepeatAckResult {
                     sender: SelectiveRepeatSender { window },
                     answer: AckAnswer::Accepted,
@@ -203,17 +203,24 @@ impl SelectiveRepeatSender {
         }
     }
 
-    // What an accepted ACK of an outstanding number does.
-    pub fn acknowledge_unchecked(self, store: &mut [u8], seq_num: u32) -> SelectiveRepeatSender
+    // What an accepted ACK of an outstanding number does. `clean`: whether the bytes of the slots past their lengths are
+    // zeros.
+    pub fn acknowledge_unchecked(
+        self,
+        store: &mut [u8],
+        seq_num: u32,
+        clean: bool,
+    ) -> SelectiveRepeatSender
         requires { ⌜ windowState.stateBroken true (self .window) (now store) ≡ false ⌝ }
         requires { ⌜ inWindow (self .window) «seq_num» ≡ true ⌝ }
+        requires { ⌜ (clean ≡ true → Clean (sender (self .window) (now store))) ⌝ }
         ensures { λ r. ⌜ sender (r .window) (now (store .exit))
             ≡ acknowledgeOne (sender (self .window) (now (store .entry))) «seq_num» ⌝ }
     {
         let window = self.window;
         let base = base_after(window, store, seq_num);
         SelectiveRepeatSender {
-            window: acknowledge_one(window, store, seq_num, base),
+            window: acknowledge_one(window, store, seq_num, base, clean),
         }
     }
 
@@ -257,16 +264,23 @@ fn base_after(window: SendWindow, store: &[u8], n: u32) -> u32
 }
 
 // Marks an outstanding number as acknowledged, or releases those that send_base moves past.
-fn acknowledge_one(window: SendWindow, store: &mut [u8], n: u32, base: u32) -> SendWindow
+fn acknowledge_one(
+    window: SendWindow,
+    store: &mut [u8],
+    n: u32,
+    base: u32,
+    clean: bool,
+) -> SendWindow
     requires { ⌜ (windowState.stateBroken true window (now store) ≡ false) × (inWindow window n ≡ true) ⌝ }
     requires { ⌜ base ≡ baseAfter (sender window (now store)) n ⌝ }
+    requires { ⌜ (clean ≡ true → Clean (sender window (now store))) ⌝ }
     ensures { λ r. ⌜ sender r (now (store .exit)) ≡ acknowledgeOne (sender window (now (store .entry))) n ⌝ }
 {
     if base == window.send_base {
         store::set_mark_unchecked(store, n as usize % window.window_size, 2);
         return window;
     }
-    window.release_unchecked(store, base)
+    window.release_unchecked(store, base, clean)
 }
 
 pub struct SelectiveRepeatReceiver {
@@ -551,10 +565,10 @@ impl SelectiveRepeatReceiver {
         match change {
             SlotChange::Unchanged => {}
             SlotChange::Hold(n) => {
-                store::fill_unchecked(store, n as usize % window, payload, 1, 0);
+                store::fill_unchecked(store, n as usize % window, payload, 1, 0, false);
             }
             SlotChange::Release(k) => {
-                window::empty_slots_unchecked(store, window, next, next + k as u32);
+                window::empty_slots_unchecked(store, window, next, next + k as u32, false);
             }
         }
     }

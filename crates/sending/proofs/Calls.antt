@@ -28,7 +28,7 @@ use Rattle.clock.specs.declared.Timing.{Timing}
 use Rattle.clock.specs.declared.Timing.the-variants.{PerNumber}
 use Rattle.clock.proofs.Laws.{running}
 use Rattle.session.specs.Sending.{SenderEnd, windowOf, windowEnd, canSend, oldestOutstanding, sendChunk}
-use Rattle.session.specs.GoodSender.{isSelective, senderBroken, GoodSender, CanSendChunk}
+use Rattle.session.specs.GoodSender.{isSelective, CleanSender, GoodSender, CanSendChunk}
 use Rattle.session.specs.declared.Oldest.{Oldest}
 use Rattle.session.specs.declared.Sender.{Sender}
 use Rattle.session.proofs.Laws.{good-can-send, good-numbers, send-good}
@@ -52,7 +52,7 @@ counted-low : (a b c : ℕ) → a + b < c → c - 1 < c
 counted-low a b c h = omega arith
 
 -- the counters below their limit l
-good-low : (v : SenderEnd) (l n : ℕ) → senderBroken v ≡ false → windowOf (v .sender) .«total_sent» + n < l → windowOf (v .sender) .retransmissions < l → GoodSender v (l - 1)
+good-low : (v : SenderEnd) (l n : ℕ) → CleanSender v → windowOf (v .sender) .«total_sent» + n < l → windowOf (v .sender) .retransmissions < l → GoodSender v (l - 1)
 good-low v l n e a b = record { state = e; sent = omega arith; again = omega arith }
 
 pub as-long : {m n : ℕ} → m ≡ n → n ≤ m
@@ -108,7 +108,7 @@ module _ {t : Timing} {rolls : List Float} {size : ℕ} {file : List ℕ} {total
 
     -- the number's datagram can be submitted
     window-ordered : windowOf (s .sender .sender) .«send_base» ≤ nextNumber s
-    window-ordered = sound (isSelective (s .sender .sender .state)) (windowOf (s .sender .sender)) (s .sender .store) (can .good .sender) .ordered
+    window-ordered = sound (isSelective (s .sender .sender .state)) (windowOf (s .sender .sender)) (s .sender .store) (can .good .sender .state) .ordered
 
     window-next : Within (windowOf (s .sender .sender) .«send_base») (nextNumber s + 1) (running (s .outgoing .clock))
     window-next = record { bounds = λ key h. let b = can .good .timers key h in (b .0, omega (arith, b .1)) }

@@ -1,7 +1,6 @@
 -- app/transfer.rs, `pump_sends`: what it asks of a run's state, and keeps.
 use Prim.Native.Nat.{ℕ, _+_, _-_, _≤_, _<_}
 use mathlib.Core.Path.{_≡_}
-use mathlib.Core.Bool.{false}
 use mathlib.Core.List.{List}
 use lib.Ieee.{Float}
 use lib.ListN.{length}
@@ -11,7 +10,7 @@ pub use Rattle.clock.specs.Timers.{TimersWithin}
 use Rattle.clock.specs.declared.Timing.{Timing}
 use Rattle.clock.specs.declared.Timing.the-variants.{PerNumber}
 use Rattle.session.specs.Sending.{windowOf}
-use Rattle.session.specs.GoodSender.{senderBroken}
+use Rattle.session.specs.GoodSender.{CleanSender}
 use Rattle.submission.specs.Submission.{GoodOutgoing}
 use Rattle.sending.specs.Sending.{PumpState}
 
@@ -19,7 +18,7 @@ use Rattle.sending.specs.Sending.{PumpState}
 -- window an entry for its timer
 pub record GoodPump (t : Timing) (rolls : List Float) (total rto now : ℕ) (s : PumpState) : Type 0 where
   pub outgoing : GoodOutgoing (s .outgoing) rolls now
-  pub sender : senderBroken (s .sender) ≡ false
+  pub sender : CleanSender (s .sender)
   pub sent : windowOf (s .sender .sender) .«total_sent» + (total - windowOf (s .sender .sender) .«next_seq_num»)
       < countLimit
   pub again : windowOf (s .sender .sender) .retransmissions < countLimit

@@ -14,7 +14,7 @@ use Rattle.packet.specs.declared.PacketType.the-variants.{Data}
 use Rattle.packet.proofs.Laws.{made-length}
 use Rattle.window.specs.State.{windowBroken, storeShort}
 use Rattle.window.specs.Slots as slots
-use Rattle.window.specs.Slots.{firstDatagram}
+use Rattle.window.specs.Slots.{firstDatagram, Clean}
 use Rattle.window.specs.Sending as window
 use Rattle.window.specs.Sending.{SendExit}
 use Rattle.window.proofs.Laws.{sound}
@@ -34,13 +34,14 @@ use Rattle.session.specs.GoodSender.{isSelective, senderBroken, SenderUn
 use Rattle.session.proofs.Windows.{good-more}
 use Rattle.session.proofs.Sends.{send-unchecked}
 use Rattle.session.proofs.Resends.{resent-as}
+use Rattle.session.proofs.Clean.{new-clean, sent-clean, ack-clean, resent-clean}
 
 -- ---- making
 pub new-sender-good : (p : ProtocolType) (w limit : ℕ) (store : List ℕ) → windowBroken (slotCount p w) ≡ false → storeShort store (slotCount p w) ≡ false → GoodSender (newSender p w limit store) 0
 unfolding newSender slots.fresh
-new-sender-good StopAndWait w limit store e f = record { state = fresh-good false 1 store e f; sent = omega arith; again = omega arith }
-new-sender-good GoBackN w limit store e f = record { state = fresh-good false w store e f; sent = omega arith; again = omega arith }
-new-sender-good SelectiveRepeat w limit store e f = record { state = fresh-good true w store e f; sent = omega arith; again = omega arith }
+new-sender-good StopAndWait w limit store e f = record { state = record { state = fresh-good false 1 store e f; clean = new-clean StopAndWait w limit store }; sent = omega arith; again = omega arith }
+new-sender-good GoBackN w limit store e f = record { state = record { state = fresh-good false w store e f; clean = new-clean GoBackN w limit store }; sent = omega arith; again = omega arith }
+new-sender-good SelectiveRepeat w limit store e f = record { state = record { state = fresh-good true w store e f; clean = new-clean SelectiveRepeat w limit store }; sent = omega arith; again = omega arith }
 
 pub new-sender-size : (p : ProtocolType) (w limit : ℕ) (store : List ℕ) → windowOf (newSender p w limit store .sender) .«window_size» ≡ slotCount p w
 unfolding newSender slots.fresh
@@ -78,76 +79,76 @@ sent-packets v payload out h = by-state (v .sender .state) (v .store) h
     by-state (senderState.SelectiveRepeat s) store h = window-packets (senderIn (senderState.SelectiveRepeat s) store) payload out h
 
 -- where each datagram written is counted: n of them, m of them by a timeout
-after-good : {u v : SenderEnd} {k n m : ℕ} → senderBroken u ≡ false → windowOf (u .sender) .«total_sent» ≡ n + windowOf (v .sender) .«total_sent»
+after-good : {u v : SenderEnd} {k n m : ℕ} → senderBroken u ≡ false → Clean (windowEnd u) → windowOf (u .sender) .«total_sent» ≡ n + windowOf (v .sender) .«total_sent»
     → windowOf (u .sender) .retransmissions ≡ m + windowOf (v .sender) .retransmissions → m ≤ n → GoodSender v k → GoodSender u (k + n)
-after-good e f h few g =
+after-good e c f h few g =
     let a = g .sent in
     let b = g .again in
-    record { state = e; sent = omega arith; again = omega arith }
+    record { state = record { state = e; clean = c }; sent = omega arith; again = omega arith }
 
-sent-good : (v : SenderEnd) (payload out : List ℕ) (k : ℕ) → GoodSender v k → GoodSender (sendChunk v payload out .after) (k + length (sentPackets (sendChunk v payload out)))
+sent-good : (v : SenderEnd) (payload out : List ℕ) (k : ℕ) → CanSendChunk v payload out → GoodSender v k → GoodSender (sendChunk v payload out .after) (k + length (sentPackets (sendChunk v payload out)))
 unfolding sendChunk
-sent-good v payload out k g = by-state (v .sender .state) (v .store) g
+sent-good v payload out k h g = by-state (v .sender .state) (v .store) (sent-clean v payload out h) g
   where
-    by-state : (s : SenderState) (store : List ℕ) → GoodSender (senderIn s store) k → GoodSender (sendChunkIn s store payload out .after) (k + length (sentPackets (sendChunkIn s store payload out)))
-    by-state (senderState.StopAndWait s) store g =
+    by-state : (s : SenderState) (store : List ℕ) → Clean (windowEnd (sendChunkIn s store payload out .after)) → GoodSender (senderIn s store) k → GoodSender (sendChunkIn s store payload out .after) (k + length (sentPackets (sendChunkIn s store payload out)))
+    by-state (senderState.StopAndWait s) store c g =
         let u = stopAndWait.endOf s store in
         let e = stop-and-wait-counted u (call.send payload out) in
-        after-good (sender-step-sound StopAndWait u (call.send payload out) (g .state)) (e .sent-count) (e .resent-count) (omega arith) g
-    by-state (senderState.GoBackN s) store g =
+        after-good (sender-step-sound StopAndWait u (call.send payload out) (g .state .state)) c (e .sent-count) (e .resent-count) (omega arith) g
+    by-state (senderState.GoBackN s) store c g =
         let u = slots.sender (s .window) store in
         let e = go-back-n-counted u (call.send payload out) in
-        after-good (sender-step-sound GoBackN u (call.send payload out) (g .state)) (e .sent-count) (e .resent-count) (omega arith) g
-    by-state (senderState.SelectiveRepeat s) store g =
+        after-good (sender-step-sound GoBackN u (call.send payload out) (g .state .state)) c (e .sent-count) (e .resent-count) (omega arith) g
+    by-state (senderState.SelectiveRepeat s) store c g =
         let u = slots.sender (s .window) store in
         let e = selective-repeat-counted u (call.send payload out) in
-        after-good (sender-step-sound SelectiveRepeat u (call.send payload out) (g .state)) (e .sent-count) (e .resent-count) (omega arith) g
+        after-good (sender-step-sound SelectiveRepeat u (call.send payload out) (g .state .state)) c (e .sent-count) (e .resent-count) (omega arith) g
 
 pub send-good : (v : SenderEnd) (payload out : List ℕ) (k : ℕ) → CanSendChunk v payload out → GoodSender v k → GoodSender (sendChunk v payload out .after) (k + 1)
-send-good v payload out k h g = subst (λ (n : ℕ). GoodSender (sendChunk v payload out .after) (k + n)) (ap length (sent-packets v payload out h)) (sent-good v payload out k g)
+send-good v payload out k h g = subst (λ (n : ℕ). GoodSender (sendChunk v payload out .after) (k + n)) (ap length (sent-packets v payload out h)) (sent-good v payload out k h g)
 
 -- ---- ACKs: of any bytes
 pub ack-good : (v : SenderEnd) (raw : List ℕ) (k : ℕ) → GoodSender v k → GoodSender (handleAck v raw .after) k
 unfolding handleAck
-ack-good v raw k g = good-more (by-state (v .sender .state) (v .store) g) k (omega arith)
+ack-good v raw k g = good-more (by-state (v .sender .state) (v .store) (ack-clean v raw (g .state)) g) k (omega arith)
   where
-    by-state : (s : SenderState) (store : List ℕ) → GoodSender (senderIn s store) k → GoodSender (handleAckIn s store raw .after) (k + 0)
-    by-state (senderState.StopAndWait s) store g =
+    by-state : (s : SenderState) (store : List ℕ) → Clean (windowEnd (handleAckIn s store raw .after)) → GoodSender (senderIn s store) k → GoodSender (handleAckIn s store raw .after) (k + 0)
+    by-state (senderState.StopAndWait s) store c g =
         let u = stopAndWait.endOf s store in
         let e = stop-and-wait-counted u (call.ack raw) in
-        after-good (sender-step-sound StopAndWait u (call.ack raw) (g .state)) (e .sent-count) (e .resent-count) (omega arith) g
-    by-state (senderState.GoBackN s) store g =
+        after-good (sender-step-sound StopAndWait u (call.ack raw) (g .state .state)) c (e .sent-count) (e .resent-count) (omega arith) g
+    by-state (senderState.GoBackN s) store c g =
         let u = slots.sender (s .window) store in
         let e = go-back-n-counted u (call.ack raw) in
-        after-good (sender-step-sound GoBackN u (call.ack raw) (g .state)) (e .sent-count) (e .resent-count) (omega arith) g
-    by-state (senderState.SelectiveRepeat s) store g =
+        after-good (sender-step-sound GoBackN u (call.ack raw) (g .state .state)) c (e .sent-count) (e .resent-count) (omega arith) g
+    by-state (senderState.SelectiveRepeat s) store c g =
         let u = slots.sender (s .window) store in
         let e = selective-repeat-counted u (call.ack raw) in
-        after-good (sender-step-sound SelectiveRepeat u (call.ack raw) (g .state)) (e .sent-count) (e .resent-count) (omega arith) g
+        after-good (sender-step-sound SelectiveRepeat u (call.ack raw) (g .state .state)) c (e .sent-count) (e .resent-count) (omega arith) g
 
 -- ---- timeouts
 pub resent-good : (v : SenderEnd) (t : Timeout) (k : ℕ) → GoodSender v k → GoodSender (resent v t .after) (k + length (resent v t .packets))
 unfolding resent handleTimeout
-resent-good v t k g = by-state (v .sender .state) (v .store) t (ampleBuffer (v .sender)) g
+resent-good v t k g = by-state (v .sender .state) (v .store) t (ampleBuffer (v .sender)) (resent-clean v t (g .state)) g
   where
-    go-back-n : (u : slots.Sender) (t : GoBackNTimeout) (out : List ℕ) → GoodSender (goBackNEnd u) k → GoodSender (goBackNEnd (goBackNTimeout u t out .after)) (k + length (resentBy (timedOutAs goBackNEnd (goBackNTimeout u t out)) .packets))
-    go-back-n u t out g =
+    go-back-n : (u : slots.Sender) (t : GoBackNTimeout) (out : List ℕ) → Clean (goBackNTimeout u t out .after) → GoodSender (goBackNEnd u) k → GoodSender (goBackNEnd (goBackNTimeout u t out .after)) (k + length (resentBy (timedOutAs goBackNEnd (goBackNTimeout u t out)) .packets))
+    go-back-n u t out c g =
         let e = go-back-n-counted u (call.timeout t out) in
-        after-good (sender-step-sound GoBackN u (call.timeout t out) (g .state)) (e .sent-count) (e .resent-count) (omega arith) g
+        after-good (sender-step-sound GoBackN u (call.timeout t out) (g .state .state)) c (e .sent-count) (e .resent-count) (omega arith) g
 
-    by-state : (s : SenderState) (store : List ℕ) (t : Timeout) (out : List ℕ) → GoodSender (senderIn s store) k → GoodSender (handleTimeoutIn s store t out .after) (k + length (resentBy (handleTimeoutIn s store t out) .packets))
-    by-state (senderState.StopAndWait s) store t out g =
+    by-state : (s : SenderState) (store : List ℕ) (t : Timeout) (out : List ℕ) → Clean (windowEnd (handleTimeoutIn s store t out .after)) → GoodSender (senderIn s store) k → GoodSender (handleTimeoutIn s store t out .after) (k + length (resentBy (handleTimeoutIn s store t out) .packets))
+    by-state (senderState.StopAndWait s) store t out c g =
         let u = stopAndWait.endOf s store in
         let e = stop-and-wait-counted u (call.timeout one out) in
-        after-good (sender-step-sound StopAndWait u (call.timeout one out) (g .state)) (e .sent-count) (e .resent-count) (omega arith) g
-    by-state (senderState.GoBackN s) store timeout.All out g = go-back-n (slots.sender (s .window) store) all out g
-    by-state (senderState.GoBackN s) store timeout.Earliest out g = go-back-n (slots.sender (s .window) store) earliest out g
-    by-state (senderState.GoBackN s) store (timeout.Number n) out g = go-back-n (slots.sender (s .window) store) all out g
-    by-state (senderState.SelectiveRepeat s) store t out g =
+        after-good (sender-step-sound StopAndWait u (call.timeout one out) (g .state .state)) c (e .sent-count) (e .resent-count) (omega arith) g
+    by-state (senderState.GoBackN s) store timeout.All out c g = go-back-n (slots.sender (s .window) store) all out c g
+    by-state (senderState.GoBackN s) store timeout.Earliest out c g = go-back-n (slots.sender (s .window) store) earliest out c g
+    by-state (senderState.GoBackN s) store (timeout.Number n) out c g = go-back-n (slots.sender (s .window) store) all out c g
+    by-state (senderState.SelectiveRepeat s) store t out c g =
         let u = slots.sender (s .window) store in
         let n = timeoutNumber (s .window) t in
         let e = selective-repeat-counted u (call.timeout n out) in
-        after-good (sender-step-sound SelectiveRepeat u (call.timeout n out) (g .state)) (e .sent-count) (e .resent-count) (omega arith) g
+        after-good (sender-step-sound SelectiveRepeat u (call.timeout n out) (g .state .state)) c (e .sent-count) (e .resent-count) (omega arith) g
 
 -- at most a window's
 pub resent-few : (v : SenderEnd) (t : Timeout) → SenderUnbroken v → length (resent v t .packets) ≤ windowOf (v .sender) .«window_size»

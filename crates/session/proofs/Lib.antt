@@ -3,6 +3,7 @@ pub mod Sends
 pub mod Acks
 pub mod AckKeeps
 pub mod Resends
+pub mod Clean
 pub mod Kept
 pub mod Receives
 pub mod Replies

@@ -103,10 +103,10 @@ module _ {v : SenderEnd} {k : ℕ} (g : GoodSender v k) where
   good-unbroken few =
       let a = g .sent in
       let b = g .again in
-      record { state = g .state; counts = counts-not-broken (windowOf (v .sender)) (omega arith) (omega arith) }
+      record { state = g .state .state; clean = g .state .clean; counts = counts-not-broken (windowOf (v .sender)) (omega arith) (omega arith) }
 
   pub good-numbers : numbersBroken (windowOf (v .sender)) ≡ false
-  good-numbers = unbroken-numbers v (g .state)
+  good-numbers = unbroken-numbers v (g .state .state)
 
   pub good-more : (n : ℕ) → k ≤ n → GoodSender v n
   good-more n h =
@@ -120,7 +120,7 @@ module _ {v : SenderEnd} {k : ℕ} (g : GoodSender v k) where
   good-can-send payload out few free low short fits = record { unbroken = good-unbroken few; free = free; low = low; short = short; fits = fits }
 
   pub good-can-write : (n : ℕ) (out : List ℕ) → Within (windowOf (v .sender)) n 1 → maxDatagram ≤ length out → CanWriteDatagram v n out
-  good-can-write n out within room = record { state = g .state; within = within; room = room }
+  good-can-write n out within room = record { state = g .state .state; within = within; room = room }
 
 -- one of several numbers
 pub within-one : (s : SendWindow) (first count i : ℕ) → Within s first count → i < count → Within s (first + i) 1

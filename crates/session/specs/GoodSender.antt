@@ -6,10 +6,11 @@ use mathlib.Core.Bool.{Bool, true, false}
 use lib.ListN.{length}
 use Rattle.bounds.specs.Bounds.{headerSize, maxPayload, maxDatagram, seqNumLimit}
 use Rattle.window.specs.State.{stateBroken, countsBroken}
+use Rattle.window.specs.Slots.{Clean}
 use Rattle.window.specs.declared.SendWindow.{SendWindow}
 use Rattle.session.specs.declared.SenderState.{SenderState}
 use Rattle.session.specs.declared.SenderState.the-variants as senderState
-use Rattle.session.specs.Sending.{SenderEnd, windowOf, canSend}
+use Rattle.session.specs.Sending.{SenderEnd, windowOf, windowEnd, canSend}
 
 abbrev pub isSelective : SenderState → Bool
 isSelective (senderState.StopAndWait s) = false
@@ -20,14 +21,20 @@ isSelective (senderState.SelectiveRepeat s) = true
 abbrev pub senderBroken : SenderEnd → Bool
 senderBroken v = stateBroken (isSelective (v .sender .state)) (windowOf (v .sender)) (v .store)
 
--- 9 and 8 are false
+-- 9 is false, and the bytes of the slots past their lengths are zeros; no entry point looks at these
+pub record CleanSender (v : SenderEnd) : Type 0 where
+  pub state : senderBroken v ≡ false
+  pub clean : Clean (windowEnd v)
+
+-- the same, and 8 is false
 pub record SenderUnbroken (v : SenderEnd) : Type 0 where
   pub state : senderBroken v ≡ false
+  pub clean : Clean (windowEnd v)
   pub counts : countsBroken (windowOf (v .sender)) ≡ false
 
--- 9 is false, and at most k datagrams were sent
+-- 9 is false, the slots are clean, and at most k datagrams were sent
 pub record GoodSender (v : SenderEnd) (k : ℕ) : Type 0 where
-  pub state : senderBroken v ≡ false
+  pub state : CleanSender v
   pub sent : windowOf (v .sender) .«total_sent» ≤ k
   pub again : windowOf (v .sender) .retransmissions ≤ k
 

@@ -16,7 +16,7 @@ ghost use Rattle.stop_and_wait.specs.Sender as stopAndWait;
 ghost use Rattle.session.specs.Sending.{senderEnd, senderIn, windowOf, windowEnd, slotCount, newSender, canSend};
 ghost use Rattle.session.specs.Sending.{hasOutstanding, oldestOutstanding, sendChunk, acknowledged, ackAnswerOf};
 ghost use Rattle.session.specs.Sending.{handleAckUnchecked, timeoutNumber, resent, resentNumbers};
-ghost use Rattle.session.specs.GoodSender.{senderBroken, SenderUnbroken, CanSendChunk, Within, CanWriteDatagram};
+ghost use Rattle.session.specs.GoodSender.{CleanSender, SenderUnbroken, CanSendChunk, Within, CanWriteDatagram};
 ghost use Rattle.session.specs.Internal.{resendCount};
 ghost use Rattle.receiver.specs.Receive.{receiveExit};
 ghost use Rattle.session.specs.Receiving.{receiverEnd, newReceiver, base, filled, isCumulative, duplicateCount};
@@ -193,21 +193,21 @@ impl Sender {
         let state = self.state;
         match state {
             SenderState::StopAndWait(s) => {
-                let s = s.send_chunk_unchecked(store, payload, out);
+                let s = s.send_chunk_unchecked(store, payload, out, true);
                 Sender {
                     state: SenderState::StopAndWait(s),
                 }
             }
             SenderState::GoBackN(s) => {
                 let window = s.window;
-                let window = window.send_chunk_unchecked(store, payload, out);
+                let window = window.send_chunk_unchecked(store, payload, out, true);
                 Sender {
                     state: SenderState::GoBackN(GoBackNSender { window }),
                 }
             }
             SenderState::SelectiveRepeat(s) => {
                 let window = s.window;
-                let window = window.send_chunk_unchecked(store, payload, out);
+                let window = window.send_chunk_unchecked(store, payload, out, true);
                 Sender {
                     state: SenderState::SelectiveRepeat(SelectiveRepeatSender { window }),
                 }
@@ -217,7 +217,7 @@ impl Sender {
 
     // A valid ACK of a number.
     pub fn handle_ack_unchecked(self, store: &mut [u8], seq_num: u32) -> AckResult
-        requires { ⌜ senderBroken (senderEnd self (now store)) ≡ false ⌝ }
+        requires { ⌜ CleanSender (senderEnd self (now store)) ⌝ }
         ensures { λ r. ⌜ ackExit (ackAnswerOf (r .accepted)) (senderEnd (r .sender) (now (store .exit)))
             ≡ handleAckUnchecked (senderEnd self (now (store .entry))) «seq_num» ⌝ }
     {
@@ -236,7 +236,7 @@ impl Sender {
 
     // What the accepted ACK of an outstanding number does.
     fn acknowledge(self, store: &mut [u8], seq_num: u32) -> Sender
-        requires { ⌜ senderBroken (senderEnd self (now store)) ≡ false ⌝ }
+        requires { ⌜ CleanSender (senderEnd self (now store)) ⌝ }
         requires { ⌜ inWindow (windowOf self) «seq_num» ≡ true ⌝ }
         ensures { λ r. ⌜ senderEnd r (now (store .exit))
             ≡ acknowledged (senderEnd self (now (store .entry))) «seq_num» ⌝ }
@@ -244,19 +244,19 @@ impl Sender {
         let state = self.state;
         match state {
             SenderState::StopAndWait(s) => {
-                let s = s.acknowledge_unchecked(store, seq_num);
+                let s = s.acknowledge_unchecked(store, seq_num, true);
                 Sender {
                     state: SenderState::StopAndWait(s),
                 }
             }
             SenderState::GoBackN(s) => {
-                let s = s.acknowledge_unchecked(store, seq_num);
+                let s = s.acknowledge_unchecked(store, seq_num, true);
                 Sender {
                     state: SenderState::GoBackN(s),
                 }
             }
             SenderState::SelectiveRepeat(s) => {
-                let s = s.acknowledge_unchecked(store, seq_num);
+                let s = s.acknowledge_unchecked(store, seq_num, true);
                 Sender {
                     state: SenderState::SelectiveRepeat(s),
                 }

@@ -69,7 +69,7 @@ module _ {p : Plan} {g : Given} {s : RunState} (good : GoodRun p g s) where
       record {
         outgoing = record { forward = k .forward-good (g .forwardRolls) (o .forward); notes = k .good .notes; scheduled = k .good .scheduled; clock = k .good .clock; events = o .events };
         inbound = k .inbound;
-        sender = k .good .sender .state;
+        sender = record { state = k .good .sender .state; clean = k .good .sender .clean };
         estimator = k .good .estimator;
         duplicates = k .good .duplicates;
         arrived = record { datas = let h = good .arrived .datas in let m = k .datas in omega (arith, h, m, orders); replies = k .replies };
@@ -127,4 +127,4 @@ module _ {p : Plan} {g : Given} {s : RunState} (good : GoodRun p g s) where
   pub can-settle : ((s .arrivals .forward .path .scheduler .count ≤ length (s .arrivals .forward .records)) × (s .arrivals .inbound .reverse .path .scheduler .count ≤ length (s .arrivals .inbound .reverse .records)))
       × (Held (s .arrivals .clock) × (numbersBroken (windowOf (s .arrivals .sender .sender)) ≡ false))
   can-settle =
-      ((records-within (s .arrivals .forward) (good .outgoing .forward .sound), records-within (s .arrivals .inbound .reverse) (good .inbound .reverse .sound)), (good .outgoing .clock, unbroken-numbers (s .arrivals .sender) (good .sender)))
+      ((records-within (s .arrivals .forward) (good .outgoing .forward .sound), records-within (s .arrivals .inbound .reverse) (good .inbound .reverse .sound)), (good .outgoing .clock, unbroken-numbers (s .arrivals .sender) (good .sender .state)))

@@ -1,14 +1,14 @@
 -- What every step of a run keeps while the run goes on.
 use Prim.Native.Nat.{ℕ, _+_, _≤_, _<_}
 use mathlib.Core.Path.{_≡_}
-use mathlib.Core.Bool.{true, false}
+use mathlib.Core.Bool.{true}
 use lib.ListN.{length}
 use Rattle.bounds.specs.Bounds.{maxChunks, maxPayload, maxDuration}
 use Rattle.clock.specs.Estimator.{GoodEstimator}
 use Rattle.clock.specs.Timers.{GoodTimers}
 use Rattle.clock.specs.declared.Timing.the-variants.{PerNumber}
 use Rattle.session.specs.Sending.{windowOf}
-use Rattle.session.specs.GoodSender.{senderBroken, isSelective}
+use Rattle.session.specs.GoodSender.{CleanSender, isSelective}
 use Rattle.submission.specs.Submission.{GoodOutgoing}
 use Rattle.receiving.specs.Good.{GoodInbound}
 use Rattle.timeouts.specs.Good.{Counted}
@@ -34,7 +34,7 @@ pub record Arrived (a : ArrivalState) : Type 0 where
 pub record GoodRun (p : Plan) (g : Given) (s : RunState) : Type 0 where
   pub outgoing : GoodOutgoing (outgoingOf s) (g .forwardRolls) (s .time)
   pub inbound : GoodInbound (s .arrivals .inbound) (g .reverseRolls)
-  pub sender : senderBroken (s .arrivals .sender) ≡ false
+  pub sender : CleanSender (s .arrivals .sender)
   pub estimator : GoodEstimator (s .arrivals .estimator) (s .arrivals .received)
   pub duplicates : s .arrivals .duplicates ≤ s .arrivals .received
   pub arrived : Arrived (s .arrivals)

@@ -2,9 +2,10 @@
 ghost use mathlib.Core.Path.{_≡_};
 ghost use Prim.Native.Nat.{ℕ, _+_, _-_, _≤_, _<_};
 ghost use lib.ListN.{length};
-ghost use mathlib.Core.Bool.{false};
+ghost use mathlib.Core.Bool.{true, false};
 ghost use Rattle.bounds.specs.Bounds.{countLimit, headerSize, seqNumLimit, slotSize};
 ghost use Rattle.window.specs.State.{numbersBroken};
+ghost use Rattle.window.specs.Slots.{Clean};
 ghost use Rattle.window.specs.Outstanding.{unlessBroken};
 ghost use Rattle.window.specs.Sending.{makeExit, sendExit, CanSendChunk};
 ghost use Rattle.window.specs.Acknowledgement.{ackExit};
@@ -127,7 +128,7 @@ impl StopAndWaitSender {
     {
         match self.decide_ack(store, raw) {
             AckDecision::Accept { seq_num, base: _ } => StopAndWaitAckResult {
-                sender: self.acknowledge_unchecked(store, seq_num),
+                sender: self.acknowledge_unchecked(store, seq_num, false),
                 answer: AckAnswer::Accepted,
             },
             AckDecision::NotAccepted => StopAndWaitAckResult {
@@ -190,35 +191,42 @@ impl StopAndWaitSender {
         window.decide_timeout(store, self.retries_left())
     }
 
-    // A chunk into the slot and as a datagram to the start of out.
+    // A chunk into the slot and as a datagram to the start of out. `clean`: whether the bytes of the slot past its
+    // length are zeros.
     pub fn send_chunk_unchecked(
         self,
         store: &mut [u8],
         payload: &[u8],
         out: &mut [u8],
+        clean: bool,
     ) -> StopAndWaitSender
         requires { ⌜ numbersBroken (windowOf self) ≡ false ⌝ }
         requires { ⌜ CanSendChunk (windowEnd (endOf self (now store))) (now payload) (now out) ⌝ }
+        requires { ⌜ (clean ≡ true → Clean (windowEnd (endOf self (now store)))) ⌝ }
         ensures { λ r. ⌜ sendExit (SendAnswer.Sent (headerSize + length (now (payload .entry))))
             (endOf r (now (store .exit))) (now (out .exit))
             ≡ sendChunkUnchecked (endOf self (now (store .entry))) (now (payload .entry)) (now (out .entry)) ⌝ }
     {
         let window = self.window_unchecked();
-        let window = window.send_chunk_unchecked(store, payload, out);
-        self.after_send(
-            SendAnswer::Sent(Packet::HEADER_SIZE + payload.len()),
-            window,
-        )
+        let window = window.send_chunk_unchecked(store, payload, out, clean);
+        let size = Packet::HEADER_SIZE + payload.len();
+        self.after_send(SendAnswer::Sent(size), window)
     }
 
     // What the accepted ACK of the packet in flight does.
-    pub fn acknowledge_unchecked(mut self, store: &mut [u8], seq_num: u32) -> StopAndWaitSender
+    pub fn acknowledge_unchecked(
+        mut self,
+        store: &mut [u8],
+        seq_num: u32,
+        clean: bool,
+    ) -> StopAndWaitSender
         requires { ⌜ numbersBroken (windowOf self) ≡ false ⌝ }
         requires { ⌜ (self .«current_seq» ≤ «seq_num») × («seq_num» < seqNumLimit) × (slotSize ≤ length (now store)) ⌝ }
+        requires { ⌜ (clean ≡ true → Clean (windowEnd (endOf self (now store)))) ⌝ }
         ensures { λ r. ⌜ endOf r (now (store .exit)) ≡ acknowledged (endOf self (now (store .entry))) «seq_num» ⌝ }
     {
         let window = self.window_unchecked();
-        window.release_unchecked(store, seq_num + 1);
+        window.release_unchecked(store, seq_num + 1, clean);
         self.current_seq = self.current_seq + 1;
         self.in_flight = false;
         self.current_retries = 0;

@@ -1,4 +1,5 @@
 pub mod Slot
+pub mod Clean
 pub mod Sound
 pub mod Numbers
 pub mod Scans

@@ -2,7 +2,7 @@
 ghost use mathlib.Core.Path.{_≡_};
 ghost use Prim.Native.Nat.{_+_, _-_, _*_, _%_, _≤_, _<_, min};
 ghost use lib.ListN.{length, replicate, drop};
-ghost use mathlib.Core.Bool.{cond};
+ghost use mathlib.Core.Bool.{true, cond};
 ghost use mathlib.Core.List.{_++_};
 ghost use Rattle.bounds.specs.Bounds.{maxPayload, seqNumLimit, slotSize};
 ghost use Rattle.store.specs.Sound.{senderSlotsBroken, receiverSlotsBroken};
@@ -10,6 +10,7 @@ ghost use Rattle.store.specs.Scans.{slotOutside, slotsOutside, partBroke
 ghost use Rattle.store.specs.Numbers.{markedRun, markedCount, payloadsFrom, writtenAt, PayloadsIn};
 ghost use Rattle.store.specs.Slot.{SlotIn, headBytes, slotBytes, slotAt, slotLength, slotMark, slotFlags};
 ghost use Rattle.store.specs.Slot.{slotPayload, fillSlot, emptySlot, setMark, setFlags};
+ghost use Rattle.store.specs.Clean.{ZerosFrom, CleanSlot};
 use bounds::SLOT_SIZE;
 
 pub fn length_unchecked(store: &[u8], slot: usize) -> u16
@@ -57,22 +58,32 @@ pub fn set_flags_unchecked(store: &mut [u8], slot: usize, flags: u8)
     store[slot * SLOT_SIZE + 3] = flags;
 }
 
-// Writes the whole slot, zeros past the payload.
-pub fn fill_unchecked(store: &mut [u8], slot: usize, payload: &[u8], mark: u8, flags: u8)
+// Fills a slot: the payload, and zeros after it. `clean`: whether the bytes past its length are zeros before.
+pub fn fill_unchecked(
+    store: &mut [u8],
+    slot: usize,
+    payload: &[u8],
+    mark: u8,
+    flags: u8,
+    clean: bool,
+)
     requires { ⌜ SlotIn (now store) slot × (length (now payload) ≤ maxPayload) ⌝ }
+    requires { ⌜ (clean ≡ true → CleanSlot (slotAt (now store) slot)) ⌝ }
     ensures { λ _. ⌜ now (store .exit) ≡ fillSlot (now (store .entry)) slot (now (payload .entry)) mark flags ⌝ }
 {
     let at = slot * SLOT_SIZE;
     let end = at + SLOT_SIZE;
-    write_slot(&mut store[at..end], payload, mark, flags);
+    let used = used_unchecked(store, slot, clean);
+    write_slot(&mut store[at..end], payload, mark, flags, used);
 }
 
-pub fn empty_unchecked(store: &mut [u8], slot: usize)
+pub fn empty_unchecked(store: &mut [u8], slot: usize, clean: bool)
     requires { ⌜ SlotIn (now store) slot ⌝ }
+    requires { ⌜ (clean ≡ true → CleanSlot (slotAt (now store) slot)) ⌝ }
     ensures { λ _. ⌜ now (store .exit) ≡ emptySlot (now (store .entry)) slot ⌝ }
 {
     let at = slot * SLOT_SIZE;
-    let end = at + SLOT_SIZE;
+    let end = at + used_unchecked(store, slot, clean);
     octets::clear(&mut store[at..end]);
 }
 
@@ -285,15 +296,31 @@ fn min(a: usize, b: usize) -> usize
     b
 }
 
-fn write_slot(slot: &mut [u8], payload: &[u8], mark: u8, flags: u8)
+// How many bytes of a slot may be other than 0.
+fn used_unchecked(store: &[u8], slot: usize, clean: bool) -> usize
+    requires { ⌜ SlotIn (now store) slot ⌝ }
+    requires { ⌜ (clean ≡ true → CleanSlot (slotAt (now store) slot)) ⌝ }
+    ensures { λ r. ⌜ (r ≤ slotSize) × ZerosFrom r (slotAt (now (store .entry)) slot) ⌝ }
+{
+    if clean {
+        return 4 + length_unchecked(store, slot) as usize;
+    }
+    SLOT_SIZE
+}
+
+// Fills a slot of which the bytes past those `used` are zeros.
+fn write_slot(slot: &mut [u8], payload: &[u8], mark: u8, flags: u8, used: usize)
     requires { ⌜ (length (now slot) ≡ slotSize) × (length (now payload) ≤ maxPayload) ⌝ }
+    requires { ⌜ (used ≤ slotSize) × ZerosFrom used (now slot) ⌝ }
     ensures { λ _. ⌜ now (slot .exit) ≡ slotBytes (now (payload .entry)) mark flags ⌝ }
 {
     let n = payload.len();
     write_head(slot, n as u16, mark, flags);
     let end = 4 + n;
     octets::copy_unchecked(payload, &mut slot[4..end]);
-    octets::clear(&mut slot[end..]);
+    if end < used {
+        octets::clear(&mut slot[end..used]);
+    }
 }
 
 fn write_head(slot: &mut [u8], n: u16, mark: u8, flags: u8)

@@ -30,7 +30,7 @@ use Rattle.clock.specs.declared.Timing.the-variants.{PerNumber}
 use Rattle.clock.proofs.Laws as clock
 use Rattle.clock.proofs.Laws.{held-lengths, running, cancel-number-good, cancel-number-keys, cancel-number-entries, submit-entries, back-off-counts}
 use Rattle.session.specs.Sending.{SenderEnd, selectiveRepeatEnd, windowOf, windowEnd, oldestOutstanding, isDue, Resent, resent}
-use Rattle.session.specs.GoodSender.{isSelective, SenderUnbroken, Within}
+use Rattle.session.specs.GoodSender.{isSelective, CleanSender, SenderUnbroken, Within}
 use Rattle.session.specs.declared.Oldest.{Oldest}
 use Rattle.session.specs.declared.Timeout.the-variants as timeout
 use Rattle.session.proofs.Laws.{due-within, timeout-due, timeout-not-due, timeout-due-one, datagram-number, datagram-short}
@@ -41,7 +41,7 @@ use Rattle.sending.specs.declared.Resends.{Resends}
 use Rattle.sending.proofs.Laws.{can-resubmit, retransmit-good, retransmit-keeps, retransmit-going-used, retransmit-timers, can-retransmit-first, all-none, all-met, all-stopped, all-going}
 use Rattle.timeouts.specs.Timeouts.{FireState, fireState, FireExit, fireExit, withClock, afterResending, resending, timedOut, fireNumber}
 use Rattle.timeouts.specs.Good.{Counted, GoodFire, CanFire}
-use Rattle.timeouts.proofs.Single.{timed-out-by, sender-unbroken, backed-off-estimator, can-resend-all, FireKeeps, timed-out-keeps}
+use Rattle.timeouts.proofs.Single.{timed-out-by, sender-unbroken, backed-off-estimator, can-resend-all, after-good, FireKeeps, timed-out-keeps}
 
 -- ---- one packet: the ceiling is not met
 one-packet : (limit : ℕ) (t : Timing) (rolls : List Float) (rto now : ℕ) (oldest : Oldest) (seq : ℕ) (packet : List ℕ) (r : Resends) (o : Outgoing) → numberOf packet ≡ seq → ceilingMet limit r ≡ false
@@ -186,7 +186,7 @@ module _ {rolls : List Float} {samples now : ℕ} {s : FireState} (g : GoodFire 
             let k = retransmit-keeps can-resend oldest packet packet-short in
             record {
               outgoing = retransmit-good can-resend oldest packet packet-short;
-              sender = can-resend .sender;
+              sender = subst CleanSender (ap (λ (x : Resent). x .after) (timeout-due-one (s .sender) (sender-unbroken g) n (g .selective refl) d)) (after-good g (timeout.Number n) .state);
               estimator = backed-off-estimator g;
               counted = resent-counted;
               rows = rw (k .rows) (g .rows);

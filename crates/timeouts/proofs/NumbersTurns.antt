@@ -170,7 +170,7 @@ module _ {limit : ℕ} {rolls : List Float} {now : ℕ} {u v : FireState} {from 
     left-bounds =
         let f = due-from-first from now 0 n (found .0) (running (v .outgoing .clock)) sorted (found .1) in
         let w = l .can .good .timers n (timer-set now (lookup n (running (v .outgoing .clock))) (f .1)) in
-        let low = sound (isSelective (v .sender .sender .state)) (windowOf (v .sender .sender)) (v .sender .store) (l .can .good .sender) .low in
+        let low = sound (isSelective (v .sender .sender .state)) (windowOf (v .sender .sender)) (v .sender .store) (l .can .good .sender .state) .low in
         (f .0, le-trans (w .1) low)
 
     pub left-fits : n + 1 < 2 ^ 32

@@ -24,7 +24,7 @@ use Rattle.clock.specs.declared.Timing.the-variants.{PerNumber}
 use Rattle.clock.proofs.Laws as clock
 use Rattle.clock.proofs.Laws.{cancel-good, back-off-counts, estimator-rto, can-back-off, backed-off}
 use Rattle.session.specs.Sending.{SenderEnd, windowOf, windowEnd, oldestOutstanding, Resent, resent, resentNumbers}
-use Rattle.session.specs.GoodSender.{isSelective, senderBroken, SenderUnbroken, GoodSender, Within}
+use Rattle.session.specs.GoodSender.{isSelective, senderBroken, CleanSender, SenderUnbroken, GoodSender, Within}
 use Rattle.session.specs.declared.Timeout.{Timeout}
 use Rattle.session.proofs.Laws.{SameWindow, ResentAs, resent-as, resent-good, good-unbroken}
 use Rattle.submission.specs.Submission.{Outgoing, GoodOutgoing}
@@ -138,7 +138,7 @@ module _ {t : Timing} {rolls : List Float} {samples now : ℕ} {s : FireState} (
     again : ResentAs (s .sender) of
     again = resent-as (s .sender) of sender-unbroken
 
-    after-good : GoodSender after (max (windowOf (s .sender .sender) .«total_sent») (windowOf (s .sender .sender) .retransmissions) + length packets)
+    pub after-good : GoodSender after (max (windowOf (s .sender .sender) .«total_sent») (windowOf (s .sender .sender) .retransmissions) + length packets)
     after-good = resent-good (s .sender) of _ good-sender
 
     pub can-resend-all : {u : SenderEnd} → u ≡ resent (s .sender) of .after → {first count : ℕ} → Within (windowOf (u .sender)) first count → {d : RtoEstimator} → d ≡ onTimeoutUnchecked (s .estimator)
@@ -147,7 +147,7 @@ module _ {t : Timing} {rolls : List Float} {samples now : ℕ} {s : FireState} (
         let same = subst (SameWindow (s .sender)) (sym e) (again .same) in
         record {
           good = g .outgoing;
-          sender = subst (λ (v : SenderEnd). senderBroken v ≡ false) (sym e) (after-good .state);
+          sender = subst (λ (v : SenderEnd). senderBroken v ≡ false) (sym e) (after-good .state .state);
           within = w;
           submitted = g .counted .submitted;
           premature = g .counted .premature;
@@ -169,7 +169,7 @@ module _ {t : Timing} {rolls : List Float} {samples now : ℕ} {s : FireState} (
 -- ---- what is kept, also where the run ends
 pub record FireKeeps (rolls : List Float) (now : ℕ) (s s′ : FireState) : Type 0 where
   pub window : SameWindow (s .sender) (s′ .sender)
-  pub sender : senderBroken (s′ .sender) ≡ false
+  pub sender : CleanSender (s′ .sender)
   pub outgoing : GoodOutgoing (s′ .outgoing) rolls now
   pub timers : TimersWithin (windowOf (s′ .sender .sender)) (s′ .outgoing .clock)
   pub keeps : SubmitKeeps (s .outgoing) (s′ .outgoing)

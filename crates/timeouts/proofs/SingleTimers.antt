@@ -224,7 +224,7 @@ fire-timers-timers {t} {rolls} {samples} {now} {s} g limit h =
 -- ---- the function's calls and returns
 module _ {t : Timing} {rolls : List Float} {now : ℕ} {s : FireState} (can : CanFire t rolls now s) where
   pub fire-numbers-sound : numbersBroken (windowOf (s .sender .sender)) ≡ false
-  fire-numbers-sound = unbroken-numbers (s .sender) (can .good .sender)
+  fire-numbers-sound = unbroken-numbers (s .sender) (can .good .sender .state)
 
   pub fire-due-asks : Held (s .outgoing .clock) × (now ≤ maxTime)
   fire-due-asks = (can .good .outgoing .clock, le-trans (can .good .outgoing .notes .within) (lit≤ tt))

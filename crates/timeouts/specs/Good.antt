@@ -1,7 +1,7 @@
 -- app/transfer.rs, `fire_timers`: what it asks of a run's state, and keeps while the run goes on.
 use Prim.Native.Nat.{ℕ, _*_, _≤_, _<_}
 use mathlib.Core.Path.{_≡_}
-use mathlib.Core.Bool.{true, false}
+use mathlib.Core.Bool.{true}
 use mathlib.Core.List.{List}
 use lib.Ieee.{Float}
 use lib.ListN.{length}
@@ -12,7 +12,7 @@ use Rattle.clock.specs.Estimator.{GoodEstimator}
 use Rattle.clock.specs.declared.Timing.{Timing}
 use Rattle.clock.specs.declared.Timing.the-variants.{PerNumber}
 use Rattle.session.specs.Sending.{SenderEnd, windowOf}
-use Rattle.session.specs.GoodSender.{senderBroken, isSelective}
+use Rattle.session.specs.GoodSender.{CleanSender, isSelective}
 use Rattle.submission.specs.Submission.{GoodOutgoing}
 use Rattle.sending.specs.Good.{TimersWithin}
 use Rattle.sending.specs.declared.Resends.{Resends}
@@ -31,7 +31,7 @@ pub record Counted (used : ℕ) (v : SenderEnd) (e : RtoEstimator) (r : Resends)
 -- entry for its timer
 pub record GoodFire (t : Timing) (rolls : List Float) (samples now : ℕ) (s : FireState) : Type 0 where
   pub outgoing : GoodOutgoing (s .outgoing) rolls now
-  pub sender : senderBroken (s .sender) ≡ false
+  pub sender : CleanSender (s .sender)
   pub estimator : GoodEstimator (s .estimator) samples
   pub counted : Counted (s .outgoing .forward .path .used) (s .sender) (s .estimator) (s .resends)
   pub rows : windowOf (s .sender .sender) .«next_seq_num» ≤ length (s .outgoing .metas .rows)

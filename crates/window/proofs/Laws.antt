@@ -5,3 +5,4 @@ pub use Rattle.window.proofs.Acknowledging.{Accepted, ack-accepted, ack
 pub use Rattle.window.proofs.Resending.{resendable, resend-nothing, resend-some, resend-count}
 pub use Rattle.window.proofs.Outstanding.{numbers-refused, counts-refused, numbers-accepted, by-count, by-refusal, count-is}
 pub use Rattle.window.proofs.Timeouts.{decision-state, decision-counts, decision-nothing, decision-resend, resend-decided, by-decision, Decided, decided}
+pub use Rattle.window.proofs.Clean.{fresh-clean, hold-clean, release-clean, SlotsKept, resend-clean}

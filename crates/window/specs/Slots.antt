@@ -8,6 +8,7 @@ use Rattle.packet.specs.Format.{newPacket, made}
 use Rattle.packet.specs.declared.Packet.{Packet}
 use Rattle.packet.specs.declared.PacketType.the-variants.{Data}
 use Rattle.store.specs.Slot.{slotAt, slotFlags, slotPayload, fillSlot, emptySlot, setFlags}
+use Rattle.store.specs.Clean.{CleanSlots}
 use Rattle.window.specs.declared.SendWindow.{SendWindow}
 
 -- a window and its store
@@ -17,6 +18,10 @@ pub record Sender : Type 0 where
 
 abbrev pub sender : SendWindow → List ℕ → Sender
 sender s store = record { window = s; store = store }
+
+-- the bytes of its slots past their lengths are zeros
+abbrev pub Clean : Sender → Type 0
+Clean v = CleanSlots (v .store) (v .window .«window_size»)
 
 -- making: nothing sent, all slots empty
 abbrev pub newWindow : ℕ → SendWindow

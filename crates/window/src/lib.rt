@@ -10,10 +10,11 @@ ghost use Rattle.window.specs.Acknowledgement.{inWindow, byPacket, byRea
 ghost use Rattle.window.specs.Sending.{makeExit, makeWindow, sendExit, sendChunk, sendChunkUnchecked};
 ghost use Rattle.window.specs.Sending.{CanSendChunk};
 ghost use Rattle.window.specs.Slots.{sender, fresh, slotFor, hold, firstDatagram, markRetransmitted, datagramFor};
-ghost use Rattle.window.specs.Slots.{emptyFrom, release};
+ghost use Rattle.window.specs.Slots.{emptyFrom, release, Clean};
 ghost use Rattle.window.specs.Resending.{datagramsFrom, markFrom, timeoutExit, resend, resendOutstanding};
 ghost use Rattle.window.specs.Resending.{outstandingDecision, Resendable};
 ghost use Rattle.store.specs.Slot.{slotAt, slotLength};
+ghost use Rattle.store.specs.Clean.{CleanSlots};
 ghost use Rattle.window.specs.State.{stateBroken, numbersBroken, countsBroken, windowBroken, storeShort};
 ghost use Rattle.window.specs.Outstanding.{inFlightCount, canSend, hasUnackedPackets};
 use bounds::COUNT_LIMIT;
@@ -145,7 +146,7 @@ impl SendWindow {
                 answer: SendAnswer::Refused(Refusal::Full),
             };
         }
-        let window = self.send_chunk_unchecked(store, payload, out);
+        let window = self.send_chunk_unchecked(store, payload, out, false);
         SendResult {
             window,
             answer: SendAnswer::Sent(Packet::HEADER_SIZE + n),
@@ -217,20 +218,23 @@ impl SendWindow {
         }
     }
 
+    // `clean`: whether the bytes of the slots past their lengths are zeros.
     pub fn send_chunk_unchecked(
         mut self,
         store: &mut [u8],
         payload: &[u8],
         out: &mut [u8],
+        clean: bool,
     ) -> SendWindow
         requires { ⌜ CanSendChunk (sender self (now store)) (now payload) (now out) ⌝ }
+        requires { ⌜ (clean ≡ true → Clean (sender self (now store))) ⌝ }
         ensures { λ r. ⌜ sendExit (SendAnswer.Sent (headerSize + length (now (payload .entry))))
             (sender r (now (store .exit))) (now (out .exit))
             ≡ sendChunkUnchecked (sender self (now (store .entry))) (now (payload .entry)) (now (out .entry)) ⌝ }
     {
         let next = self.next_seq_num;
         let slot = next as usize % self.window_size;
-        store::fill_unchecked(store, slot, payload, 1, 0);
+        store::fill_unchecked(store, slot, payload, 1, 0, clean);
         let packet = Packet::new_data(next).compute_and_set_checksum_unchecked(payload);
         packet.to_bytes_unchecked(payload, out);
         self.next_seq_num = next + 1;
@@ -366,12 +370,13 @@ impl SendWindow {
     }
 
     // Empties the slots of the numbers below until and moves send_base there.
-    pub fn release_unchecked(mut self, store: &mut [u8], until: u32) -> SendWindow
+    pub fn release_unchecked(mut self, store: &mut [u8], until: u32, clean: bool) -> SendWindow
         requires { ⌜ (0 < self .«window_size») × (self .«window_size» * slotSize ≤ length (now store)) ⌝ }
         requires { ⌜ self .«send_base» ≤ until ⌝ }
+        requires { ⌜ (clean ≡ true → Clean (sender self (now store))) ⌝ }
         ensures { λ r. ⌜ sender r (now (store .exit)) ≡ release (sender self (now (store .entry))) until ⌝ }
     {
-        empty_slots_unchecked(store, self.window_size, self.send_base, until);
+        empty_slots_unchecked(store, self.window_size, self.send_base, until, clean);
         self.send_base = until;
         self
     }
@@ -523,13 +528,14 @@ fn min(a: u32, b: u32) -> u32
 }
 
 // Empties the slots of the numbers from `from` up to until.
-pub fn empty_slots_unchecked(store: &mut [u8], window: usize, from: u32, until: u32)
+pub fn empty_slots_unchecked(store: &mut [u8], window: usize, from: u32, until: u32, clean: bool)
     requires { ⌜ (0 < window) × (window * slotSize ≤ length (now store)) × (from ≤ until) ⌝ }
+    requires { ⌜ (clean ≡ true → CleanSlots (now store) window) ⌝ }
     ensures { λ _. ⌜ now (store .exit) ≡ emptyFrom (now (store .entry)) window from (until - from) ⌝ }
 {
     let mut n = from;
     while n < until {
-        store::empty_unchecked(store, n as usize % window);
+        store::empty_unchecked(store, n as usize % window, clean);
         n += 1;
     }
 }

@@ -1,17 +1,13 @@
-use mathlib.Core.Path.{_≡_, ap, _∙_}
-use Prim.Native.Nat.{ℕ, _+_, _-_, _*_}
-use native.Mathlib.Omega.{arith}
-use lib.ListN.{length, take, drop, replicate, length-drop}
-use lib.Seq.{length-take-le}
-use native.Mathlib.Nat.{add-sub-cancel-left}
-use Rattle.octets.proofs.Laws.{part-written}
-use Rattle.store.specs.Slot.{putSlot}
+use Rattle.store.proofs.Write.{slot-emptied}
 use borrow.Author.Needs.{needs}
 use Rattle.store.proofs.empty_unchecked.Statement.{statement}
 use Rattle.store.proofs.empty_unchecked.Tie as tie
 
 mul-at : tie.Need-mul-at
 mul-at c = search needs
+
+used-unchecked-requires : tie.Need-used-unchecked-requires
+used-unchecked-requires c κs = search needs
 
 add-end : tie.Need-add-end
 add-end c = search needs
@@ -32,18 +28,17 @@ same-length : tie.Need-same-length
 same-length c = search needs
 
 returns : tie.Need-returns
-unfolding putSlot
 returns c =
-    let a = c .before .before .before .before .before .args in
-    let n : length (take (a .slot * 1404 + 1404 - a .slot * 1404) (drop (a .slot * 1404) (a .store .now))) ≡ 1404 =
-    rw (add-sub-cancel-left (a .slot * 1404) 1404) (length-take-le 1404 (drop (a .slot * 1404) (a .store .now)) (simp length-drop (omega arith))) in
-    part-written (a .store .now) (c .before .before .clear .last .0) _ (a .slot * 1404) 1404 (c .before .before .clear .ensures ∙ ap (λ (k : ℕ). replicate k 0) n)
+    let s = c .before .before .before .before .before .before .before in
+    let u = c .before .before .before .before .used-unchecked .ensures in
+    slot-emptied (s .args .store .now) (s .args .slot) (s .pre .0) _ (u .0) (u .1) (c .before .before .clear .last .0) (c .before .before .clear .ensures)
 
 pub empty-unchecked-spec : {M : Type 1} → statement M
 empty-unchecked-spec =
     tie.close
     (tie.spec
     mul-at
+    used-unchecked-requires
     add-end
     sub-clear
     part-clear-start

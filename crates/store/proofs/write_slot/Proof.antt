@@ -1,10 +1,8 @@
 use mathlib.Core.Path.{refl}
-use Prim.Native.Nat.{_-_}
-use native.Mathlib.Omega.{arith}
 use lib.ListN.{length}
 use Rattle.octets.proofs.Laws.{front-written}
 use Rattle.store.specs.Slot.{slotBytes, headBytes}
-use Rattle.store.proofs.Write.{slot-written}
+use Rattle.store.proofs.Write.{slot-covered, slot-written}
 use borrow.Author.Needs.{needs}
 use Rattle.store.proofs.write_slot.Statement.{statement}
 use Rattle.store.proofs.write_slot.Tie as tie
@@ -48,14 +46,29 @@ same-length c = search needs
 returns : tie.Need-returns
 unfolding slotBytes
 returns c =
-    let cleared = c .before .before in
-    let copied = cleared .before .before .before .before in
-    let head = copied .before .before .before .before in
-    let a = head .before .before .before .before .args in
-    let p = a .payload .now in
-    slot-written (headBytes (length p) (a .mark) (a .flags)) p (a .slot .now) _ (cleared .clear .last .0)
-    (front-written (headBytes (length p) (a .mark) (a .flags)) p (copied .copy-unchecked .last .1 .0) (a .slot .now) (head .write-head .last .0) 4 refl (head .write-head .ensures) (copied .copy-unchecked .ensures))
-    refl (omega arith) (omega arith) (cleared .clear .ensures)
+    let copied = c .before .before .before .before .before .before .before in
+    let wrote = copied .before .before .before .before in
+    let s = wrote .before .before .before .before in
+    let p = s .args .payload .now in
+    let head = headBytes (length p) (s .args .mark) (s .args .flags) in
+    slot-written head p (s .args .slot .now) _
+    (front-written head p (copied .copy-unchecked .last .1 .0) (s .args .slot .now) (wrote .write-head .last .0) 4 refl (wrote .write-head .ensures) (copied .copy-unchecked .ensures))
+    refl (s .pre .0 .0) (s .pre .0 .1) (s .args .used) (s .pre .1 .1) (c .before .before .clear .last .0) (c .before .before .before .before .if1 .taken) (s .pre .1 .0) (c .before .before .clear .ensures)
+
+same-length-2 : tie.Need-same-length-2
+same-length-2 c = search needs
+
+returns-2 : tie.Need-returns-2
+unfolding slotBytes
+returns-2 c =
+    let copied = c .before .before .before in
+    let wrote = copied .before .before .before .before in
+    let s = wrote .before .before .before .before in
+    let p = s .args .payload .now in
+    let head = headBytes (length p) (s .args .mark) (s .args .flags) in
+    slot-covered head p (s .args .slot .now) _
+    (front-written head p (copied .copy-unchecked .last .1 .0) (s .args .slot .now) (wrote .write-head .last .0) 4 refl (wrote .write-head .ensures) (copied .copy-unchecked .ensures))
+    refl (s .pre .0 .0) (s .pre .0 .1) (s .args .used) (s .pre .1 .1) (c .if1 .left)
 
 pub write-slot-spec : {M : Type 1} → statement M
 write-slot-spec =
@@ -73,4 +86,6 @@ write-slot-spec =
     part-clear-end
     clear-requires
     same-length
-    returns)
+    returns
+    same-length-2
+    returns-2)

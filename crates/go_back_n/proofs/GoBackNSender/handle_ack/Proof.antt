@@ -1,4 +1,4 @@
-use mathlib.Core.Bool.{false}
+use mathlib.Core.Bool.{false, false≢true}
 use mathlib.Core.Path.{sym, _∙_}
 use native.Mathlib.Omega.{arith}
 use Rattle.window.specs.Slots.{sender}
@@ -15,7 +15,7 @@ enum-known-seq-num : tie.Need-enum-known-seq-num
 enum-known-seq-num c = search needs
 
 acknowledge-unchecked-requires : tie.Need-acknowledge-unchecked-requires
-acknowledge-unchecked-requires c κs = let a = ack-accepted false (c .before .before .before .before .before .before .before .before .args .self .window) (c .before .before .before .before .before .before .before .before .args .store .now) (c .before .before .before .before .before .before .before .before .args .raw .now) _ _ (sym (c .before .before .before .before .decide-ack .ensures) ∙ c .before .before .seq-num .given .1) in let low = a .state .low in let below = a .below in ((a .state .positive, a .state .room), (a .from, omega arith))
+acknowledge-unchecked-requires c κs = let a = ack-accepted false (c .before .before .before .before .before .before .before .before .args .self .window) (c .before .before .before .before .before .before .before .before .args .store .now) (c .before .before .before .before .before .before .before .before .args .raw .now) _ _ (sym (c .before .before .before .before .decide-ack .ensures) ∙ c .before .before .seq-num .given .1) in let low = a .state .low in let below = a .below in ((a .state .positive, a .state .room), ((a .from, omega arith), λ k. absurd (false≢true k)))
 
 enum-told : tie.Need-enum-told
 enum-told c = search needs

@@ -1,3 +1,4 @@
+use mathlib.Core.Bool.{false≢true}
 use mathlib.Core.Path.{ap, _∙_}
 use Prim.Native.Nat.{_+_, _-_}
 use native.Mathlib.Omega.{arith}
@@ -24,7 +25,9 @@ rem-fill-unchecked : tie.Need-rem-fill-unchecked
 rem-fill-unchecked c = c .before .before .before .before .before .before .before .pre .0 .0 .positive
 
 fill-unchecked-requires : tie.Need-fill-unchecked-requires
-fill-unchecked-requires c κs = (slot-in (c .before .before .before .before .before .before .before .args .store .now) (c .before .before .change .given .0 .0) (c .before .before .before .before .before .before .before .args .self .«window_size») (c .before .before .before .before .before .before .before .pre .0 .0 .positive) (c .before .before .before .before .before .before .before .pre .0 .0 .room), c .before .before .before .before .before .before .before .pre .1)
+fill-unchecked-requires c κs =
+    let s = c .before .before .before .before .before .before .before in
+    ((slot-in (s .args .store .now) (c .before .before .change .given .0 .0) (s .args .self .«window_size») (s .pre .0 .0 .positive) (s .pre .0 .0 .room), s .pre .1), λ k. absurd (false≢true k))
 
 enum-known-change-2 : tie.Need-enum-known-change-2
 enum-known-change-2 c = search needs
@@ -43,7 +46,9 @@ add-empty-slots-unchecked c =
     omega arith
 
 empty-slots-unchecked-requires : tie.Need-empty-slots-unchecked-requires
-empty-slots-unchecked-requires c κs = (c .before .before .before .before .before .before .before .pre .0 .0 .positive, c .before .before .before .before .before .before .before .pre .0 .0 .room, omega arith)
+empty-slots-unchecked-requires c κs =
+    let ready = c .before .before .before .before .before .before .before .pre .0 .0 in
+    ((ready .positive, ready .room, omega arith), λ k. absurd (false≢true k))
 
 returns : tie.Need-returns
 returns c = rw (c .enum-told .given .1)

@@ -1,3 +1,4 @@
+use mathlib.Core.Bool.{false≢true}
 use mathlib.Core.Path.{sym, _∙_}
 use Rattle.window.specs.Slots.{sender}
 use Rattle.window.proofs.Laws.{on-accept, on-not-accepted, on-ack-refused}
@@ -14,7 +15,7 @@ enum-known-seq-num : tie.Need-enum-known-seq-num
 enum-known-seq-num c = search needs
 
 acknowledge-one-requires : tie.Need-acknowledge-one-requires
-acknowledge-one-requires c κs = let k = decide-ack-within (sender (c .before .before .before .before .before .before .before .before .args .self .window) (c .before .before .before .before .before .before .before .before .args .store .now)) (c .before .before .before .before .before .before .before .before .args .raw .now) _ _ (sym (c .before .before .before .before .decide-ack .ensures) ∙ c .before .before .seq-num .given .1) in ((k .0 .state-sound, k .0 .within), k .1)
+acknowledge-one-requires c κs = let k = decide-ack-within (sender (c .before .before .before .before .before .before .before .before .args .self .window) (c .before .before .before .before .before .before .before .before .args .store .now)) (c .before .before .before .before .before .before .before .before .args .raw .now) _ _ (sym (c .before .before .before .before .decide-ack .ensures) ∙ c .before .before .seq-num .given .1) in ((k .0 .state-sound, k .0 .within), (k .1, λ e. absurd (false≢true e)))
 
 enum-told : tie.Need-enum-told
 enum-told c = search needs

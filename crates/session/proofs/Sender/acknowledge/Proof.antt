@@ -4,7 +4,7 @@ use native.Mathlib.Omega.{arith}
 use Rattle.window.specs.Acknowledgement.{inWindow}
 use Rattle.session.specs.declared.SenderState.{SenderState}
 use Rattle.session.specs.Sending.{senderIn, windowIn, stopAndWaitEnd, goBackNEnd, selectiveRepeatEnd}
-use Rattle.session.specs.GoodSender.{senderBroken}
+use Rattle.session.specs.GoodSender.{CleanSender}
 use Rattle.session.proofs.Windows.{outstanding-number}
 use Rattle.session.proofs.Sends.{acknowledged-in}
 use borrow.Author.Needs.{needs}
@@ -15,19 +15,34 @@ enum-known-state : tie.Need-enum-known-state
 enum-known-state c = search needs
 
 acknowledge-unchecked-requires : tie.Need-acknowledge-unchecked-requires
-acknowledge-unchecked-requires c κs = let o = outstanding-number false _ _ _ (subst (λ (x : SenderState). senderBroken (senderIn x (c .before .before .before .before .before .args .store .now)) ≡ false) (c .before .before .state .given .1) (c .before .before .before .before .before .pre .0)) (subst (λ (x : SenderState). inWindow (windowIn x) (c .before .before .before .before .before .args .seq-num) ≡ true) (c .before .before .state .given .1) (c .before .before .before .before .before .pre .1)) in let room = o .room in (o .numbers, (o .from, o .low, omega arith))
+acknowledge-unchecked-requires c κs =
+    let s = c .before .before .before .before .before in
+    let h = subst (λ (x : SenderState). CleanSender (senderIn x (s .args .store .now))) (c .before .before .state .given .1) (s .pre .0) in
+    let i = subst (λ (x : SenderState). inWindow (windowIn x) (s .args .seq-num) ≡ true) (c .before .before .state .given .1) (s .pre .1) in
+    let o = outstanding-number false _ _ _ (h .state) i in
+    let room = o .room in
+    (o .numbers, ((o .from, o .low, omega arith), λ e. h .clean))
 
 enum-known-state-2 : tie.Need-enum-known-state-2
 enum-known-state-2 c = search needs
 
 acknowledge-unchecked-requires-2 : tie.Need-acknowledge-unchecked-requires-2
-acknowledge-unchecked-requires-2 c κs = let o = outstanding-number false _ _ _ (subst (λ (x : SenderState). senderBroken (senderIn x (c .before .before .before .before .before .args .store .now)) ≡ false) (c .before .before .state2 .given .1) (c .before .before .before .before .before .pre .0)) (subst (λ (x : SenderState). inWindow (windowIn x) (c .before .before .before .before .before .args .seq-num) ≡ true) (c .before .before .state2 .given .1) (c .before .before .before .before .before .pre .1)) in ((o .positive, o .room), (o .from, o .low))
+acknowledge-unchecked-requires-2 c κs =
+    let s = c .before .before .before .before .before in
+    let h = subst (λ (x : SenderState). CleanSender (senderIn x (s .args .store .now))) (c .before .before .state2 .given .1) (s .pre .0) in
+    let i = subst (λ (x : SenderState). inWindow (windowIn x) (s .args .seq-num) ≡ true) (c .before .before .state2 .given .1) (s .pre .1) in
+    let o = outstanding-number false _ _ _ (h .state) i in
+    ((o .positive, o .room), ((o .from, o .low), λ e. h .clean))
 
 enum-known-state-3 : tie.Need-enum-known-state-3
 enum-known-state-3 c = search needs
 
 acknowledge-unchecked-requires-3 : tie.Need-acknowledge-unchecked-requires-3
-acknowledge-unchecked-requires-3 c κs = (subst (λ (x : SenderState). senderBroken (senderIn x (c .before .before .before .before .before .args .store .now)) ≡ false) (c .before .before .state3 .given .1) (c .before .before .before .before .before .pre .0), subst (λ (x : SenderState). inWindow (windowIn x) (c .before .before .before .before .before .args .seq-num) ≡ true) (c .before .before .state3 .given .1) (c .before .before .before .before .before .pre .1))
+acknowledge-unchecked-requires-3 c κs =
+    let s = c .before .before .before .before .before in
+    let h = subst (λ (x : SenderState). CleanSender (senderIn x (s .args .store .now))) (c .before .before .state3 .given .1) (s .pre .0) in
+    let i = subst (λ (x : SenderState). inWindow (windowIn x) (s .args .seq-num) ≡ true) (c .before .before .state3 .given .1) (s .pre .1) in
+    (h .state, (i, λ e. h .clean))
 
 same-length : tie.Need-same-length
 same-length c = search needs

@@ -9,7 +9,7 @@ use Rattle.session.proofs.Sender.handle_ack_unchecked.Statement.{statem
 use Rattle.session.proofs.Sender.handle_ack_unchecked.Tie as tie
 
 window-unchecked-requires : tie.Need-window-unchecked-requires
-window-unchecked-requires c κs = unbroken-numbers (senderEnd (c .before .args .self) (c .before .args .store .now)) (c .before .pre)
+window-unchecked-requires c κs = unbroken-numbers (senderEnd (c .before .args .self) (c .before .args .store .now)) (c .before .pre .state)
 
 is-outstanding-requires : tie.Need-is-outstanding-requires
 is-outstanding-requires c κs = search needs

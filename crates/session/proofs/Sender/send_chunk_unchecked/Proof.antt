@@ -10,19 +10,28 @@ enum-known-state : tie.Need-enum-known-state
 enum-known-state c = search needs
 
 send-chunk-unchecked-requires : tie.Need-send-chunk-unchecked-requires
-send-chunk-unchecked-requires c κs = let h = can-send-in (c .before .before .before .before .before .before .before .before .args .self .state) _ (c .before .before .before .before .before .before .before .before .args .store .now) (c .before .before .before .before .before .before .before .before .args .payload .now) (c .before .before .before .before .before .before .before .before .args .out .now) (c .before .before .before .state .given .1) (c .before .before .before .before .before .before .before .before .pre) in (unbroken-numbers (senderIn (senderState.StopAndWait (c .before .before .before .state .given .0 .0)) (c .before .before .before .before .before .before .before .before .args .store .now)) (h .unbroken .state), can-send-chunk _ _ _ h)
+send-chunk-unchecked-requires c κs =
+    let s = c .before .before .before .before .before .before .before .before in
+    let h = can-send-in (s .args .self .state) _ (s .args .store .now) (s .args .payload .now) (s .args .out .now) (c .before .before .before .state .given .1) (s .pre) in
+    (unbroken-numbers (senderIn (senderState.StopAndWait (c .before .before .before .state .given .0 .0)) (s .args .store .now)) (h .unbroken .state), (can-send-chunk _ _ _ h, λ e. h .unbroken .clean))
 
 enum-known-state-2 : tie.Need-enum-known-state-2
 enum-known-state-2 c = search needs
 
 send-chunk-unchecked-requires-2 : tie.Need-send-chunk-unchecked-requires-2
-send-chunk-unchecked-requires-2 c κs = can-send-chunk _ _ _ (can-send-in (c .before .before .before .before .before .before .before .before .before .args .self .state) _ (c .before .before .before .before .before .before .before .before .before .args .store .now) (c .before .before .before .before .before .before .before .before .before .args .payload .now) (c .before .before .before .before .before .before .before .before .before .args .out .now) (c .before .before .before .before .state2 .given .1) (c .before .before .before .before .before .before .before .before .before .pre))
+send-chunk-unchecked-requires-2 c κs =
+    let s = c .before .before .before .before .before .before .before .before .before in
+    let h = can-send-in (s .args .self .state) _ (s .args .store .now) (s .args .payload .now) (s .args .out .now) (c .before .before .before .before .state2 .given .1) (s .pre) in
+    (can-send-chunk _ _ _ h, λ e. h .unbroken .clean)
 
 enum-known-state-3 : tie.Need-enum-known-state-3
 enum-known-state-3 c = search needs
 
 send-chunk-unchecked-requires-3 : tie.Need-send-chunk-unchecked-requires-3
-send-chunk-unchecked-requires-3 c κs = can-send-chunk _ _ _ (can-send-in (c .before .before .before .before .before .before .before .before .before .args .self .state) _ (c .before .before .before .before .before .before .before .before .before .args .store .now) (c .before .before .before .before .before .before .before .before .before .args .payload .now) (c .before .before .before .before .before .before .before .before .before .args .out .now) (c .before .before .before .before .state3 .given .1) (c .before .before .before .before .before .before .before .before .before .pre))
+send-chunk-unchecked-requires-3 c κs =
+    let s = c .before .before .before .before .before .before .before .before .before in
+    let h = can-send-in (s .args .self .state) _ (s .args .store .now) (s .args .payload .now) (s .args .out .now) (c .before .before .before .before .state3 .given .1) (s .pre) in
+    (can-send-chunk _ _ _ h, λ e. h .unbroken .clean)
 
 same-length : tie.Need-same-length
 same-length c = search needs

@@ -16,7 +16,7 @@ add-release-unchecked : tie.Need-add-release-unchecked
 add-release-unchecked c = search needs
 
 release-unchecked-requires : tie.Need-release-unchecked-requires
-release-unchecked-requires c κs = rw (c .before .window-unchecked .ensures) ((omega arith, omega arith), omega arith)
+release-unchecked-requires c κs = rw (c .before .window-unchecked .ensures) ((omega arith, omega arith), (omega arith, c .before .before .before .pre .1 .1))
 
 add-self : tie.Need-add-self
 add-self c = search needs

@@ -1,4 +1,4 @@
-use mathlib.Core.Bool.{false}
+use mathlib.Core.Bool.{false, false≢true}
 use mathlib.Core.Path.{sym, _∙_}
 use native.Mathlib.Omega.{arith}
 use Rattle.window.proofs.Laws.{ack-accepted, sound-numbers, numbers-not-broken, on-accept, on-not-accepted, on-ack-refused}
@@ -14,7 +14,7 @@ enum-known-seq-num : tie.Need-enum-known-seq-num
 enum-known-seq-num c = search needs
 
 acknowledge-unchecked-requires : tie.Need-acknowledge-unchecked-requires
-acknowledge-unchecked-requires c κs = let a = ack-accepted false (windowOf (c .before .before .before .before .before .before .before .before .args .self)) (c .before .before .before .before .before .before .before .before .args .store .now) (c .before .before .before .before .before .before .before .before .args .raw .now) _ _ (sym (c .before .before .before .before .decide-ack .ensures) ∙ c .before .before .seq-num .given .1) in let low = a .state .low in let below = a .below in let room = a .state .room in (numbers-not-broken _ (sound-numbers (a .state)), (a .from, omega arith, omega arith))
+acknowledge-unchecked-requires c κs = let a = ack-accepted false (windowOf (c .before .before .before .before .before .before .before .before .args .self)) (c .before .before .before .before .before .before .before .before .args .store .now) (c .before .before .before .before .before .before .before .before .args .raw .now) _ _ (sym (c .before .before .before .before .decide-ack .ensures) ∙ c .before .before .seq-num .given .1) in let low = a .state .low in let below = a .below in let room = a .state .room in (numbers-not-broken _ (sound-numbers (a .state)), ((a .from, omega arith, omega arith), λ k. absurd (false≢true k)))
 
 enum-told : tie.Need-enum-told
 enum-told c = search needs

@@ -13,8 +13,8 @@ window-unchecked-requires c κs = search needs
 send-chunk-unchecked-requires : tie.Need-send-chunk-unchecked-requires
 send-chunk-unchecked-requires c κs = rw (c .before .before .window-unchecked .ensures) (c .before .before .before .before .before .before .pre .1)
 
-add-t12 : tie.Need-add-t12
-add-t12 c = search needs
+add-size : tie.Need-add-size
+add-size c = search needs
 
 after-send-requires : tie.Need-after-send-requires
 after-send-requires c κs = search needs
@@ -34,7 +34,7 @@ send-chunk-unchecked-spec =
     (tie.spec
     window-unchecked-requires
     send-chunk-unchecked-requires
-    add-t12
+    add-size
     after-send-requires
     same-length
     same-length-2

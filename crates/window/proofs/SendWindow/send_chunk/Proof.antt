@@ -1,4 +1,5 @@
 use Prim.Native.Nat.{_-_}
+use mathlib.Core.Bool.{false≢true}
 use mathlib.Core.Path.{sym, _∙_}
 use native.Mathlib.Omega.{arith}
 use borrow.Author.Tests.{lt-ltb, le-ltb, eq-eqb, ne-eqb}
@@ -71,7 +72,7 @@ send-chunk-unchecked-requires c κs =
     let s = sound _ _ _ (sym (c .before .before .before .before .before .before .before .before .before .before .before .before .state-broken .ensures) ∙ c .before .before .before .before .before .before .before .before .before .before .before .if1 .left) in
     let k = counts-low _ (sym (c .before .before .before .before .before .before .before .before .before .before .counts-broken .ensures) ∙ c .before .before .before .before .before .before .before .before .before .if2 .left) in
     let low = s .low in
-    record { positive = s .positive; room = s .room; low = omega arith; count = k .0; short = c .before .before .before .before .before .before .before .before .if3 .left; fits = c .before .before .if6 .left }
+    (record { positive = s .positive; room = s .room; low = omega arith; count = k .0; short = c .before .before .before .before .before .before .before .before .if3 .left; fits = c .before .before .if6 .left }, λ e. absurd (false≢true e))
 
 add-t20 : tie.Need-add-t20
 add-t20 c = search needs

@@ -1,5 +1,6 @@
 use mathlib.Core.Path.{_∙_}
 use native.Mathlib.Omega.{arith}
+use native.Mathlib.Nat.{mod-lt}
 use Rattle.store.proofs.Laws.{slot-in}
 use Rattle.window.specs.Slots.{hold}
 use Rattle.window.proofs.Slots.{sending-is}
@@ -14,7 +15,10 @@ rem-slot : tie.Need-rem-slot
 rem-slot c = search needs
 
 fill-unchecked-requires : tie.Need-fill-unchecked-requires
-fill-unchecked-requires c κs = (slot-in (c .before .before .before .before .before .args .store .now) (c .before .before .before .before .before .args .self .«next_seq_num») (c .before .before .before .before .before .args .self .«window_size») (c .before .before .before .before .before .pre .positive) (c .before .before .before .before .before .pre .room), c .before .before .before .before .before .pre .short)
+fill-unchecked-requires c κs =
+    let s = c .before .before .before .before .before in
+    let can = s .pre .0 in
+    ((slot-in (s .args .store .now) (s .args .self .«next_seq_num») (s .args .self .«window_size») (can .positive) (can .room), can .short), λ k. s .pre .1 k .each _ (mod-lt (s .args .self .«next_seq_num») (can .positive)))
 
 new-data-requires : tie.Need-new-data-requires
 new-data-requires c κs = search needs
@@ -29,7 +33,7 @@ add-self : tie.Need-add-self
 add-self c = search needs
 
 add-self-2 : tie.Need-add-self-2
-add-self-2 c = omega (arith, c .before .before .before .before .before .before .before .before .before .before .before .before .before .before .before .pre .count)
+add-self-2 c = omega (arith, c .before .before .before .before .before .before .before .before .before .before .before .before .before .before .before .pre .0 .count)
 
 same-length : tie.Need-same-length
 same-length c = search needs
