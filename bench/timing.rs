@@ -113,8 +113,8 @@ fn main() {
     assert!(set.s[1] == 32 && set.k[0] == j && theirs.len() == 32);
     best[4][0] = best[1][0];
     best[5][0] = best[3][0];
-    println!("| work, ns a call | reference | ours | ratio |\n|---|---|---|---|");
+    println!("{:<66} {:>9} {:>9} {:>6}", "ns a call", "reference", "ours", "ratio");
     for (name, b) in ["update_rtt", "timer set, 32: cancel_timer and start_timer_at", "timer set, 32: earliest_deadline", "timer set, 32: start, pop_expired_at, start", "timer set, 32: cancel and start, below the entry points", "timer set, 32: start, pop, start, below the entry points", "timer set, 32: cancel, start, earliest (an ACK in a run)"].iter().zip(best) {
-        println!("| {name} | {:.1} | {:.1} | {:.2} |", b[0], b[1], b[1] / b[0]);
+        println!("{:<66} {:>9.1} {:>9.1} {:>6.2}", name, b[0], b[1], b[1] / b[0]);
     }
 }

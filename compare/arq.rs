@@ -530,15 +530,17 @@ fn one_timeout(g: &mut Gen, p: &mut SenderPair, made: &mut Vec<Vec<u8>>, which: 
 }
 
 // The calls that only read, on any state: what is refused and, but where the store is broken, the reference's answers.
-fn read_sender(p: &SenderPair) {
+fn read_sender(p: &SenderPair, number: u64) {
     let s = &p.ours;
     let [window, base, next, sent, again, ..] = s.state;
     let refusal = |nine: bool| verdict(&[(9, nine), (8, counts_bad(&[sent, again]))]);
     let unless = |code: u64, value: u64| if code == 0 { [1, value, 0] } else { [code, 0, 0] };
     let (numbers, all) = (refusal(numbers_nine(s)), refusal(sender_nine(s)));
     let [can_send, in_flight, unacked] = if all == 0 { p.theirs.getters() } else { [(next.wrapping_sub(base) < window) as u64, 0, (base < next) as u64] };
-    let mut got = vec![s.can_send(), s.in_flight()];
-    let mut want = vec![unless(numbers, can_send), unless(all, in_flight)];
+    // the reference says it of no number: the flag in the slot, which check_state compares
+    let again = if all != 0 { [all, 0, 0] } else if (base..next).contains(&number) { [1, slot(&s.store, window, number)[3] as u64 & 1, 0] } else { [0, 0, 0] };
+    let mut got = vec![s.can_send(), s.in_flight(), s.is_retransmitted(number)];
+    let mut want = vec![unless(numbers, can_send), unless(all, in_flight), again];
     // it is given no words but numbers, of 32 bits
     if s.protocol == Protocol::GoBackN && (base | next) >> 32 == 0 {
         got.push(s.has_unacked_packets());
@@ -660,11 +662,17 @@ fn one_packet(g: &mut Gen, p: &mut ReceiverPair, raw: &[u8], seen: &mut Seen) ->
     if p.ours.state != want || p.ours.store != e.store {
         fail("receiver state", format!("{} state {:?}, expected {want:?}", shown(), p.ours.state));
     }
-    let want = if counts_bad(&counts) { [24, 0, 0] } else { [1, p.theirs.buffered(), 0] };
-    if before.protocol == Protocol::SelectiveRepeat && p.ours.buffered_count() != want {
-        fail("buffered_count", format!("{:?}, expected {want:?}", p.ours.buffered_count()));
-    }
+    read_receiver(p);
     a
+}
+
+// On any state; no output is lent, so that the fill mark may be anything.
+fn read_receiver(p: &ReceiverPair) {
+    let code = verdict(&[(9, receiver_nine(&p.ours, usize::MAX)), (8, counts_bad(&p.ours.state[3..]))]);
+    let (got, want) = (p.ours.buffered_count(), if code != 0 { [code, 0, 0] } else { [1, p.theirs.buffered(), 0] });
+    if got != want {
+        fail("buffered_count", format!("{:?} {:?} answer {got:?}, expected {want:?}", p.ours.protocol, p.ours.state));
+    }
 }
 
 // The bytes up to the fill mark are what the reference drains; the mark is 0 then, and nothing else changes.
@@ -881,7 +889,8 @@ fn runs(g: &mut Gen, seen: &mut Seen) {
         };
         seen.refused += (16 <= a[0]) as u64;
         seen.numbers += (a[0] == 16 + 7) as u64;
-        read_sender(&s);
+        let number = (s.ours.state[1] + g.below(s.window + 2)).saturating_sub(1) + if g.below(8) == 0 { 1 << (32 + g.below(32)) } else { 0 };
+        read_sender(&s, number);
     }
 }
 
@@ -951,7 +960,7 @@ fn broken_states(g: &mut Gen, seen: &mut Seen) {
     if sender_broken || sender_nine(&t) || counts_bad(&t.state[3..5]) {
         let mut p = SenderPair { ours: t, theirs: TheirSender::new(protocol, 1), window, extra: 0 };
         let payload = g.bytes(3);
-        read_sender(&p);
+        read_sender(&p, g.below(3));
         for a in [
             one_send(g, &mut p, &mut made, &payload, seen),
             one_ack(&mut p, &made_packet(&mut Gen(1), PacketType::Ack, 0), seen),
@@ -967,6 +976,10 @@ fn broken_states(g: &mut Gen, seen: &mut Seen) {
     }
     if receiver_broken || receiver_nine(&q, output.len()) || counts_bad(&q.state[3..]) {
         let mut p = ReceiverPair { ours: q, theirs: TheirReceiver::new(protocol, window), output, made: vec![] };
+        // its own 9 and 8; where the fill mark or the output is broken alone, the reference's count would be of another state
+        if receiver_nine(&p.ours, usize::MAX) || counts_bad(&p.ours.state[3..]) {
+            read_receiver(&p);
+        }
         for a in [one_packet(g, &mut p, &made_packet(&mut Gen(2), PacketType::Data, 0), seen), one_drain(&mut p, seen)] {
             seen.refused += 1;
             if a[0] < 16 {

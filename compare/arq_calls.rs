@@ -102,6 +102,10 @@ impl Sender {
         let mut state = self.state;
         answer(with_words(self.kind(), &mut state, |w, n| unsafe { pindrelo_in_flight(w, n, self.store.as_ptr(), self.store.len()) }), NONE)
     }
+    pub fn is_retransmitted(&self, number: u64) -> Answer {
+        let mut state = self.state;
+        answer(with_words(self.kind(), &mut state, |w, n| unsafe { pindrelo_is_retransmitted(w, n, self.store.as_ptr(), self.store.len(), number) }), NOTHING)
+    }
     // Go-Back-N's; no host has it
     pub fn has_unacked_packets(&self) -> Answer {
         answer(unsafe { arq_has_unacked_packets(self.state.as_ptr(), 7) }, NONE)
@@ -139,8 +143,8 @@ impl Receiver {
         let (kind, t, nt) = (self.kind(), self.store.as_ptr(), self.store.len());
         answer(with_words(kind, &mut self.state, |w, n| unsafe { pindrelo_drain(w, n, t, nt, output.as_ptr(), output.len()) }), NONE)
     }
-    // Selective Repeat's; no host has it
     pub fn buffered_count(&self) -> Answer {
-        answer(unsafe { arq_buffered_count(self.state.as_ptr(), 6, self.store.as_ptr(), self.store.len()) }, NONE)
+        let mut state = self.state;
+        answer(with_words(self.kind(), &mut state, |w, n| unsafe { pindrelo_buffered_count(w, n, self.store.as_ptr(), self.store.len()) }), NONE)
     }
 }

@@ -11,8 +11,10 @@ extern "C" {
     pub fn pindrelo_timeout_number(state: *mut u64, words: usize, store: *mut u8, nt: usize, number: u64, out: *mut u8, no: usize) -> u64;
     pub fn pindrelo_can_send(state: *const u64, words: usize) -> u64;
     pub fn pindrelo_in_flight(state: *const u64, words: usize, store: *const u8, nt: usize) -> u64;
+    pub fn pindrelo_is_retransmitted(state: *const u64, words: usize, store: *const u8, nt: usize, number: u64) -> u64;
     pub fn pindrelo_make_receiver(protocol: u64, window: usize, state: *mut u64, words: usize, store: *mut u8, nt: usize) -> u64;
     pub fn pindrelo_receive(state: *mut u64, words: usize, store: *mut u8, nt: usize, raw: *const u8, nr: usize, output: *mut u8, no: usize, ack: *mut u8, nk: usize) -> u64;
+    pub fn pindrelo_buffered_count(state: *const u64, words: usize, store: *const u8, nt: usize) -> u64;
     pub fn pindrelo_drain(state: *mut u64, words: usize, store: *const u8, nt: usize, output: *const u8, no: usize) -> u64;
     pub fn pindrelo_read(raw: *const u8, nr: usize) -> u64;
     pub fn pindrelo_validate(raw: *const u8, nr: usize) -> u64;
@@ -23,6 +25,7 @@ extern "C" {
     pub fn pindrelo_timer_cancel(state: *mut u64, words: usize, keys: *mut u32, nk: usize, deadlines: *mut u64, nd: usize, key: u64) -> u64;
     pub fn pindrelo_timer_pop(state: *mut u64, words: usize, keys: *mut u32, nk: usize, deadlines: *mut u64, nd: usize, now: u64, out: *mut u32, no: usize) -> u64;
     pub fn pindrelo_timer_earliest(state: *const u64, words: usize, keys: *const u32, nk: usize, deadlines: *const u64, nd: usize) -> u64;
+    pub fn pindrelo_timer_clear(state: *mut u64, words: usize, keys: *mut u32, nk: usize, deadlines: *mut u64, nd: usize) -> u64;
     pub fn pindrelo_make_single_timer(state: *mut u64, words: usize) -> u64;
     pub fn pindrelo_single_timer_start(state: *mut u64, words: usize, now: u64, duration: u64) -> u64;
     pub fn pindrelo_single_timer_cancel(state: *mut u64, words: usize) -> u64;
@@ -62,14 +65,12 @@ extern "C" {
     pub fn timing_as_secs_f64(ns: u64) -> f64;
     pub fn timing_from_secs_f64(x: f64, answer: *mut u64, n: usize) -> u64;
     pub fn timing_multi_expired(s: *const u64, n: usize, keys: *const u32, nk: usize, deadlines: *const u64, nd: usize, key: u32, now: u64) -> u64;
-    pub fn timing_multi_clear(s: *mut u64, n: usize, keys: *mut u32, nk: usize, deadlines: *mut u64, nd: usize) -> u64;
     pub fn timing_start_each(s: *mut u64, n: usize, keys: *mut u32, nk: usize, deadlines: *mut u64, nd: usize, given: *const u32, ng: usize, now: u64, duration: u64);
     pub fn timing_update_rtt_each(samples: *const u64, n: usize) -> u64;
     pub fn timing_multi_start_unchecked(keys: *mut u32, nk: usize, deadlines: *mut u64, nd: usize, count: usize, generation: u64, key: u32, deadline: u64) -> usize;
     pub fn timing_multi_cancel_unchecked(keys: *mut u32, nk: usize, deadlines: *mut u64, nd: usize, count: usize, generation: u64, key: u32) -> usize;
     pub fn timing_multi_pop_unchecked(keys: *mut u32, nk: usize, deadlines: *mut u64, nd: usize, count: usize, generation: u64, now: u64, out: *mut u32, no: usize) -> usize;
     pub fn arq_has_unacked_packets(state: *const u64, n: usize) -> u64;
-    pub fn arq_buffered_count(state: *const u64, n: usize, store: *const u8, nt: usize) -> u64;
     pub fn arq_send_chunk_each(state: *mut u64, n: usize, store: *mut u8, nt: usize, payload: *const u8, np: usize, wire: *mut u8, nw: usize);
     pub fn arq_handle_ack_each(state: *mut u64, n: usize, store: *mut u8, nt: usize, acks: *const u8, na: usize);
     pub fn arq_handle_packet_each(state: *mut u64, n: usize, store: *mut u8, nt: usize, wire: *const u8, nw: usize, output: *mut u8, no: usize, ack: *mut u8, nk: usize);

@@ -166,7 +166,7 @@ const CALLS: [Call; 6] = [Start, Cancel, Expired, Pop, Earliest, Clear];
 struct Set { s: Vec<u64>, keys: Vec<u32>, deadlines: Vec<u64>, out: Vec<u32> }
 
 impl Set {
-    // Ours. Of two calls there is no export for hosts: they are made on what words hold.
+    // Ours. Of one call there is no export for hosts: it is made on what words hold.
     fn call(&mut self, call: Call, key: u64, now: u64, d: u64) -> u64 {
         let (s, n, k, kn, e, en) = (self.s.as_mut_ptr(), self.s.len(), self.keys.as_mut_ptr(), self.keys.len(), self.deadlines.as_mut_ptr(), self.deadlines.len());
         let (o, on) = (self.out.as_mut_ptr(), self.out.len());
@@ -177,7 +177,7 @@ impl Set {
                 Expired => timing_multi_expired(s.add(1), n - 1, k, kn, e, en, key as u32, now),
                 Pop => pindrelo_timer_pop(s, n, k, kn, e, en, now, o, on),
                 Earliest => pindrelo_timer_earliest(s, n, k, kn, e, en),
-                Clear => timing_multi_clear(s.add(1), n - 1, k, kn, e, en),
+                Clear => pindrelo_timer_clear(s, n, k, kn, e, en),
             }
         }
     }
@@ -326,7 +326,7 @@ fn changed_sets(r: &mut Gen, count: usize, n: &mut u64) {
     }
     // words that hold no set
     for s in [vec![], vec![TIMERS, 0], vec![0, count as u64, 6], vec![SINGLE_TIMER, count as u64, 6], vec![TIMERS + 256, count as u64, 6]] {
-        for call in [Start, Cancel, Pop, Earliest] {
+        for call in [Start, Cancel, Pop, Earliest, Clear] {
             Set { s: s.clone(), ..good.clone() }.compared(call, r.of(&[0, 1 << 32]), r.of(&[0, u64::MAX]), 1);
             *n += 1;
         }

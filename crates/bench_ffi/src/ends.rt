@@ -14,11 +14,6 @@ pub extern "C" fn arq_has_unacked_packets(state: &[u64]) -> u64 {
     host_answer::test_answer(s.has_unacked_packets())
 }
 
-#[no_mangle]
-pub extern "C" fn arq_buffered_count(state: &[u64], store: &[u8]) -> u64 {
-    host_answer::count_answer(receiver_of(state).buffered_count(store))
-}
-
 // Selective Repeat's `send_chunk` of one payload, into each place of 1,410 bytes.
 #[no_mangle]
 pub extern "C" fn arq_send_chunk_each(

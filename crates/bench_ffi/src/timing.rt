@@ -40,19 +40,6 @@ pub extern "C" fn timing_multi_expired(
     host_answer::test_answer(timers_of(s).is_expired_at(keys, deadlines, key, now))
 }
 
-#[no_mangle]
-pub extern "C" fn timing_multi_clear(
-    s: &mut [u64],
-    keys: &mut [u32],
-    deadlines: &mut [u64],
-) -> u64 {
-    let c = timers_of(s).clear(keys, deadlines);
-    let t = c.timers;
-    let a = c.answer;
-    put_timers(s, t);
-    host_answer::done_answer(a)
-}
-
 // `start_timer_at` of each of the keys given.
 #[no_mangle]
 pub extern "C" fn timing_start_each(
