@@ -2,8 +2,6 @@
 use Prim.Native.Nat.{ℕ}
 use mathlib.Core.Path.{_≡_, sym, ap, _∙_}
 use mathlib.Core.List.{List}
-use Rattle.window.specs.Sending.{SendExit}
-use Rattle.window.specs.Acknowledgement.{AckExit}
 use Rattle.window.specs.Resending.{TimeoutExit}
 use Rattle.receiver.specs.Receive.{ReceiveExit}
 use Rattle.window.specs.Slots as slots
@@ -13,18 +11,10 @@ use Rattle.session.specs.declared.SenderState.{SenderState}
 use Rattle.session.specs.declared.SenderState.the-variants as senderState
 use Rattle.session.specs.declared.ReceiverState.{ReceiverState}
 use Rattle.session.specs.declared.Timeout.{Timeout}
-use Rattle.session.specs.Sending.{SenderEnd, senderIn, sendChunkIn, sendChunk, handleAckIn, handleAck, timeoutNumber, timedOutAs, selectiveRepeatEnd, handleTimeoutIn, handleTimeout}
+use Rattle.session.specs.Sending.{SenderEnd, senderIn, timeoutNumber, timedOutAs, selectiveRepeatEnd, handleTimeoutIn, handleTimeout}
 use Rattle.session.specs.Receiving.{ReceiverEnd, receiverIn, handlePacketIn, handlePacket}
 
 module _ (x : SenderState) {y : SenderState} (store : List ℕ) (e : x ≡ y) where
-  pub sent-in : (payload out : List ℕ) {r : SendExit SenderEnd} → r ≡ sendChunkIn y store payload out → r ≡ sendChunk (senderIn x store) payload out
-  unfolding sendChunk
-  sent-in payload out f = f ∙ ap (λ (z : SenderState). sendChunkIn z store payload out) (sym e)
-
-  pub acknowledged-in : (raw : List ℕ) {r : AckExit SenderEnd} → r ≡ handleAckIn y store raw → r ≡ handleAck (senderIn x store) raw
-  unfolding handleAck
-  acknowledged-in raw f = f ∙ ap (λ (z : SenderState). handleAckIn z store raw) (sym e)
-
   pub timed-out-in : (t : Timeout) (out : List ℕ) {r : TimeoutExit SenderEnd} → r ≡ handleTimeoutIn y store t out → r ≡ handleTimeout (senderIn x store) t out
   unfolding handleTimeout
   timed-out-in t out f = f ∙ ap (λ (z : SenderState). handleTimeoutIn z store t out) (sym e)

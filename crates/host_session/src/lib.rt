@@ -1,11 +1,9 @@
-// The entry points of the three protocols behind a session's types.
+// Timeouts and receiving by the entry points of the three protocols, behind a session's types.
 ghost use mathlib.Core.Path.{_≡_};
 ghost use Rattle.window.specs.Slots.{sender};
-ghost use Rattle.window.specs.Sending.{sendExit};
-ghost use Rattle.window.specs.Acknowledgement.{ackExit};
 ghost use Rattle.window.specs.Resending.{timeoutExit};
 ghost use Rattle.receiver.specs.Receive.{receiveExit};
-ghost use Rattle.session.specs.Sending.{senderEnd, sendChunk, handleAck, goBackNTimeout, timeoutNumber, handleTimeout};
+ghost use Rattle.session.specs.Sending.{senderEnd, goBackNTimeout, timeoutNumber, handleTimeout};
 ghost use Rattle.session.specs.Receiving.{receiverEnd, handlePacket};
 use go_back_n::GoBackNSender;
 use go_back_n::GoBackNTimeoutResult;
@@ -15,20 +13,8 @@ use session::ReceiverState;
 use session::Sender;
 use session::SenderState;
 use session::Timeout;
-use window::AckAnswer;
-use window::SendAnswer;
 use window::SendWindow;
 use window::TimeoutAnswer;
-
-pub struct SendResult {
-    pub sender: Sender,
-    pub answer: SendAnswer,
-}
-
-pub struct AckResult {
-    pub sender: Sender,
-    pub answer: AckAnswer,
-}
 
 pub struct TimeoutResult {
     pub sender: Sender,
@@ -38,90 +24,6 @@ pub struct TimeoutResult {
 pub struct ReceiveResult {
     pub receiver: Receiver,
     pub answer: ReceiveAnswer,
-}
-
-pub fn send_chunk(sender: Sender, store: &mut [u8], payload: &[u8], out: &mut [u8]) -> SendResult
-    ensures { λ r. ⌜ sendExit (r .answer) (senderEnd (r .sender) (now (store .exit))) (now (out .exit))
-        ≡ sendChunk (senderEnd sender (now (store .entry))) (now (payload .entry)) (now (out .entry)) ⌝ }
-{
-    let state = sender.state;
-    match state {
-        SenderState::StopAndWait(s) => {
-            let result = s.send_chunk(store, payload, out);
-            let s = result.sender;
-            let answer = result.answer;
-            SendResult {
-                sender: Sender {
-                    state: SenderState::StopAndWait(s),
-                },
-                answer,
-            }
-        }
-        SenderState::GoBackN(s) => {
-            let result = s.send_chunk(store, payload, out);
-            let s = result.sender;
-            let answer = result.answer;
-            SendResult {
-                sender: Sender {
-                    state: SenderState::GoBackN(s),
-                },
-                answer,
-            }
-        }
-        SenderState::SelectiveRepeat(s) => {
-            let result = s.send_chunk(store, payload, out);
-            let s = result.sender;
-            let answer = result.answer;
-            SendResult {
-                sender: Sender {
-                    state: SenderState::SelectiveRepeat(s),
-                },
-                answer,
-            }
-        }
-    }
-}
-
-pub fn handle_ack(sender: Sender, store: &mut [u8], raw: &[u8]) -> AckResult
-    ensures { λ r. ⌜ ackExit (r .answer) (senderEnd (r .sender) (now (store .exit)))
-        ≡ handleAck (senderEnd sender (now (store .entry))) (now (raw .entry)) ⌝ }
-{
-    let state = sender.state;
-    match state {
-        SenderState::StopAndWait(s) => {
-            let result = s.handle_ack(store, raw);
-            let s = result.sender;
-            let answer = result.answer;
-            AckResult {
-                sender: Sender {
-                    state: SenderState::StopAndWait(s),
-                },
-                answer,
-            }
-        }
-        SenderState::GoBackN(s) => {
-            let result = s.handle_ack(store, raw);
-            let s = result.sender;
-            let answer = result.answer;
-            AckResult {
-                sender: Sender {
-                    state: SenderState::GoBackN(s),
-                },
-                answer,
-            }
-        }
-        SenderState::SelectiveRepeat(s) => {
-            let result = s.handle_ack(store, raw);
-            let s = result.sender;
-            let answer = result.answer;
-            AckResult {
-                sender: Sender {
-                    state: SenderState::SelectiveRepeat(s),
-                },
-                answer,
-            }
-        }
-    }
 }
 
 pub fn handle_timeout(
