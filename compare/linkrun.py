@@ -2,6 +2,7 @@
 usage: linkrun.py cases | answers        cases for crates/linkrun_replay, and what it has to answer
        linkrun.py PROGRAM                runs PROGRAM on files of every length from 0 to 257, and compares"""
 import subprocess, sys, zlib
+from report import page
 
 HEAD = "seq\tagain\tdelays\tfolds\n"
 
@@ -21,11 +22,15 @@ def datagram(number, payload):
     return head + checksum(head + b"\0\0" + payload).to_bytes(2, "big") + payload
 
 
-def text(file):
+def events(file):
     """Nothing is lost on the line, so each byte is sent once, in order, and its one copy takes the base delay."""
+    return [(n, 0, 1, 5, 0, sum(datagram(n, bytes([b]))) % 65536, 0) for n, b in enumerate(file)]
+
+
+def text(file):
     if len(file) > 256:
         return "long\n"
-    return HEAD + "".join(f"{n}\t0\t5\t{sum(datagram(n, bytes([b]))) % 65536}\n" for n, b in enumerate(file))
+    return HEAD + "".join(f"{n}\t{again}\t{delay}\t{fold}\n" for n, again, _, delay, _, fold, _ in events(file))
 
 
 def made(length, first, step):
@@ -45,15 +50,25 @@ def files():
     return [made(*case) for case in lists()] + [b"Pindrelo", bytes(258)]
 
 
+def reported():
+    """Files whose runs' pages are printed."""
+    return [b"A", b"\xffA", b"Pindrelo"]
+
+
 def main(what):
     if what == "cases":
         print("# Files for linkrun; made by compare/linkrun.py.")
         for file in files():
             print("f x" + file.hex())
+        for file in reported():
+            print("p x" + file.hex())
     elif what == "answers":
         for file in files():
             t = text(file).encode()
             print("f", len(t), f"crc32 {zlib.crc32(t):08x}" + (" 1 ended" if 1 <= len(file) <= 256 else ""))
+        for file in reported():
+            t = page(events(file))
+            print("p", len(t), f"crc32 {zlib.crc32(t.encode()):08x}\n{t}")
     else:
         for file in files():
             said = subprocess.run([what], input=file, capture_output=True, check=True).stdout

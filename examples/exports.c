@@ -1,5 +1,5 @@
-/* exports: the single timer, the estimator, drain, the calls that look into a store, clear and a run from C, each
- * answer compared. */
+/* exports: the single timer, the estimator, drain, the calls that look into a store, clear, a run and its page from C,
+ * each answer compared. */
 #define TEST "exports"
 #include "expect.h"
 #include <string.h>
@@ -183,6 +183,32 @@ static void run(void)
     expect("samples", estimated[PINDRELO_ESTIMATOR_SAMPLES], 1);
 }
 
+/* the page of that run's one event, and of rows that are none */
+static void page(void)
+{
+    static const char expected[] = "       seqsent           delay1       delay2        fold1        fold2  \n"
+                                   "         0first               5                       510               \n"
+                                   "                       1                       1                       0\n";
+    static uint8_t out[PINDRELO_REPORT_SIZE(4) + 1];
+    size_t size = PINDRELO_REPORT_SIZE(1);
+    memset(out, '#', sizeof out);
+    expect("its size", sizeof expected - 1, size);
+    expect("a short page", pindrelo_report(events, 4, 1, out, size - 1), PINDRELO_FULL);
+    expect("too few rows", pindrelo_report(events, 4, 5, out, sizeof out), PINDRELO_STATE);
+    events[1][1] = 2;
+    expect("no mark", pindrelo_report(events, 4, 2, out, sizeof out), PINDRELO_STATE);
+    events[1][1] = 1, events[1][2] = 2, events[1][4] = 180001;
+    expect("a late copy", pindrelo_report(events, 4, 2, out, sizeof out), PINDRELO_TIME);
+    expect("nothing written", out[0] + out[sizeof out - 1], 2 * '#');
+    expect("page", pindrelo_report(events, 4, 1, out, sizeof out), DONE(size));
+    expect("another page", memcmp(out, expected, size) != 0, 0);
+    expect("a byte past the page", out[size], '#');
+    events[1][4] = 180000;
+    expect("page of all rows", pindrelo_report(events, 4, 4, out, sizeof out), DONE(PINDRELO_REPORT_SIZE(4)));
+    expect("a copy twice in four events", out[PINDRELO_REPORT_SIZE(3) + 47], '3');
+    expect("one of them sent again", out[PINDRELO_REPORT_SIZE(3) + 71], '1');
+}
+
 /* one byte with one fault on every datagram, sent again three times at most: the outcome's words from the driver's on
  * (driver, sender, receiver, forward, reverse), and the first copy's delay. Flipped: the run ends before the last copy
  * comes. Slow: the byte is sent again while its ACK is on the way. */
@@ -237,6 +263,7 @@ int main(void)
     }
     clear();
     run();
+    page();
     run_with_faults();
     return verdict();
 }

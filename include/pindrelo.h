@@ -37,8 +37,9 @@ extern "C" {
  *      8  counts    a counter stands at 2^60 or more
  *      9  state     words, store or output that don't fit: zeros, another kind, fewer words, another version, an
  *                   output shorter than its fill mark, slices of unequal length, too few numbers or doubles of a
- *                   run. It is no check of integrity: other words may pass
- *     10  time      a time given, held or to be stored above 172,800 s, a duration above 86,400 s
+ *                   run, rows of a page that are no events. It is no check of integrity: other words may pass
+ *     10  time      a time given, held or to be stored above 172,800 s, a duration above 86,400 s, an event's delay
+ *                   above 180 s
  *     11  roll      a roll of a run is not at least 0 and below 1
  *     16  the window is full     17  not accepted     18  nothing     19  nothing to answer     20  invalid checksum
  *
@@ -481,6 +482,25 @@ pindrelo_answer pindrelo_run(
     uint32_t *keys, size_t key_count, uint64_t *deadlines, size_t deadline_count,
     uint64_t *words, size_t word_count, uint64_t *estimator, size_t estimator_words,
     double *doubles, size_t double_count);
+
+/* ---- A PAGE
+ *
+ * A run's events as text, to be filed: count + 2 lines of 72 columns, each with a line feed behind it; ASCII, no zero
+ * at the end. A line for each event, in columns: its number right in 10; "first" or "again" left in 8; two delays and
+ * two sums of bytes, each right in 13, blank where there is no such copy; two blanks. Before them a head line with seq,
+ * sent, delay1, delay2, fold1, fold2 in these columns; behind them how many events, copies and events sent again, each
+ * right in 24. */
+
+#define PINDRELO_REPORT_LINE 73
+#define PINDRELO_REPORT_SIZE(count) (((size_t)(count) + 2) * PINDRELO_REPORT_LINE)
+
+/* The page of the first count rows, which are only read, to the start of out; after a run count is the outcome's word
+ * PINDRELO_OUTCOME_DRIVER + 7. Done: the page's length, PINDRELO_REPORT_SIZE(count). 9 (count above event_count; a row
+ * whose number has more than 32 bits, whose mark is above 1, with more than two copies, or with a copy's sum above
+ * 65,535), 10 (a copy's delay above 180,000 ms), 5. Rows past count, and what a row has past its copies, aren't looked
+ * at. */
+pindrelo_answer pindrelo_report(uint64_t (*events)[7], size_t event_count, size_t count,
+                                uint8_t *out, size_t out_size);
 
 /* ---- WHAT THE HOST DECIDES
  *

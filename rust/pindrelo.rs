@@ -4,11 +4,13 @@
 
 mod estimator;
 mod packets;
+mod report;
 mod run;
 mod timers;
 
 pub use estimator::{Estimator, EstimatorSetup, ESTIMATOR_DOUBLES, ESTIMATOR_WORDS};
 pub use packets::{payload, read, validate, write, Packet, PacketKind};
+pub use report::{report, report_size, REPORT_LINE};
 pub use run::{run, Clock, DriverCounts, End, Event, Line, LineCounts, Outcome, RunSetup, OUTCOME_WORDS, ROLLS};
 pub use timers::{SingleTimer, Timers, SINGLE_TIMER_WORDS, TIMERS_WORDS};
 

@@ -1,7 +1,7 @@
 //! `rustc --edition 2021 -O --test rust/tests.rs -L native=target/staticlib -l static=pindrelo -o target/rust_tests`
 mod pindrelo;
-use pindrelo::{Clock, End, Estimator, EstimatorSetup, Line, Packet, PacketKind, Protocol, Receiver, Refusal, RunSetup};
-use pindrelo::{Sender, SingleTimer, Timers, OUTCOME_WORDS};
+use pindrelo::{Clock, End, Estimator, EstimatorSetup, Event, Line, Packet, PacketKind, Protocol, Receiver, Refusal};
+use pindrelo::{RunSetup, Sender, SingleTimer, Timers, OUTCOME_WORDS};
 use pindrelo::{ACK_SIZE, HEADER_SIZE, MAX_DATAGRAM, MAX_DURATION, MAX_PAYLOAD, MAX_TIME, MAX_WINDOW};
 
 const PROTOCOLS: [Protocol; 3] = [Protocol::StopAndWait, Protocol::GoBackN, Protocol::SelectiveRepeat];
@@ -392,6 +392,42 @@ fn one_run() {
     assert_eq!((o.driver.acks_received, o.driver.events, o.forward.copies, o.reverse.datagrams), (2, 2, 2, 2));
     assert_eq!((o.estimator.srtt(), o.estimator.words()[13]), (Some(10_000_000), 2));
     assert!(o.estimator.clone().sample(10_000_000, false).unwrap());
+}
+
+/// The page of that run; lines with no copy and with two, the largest numbers, each bound passed.
+#[test]
+fn pages() {
+    let page = |events: &[Event]| {
+        let mut out = vec![b'#'; pindrelo::report_size(events.len()).unwrap() + 1];
+        let n = pindrelo::report(events, &mut out)?;
+        assert_eq!((out.pop(), n), (Some(b'#'), out.len()));
+        Ok(String::from_utf8(out).unwrap())
+    };
+    let head = "       seqsent           delay1       delay2        fold1        fold2  \n";
+    let totals = |n: [u64; 3]| format!("{:>24}{:>24}{:>24}\n", n[0], n[1], n[2]);
+    assert_eq!(page(&[]), Ok(format!("{head}{}", totals([0, 0, 0]))));
+    let o = pindrelo::run(&linkrun(), &[0xFF, 0x41], &[0.0; 96], &[0.0; 192]).unwrap();
+    let lines = [(0, 765), (1, 510)].map(|(n, sum)| format!("{n:>10}first   {:>13}{:>26}{:>15}\n", 5, sum, ""));
+    assert_eq!(page(&o.events), Ok(format!("{head}{}{}{}", lines[0], lines[1], totals([2, 2, 0]))));
+    let largest =
+        Event { number: u32::MAX.into(), again: true, copies: 2, delays_ms: [180_000, 0], sums: [65_535, 0] };
+    let none = Event { number: 7, again: false, copies: 0, delays_ms: [u64::MAX; 2], sums: [u64::MAX; 2] };
+    let full = "4294967295again          180000            0        65535            0  \n";
+    assert_eq!(page(&[largest, none]), Ok(format!("{head}{full}{:>10}{:<62}\n{}", 7, "first", totals([2, 2, 1]))));
+    for wrong in [
+        Event { number: 1 << 32, ..largest },
+        Event { copies: 3, ..largest },
+        Event { sums: [65_536, 0], ..largest },
+        Event { sums: [0, 65_536], ..largest },
+    ] {
+        assert_eq!(page(&[none, wrong]), Err(Refusal::State));
+    }
+    for late in [[180_001, 0], [0, 180_001]] {
+        assert_eq!(page(&[Event { delays_ms: late, ..largest }]), Err(Refusal::Time));
+    }
+    let mut out = [b'#'; 218];
+    assert_eq!(pindrelo::report(&[largest], &mut out), Err(Refusal::Full));
+    assert_eq!((out, pindrelo::report_size(usize::MAX)), ([b'#'; 218], None));
 }
 
 /// Faults from a seed, both clocks: with the rolls that `rolls` names a run ends by itself, and what it says is whole

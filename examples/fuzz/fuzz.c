@@ -5,10 +5,12 @@
  *
  * Lengths, words, stores, datagrams and times are random, boundary values or damaged (spoil.h); what is lent lies in
  * guarded memory (guarded.h). Each answer is compared with the one worked out from the header (expected.h,
- * expected_timing.h), and every lent byte that the call must not have written with what it was: after a refusal all of
- * them. In a million calls or more each call has to have met every status that the header names for it. */
+ * expected_timing.h, pages.h), and every lent byte that the call must not have written with what it was: after a
+ * refusal all of them. In a million calls or more each call has to have met every status that the header names for
+ * it. */
 #define _GNU_SOURCE
 #include "checked.h"
+#include "pages.h"
 #include "timing.h"
 #include <signal.h>
 
@@ -244,7 +246,7 @@ static void without_store(void)
 
 static void one_call(void)
 {
-    switch (below(34)) {
+    switch (below(35)) {
     case 0: make_end(&sender, 1); return;
     case 1: make_end(&receiver, 0); return;
     case 2: case 3: case 4: case 5: send(); return;
@@ -260,6 +262,7 @@ static void one_call(void)
     case 26: case 27: estimate(); return;
     case 28: look(); return;
     case 29: buffered_count(); return;
+    case 30: report(); return;
     default: timers(); return;
     }
 }

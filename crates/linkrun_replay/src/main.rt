@@ -1,6 +1,8 @@
 // Replays what `linkrun` prints for files from standard input, and writes an answer for each, as compare/linkrun.py has
 // it (file `stdout`). The form of lines is replay_io's: the letter f and a file's bytes, 2,048 at most. The answer is
-// the text's length and its CRC-32; of a file that is run also whether the run is completed, and its end.
+// the text's length and its CRC-32; of a file that is run also whether the run is completed, and its end. The letter p
+// and a file: the length of the page of its run's events, its CRC-32 and the page.
+use events::Event;
 use libc::STDIN_FILENO;
 use linkrun_text::MAX_FILE;
 use replay_io::Fields;
@@ -45,6 +47,10 @@ fn run(f: Fields, file: &[u8]) {
         print_run(file);
         return;
     }
+    if replay_io::is(f, b'p', 0) {
+        print_report(file);
+        return;
+    }
     replay_io::print_bad_line();
 }
 
@@ -76,6 +82,30 @@ fn print_run(file: &[u8]) {
             print_end(end);
         }
         RunAnswer::Refused(r) => replay_io::print_refusal(r),
+    }
+}
+
+fn print_report(file: &[u8]) {
+    let mut events = [[0u64; 7]; 256];
+    match linkrun_text::run_file_unchecked(file, &mut events) {
+        RunAnswer::Outcome(o) => {
+            let driver = o.driver;
+            print_page(&events, driver.events);
+        }
+        RunAnswer::Refused(r) => replay_io::print_refusal(r),
+    }
+}
+
+fn print_page(events: &[Event], count: usize) {
+    let mut page = [0u8; 20480];
+    match report::write_report(events, count, &mut page) {
+        PlaceAnswer::Next(end) => {
+            let text = replay_io::prefix(&page, end);
+            print_answer(text);
+            replay_io::print(b"\n");
+            replay_io::print(text);
+        }
+        PlaceAnswer::Refused(r) => replay_io::print_refusal(r),
     }
 }
 

@@ -19,6 +19,7 @@ ghost use Rattle.rto.specs.Rto.{defaultConfig};
 ghost use Rattle.host_estimator.specs.Estimator as estimators;
 ghost use Rattle.step.specs.State.{given, lent};
 ghost use Rattle.host_run.specs.Run as runs;
+ghost use Rattle.host_report.specs.Report as reports;
 use events::Event;
 use notes::Note;
 use rto::RtoConfig;
@@ -463,4 +464,12 @@ pub extern "C" fn pindrelo_run(
         estimator,
         doubles,
     )
+}
+
+#[no_mangle]
+pub extern "C" fn pindrelo_report(events: &[Event], count: usize, out: &mut [u8]) -> u64
+    ensures { λ r. ⌜ reports.reportExit r (now (out .exit))
+        ≡ reports.report (now (events .entry)) count (now (out .entry)) ⌝ }
+{
+    host_report::report(events, count, out)
 }

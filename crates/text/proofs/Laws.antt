@@ -10,3 +10,5 @@ pub use Rattle.text.proofs.Numbers.{stops-at, read-digits, read-written
 pub use Rattle.text.proofs.Numbers.{read-hex-written, read-hex-accepted}
 pub use Rattle.text.proofs.Places.{place-over, place-written, place-within}
 pub use Rattle.text.proofs.Fields.{FieldAt, field-accepted, field-read}
+pub use Rattle.text.proofs.Rest.{Rest, rest-first, rest-room, rest-last, rest-end, piece-room, piece-next}
+pub use Rattle.text.proofs.Rest.{lines-end, lines-step, line-room, line-next, line-end}

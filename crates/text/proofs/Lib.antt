@@ -6,4 +6,5 @@ pub mod Hex
 pub mod Numbers
 pub mod KnownValues
 pub mod Fields
+pub mod Rest
 pub mod Laws

@@ -2,12 +2,10 @@
 use Prim.Native.Nat.{ℕ, zero, suc, _+_, _-_, _≤_, _<_}
 use mathlib.Core.Path.{_≡_, refl, sym, ap, _∙_}
 use mathlib.Core.Bool.{true, false}
-use mathlib.Core.List.{List, [], _∷_, _++_, map, append-assoc, append-nil}
+use mathlib.Core.List.{List, [], _∷_, _++_, map, append-assoc}
 use native.Mathlib.Omega.{arith}
-use native.Mathlib.Nat.{add-zero}
-use native.Mathlib.Numerals.{add-one}
-use lib.ListN.{length, take, drop, getD, length-append, drop-of-length-le, take-append-drop}
-use lib.Seq.{drop-cons, take-all}
+use lib.ListN.{length, drop, getD, length-append}
+use lib.Seq.{take-all}
 use lib.Dec.{leb}
 use borrow.Author.Tests.{le-leb, lt-leb}
 use Rattle.events.specs.Events.{ForwardEvent, ofCopies, eventOf}
@@ -15,7 +13,8 @@ use Rattle.rows.specs.Rows.{asNumber, isSet}
 use Rattle.text.specs.Decimal.{digits}
 use Rattle.text.specs.Field.{field}
 use Rattle.text.specs.Place.{writtenAt}
-use Rattle.text.proofs.Laws.{length-written, written-after, Written}
+use Rattle.text.proofs.Laws as texts
+use Rattle.text.proofs.Laws.{Written, Rest}
 use Rattle.refusal.specs.Refusal.{ascii}
 use Rattle.text.specs.Letters.{tab, comma, lineFeed}
 use Rattle.trace.specs.Text.{parted, line, joined, columns, eventLine, eventLines, headLine, eventsText}
@@ -93,13 +92,25 @@ linesFrom rows i = eventLines (map eventOf (drop i rows))
 abbrev pub lineAt : List (List ℕ) → ℕ → List ℕ
 lineAt rows i = eventLine (eventOf (getD rows i []))
 
-pub lines-end : (rows : List (List ℕ)) (i : ℕ) → length rows ≤ i → linesFrom rows i ≡ []
+abbrev rowLine : List ℕ → List ℕ
+rowLine row = eventLine (eventOf row)
+
+abbrev rowLines : List (List ℕ) → List ℕ
+rowLines rows = eventLines (map eventOf rows)
+
+no-lines : rowLines [] ≡ []
 unfolding eventLines
-lines-end rows i h = rw (drop-of-length-le rows h)
+no-lines = refl
+
+one-more : (row : List ℕ) (rows : List (List ℕ)) → rowLines (row ∷ rows) ≡ rowLine row ++ rowLines rows
+unfolding eventLines
+one-more row rows = refl
+
+pub lines-end : (rows : List (List ℕ)) (i : ℕ) → length rows ≤ i → linesFrom rows i ≡ []
+lines-end = texts.lines-end rowLine rowLines no-lines one-more
 
 pub lines-step : (rows : List (List ℕ)) (i : ℕ) → i < length rows → linesFrom rows i ≡ lineAt rows i ++ linesFrom rows (i + 1)
-unfolding eventLines
-lines-step rows i h = rw (drop-cons rows i [] h, add-one)
+lines-step = texts.lines-step rowLine rowLines no-lines one-more
 
 length-step : (rows : List (List ℕ)) (i : ℕ) → i < length rows → length (linesFrom rows i) ≡ length (lineAt rows i) + length (linesFrom rows (i + 1))
 length-step rows i h = ap length (lines-step rows i h) ∙ length-append (lineAt rows i) (linesFrom rows (i + 1))
@@ -116,52 +127,17 @@ module _ (rows : List (List ℕ)) (room left i : ℕ) (e : left + length (linesF
       → left - k + length (linesFrom rows 0) ≡ room + length (linesFrom rows (i + 1))
   fits-next h l q = let n = length-step rows i h in omega arith
 
--- what is still to be written
-pub record Rest (rows : List (List ℕ)) (buffer : List ℕ) (at : ℕ) (out : List ℕ) (next i : ℕ) : Type 0 where
-  pub text : writtenAt out next (linesFrom rows i) ≡ writtenAt buffer at (linesFrom rows 0)
-  pub place : next + length (linesFrom rows i) ≡ at + length (linesFrom rows 0)
-  pub size : length out ≡ length buffer
-  pub room : at + length (linesFrom rows 0) ≤ length buffer
+-- the loop that writes the lines
+module _ (rows : List (List ℕ)) (i : ℕ) {buffer : List ℕ} {at : ℕ} {whole out : List ℕ} {next : ℕ} (r : Rest buffer at whole out next (linesFrom rows i)) where
+  pub line-room : i < length rows → next + length (lineAt rows i) ≤ length out
+  line-room = texts.line-room rowLine rowLines no-lines one-more rows i r
 
-written-nothing : (out : List ℕ) (next : ℕ) → writtenAt out next [] ≡ out
-written-nothing out next =
-    ap (λ (k : ℕ). take next out ++ [] ++ drop k out) (add-zero next)
-    ∙ ap (λ (l : List ℕ). l ++ drop next out) (append-nil (take next out))
-    ∙ take-append-drop next out
+  pub line-next : {out′ : List ℕ} {next′ : ℕ} → i < length rows → next′ ≡ next + length (lineAt rows i)
+      → out′ ≡ writtenAt out next (lineAt rows i) → Rest buffer at whole out′ next′ (linesFrom rows (i + 1))
+  line-next = texts.line-next rowLine rowLines no-lines one-more rows i r
 
-module _ (rows : List (List ℕ)) (buffer : List ℕ) (at : ℕ) where
-  pub rest-first : at + length (linesFrom rows 0) ≤ length buffer → Rest rows buffer at buffer at 0
-  rest-first h = record { text = refl; place = refl; size = refl; room = h }
-
-  module _ {out : List ℕ} {next i : ℕ} (r : Rest rows buffer at out next i) where
-    pub rest-room : i < length rows → next + length (lineAt rows i) ≤ length out
-    rest-room h =
-        let n = length-step rows i h in
-        let p = r .place in
-        let s = r .size in
-        let k = r .room in omega arith
-
-    pub rest-next : {out′ : List ℕ} {next′ : ℕ} → i < length rows → next′ ≡ next + length (lineAt rows i)
-        → out′ ≡ writtenAt out next (lineAt rows i) → Rest rows buffer at out′ next′ (i + 1)
-    rest-next {out′} {next′} h n e =
-        let l = length-step rows i h in
-        let p = r .place in
-        let w = length-written out next (lineAt rows i) (rest-room h) in
-        let o = ap length e in
-        let s = r .size in
-        record {
-          text = rw (e, n) (written-after out next (lineAt rows i) (linesFrom rows (i + 1)) (rest-room h)) ∙ ap (writtenAt out next) (sym (lines-step rows i h)) ∙ r .text;
-          place = omega arith;
-          size = omega arith;
-          room = r .room;
-        }
-
-    pub rest-end : length rows ≤ i → (next ≡ at + length (linesFrom rows 0)) × (out ≡ writtenAt buffer at (linesFrom rows 0))
-    rest-end h =
-        let z = lines-end rows i h in
-        let n = ap length z in
-        let p = r .place in
-        (omega arith, sym (written-nothing out next) ∙ ap (writtenAt out next) (sym z) ∙ r .text)
+  pub line-end : length rows ≤ i → (next ≡ at + length whole) × (out ≡ writtenAt buffer at whole)
+  line-end = texts.line-end rowLine rowLines no-lines one-more rows i r
 
 -- a row's line by its columns
 pub line-columns : (row : List ℕ) {again : ℕ} → again ≡ asNumber (isSet (getD row 1 0))
