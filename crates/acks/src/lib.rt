@@ -20,7 +20,7 @@ use schedule::{FirstDue, ScheduledRow};
 use session::{Sender, SenderState};
 
 // What ACKs change besides the lent slices.
-#[derive(Drop)]
+#[derive(Clone, Copy)]
 pub struct AckSide {
     pub sender: Sender,
     pub estimator: RtoEstimator,
@@ -30,7 +30,7 @@ pub struct AckSide {
 }
 
 // progress: whether a datagram was handed over.
-#[derive(Drop)]
+#[derive(Clone, Copy)]
 pub struct ServeResult {
     pub reverse: Path,
     pub side: AckSide,
@@ -38,7 +38,7 @@ pub struct ServeResult {
 }
 
 // The number of a valid ACK.
-#[derive(Drop)]
+#[derive(Clone, Copy)]
 pub enum AckNumber {
     Number(u32),
     Nothing,

@@ -29,14 +29,14 @@ use selective_repeat::{
 use stop_and_wait::{StopAndWaitReceiver, StopAndWaitSender, StopAndWaitSenderAnswer};
 use window::{AckAnswer, SendAnswer, SendWindow, TimeoutAnswer};
 
-#[derive(Drop)]
+#[derive(Clone, Copy)]
 enum Sender {
     StopAndWait(StopAndWaitSender),
     GoBackN(GoBackNSender),
     SelectiveRepeat(SelectiveRepeatSender),
 }
 
-#[derive(Drop)]
+#[derive(Clone, Copy)]
 enum Receiver {
     StopAndWait(StopAndWaitReceiver),
     GoBackN(GoBackNReceiver),
@@ -44,7 +44,7 @@ enum Receiver {
 }
 
 // sent, held, output: the lengths of the stores and of the output.
-#[derive(Drop)]
+#[derive(Clone, Copy)]
 struct Ends {
     sender: Sender,
     receiver: Receiver,

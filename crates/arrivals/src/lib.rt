@@ -6,7 +6,7 @@ use path::Path;
 use receiving::ReceivingSide;
 
 // What arriving datagrams change besides the lent slices.
-#[derive(Drop)]
+#[derive(Clone, Copy)]
 pub struct Arrivals {
     pub forward: Path,
     pub receiving: ReceivingSide,

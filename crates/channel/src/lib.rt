@@ -13,7 +13,7 @@ mod checks;
 mod faults;
 
 // Chances from 0 to 1, times in milliseconds.
-#[derive(Drop)]
+#[derive(Clone, Copy)]
 pub struct ChannelConfig {
     pub loss: f64,
     pub duplicate: f64,
@@ -24,7 +24,7 @@ pub struct ChannelConfig {
     pub jitter_ms: u64,
 }
 
-#[derive(Drop)]
+#[derive(Clone, Copy)]
 pub struct ChannelStats {
     pub packets_seen: u64,
     pub lost: u64,
@@ -34,14 +34,14 @@ pub struct ChannelStats {
     pub copies_delivered: u64,
 }
 
-#[derive(Drop)]
+#[derive(Clone, Copy)]
 pub struct Channel {
     pub config: ChannelConfig,
     pub stats: ChannelStats,
 }
 
 // The rolls of one packet, in the order in which the source draws them.
-#[derive(Drop)]
+#[derive(Clone, Copy)]
 pub struct Rolls {
     pub loss_roll: f64,
     pub dup_roll: f64,
@@ -53,25 +53,25 @@ pub struct Rolls {
     pub dup_jitter_roll: f64,
 }
 
-#[derive(Drop)]
+#[derive(Clone, Copy)]
 pub enum ChannelAnswer {
     Made(Channel),
     Refused(Refusal),
 }
 
-#[derive(Drop)]
+#[derive(Clone, Copy)]
 pub enum ProcessAnswer {
     Delivered(Deliveries),
     Refused(Refusal),
 }
 
-#[derive(Drop)]
+#[derive(Clone, Copy)]
 pub struct ProcessResult {
     pub channel: Channel,
     pub answer: ProcessAnswer,
 }
 
-#[derive(Drop)]
+#[derive(Clone, Copy)]
 pub struct Transit {
     pub channel: Channel,
     pub deliveries: Deliveries,

@@ -24,7 +24,7 @@ use schedule::{
 };
 
 // records, places: how many of them the schedule has.
-#[derive(Drop)]
+#[derive(Clone, Copy)]
 struct State {
     channel: Channel,
     scheduler: ChannelScheduler,

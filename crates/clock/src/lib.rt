@@ -16,7 +16,7 @@ use rto::RtoEstimator;
 use session::Oldest;
 use timer::{Deadline, RetransmissionTimer};
 
-#[derive(Drop)]
+#[derive(Clone, Copy)]
 pub enum Timing {
     // One timer, for the oldest outstanding segment.
     Single,
@@ -27,14 +27,14 @@ pub enum Timing {
 }
 
 // The single timer, and the set.
-#[derive(Drop)]
+#[derive(Clone, Copy)]
 pub struct Clock {
     pub timer: RetransmissionTimer,
     pub timers: MultiTimer,
 }
 
 // What has run out.
-#[derive(Drop)]
+#[derive(Clone, Copy)]
 pub enum Due {
     Nothing,
     // The edition clock's timer, with nothing outstanding.

@@ -8,7 +8,7 @@ ghost use Rattle.duration.specs.Duration.{as_secs_f64, from_secs_f64, secs_in_bo
 use bounds::{MAX_DURATION, MAX_TIME};
 
 // The nanoseconds, or that x is negative, not a number, or 2^34 or more.
-#[derive(Drop)]
+#[derive(Clone, Copy)]
 pub enum FromSecs {
     Nanos(u64),
     OutOfRange,

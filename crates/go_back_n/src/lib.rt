@@ -19,30 +19,30 @@ use receiver::{Decision, PacketReading, ReadingAnswer, ReceiveAnswer, Reply};
 use refusal::{CountAnswer, Refusal, TestAnswer};
 use window::{AckAnswer, AckDecision, SendAnswer, SendWindow, SendWindowAnswer, TimeoutAnswer};
 
-#[derive(Drop)]
+#[derive(Clone, Copy)]
 pub struct GoBackNSender {
     pub window: SendWindow,
 }
 
-#[derive(Drop)]
+#[derive(Clone, Copy)]
 pub enum GoBackNSenderAnswer {
     Sender(GoBackNSender),
     Refused(Refusal),
 }
 
-#[derive(Drop)]
+#[derive(Clone, Copy)]
 pub struct GoBackNSendResult {
     pub sender: GoBackNSender,
     pub answer: SendAnswer,
 }
 
-#[derive(Drop)]
+#[derive(Clone, Copy)]
 pub struct GoBackNAckResult {
     pub sender: GoBackNSender,
     pub answer: AckAnswer,
 }
 
-#[derive(Drop)]
+#[derive(Clone, Copy)]
 pub struct GoBackNTimeoutResult {
     pub sender: GoBackNSender,
     pub answer: TimeoutAnswer,
@@ -172,7 +172,7 @@ impl GoBackNSender {
     }
 }
 
-#[derive(Drop)]
+#[derive(Clone, Copy)]
 pub struct GoBackNReceiver {
     pub expected_seq: u32,
     // How many bytes of the output are filled.
@@ -183,13 +183,13 @@ pub struct GoBackNReceiver {
 }
 
 // The state after a packet, and what is to be written; the fill mark is still the old one.
-#[derive(Drop)]
+#[derive(Clone, Copy)]
 pub struct GoBackNDecision {
     pub receiver: GoBackNReceiver,
     pub decision: Decision,
 }
 
-#[derive(Drop)]
+#[derive(Clone, Copy)]
 pub struct GoBackNReceiveResult {
     pub receiver: GoBackNReceiver,
     pub answer: ReceiveAnswer,

@@ -12,7 +12,7 @@ use refusal::{CountAnswer, Refusal, Verdict};
 use selective_repeat::SelectiveRepeatReceiver;
 use session::{Receiver, ReceiverState};
 
-#[derive(Drop)]
+#[derive(Clone, Copy)]
 pub struct DrainResult {
     pub receiver: Receiver,
     pub answer: CountAnswer,

@@ -15,7 +15,7 @@ pub const ESTIMATOR_WORDS: usize = 24;
 pub const ESTIMATOR_DOUBLES: usize = 5;
 
 // What words and doubles hold.
-#[derive(Drop)]
+#[derive(Clone, Copy)]
 pub enum HeldEstimator {
     Estimator(RtoEstimator),
     Broken,

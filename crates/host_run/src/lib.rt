@@ -23,7 +23,7 @@ pub const SETUP_DOUBLES: usize = 8;
 pub const OUTCOME_WORDS: usize = 31;
 
 // What numbers and doubles say.
-#[derive(Drop)]
+#[derive(Clone, Copy)]
 pub enum SetupReading {
     Config(TransferConfig),
     Refused(Refusal),

@@ -11,13 +11,13 @@ use receiver::ReceiveAnswer;
 use session::{Receiver, ReceiverState, Sender, SenderState, Timeout};
 use window::{SendWindow, TimeoutAnswer};
 
-#[derive(Drop)]
+#[derive(Clone, Copy)]
 pub struct TimeoutResult {
     pub sender: Sender,
     pub answer: TimeoutAnswer,
 }
 
-#[derive(Drop)]
+#[derive(Clone, Copy)]
 pub struct ReceiveResult {
     pub receiver: Receiver,
     pub answer: ReceiveAnswer,

@@ -14,7 +14,7 @@ const TIMER: u64 = 264;
 pub const TIMER_WORDS: usize = 4;
 
 // What the words of a timer hold.
-#[derive(Drop)]
+#[derive(Clone, Copy)]
 pub enum HeldTimer {
     Timer(RetransmissionTimer),
     Broken,

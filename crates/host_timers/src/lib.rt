@@ -18,7 +18,7 @@ pub const TIMERS_WORDS: usize = 3;
 const MAX_U32: u64 = 4_294_967_295;
 
 // What the words of a timer set hold.
-#[derive(Drop)]
+#[derive(Clone, Copy)]
 pub enum HeldTimers {
     Timers(MultiTimer),
     Broken,

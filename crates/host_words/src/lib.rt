@@ -32,7 +32,7 @@ pub const STATE_WORDS: usize = 8;
 const MAX_U32: u64 = 4_294_967_295;
 
 // The protocol of the end in words, or that they hold none.
-#[derive(Drop)]
+#[derive(Clone, Copy)]
 pub enum Kind {
     StopAndWait,
     GoBackN,
@@ -41,21 +41,21 @@ pub enum Kind {
 }
 
 // What the words of a sender hold.
-#[derive(Drop)]
+#[derive(Clone, Copy)]
 pub enum HeldSender {
     Sender(Sender),
     Broken,
 }
 
 // What the words of a receiver hold.
-#[derive(Drop)]
+#[derive(Clone, Copy)]
 pub enum HeldReceiver {
     Receiver(Receiver),
     Broken,
 }
 
 // Words that a receiver is put into.
-#[derive(Drop)]
+#[derive(Clone, Copy)]
 pub struct ReceiverFields {
     pub window: usize,
     pub base: u32,

@@ -11,78 +11,78 @@ mod entries;
 mod unchecked;
 
 // The first count entries of the lent keys and deadlines are used, by ascending key.
-#[derive(Drop)]
+#[derive(Clone, Copy)]
 pub struct MultiTimer {
     pub count: usize,
     pub global_generation: u64,
 }
 
-#[derive(Drop)]
+#[derive(Clone, Copy)]
 pub enum MultiTimerAnswer {
     Made(MultiTimer),
     Refused(Refusal),
 }
 
-#[derive(Drop)]
+#[derive(Clone, Copy)]
 pub enum StartAnswer {
     Id(u64),
     Refused(Refusal),
 }
 
-#[derive(Drop)]
+#[derive(Clone, Copy)]
 pub struct StartResult {
     pub timers: MultiTimer,
     pub answer: StartAnswer,
 }
 
-#[derive(Drop)]
+#[derive(Clone, Copy)]
 pub enum CancelAnswer {
     // Whether the key had a timer.
     Existed(bool),
     Refused(Refusal),
 }
 
-#[derive(Drop)]
+#[derive(Clone, Copy)]
 pub struct CancelResult {
     pub timers: MultiTimer,
     pub answer: CancelAnswer,
 }
 
-#[derive(Drop)]
+#[derive(Clone, Copy)]
 pub enum PopAnswer {
     // How many expired keys stand in the lent slice.
     Keys(usize),
     Refused(Refusal),
 }
 
-#[derive(Drop)]
+#[derive(Clone, Copy)]
 pub struct PopResult {
     pub timers: MultiTimer,
     pub answer: PopAnswer,
 }
 
-#[derive(Drop)]
+#[derive(Clone, Copy)]
 pub enum EarliestAnswer {
     Nothing,
     At(u64),
     Refused(Refusal),
 }
 
-#[derive(Drop)]
+#[derive(Clone, Copy)]
 pub struct ClearResult {
     pub timers: MultiTimer,
     pub answer: DoneAnswer,
 }
 
 // Where a key stands, or where it would.
-#[derive(Drop)]
+#[derive(Clone, Copy)]
 pub enum KeyPosition {
     At(usize),
     Absent(usize),
 }
 
 // The lowest key of those looked for.
-#[derive(Drop)]
+#[derive(Clone, Copy)]
 pub enum NextKey {
     Key(u32),
     Nothing,

@@ -28,13 +28,13 @@ pub type Note = Row;
 
 // The first `count` rows are in use. Below `scheduled` every row has ack_scheduled set, so that a cumulative ACK need
 // not walk them again.
-#[derive(Drop)]
+#[derive(Clone, Copy)]
 pub struct Notes {
     pub count: usize,
     pub scheduled: usize,
 }
 
-#[derive(Drop)]
+#[derive(Clone, Copy)]
 pub enum Sample {
     // The RTT sample of a segment's first ACK, and whether the segment was sent more than once.
     Rtt(u64, bool),
@@ -42,7 +42,7 @@ pub enum Sample {
 }
 
 // When a segment's timer runs out.
-#[derive(Drop)]
+#[derive(Clone, Copy)]
 pub enum Expiry {
     At(u64),
     Nothing,

@@ -12,14 +12,14 @@ use refusal::Refusal;
 
 pub const FLAG_RETRANSMITTED: u8 = 1;
 
-#[derive(Drop)]
+#[derive(Clone, Copy)]
 pub enum PacketType {
     Data,
     Ack,
     Fin,
 }
 
-#[derive(Drop)]
+#[derive(Clone, Copy)]
 pub struct Packet {
     pub seq_num: u32,
     pub pkt_type: PacketType,
@@ -27,25 +27,25 @@ pub struct Packet {
     pub checksum: u16,
 }
 
-#[derive(Drop)]
+#[derive(Clone, Copy)]
 pub enum PacketTypeAnswer {
     Type(PacketType),
     Refused(Refusal),
 }
 
-#[derive(Drop)]
+#[derive(Clone, Copy)]
 pub enum PacketAnswer {
     Packet(Packet),
     Refused(Refusal),
 }
 
-#[derive(Drop)]
+#[derive(Clone, Copy)]
 pub enum ChecksumAnswer {
     Checksum(u16),
     Refused(Refusal),
 }
 
-#[derive(Drop)]
+#[derive(Clone, Copy)]
 pub enum ValidityAnswer {
     Valid,
     Invalid,
@@ -53,7 +53,7 @@ pub enum ValidityAnswer {
 }
 
 // What a datagram given to a sender or a receiver is.
-#[derive(Drop)]
+#[derive(Clone, Copy)]
 pub enum DatagramReading {
     // Its checksum matches.
     Valid(Packet),
@@ -63,7 +63,7 @@ pub enum DatagramReading {
 }
 
 // How many bytes were written.
-#[derive(Drop)]
+#[derive(Clone, Copy)]
 pub enum LengthAnswer {
     Length(usize),
     Refused(Refusal),

@@ -13,7 +13,7 @@ use schedule::{ChannelScheduler, DeadlineAnswer, Deliveries, FirstDue, Scheduled
 // How many rolls a packet takes.
 pub const PACKET_ROLLS: usize = 8;
 
-#[derive(Drop)]
+#[derive(Clone, Copy)]
 pub struct Path {
     pub channel: Channel,
     pub scheduler: ChannelScheduler,
@@ -21,7 +21,7 @@ pub struct Path {
     pub used: usize,
 }
 
-#[derive(Drop)]
+#[derive(Clone, Copy)]
 pub enum Carriage {
     RollsSpent,
     EventsFull,
@@ -31,7 +31,7 @@ pub enum Carriage {
 }
 
 // Why a run ends at a packet, or that it goes on.
-#[derive(Drop)]
+#[derive(Clone, Copy)]
 pub enum Stop {
     Going,
     RollsSpent,
@@ -39,14 +39,14 @@ pub enum Stop {
     ScheduleFull,
 }
 
-#[derive(Drop)]
+#[derive(Clone, Copy)]
 pub struct CarryResult {
     pub path: Path,
     pub answer: Carriage,
 }
 
 // When a copy leaves next.
-#[derive(Drop)]
+#[derive(Clone, Copy)]
 pub enum NextDeadline {
     At(u64),
     Nothing,

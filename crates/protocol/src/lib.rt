@@ -1,5 +1,5 @@
 // The three protocols: arq/mod.rs of the reference.
-#[derive(Drop)]
+#[derive(Clone, Copy)]
 pub enum ProtocolType {
     StopAndWait,
     GoBackN,

@@ -12,7 +12,7 @@ use packet::{DatagramReading, Packet, PacketType};
 use refusal::{Refusal, Verdict};
 
 // What a packet that was read is to a receiver.
-#[derive(Drop)]
+#[derive(Clone, Copy)]
 pub enum PacketReading {
     // Valid, with its number.
     Data(u32),
@@ -24,28 +24,28 @@ pub enum PacketReading {
 }
 
 // What a datagram is to a receiver.
-#[derive(Drop)]
+#[derive(Clone, Copy)]
 pub enum ReadingAnswer {
     Reading(PacketReading),
     Refused(Refusal),
 }
 
 // What a receiver sends back.
-#[derive(Drop)]
+#[derive(Clone, Copy)]
 pub enum Reply {
     Ack(u32),
     Silent,
 }
 
 // What a receiver decided on a packet, before anything is written.
-#[derive(Drop)]
+#[derive(Clone, Copy)]
 pub struct Decision {
     pub deliver: bool,
     pub reply: Reply,
 }
 
 // The number of the ACK that was written, or none.
-#[derive(Drop)]
+#[derive(Clone, Copy)]
 pub enum ReceiveAnswer {
     Ack(u32),
     Silent,
@@ -53,7 +53,7 @@ pub enum ReceiveAnswer {
 }
 
 // The fill mark and the answer when a decision is carried out, or refused.
-#[derive(Drop)]
+#[derive(Clone, Copy)]
 pub struct ApplyResult {
     pub filled: usize,
     pub answer: ReceiveAnswer,

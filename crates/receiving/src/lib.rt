@@ -21,7 +21,7 @@ use schedule::{FirstDue, ScheduledRow, copies_of};
 use session::Receiver;
 
 // completed_at is the moment at which the last chunk was delivered, 0 before.
-#[derive(Drop)]
+#[derive(Clone, Copy)]
 pub struct ReceivingSide {
     pub receiver: Receiver,
     pub data_received: u64,
@@ -31,7 +31,7 @@ pub struct ReceivingSide {
     pub completed_at: u64,
 }
 
-#[derive(Drop)]
+#[derive(Clone, Copy)]
 pub struct ForwardResult {
     pub side: ReceivingSide,
     pub reverse: Path,
@@ -40,7 +40,7 @@ pub struct ForwardResult {
 }
 
 // progress: whether a datagram was handed over.
-#[derive(Drop)]
+#[derive(Clone, Copy)]
 pub struct ServeForwardResult {
     pub forward: Path,
     pub side: ReceivingSide,
@@ -52,7 +52,7 @@ pub struct ServeForwardResult {
 
 // What a datagram from the forward line is: Data that can be read, with whether its checksum matches; anything else is
 // dropped.
-#[derive(Drop)]
+#[derive(Clone, Copy)]
 enum Arrival {
     Data(Packet, bool),
     Dropped,

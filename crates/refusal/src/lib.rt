@@ -6,7 +6,7 @@ ghost use Rattle.refusal.specs.Refusal.{entry_of, word_of, values_of};
 ghost use Rattle.refusal.specs.Order.{held_checks, verdict};
 
 // A case for each line of the table, with the values that its line names.
-#[derive(Drop)]
+#[derive(Clone, Copy)]
 pub enum Refusal {
     // The datagram's length.
     Short(usize),
@@ -25,40 +25,40 @@ pub enum Refusal {
 }
 
 // What a call's checks say.
-#[derive(Drop)]
+#[derive(Clone, Copy)]
 pub enum Verdict {
     Accepted,
     Refused(Refusal),
 }
 
 // Answers that are a bool, a count, or nothing but that the call is done.
-#[derive(Drop)]
+#[derive(Clone, Copy)]
 pub enum TestAnswer {
     Is(bool),
     Refused(Refusal),
 }
 
-#[derive(Drop)]
+#[derive(Clone, Copy)]
 pub enum CountAnswer {
     Count(usize),
     Refused(Refusal),
 }
 
-#[derive(Drop)]
+#[derive(Clone, Copy)]
 pub enum DoneAnswer {
     Done,
     Refused(Refusal),
 }
 
 // A word of at most 16 letters in ASCII, with zeros after it.
-#[derive(Drop)]
+#[derive(Clone, Copy)]
 pub struct Word {
     pub len: usize,
     pub bytes: [u8; 16],
 }
 
 // The values that a line names, in its order; 0 past their count.
-#[derive(Drop)]
+#[derive(Clone, Copy)]
 pub struct Values {
     pub count: usize,
     pub first: u64,

@@ -13,7 +13,7 @@ use libc::STDOUT_FILENO;
 use refusal::Refusal;
 
 // A line's letter, its numbers, and where its bytes start.
-#[derive(Drop)]
+#[derive(Clone, Copy)]
 pub struct Fields {
     pub letter: u8,
     pub values: [u64; 12],
@@ -23,14 +23,14 @@ pub struct Fields {
 }
 
 // A number and where the next one starts.
-#[derive(Drop)]
+#[derive(Clone, Copy)]
 struct Number {
     value: u64,
     next: usize,
     good: bool,
 }
 
-#[derive(Drop)]
+#[derive(Clone, Copy)]
 struct Digits {
     value: u64,
     good: bool,

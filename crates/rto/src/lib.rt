@@ -18,7 +18,7 @@ use rtt::Estimate;
 // The largest u32, where the count of consecutive timeouts stops.
 const MAX_CONSECUTIVE: u32 = 4_294_967_295;
 
-#[derive(Drop)]
+#[derive(Clone, Copy)]
 pub struct RtoConfig {
     pub initial_rto: u64,
     pub min_rto: u64,
@@ -31,13 +31,13 @@ pub struct RtoConfig {
 }
 
 // A duration that may be unset.
-#[derive(Drop)]
+#[derive(Clone, Copy)]
 pub enum MaybeDuration {
     Unset,
     Set(u64),
 }
 
-#[derive(Drop)]
+#[derive(Clone, Copy)]
 pub struct RtoStats {
     pub sample_count: u64,
     pub karn_rejected_count: u64,
@@ -50,7 +50,7 @@ pub struct RtoStats {
     pub max_consecutive_timeouts: u32,
 }
 
-#[derive(Drop)]
+#[derive(Clone, Copy)]
 pub struct RtoEstimator {
     pub config: RtoConfig,
     pub srtt: MaybeDuration,
@@ -62,44 +62,44 @@ pub struct RtoEstimator {
     pub stats: RtoStats,
 }
 
-#[derive(Drop)]
+#[derive(Clone, Copy)]
 pub enum EstimatorAnswer {
     Made(RtoEstimator),
     Refused(Refusal),
 }
 
-#[derive(Drop)]
+#[derive(Clone, Copy)]
 pub enum UpdateAnswer {
     // Whether the sample was used.
     Accepted(bool),
     Refused(Refusal),
 }
 
-#[derive(Drop)]
+#[derive(Clone, Copy)]
 pub struct UpdateResult {
     pub estimator: RtoEstimator,
     pub answer: UpdateAnswer,
 }
 
-#[derive(Drop)]
+#[derive(Clone, Copy)]
 pub enum RtoAnswer {
     Rto(u64),
     Refused(Refusal),
 }
 
-#[derive(Drop)]
+#[derive(Clone, Copy)]
 pub struct TimeoutResult {
     pub estimator: RtoEstimator,
     pub answer: RtoAnswer,
 }
 
-#[derive(Drop)]
+#[derive(Clone, Copy)]
 pub struct ResetResult {
     pub estimator: RtoEstimator,
     pub answer: DoneAnswer,
 }
 
-#[derive(Drop)]
+#[derive(Clone, Copy)]
 pub enum MeanAnswer {
     Millis(f64),
     Refused(Refusal),

@@ -11,7 +11,7 @@ ghost use Rattle.rtt.specs.Rtt.{thousand64, factor_in_bounds, to_ms, from_ms, rt
 ghost use Rattle.rtt.specs.Rtt.{unlimited_ms, estimate_of, first_estimate, next_estimate};
 
 // SRTT and RTTVAR in nanoseconds, and the RTO before its limits.
-#[derive(Drop)]
+#[derive(Clone, Copy)]
 pub struct Estimate {
     pub srtt: u64,
     pub rttvar: u64,

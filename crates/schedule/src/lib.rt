@@ -19,7 +19,7 @@ mod owned;
 mod places;
 
 // A record: its time in nanoseconds, how many were scheduled before it, its packet's length and place.
-#[derive(Drop)]
+#[derive(Clone, Copy)]
 pub struct Scheduled {
     pub time: u64,
     pub order: u64,
@@ -31,27 +31,27 @@ pub struct Scheduled {
 pub type ScheduledRow = [u64; 4];
 
 // The first `count` records wait; `next_order` is the order of the next copy.
-#[derive(Drop)]
+#[derive(Clone, Copy)]
 pub struct ChannelScheduler {
     pub count: usize,
     pub next_order: u64,
 }
 
 // The delays, in milliseconds, of the copies that the channel makes of one packet.
-#[derive(Drop)]
+#[derive(Clone, Copy)]
 pub enum Deliveries {
     Lost,
     One(u64),
     Two(u64, u64),
 }
 
-#[derive(Drop)]
+#[derive(Clone, Copy)]
 pub struct ScheduleResult {
     pub scheduler: ChannelScheduler,
     pub answer: DoneAnswer,
 }
 
-#[derive(Drop)]
+#[derive(Clone, Copy)]
 pub enum ReadyAnswer {
     // The length of the packet that was written to the lent buffer.
     Packet(usize),
@@ -60,19 +60,19 @@ pub enum ReadyAnswer {
 }
 
 // Of the packet that leaves first, if it is due, the place and the length.
-#[derive(Drop)]
+#[derive(Clone, Copy)]
 pub enum FirstDue {
     Packet(usize, usize),
     Nothing,
 }
 
-#[derive(Drop)]
+#[derive(Clone, Copy)]
 pub struct PopResult {
     pub scheduler: ChannelScheduler,
     pub answer: ReadyAnswer,
 }
 
-#[derive(Drop)]
+#[derive(Clone, Copy)]
 pub enum DeadlineAnswer {
     At(u64),
     Nothing,
@@ -80,33 +80,33 @@ pub enum DeadlineAnswer {
 }
 
 // A schedule of eight records that it holds itself, as structs; only its places are lent.
-#[derive(Drop)]
+#[derive(Clone, Copy)]
 pub struct OwnedSchedule {
     pub records: [Scheduled; 8],
     pub scheduler: ChannelScheduler,
 }
 
-#[derive(Drop)]
+#[derive(Clone, Copy)]
 pub struct OwnedScheduleResult {
     pub schedule: OwnedSchedule,
     pub answer: DoneAnswer,
 }
 
-#[derive(Drop)]
+#[derive(Clone, Copy)]
 pub struct OwnedPopResult {
     pub schedule: OwnedSchedule,
     pub answer: ReadyAnswer,
 }
 
 // A record taken out, and the records without it.
-#[derive(Drop)]
+#[derive(Clone, Copy)]
 struct TakeResult {
     first: Scheduled,
     records: [Scheduled; 8],
 }
 
 // Which of 256 places waiting records have, whether two have the same of them, and whether one has a place behind them.
-#[derive(Drop)]
+#[derive(Clone, Copy)]
 struct Block {
     used: [bool; 256],
     doubled: bool,
@@ -114,7 +114,7 @@ struct Block {
 }
 
 // The sum of some records' places, where none of them lies past a bound.
-#[derive(Drop)]
+#[derive(Clone, Copy)]
 enum PlaceSum {
     Is(u64),
     Past,

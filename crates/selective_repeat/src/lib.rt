@@ -26,30 +26,30 @@ use window::{
     TimeoutDecision,
 };
 
-#[derive(Drop)]
+#[derive(Clone, Copy)]
 pub struct SelectiveRepeatSender {
     pub window: SendWindow,
 }
 
-#[derive(Drop)]
+#[derive(Clone, Copy)]
 pub enum SelectiveRepeatSenderAnswer {
     Sender(SelectiveRepeatSender),
     Refused(Refusal),
 }
 
-#[derive(Drop)]
+#[derive(Clone, Copy)]
 pub struct SelectiveRepeatSendResult {
     pub sender: SelectiveRepeatSender,
     pub answer: SendAnswer,
 }
 
-#[derive(Drop)]
+#[derive(Clone, Copy)]
 pub struct SelectiveRepeatAckResult {
     pub sender: SelectiveRepeatSender,
     pub answer: AckAnswer,
 }
 
-#[derive(Drop)]
+#[derive(Clone, Copy)]
 pub struct SelectiveRepeatTimeoutResult {
     pub sender: SelectiveRepeatSender,
     pub answer: TimeoutAnswer,
@@ -276,7 +276,7 @@ fn acknowledge_one(
     window.release_unchecked(store, base, clean)
 }
 
-#[derive(Drop)]
+#[derive(Clone, Copy)]
 pub struct SelectiveRepeatReceiver {
     pub window_size: usize,
     pub recv_base: u32,
@@ -287,14 +287,14 @@ pub struct SelectiveRepeatReceiver {
     pub duplicates_count: u64,
 }
 
-#[derive(Drop)]
+#[derive(Clone, Copy)]
 pub enum SelectiveRepeatReceiverAnswer {
     Receiver(SelectiveRepeatReceiver),
     Refused(Refusal),
 }
 
 // What a packet does to the slots.
-#[derive(Drop)]
+#[derive(Clone, Copy)]
 pub enum SlotChange {
     Unchanged,
     // The payload is held under this number.
@@ -304,14 +304,14 @@ pub enum SlotChange {
 }
 
 // The state after a packet, and what is to be written; the fill mark is still the old one.
-#[derive(Drop)]
+#[derive(Clone, Copy)]
 pub struct SelectiveRepeatDecision {
     pub receiver: SelectiveRepeatReceiver,
     pub decision: Decision,
     pub change: SlotChange,
 }
 
-#[derive(Drop)]
+#[derive(Clone, Copy)]
 pub struct SelectiveRepeatReceiveResult {
     pub receiver: SelectiveRepeatReceiver,
     pub answer: ReceiveAnswer,

@@ -25,7 +25,7 @@ use schedule::ScheduledRow;
 use session::Sender;
 use submission::Outbound;
 
-#[derive(Drop)]
+#[derive(Clone, Copy)]
 pub struct PumpResult {
     pub sender: Sender,
     pub outbound: Outbound,
@@ -34,14 +34,14 @@ pub struct PumpResult {
 }
 
 // What was sent again so far, and whether the run is exhausted.
-#[derive(Drop)]
+#[derive(Clone, Copy)]
 pub struct Resends {
     pub retx_submitted: u64,
     pub premature: u64,
     pub exhausted: bool,
 }
 
-#[derive(Drop)]
+#[derive(Clone, Copy)]
 pub struct RetransmitResult {
     pub resends: Resends,
     pub outbound: Outbound,

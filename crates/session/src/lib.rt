@@ -29,32 +29,32 @@ use selective_repeat::{SelectiveRepeatReceiver, SelectiveRepeatSender};
 use stop_and_wait::{StopAndWaitReceiver, StopAndWaitSender};
 use window::SendWindow;
 
-#[derive(Drop)]
+#[derive(Clone, Copy)]
 pub enum SenderState {
     StopAndWait(StopAndWaitSender),
     GoBackN(GoBackNSender),
     SelectiveRepeat(SelectiveRepeatSender),
 }
 
-#[derive(Drop)]
+#[derive(Clone, Copy)]
 pub struct Sender {
     pub state: SenderState,
 }
 
-#[derive(Drop)]
+#[derive(Clone, Copy)]
 pub enum ReceiverState {
     StopAndWait(StopAndWaitReceiver),
     GoBackN(GoBackNReceiver),
     SelectiveRepeat(SelectiveRepeatReceiver),
 }
 
-#[derive(Drop)]
+#[derive(Clone, Copy)]
 pub struct Receiver {
     pub state: ReceiverState,
 }
 
 // The lowest outstanding number.
-#[derive(Drop)]
+#[derive(Clone, Copy)]
 pub enum Oldest {
     Number(u32),
     Nothing,
@@ -62,28 +62,28 @@ pub enum Oldest {
 
 // What a timeout is of: Go-Back-N's of all outstanding numbers or of the earliest, Selective Repeat's of a number.
 // Stop-and-Wait has one.
-#[derive(Drop)]
+#[derive(Clone, Copy)]
 pub enum Timeout {
     All,
     Earliest,
     Number(u32),
 }
 
-#[derive(Drop)]
+#[derive(Clone, Copy)]
 pub struct AckResult {
     pub sender: Sender,
     pub accepted: bool,
 }
 
 // The numbers that a timeout sends again, marked and counted: count from first on.
-#[derive(Drop)]
+#[derive(Clone, Copy)]
 pub struct TimeoutResult {
     pub sender: Sender,
     pub first: u32,
     pub count: u32,
 }
 
-#[derive(Drop)]
+#[derive(Clone, Copy)]
 pub struct ReceiveResult {
     pub receiver: Receiver,
     pub answer: ReceiveAnswer,

@@ -13,14 +13,14 @@ use refusal::{Refusal, Verdict};
 use rto::RtoConfig;
 
 // The source's timing, or document 01's edition clock.
-#[derive(Drop)]
+#[derive(Clone, Copy)]
 pub enum ClockChoice {
     Source,
     Edition,
 }
 
 // channel is the forward direction's; the reverse one has its delays and no faults.
-#[derive(Drop)]
+#[derive(Clone, Copy)]
 pub struct TransferConfig {
     pub protocol: ProtocolType,
     pub clock: ClockChoice,

@@ -21,7 +21,7 @@ mod finish;
 mod parts;
 
 // The parts of a setup that a step looks at.
-#[derive(Drop)]
+#[derive(Clone, Copy)]
 pub struct Plan {
     pub timing: Timing,
     pub total_chunks: u32,
@@ -32,7 +32,7 @@ pub struct Plan {
 }
 
 // A run at a moment, besides the lent slices: `moves` in time and `rounds` at this moment are left.
-#[derive(Drop)]
+#[derive(Clone, Copy)]
 pub struct State {
     pub arrivals: Arrivals,
     pub resends: Resends,
@@ -43,7 +43,7 @@ pub struct State {
     pub rounds: u32,
 }
 
-#[derive(Drop)]
+#[derive(Clone, Copy)]
 pub enum End {
     // As the source ends.
     Ended,
@@ -53,13 +53,13 @@ pub enum End {
 }
 
 // Whether a run goes on, or how and when it ended.
-#[derive(Drop)]
+#[derive(Clone, Copy)]
 pub enum Course {
     Going,
     Over { end: End, at: u64 },
 }
 
-#[derive(Drop)]
+#[derive(Clone, Copy)]
 pub struct StepResult {
     pub state: State,
     pub course: Course,

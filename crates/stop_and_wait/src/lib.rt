@@ -24,7 +24,7 @@ use receiver::{Decision, PacketReading, ReadingAnswer, ReceiveAnswer, Reply};
 use refusal::{Refusal, TestAnswer};
 use window::{AckAnswer, AckDecision, SendAnswer, SendWindow, TimeoutAnswer, TimeoutDecision};
 
-#[derive(Drop)]
+#[derive(Clone, Copy)]
 pub struct StopAndWaitSender {
     pub current_seq: u32,
     pub in_flight: bool,
@@ -34,25 +34,25 @@ pub struct StopAndWaitSender {
     pub retransmissions: u64,
 }
 
-#[derive(Drop)]
+#[derive(Clone, Copy)]
 pub enum StopAndWaitSenderAnswer {
     Sender(StopAndWaitSender),
     Refused(Refusal),
 }
 
-#[derive(Drop)]
+#[derive(Clone, Copy)]
 pub struct StopAndWaitSendResult {
     pub sender: StopAndWaitSender,
     pub answer: SendAnswer,
 }
 
-#[derive(Drop)]
+#[derive(Clone, Copy)]
 pub struct StopAndWaitAckResult {
     pub sender: StopAndWaitSender,
     pub answer: AckAnswer,
 }
 
-#[derive(Drop)]
+#[derive(Clone, Copy)]
 pub struct StopAndWaitTimeoutResult {
     pub sender: StopAndWaitSender,
     pub answer: TimeoutAnswer,
@@ -331,7 +331,7 @@ impl StopAndWaitSender {
     }
 }
 
-#[derive(Drop)]
+#[derive(Clone, Copy)]
 pub struct StopAndWaitReceiver {
     pub expected_seq: u32,
     // How many bytes of the output are filled.
@@ -342,13 +342,13 @@ pub struct StopAndWaitReceiver {
 }
 
 // The state after a packet, and what is to be written; the fill mark is still the old one.
-#[derive(Drop)]
+#[derive(Clone, Copy)]
 pub struct StopAndWaitDecision {
     pub receiver: StopAndWaitReceiver,
     pub decision: Decision,
 }
 
-#[derive(Drop)]
+#[derive(Clone, Copy)]
 pub struct StopAndWaitReceiveResult {
     pub receiver: StopAndWaitReceiver,
     pub answer: ReceiveAnswer,

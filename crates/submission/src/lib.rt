@@ -14,7 +14,7 @@ use schedule::{Deliveries, ScheduledRow, copies_of};
 use session::Oldest;
 
 // What a submission changes besides the lent slices.
-#[derive(Drop)]
+#[derive(Clone, Copy)]
 pub struct Outbound {
     pub forward: Path,
     // How many events are written.
@@ -23,7 +23,7 @@ pub struct Outbound {
     pub clock: Clock,
 }
 
-#[derive(Drop)]
+#[derive(Clone, Copy)]
 pub struct SubmitResult {
     pub outbound: Outbound,
     pub stop: Stop,

@@ -13,21 +13,21 @@ use refusal::Refusal;
 mod letters;
 
 // The place after what was written.
-#[derive(Drop)]
+#[derive(Clone, Copy)]
 pub enum PlaceAnswer {
     Next(usize),
     Refused(Refusal),
 }
 
 // The number, and the place after its last digit.
-#[derive(Drop)]
+#[derive(Clone, Copy)]
 pub enum DecimalReading {
     Number(u64, usize),
     NotANumber,
 }
 
 // The place after the last letter.
-#[derive(Drop)]
+#[derive(Clone, Copy)]
 pub enum HexReading {
     Next(usize),
     NotHex,

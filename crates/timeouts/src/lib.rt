@@ -23,7 +23,7 @@ use submission::Outbound;
 
 pub mod due;
 
-#[derive(Drop)]
+#[derive(Clone, Copy)]
 pub struct FireResult {
     pub sender: Sender,
     pub estimator: RtoEstimator,

@@ -8,32 +8,32 @@ ghost use Rattle.timer.specs.Timer.{is_expired_at, is_expired_for_at};
 use bounds::MAX_TIME;
 use refusal::{Refusal, TestAnswer};
 
-#[derive(Drop)]
+#[derive(Clone, Copy)]
 pub enum Deadline {
     Unset,
     At(u64),
 }
 
-#[derive(Drop)]
+#[derive(Clone, Copy)]
 pub struct RetransmissionTimer {
     pub deadline: Deadline,
     pub generation: u64,
 }
 
-#[derive(Drop)]
+#[derive(Clone, Copy)]
 pub enum TimerAnswer {
     // The timer's new generation.
     Id(u64),
     Refused(Refusal),
 }
 
-#[derive(Drop)]
+#[derive(Clone, Copy)]
 pub struct TimerResult {
     pub timer: RetransmissionTimer,
     pub answer: TimerAnswer,
 }
 
-#[derive(Drop)]
+#[derive(Clone, Copy)]
 pub enum Remaining {
     Inactive,
     For(u64),

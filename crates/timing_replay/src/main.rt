@@ -36,7 +36,7 @@ use rto::{
 };
 use timer::{Remaining, RetransmissionTimer, TimerAnswer, TimerResult};
 
-#[derive(Drop)]
+#[derive(Clone, Copy)]
 struct State {
     estimator: RtoEstimator,
     timer: RetransmissionTimer,

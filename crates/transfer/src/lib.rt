@@ -30,7 +30,7 @@ pub const MAX_EVENTS: u32 = 1_000_000;
 pub const MAX_SAME_TIME_SPINS: u32 = 100_000;
 
 // What ends a run besides its own course: how many moments, rounds at one moment and Stop-and-Wait retries it may have.
-#[derive(Drop)]
+#[derive(Clone, Copy)]
 pub struct Ceilings {
     pub steps: u32,
     pub rounds: u32,
@@ -38,7 +38,7 @@ pub struct Ceilings {
 }
 
 // The driver's own counts.
-#[derive(Drop)]
+#[derive(Clone, Copy)]
 pub struct DriverCounts {
     pub retx_submitted: u64,
     pub premature: u64,
@@ -50,7 +50,7 @@ pub struct DriverCounts {
     pub events: usize,
 }
 
-#[derive(Drop)]
+#[derive(Clone, Copy)]
 pub struct Outcome {
     pub completed: bool,
     pub finished_at: u64,
@@ -63,7 +63,7 @@ pub struct Outcome {
     pub reverse: ChannelStats,
 }
 
-#[derive(Drop)]
+#[derive(Clone, Copy)]
 pub enum RunAnswer {
     Outcome(Outcome),
     Refused(Refusal),

@@ -2,7 +2,7 @@
 use super::{EVENTS, NOTES, OUTPUT, PLACES, RECORDS, STORE, TIMERS};
 
 // Rolls: how many, by which rule, from which seed; and literals, the first of which says where they go.
-#[derive(Drop)]
+#[derive(Clone, Copy)]
 pub struct Draws {
     pub count: usize,
     pub kind: u64,

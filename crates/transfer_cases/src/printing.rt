@@ -198,7 +198,7 @@ fn print_channel(s: ChannelStats) {
 }
 
 // What stands in a row: a number, how often so far, and whether it is an octet.
-#[derive(Drop)]
+#[derive(Clone, Copy)]
 struct Repeat {
     value: u64,
     count: u64,

@@ -18,7 +18,7 @@ use bounds::{COUNT_LIMIT, MAX_WINDOW_SIZE, SEQ_NUM_LIMIT};
 use packet::{DatagramReading, Packet, PacketType};
 use refusal::{CountAnswer, Refusal, TestAnswer};
 
-#[derive(Drop)]
+#[derive(Clone, Copy)]
 pub struct SendWindow {
     pub window_size: usize,
     pub send_base: u32,
@@ -27,28 +27,28 @@ pub struct SendWindow {
     pub retransmissions: u64,
 }
 
-#[derive(Drop)]
+#[derive(Clone, Copy)]
 pub enum SendWindowAnswer {
     Window(SendWindow),
     Refused(Refusal),
 }
 
 // The length of the datagram that was written.
-#[derive(Drop)]
+#[derive(Clone, Copy)]
 pub enum SendAnswer {
     Sent(usize),
     WindowFull,
     Refused(Refusal),
 }
 
-#[derive(Drop)]
+#[derive(Clone, Copy)]
 pub struct SendResult {
     pub window: SendWindow,
     pub answer: SendAnswer,
 }
 
 // Whether an ACK is accepted, decided before anything is written: the number that it acknowledges, and the new base.
-#[derive(Drop)]
+#[derive(Clone, Copy)]
 pub enum AckDecision {
     Accept { seq_num: u32, base: u32 },
     NotAccepted,
@@ -56,7 +56,7 @@ pub enum AckDecision {
 }
 
 // Whether an ACK was accepted: the reference's true or false.
-#[derive(Drop)]
+#[derive(Clone, Copy)]
 pub enum AckAnswer {
     Accepted,
     NotAccepted,
@@ -64,7 +64,7 @@ pub enum AckAnswer {
 }
 
 // How many bytes of datagrams were written.
-#[derive(Drop)]
+#[derive(Clone, Copy)]
 pub enum TimeoutAnswer {
     Resent(usize),
     Nothing,
@@ -72,14 +72,14 @@ pub enum TimeoutAnswer {
 }
 
 // Which numbers a timeout sends again, decided before anything is written.
-#[derive(Drop)]
+#[derive(Clone, Copy)]
 pub enum TimeoutDecision {
     Resend { first: u32, count: u32 },
     Nothing,
     Refused(Refusal),
 }
 
-#[derive(Drop)]
+#[derive(Clone, Copy)]
 pub struct TimeoutResult {
     pub window: SendWindow,
     pub answer: TimeoutAnswer,
