@@ -1,4 +1,6 @@
 // ACKs from the reverse line: the reference's `on_ack`, with its sample and its timer.
+#![tactic(auto)]
+
 ghost use Rattle.std.specs.Prelude.{◌≡◌, List, ℕ};
 ghost use Rattle.packet.specs.Reading.{read_datagram};
 ghost use Rattle.path.specs.Direction.{direction};

@@ -17,6 +17,8 @@
 // ROOM is the length of the lent buffer, each byte a5 before; it is answered whole. After the answer of s, o and a
 // come the sender's base, next number, counters and retries; after that of p the base, the fill mark, the counters,
 // the bytes delivered and the CRC-32 of the output.
+#![tactic(auto)]
+
 use go_back_n::{GoBackNReceiver, GoBackNSender, GoBackNSenderAnswer};
 use libc::STDIN_FILENO;
 use receiver::ReceiveAnswer;

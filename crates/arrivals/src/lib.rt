@@ -1,5 +1,7 @@
 // What is due on both lines at a moment. Definitions in specs/, proofs in proofs/; no code: a step of a run calls the
 // loops over both lines itself.
+#![tactic(auto)]
+
 use acks::AckSide;
 use notes::Notes;
 use path::Path;

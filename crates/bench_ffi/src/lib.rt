@@ -1,6 +1,8 @@
 // For comparison and benchmark, not for hosts: what crates/pindrelo doesn't export, by numbers and slices. No contract
 // says what is answered: the answers are compared. An export named `_unchecked` is for a caller who keeps what it
 // requires; one named `_each` makes a call many times, as the inner call beside which an export is timed.
+#![tactic(auto)]
+
 mod channels;
 mod ends;
 mod packets;

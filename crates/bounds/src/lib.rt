@@ -1,4 +1,5 @@
 // Every bound of document 01 by name; specs/Bounds.antt has the same for definitions.
+#![tactic(auto)]
 
 // Bytes of a header, of a payload and of a datagram at most, of a slot, of a place in the schedule's store.
 pub const HEADER_SIZE: usize = 10;

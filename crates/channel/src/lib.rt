@@ -1,5 +1,7 @@
 // The channel: loss, duplication, reordering, corruption, delay and jitter, decided by eight rolls a packet.
 // Document 01, `channel/mod.rs`.
+#![tactic(auto)]
+
 ghost use Rattle.std.specs.Prelude.{◌≡◌};
 ghost use Rattle.channel.specs.Process.{new_channel, new_channel_unchecked};
 ghost use Rattle.channel.specs.Process.{transit_exit, process_unchecked, CanProcess};

@@ -12,6 +12,8 @@
 //   q              next_deadline, len, is_empty and room
 //   d              answers how many wait, the next order, all numbers of all records, and the CRC-32 of the places
 // A schedule of eight records goes through the structs: unpacked before `schedule_at` or `pop_ready_at`, packed after.
+#![tactic(auto)]
+
 ghost use Rattle.std.specs.Prelude.{◌≡◌, length};
 
 use channel::{Channel, ChannelAnswer, ChannelConfig, ChannelStats, ProcessAnswer, Rolls};

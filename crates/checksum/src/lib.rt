@@ -1,4 +1,6 @@
 // The Internet checksum of RFC 1071.
+#![tactic(auto)]
+
 ghost use Rattle.std.specs.Prelude.{◌≡◌, ◌+◌, ◌*◌, ◌≤◌, ◌<◌, length};
 ghost use Rattle.checksum.specs.Rfc1071.{words, ones_add, ones_sum};
 ghost use Rattle.checksum.specs.Techniques.{plain_sum, folded, Swapped};

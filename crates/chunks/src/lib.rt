@@ -1,4 +1,6 @@
 // A file in chunks: the reference's `Chunker`.
+#![tactic(auto)]
+
 ghost use Rattle.std.specs.Prelude.{◌≡◌, ◌≤◌, ◌<◌, List, [], length, get_or};
 ghost use Rattle.bounds.specs.Bounds.{max_payload};
 ghost use Rattle.chunks.specs.Chunks.{chunks_of};

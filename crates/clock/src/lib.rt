@@ -1,5 +1,7 @@
 // When a run sends again: the source's timing, one timer for the oldest outstanding segment or one for each number, or
 // the edition clock.
+#![tactic(auto)]
+
 ghost use Rattle.std.specs.Prelude.{◌≡◌, false, ◌-◌, ◌≤◌, length};
 ghost use Rattle.bounds.specs.Bounds.{max_duration, max_time};
 ghost use Rattle.timer.specs.Timer.{deadline_too_late, expired_at, started_at_unchecked};

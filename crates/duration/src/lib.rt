@@ -1,4 +1,6 @@
 // Bounds of times in nanoseconds, and durations to and from seconds as a double, as Rust's Duration converts them.
+#![tactic(auto)]
+
 ghost use Rattle.std.specs.Prelude.{◌≡◌, ◌^◌, ◌<◌, ◌≤◌, T};
 ghost use Rattle.std.specs.Float.Ieee.Nearest.{closest};
 ghost use Rattle.float.proofs.Sticky.{sticky};

@@ -1,4 +1,6 @@
 // The forward submissions in channel order: the reference's `ForwardEvent`, in lent rows.
+#![tactic(auto)]
+
 ghost use Rattle.std.specs.Prelude.{◌≡◌, ◌<◌, length, set};
 ghost use Rattle.events.specs.Events.{forward_event, row_of};
 

@@ -1,4 +1,6 @@
 // Doubles: rolls and chances, and the whole part of a roll times a number.
+#![tactic(auto)]
+
 ghost use Rattle.std.specs.Prelude.{◌≡◌, ◌/◌, ◌<◌, ◌≤◌, T};
 ghost use Rattle.float.specs.Roll.{roll_in_bounds, chance_in_bounds, scaled, roll_of};
 

@@ -1,4 +1,6 @@
 // Go-Back-N: arq/gbn.rs of the reference.
+#![tactic(auto)]
+
 ghost use Rattle.std.specs.Prelude.{◌≡◌, ◌*◌, ◌≤◌, ◌<◌, length, true, false};
 ghost use Rattle.bounds.specs.Bounds.{count_limit, seq_num_limit, slot_size};
 ghost use Rattle.window.specs.Slots.{sender, Clean};

@@ -1,5 +1,7 @@
 // What a call of the host interface answers: one number of 64 bits, a status in its lowest 8 bits (0 done, 1 to 11 a
 // refusal's number, from 16 on the other ordinary answers) and a value in the 56 above them.
+#![tactic(auto)]
+
 ghost use Rattle.std.specs.Prelude.{◌≡◌, ◌<◌};
 ghost use Rattle.host_answer.specs.Answer.{packed, status_limit, refusal_answer, test_answer, count_answer};
 ghost use Rattle.host_answer.specs.Answer.{done_answer};

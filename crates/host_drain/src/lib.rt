@@ -1,5 +1,7 @@
 // What a receiver has delivered, taken from its output by the host: `drain_delivered` of the source. The fill mark
 // goes back to 0, so that a file needs no output of its length.
+#![tactic(auto)]
+
 ghost use Rattle.std.specs.Prelude.{◌≡◌};
 ghost use Rattle.selective_repeat.specs.Receiver.{receiving_broken};
 ghost use Rattle.session.specs.Receiving.{receiver_end};

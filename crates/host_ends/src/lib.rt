@@ -1,5 +1,7 @@
 // The calls of the ends for a host outside Rattle: states in lent words, answers packed in one number. Every call takes
 // any words; those that hold no such end are a 9.
+#![tactic(auto)]
+
 ghost use Rattle.std.specs.Prelude.{◌≡◌, [], ◌∷◌, ◌*◌, ◌≤◌, ◌<◌, min, length};
 ghost use Rattle.bounds.specs.Bounds.{slot_size};
 ghost use Rattle.window.specs.Slots as slots;

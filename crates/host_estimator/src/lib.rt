@@ -1,4 +1,6 @@
 // The RTO estimator for a host outside Rattle: its state in lent words and doubles. What holds no estimator is a 9.
+#![tactic(auto)]
+
 mod words;
 
 ghost use Rattle.std.specs.Prelude.{◌≡◌};

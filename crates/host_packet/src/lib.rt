@@ -1,4 +1,6 @@
 // Packets for a host outside Rattle.
+#![tactic(auto)]
+
 ghost use Rattle.std.specs.Prelude.{◌≡◌, min};
 ghost use Rattle.packet.specs.declared.PacketTypeAnswer.TheVariants as typeAnswer;
 ghost use Rattle.host_packet.specs.Packet.{header_value, read, validate, payload_length, length_code, write_exit};

@@ -1,4 +1,6 @@
 // The page of a run's forward events for a host outside Rattle.
+#![tactic(auto)]
+
 ghost use Rattle.std.specs.Prelude.{◌≡◌};
 ghost use Rattle.host_report.specs.Report.{place_code, report_exit, report};
 

@@ -1,4 +1,6 @@
 // A whole run for a host outside Rattle: the setup in lent numbers and doubles, the outcome in lent words.
+#![tactic(auto)]
+
 mod outcome;
 mod setup_in;
 

@@ -1,4 +1,6 @@
 // Timeouts and receiving by the entry points of the three protocols, behind a session's types.
+#![tactic(auto)]
+
 ghost use Rattle.std.specs.Prelude.{◌≡◌};
 ghost use Rattle.window.specs.Slots.{sender};
 ghost use Rattle.window.specs.Resending.{timeout_exit};

@@ -1,4 +1,6 @@
 // The retransmission timer for a host outside Rattle: its state in lent words. Words that hold no timer are a 9.
+#![tactic(auto)]
+
 ghost use Rattle.std.specs.Prelude.{◌≡◌, ◌≤◌, length};
 ghost use Rattle.host_answer.specs.Exit.{words_exit};
 ghost use Rattle.host_single_timer.specs.SingleTimer.{timer_words, is_set, time_of, held_timer, with_timer, make_timer};

@@ -1,4 +1,6 @@
 // The timer set for a host outside Rattle: its state in lent words. Words that hold no set are a 9.
+#![tactic(auto)]
+
 ghost use Rattle.std.specs.Prelude.{◌≡◌, ◌≤◌, length};
 ghost use Rattle.multi_timer.specs.MultiTimer.{timers_exit, pop_exit};
 ghost use Rattle.host_answer.specs.Exit.{words_exit};

@@ -1,4 +1,6 @@
 // The states of the ends in lent words: what words hold, and words with a state put into them.
+#![tactic(auto)]
+
 ghost use Rattle.std.specs.Prelude.{◌≡◌, cond, ◌+◌, ◌≤◌, ◌<◌, length, set};
 ghost use Rattle.host_words.specs.Words.{state_words, sender_word, receiver_word, window_in, stop_and_wait_in, with_kind};
 ghost use Rattle.host_words.specs.Words.{sender_unreadable, not_single, held_sender, with_window, with_stop_and_wait};

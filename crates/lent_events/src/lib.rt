@@ -1,4 +1,6 @@
 // Rows of numbers that a caller lends as events: whether they are, and whether their delays are within bounds.
+#![tactic(auto)]
+
 ghost use Rattle.std.specs.Prelude.{◌≡◌, false};
 ghost use Rattle.events.specs.Events.{of_copies};
 ghost use Rattle.refusal.specs.Order.{verdict};

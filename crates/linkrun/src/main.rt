@@ -1,4 +1,6 @@
 // Reads a file from standard input, and prints the forward events of its run over a line without faults.
+#![tactic(auto)]
+
 use libc::{STDIN_FILENO, STDOUT_FILENO};
 use text::PlaceAnswer;
 

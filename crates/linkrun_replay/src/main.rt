@@ -2,6 +2,8 @@
 // it (file `stdout`). The form of lines is replay_io's: the letter f and a file's bytes, 2,048 at most. The answer is
 // the text's length and its CRC-32; of a file that is run also whether the run is completed, and its end. The letter p
 // and a file: the length of the page of its run's events, its CRC-32 and the page.
+#![tactic(auto)]
+
 use events::Event;
 use libc::STDIN_FILENO;
 use linkrun_text::MAX_FILE;

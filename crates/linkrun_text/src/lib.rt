@@ -1,4 +1,6 @@
 // What the program `linkrun` prints for a file: the forward events of one run with a built-in setup.
+#![tactic(auto)]
+
 ghost use Rattle.std.specs.Prelude.{◌≡◌, replicate};
 ghost use Rattle.rows.specs.Rows.{vacant};
 ghost use Rattle.text.specs.Place.{place_exit, place};

@@ -1,4 +1,6 @@
 // A set of timers by key in two lent slices: the reference's MultiTimer on nanoseconds.
+#![tactic(auto)]
+
 ghost use Rattle.std.specs.Prelude.{◌≡◌, ◌==◌};
 ghost use Rattle.multi_timer.specs.MultiTimer.{timers_exit, pop_exit, new_timers, start_timer_at, cancel_timer};
 ghost use Rattle.multi_timer.specs.MultiTimer.{is_expired_at, pop_expired_at, earliest_deadline, clear_timers};

@@ -1,4 +1,6 @@
 // What the driver notes of each segment: the reference's `SegMeta` in lent rows, one for each chunk.
+#![tactic(auto)]
+
 ghost use Rattle.std.specs.Prelude.{◌≡◌, [], ◌-◌, ◌≤◌, ◌<◌, min, length, get_or, set};
 ghost use Rattle.bounds.specs.Bounds.{max_duration};
 ghost use Rattle.notes.specs.Notes.{seg_metas, new_notes, sent, sent_again, set_dropped, mark_ack_scheduled, marked_row};

@@ -1,4 +1,6 @@
 // Octets in lent memory: copies, zeros, sums, and big-endian numbers.
+#![tactic(auto)]
+
 ghost use Rattle.std.specs.Prelude.{◌≡◌, ◌+◌, ◌*◌, ◌≤◌, length, replicate};
 ghost use Rattle.octets.specs.Fold.{fold_bytes};
 

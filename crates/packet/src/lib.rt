@@ -1,5 +1,7 @@
 // Packets and their wire format: packet.rs of the reference. The payload lies beside the packet, in the caller's
 // memory.
+#![tactic(auto)]
+
 ghost use Rattle.std.specs.Prelude.{◌≡◌, ◌+◌, ◌≤◌, ◌++◌, length, drop};
 ghost use Rattle.bounds.specs.Bounds.{header_size};
 ghost use Rattle.packet.specs.Format.{byte_of, new_packet, is_retransmitted, set_retransmitted, header_bytes};

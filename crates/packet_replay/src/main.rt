@@ -6,6 +6,8 @@
 //   t KIND                                      try_from and to_byte
 //   f NUMBER KIND FLAGS CHECKSUM                is_retransmitted, set_retransmitted, and the maker of this kind
 // A packet is answered by number, kind, flags and checksum, a refusal by `refused`, its number and its values.
+#![tactic(auto)]
+
 use libc::STDIN_FILENO;
 use packet::{
     ChecksumAnswer, LengthAnswer, Packet, PacketAnswer, PacketType, PacketTypeAnswer,

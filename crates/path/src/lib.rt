@@ -1,5 +1,7 @@
 // One direction of the line: a channel, the schedule of its copies, and how many rolls are used.
 // Document 01, `app/transfer.rs`.
+#![tactic(auto)]
+
 ghost use Rattle.std.specs.Prelude.{◌≡◌, ◌+◌, ◌≤◌, length};
 ghost use Rattle.schedule.specs.Schedule.{first_due};
 ghost use Rattle.path.specs.Rolls.{packet_rolls, rolls_at, rolls_broken, Doubles};

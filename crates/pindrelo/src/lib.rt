@@ -1,5 +1,7 @@
 // The library for a host in C, C++ or Rust: include/pindrelo.h. Each export is a call of a host_ crate, with its
 // contract.
+#![tactic(auto)]
+
 ghost use Rattle.std.specs.Prelude.{◌≡◌, [], ◌∷◌, not, eqb};
 ghost use Rattle.session.specs.declared.Timeout.TheVariants as timeouts;
 ghost use Rattle.host_ends.specs.Answers.{callExit};

@@ -1,4 +1,6 @@
 // What the three receivers share: reading a datagram, delivering a payload into the lent output, writing the ACK.
+#![tactic(auto)]
+
 ghost use Rattle.std.specs.Prelude.{◌≡◌, ◌+◌, ◌≤◌, length, ltb, ◌&&◌};
 ghost use Rattle.packet.specs.Reading.{read_datagram};
 ghost use Rattle.receiver.specs.State.{state_broken, counts_broken};

@@ -1,5 +1,7 @@
 // The receiving side of a run: what is due on the forward line to the receiver, its ACKs to the reverse line.
 // app/transfer.rs of the reference.
+#![tactic(auto)]
+
 ghost use Rattle.std.specs.Prelude.{◌≡◌, true, ◌&&◌, cond, List, ℕ, ◌+◌, ◌-◌, ◌^◌, ◌≤◌, ◌<◌, length};
 ghost use Rattle.packet.specs.Reading.{read_datagram};
 ghost use Rattle.notes.specs.Notes.{seg_metas, mark_ack_scheduled, ScheduledBelow};

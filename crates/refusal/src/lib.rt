@@ -1,6 +1,8 @@
 // Why a call is turned away, for every layer: document 01, "Turned away". A new refusal has six places: its case in
 // `Refusal`, its arms in `number`, `word` and, where it has values, `values`; its line of `entry_of` in
 // specs/Refusal.antt; its place in `order` in specs/Order.antt; its line of `in_order_lem` in proofs/Laws.antt.
+#![tactic(auto)]
+
 ghost use Rattle.std.specs.Prelude.{◌≡◌, ◌≤◌, length};
 ghost use Rattle.refusal.specs.Refusal.{entry_of, word_of, values_of};
 ghost use Rattle.refusal.specs.Order.{held_checks, verdict};

@@ -6,6 +6,8 @@
 // numbers and bytes, with a blank before each. Bytes are printed as they are read; of more than 2,048 the answer has
 // their number, `crc32` and their CRC-32 (IEEE 802.3, reflected) in hexadecimal.
 // Any other line is answered by `bad line`, and an input that fills its buffer by `input too long`.
+#![tactic(auto)]
+
 ghost use Rattle.std.specs.Prelude.{◌≡◌, ◌≤◌, ◌<◌, length};
 ghost use Rattle.io.specs.Counts.{IsPrefixLen};
 

@@ -1,4 +1,6 @@
 // The page for the job bag: the forward events of a run in columns, in lent memory.
+#![tactic(auto)]
+
 ghost use Rattle.std.specs.Prelude.{◌≡◌, false, cond, [], map, ◌+◌, ◌≤◌, min, length, ltb};
 ghost use Rattle.refusal.specs.Order.{verdict};
 ghost use Rattle.refusal.specs.declared.Verdict.TheVariants as verdicts;

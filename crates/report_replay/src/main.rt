@@ -2,6 +2,8 @@
 // `stdout`). The form of lines is replay_io's. `e` and seven numbers: a row more, 64 at most; the answer is how many
 // there are. `c`: no rows. `p COUNT SIZE`: the page of the first COUNT of the rows in a buffer of SIZE bytes, 8,192 at
 // most and all `#`; the answer is its length or the refusal, the CRC-32 of the buffer after the call, then the page.
+#![tactic(auto)]
+
 use events::Event;
 use libc::STDIN_FILENO;
 use replay_io::Fields;

@@ -1,4 +1,6 @@
 // Rows of seven numbers in lent memory; notes and events lie in such rows.
+#![tactic(auto)]
+
 ghost use Rattle.std.specs.Prelude.{◌≡◌, length, replicate};
 ghost use Rattle.rows.specs.Rows.{vacant, as_number};
 

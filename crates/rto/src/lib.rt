@@ -1,4 +1,6 @@
 // The RTO estimator of RFC 6298 by value: the reference's timing/rto.rs on nanoseconds.
+#![tactic(auto)]
+
 ghost use Rattle.std.specs.Prelude.{◌≡◌, ◌≤◌, min, max, true, false, ◌||◌, [], ◌∷◌, nat_lt};
 ghost use Rattle.refusal.specs.Order.{check, verdict};
 ghost use Rattle.refusal.specs.declared.Refusal.TheVariants.{State, Counts, Time};

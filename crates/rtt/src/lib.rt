@@ -1,4 +1,6 @@
 // RFC 6298's estimates on nanoseconds, worked out in doubles of milliseconds.
+#![tactic(auto)]
+
 ghost use Rattle.std.specs.Prelude.{◌≡◌, ◌≤◌, T};
 ghost use Rattle.std.specs.Float.{binary64};
 ghost use Rattle.std.specs.Float.Ieee.{div};

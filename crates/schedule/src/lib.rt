@@ -1,4 +1,6 @@
 // The delivery schedule: waiting copies of packets, handed out at their time. Document 01, `channel/scheduler.rs`.
+#![tactic(auto)]
+
 ghost use Rattle.std.specs.Prelude.{◌≡◌, true, false, ◌≤◌, length};
 ghost use Rattle.schedule.specs.Record.{after};
 ghost use Rattle.schedule.specs.State.{schedule, state_broken, copies, delay_at, CanPut, CanSchedule, Cleared};

@@ -1,4 +1,6 @@
 // Selective Repeat: arq/sr.rs of the reference.
+#![tactic(auto)]
+
 ghost use Rattle.std.specs.Prelude.{◌≡◌, ◌+◌, ◌-◌, ◌*◌, ◌≤◌, ◌<◌, true, false, length};
 ghost use Rattle.bounds.specs.Bounds.{count_limit, max_payload, max_window, slot_size};
 ghost use Rattle.window.specs.State as windowState;

@@ -1,4 +1,6 @@
 // What a run sends: the reference's `pump_sends`, new chunks as the window has space, and `retransmit`, a packet again.
+#![tactic(auto)]
+
 ghost use Rattle.std.specs.Prelude.{◌≡◌, true, false, map, length, ◌+◌, ◌^◌, ◌<◌};
 ghost use Rattle.bounds.specs.Bounds.{max_datagram};
 ghost use Rattle.protocol.specs.Runs.{up_from};

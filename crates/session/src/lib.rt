@@ -1,5 +1,7 @@
 // The two ends of a transfer, of any of the three protocols: `Session` of app/transfer.rs of the reference. Nothing is
 // checked here that a run knows of its states.
+#![tactic(auto)]
+
 ghost use Rattle.std.specs.Prelude.{◌≡◌, ◌+◌, ◌*◌, ◌≤◌, ◌<◌, min, true, false, ◌++◌, length, drop};
 ghost use Rattle.bounds.specs.Bounds.{header_size, slot_size};
 ghost use Rattle.window.specs.State.{numbers_broken, outstanding};

@@ -1,4 +1,6 @@
 // The setup of a run: the reference's `TransferConfig`, and what a run refuses at its start.
+#![tactic(auto)]
+
 ghost use Rattle.std.specs.Prelude.{◌≡◌, ◌||◌, ◌<◌};
 ghost use Rattle.refusal.specs.Order.{verdict};
 ghost use Rattle.window.specs.State.{store_short};

@@ -1,5 +1,7 @@
 // One round of a run at one moment and, if nothing happened in it, the move to the next deadline: the body of the loops
 // of the reference's `run_transfer`.
+#![tactic(auto)]
+
 ghost use Rattle.std.specs.Prelude.{◌≡◌};
 ghost use Rattle.step.specs.State.{given, lent, run_of};
 ghost use Rattle.step.specs.Settle.{step_exit};

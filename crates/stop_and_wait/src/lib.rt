@@ -1,4 +1,6 @@
 // Stop-and-Wait: arq/sw.rs of the reference.
+#![tactic(auto)]
+
 ghost use Rattle.std.specs.Prelude.{◌≡◌, ℕ, ◌+◌, ◌-◌, ◌≤◌, ◌<◌, length, true, false};
 ghost use Rattle.bounds.specs.Bounds.{count_limit, header_size, seq_num_limit, slot_size};
 ghost use Rattle.window.specs.State.{numbers_broken};

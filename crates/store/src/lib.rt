@@ -1,4 +1,6 @@
 // The lent store of a protocol end: slots of 1,404 bytes, end to end.
+#![tactic(auto)]
+
 ghost use Rattle.std.specs.Prelude.{◌≡◌, ◌+◌, ◌-◌, ◌*◌, ◌%◌, ◌≤◌, ◌<◌, min, length, replicate, drop, true, cond, ◌++◌};
 ghost use Rattle.bounds.specs.Bounds.{max_payload, seq_num_limit, slot_size};
 ghost use Rattle.store.specs.Sound.{sender_slots_broken, receiver_slots_broken};

@@ -1,4 +1,6 @@
 // A packet to the forward line: the reference's `submit`, with the note on its segment, its event and its timer.
+#![tactic(auto)]
+
 ghost use Rattle.std.specs.Prelude.{◌≡◌, ◌≤◌, ◌<◌, ltb, length};
 ghost use Rattle.path.specs.Direction.{direction};
 ghost use Rattle.path.specs.Path.{wire_after};

@@ -1,4 +1,6 @@
 // Plain decimal numbers and lower-case hexadecimal: written to a place of lent memory, and read there.
+#![tactic(auto)]
+
 ghost use Rattle.std.specs.Prelude.{◌≡◌, true, ◌+◌, ◌-◌, ◌*◌, ◌≤◌, ◌<◌, [], ◌∷◌, length, drop, replicate};
 ghost use Rattle.text.specs.Letters.{blank};
 ghost use Rattle.text.specs.Decimal.{is_plain, digits, right_in, left_in};

@@ -1,4 +1,6 @@
 // The timers of a run that have run out: the reference's `fire_timers`.
+#![tactic(auto)]
+
 ghost use Rattle.std.specs.Prelude.{◌≡◌};
 ghost use Rattle.path.specs.Direction.{direction};
 ghost use Rattle.notes.specs.Notes.{seg_metas};

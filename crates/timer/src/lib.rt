@@ -1,4 +1,6 @@
 // The retransmission timer, by value and lent: the reference's timing/timer.rs on nanoseconds.
+#![tactic(auto)]
+
 ghost use Rattle.std.specs.Prelude.{◌≡◌, ◌-◌, false};
 ghost use Rattle.timer.specs.Timer.{deadline_too_late, start_too_late, read_too_late};
 ghost use Rattle.timer.specs.Timer.{active, expired_at, deadline_remaining, started_at_unchecked, cancelled_unchecked};

@@ -24,6 +24,8 @@
 //   g SECONDS              from_secs_f64, of a double; `none` out of range
 // An estimator is answered by RTO, SRTT, RTTVAR and base RTO, whether it backs off, the consecutive timeouts, the
 // counts of samples, rejected ones, timeouts and backoffs, the most consecutive timeouts and the mean RTT in ms.
+#![tactic(auto)]
+
 use libc::STDIN_FILENO;
 use multi_timer::{
     CancelAnswer, EarliestAnswer, MultiTimer, MultiTimerAnswer, PopAnswer, StartAnswer,

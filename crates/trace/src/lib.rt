@@ -1,4 +1,6 @@
 // The forward events of a run as text in lent memory.
+#![tactic(auto)]
+
 ghost use Rattle.std.specs.Prelude.{◌≡◌, [], ◌∷◌, ◌++◌, map, ◌+◌, ◌≤◌, length, leb};
 ghost use Rattle.events.specs.Events.{of_copies, event_of};
 ghost use Rattle.rows.specs.Rows.{as_number, is_set};

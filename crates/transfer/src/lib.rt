@@ -1,4 +1,6 @@
 // A whole transfer on a virtual clock: the reference's `run_transfer`.
+#![tactic(auto)]
+
 ghost use Rattle.std.specs.Prelude.{◌≡◌, List, ℕ};
 ghost use Rattle.step.specs.State.{given, Lent, lent, run_of};
 ghost use Rattle.step.specs.Good.{GoodPlan, GoodRun};

@@ -17,6 +17,8 @@
 //     then, a line each and not where it is refused, the sender's fields (s), the receiver's (v), the driver's counts
 //     (d), the estimator's fields (t), the forward channel's counts and the reverse one's (c); and last the lent slices
 //     (l), in the order of m, as printing.rt prints them
+#![tactic(auto)]
+
 use channel::ChannelConfig;
 use protocol::ProtocolType;
 use replay_io::Fields;

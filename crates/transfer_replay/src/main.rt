@@ -1,5 +1,7 @@
 // Replays whole transfers from standard input, and writes the answer of each, as the reference and a model of
 // document 01 gave it (file `stdout`). transfer_cases has the form of lines and answers.
+#![tactic(auto)]
+
 use libc::STDIN_FILENO;
 use replay_io::Fields;
 use transfer_cases::Setup;

@@ -1,5 +1,7 @@
 // Prints what the library answers for RFC 1071's numerical example and the rows of document 01's proof sheet. Times are
 // in ms; of a receiver the answer and the buffer for the ACK are printed.
+#![tactic(auto)]
+
 use channel::{Channel, ChannelConfig, ChannelStats, ProcessAnswer, Rolls};
 use go_back_n::GoBackNReceiver;
 use libc::STDOUT_FILENO;

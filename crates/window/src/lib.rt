@@ -1,5 +1,7 @@
 // The sliding window that the three senders share: the chunks from send_base to next_seq_num - 1 lie in the store's
 // slots.
+#![tactic(auto)]
+
 ghost use Rattle.std.specs.Prelude.{◌≡◌, ◌+◌, ◌-◌, ◌*◌, ◌≤◌, ◌<◌, min, true, false, length, drop, ◌++◌};
 ghost use Rattle.bounds.specs.Bounds.{count_limit, header_size, max_payload, seq_num_limit, slot_size};
 ghost use Rattle.window.specs.Acknowledgement.{is_in_window, by_packet, by_reading, ack_decision};

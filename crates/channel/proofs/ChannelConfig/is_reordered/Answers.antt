@@ -1,0 +1,11 @@
+use Rattle.channel.specs.Faults.{is_lost, is_reordered}
+use Rattle.channel.proofs.Carrying.{unless, unless_lost}
+use Rattle.channel.proofs.ChannelConfig.is_reordered.Goals as goal
+
+pub returns-then-rolls-self : goal.returns-then-rolls-self
+unfolding is_lost is_reordered
+returns-then-rolls-self c = unless_lost _ _ c.if-rolls-self.true
+
+pub returns : goal.returns
+unfolding is_lost is_reordered
+returns c = unless _ _ c.if-rolls-self.false

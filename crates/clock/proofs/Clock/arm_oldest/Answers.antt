@@ -1,0 +1,25 @@
+use mathlib.Core.Path.{sym, ap, ◌∙◌}
+use native.Mathlib.Nat.{le_refl}
+use Rattle.bounds.specs.Bounds.{max_duration}
+use Rattle.timer.specs.declared.RetransmissionTimer.{RetransmissionTimer}
+use Rattle.timer.proofs.Laws.{start_too_late_within}
+use Rattle.notes.specs.Notes.{seg_metas}
+use Rattle.notes.proofs.Laws.{timely_later, expiry_within}
+use Rattle.clock.specs.Clock.{clock}
+use Rattle.clock.proofs.Calls.{arm_none, arm_missing, arm_until}
+use Rattle.clock.proofs.Clock.arm_oldest.Goals as goal
+
+pub expiry_unchecked-requires : goal.expiry_unchecked-requires
+expiry_unchecked-requires c = timely_later c.requires.1.within (le_refl max_duration) c.requires.1
+
+pub started_at_unchecked-requires : goal.started_at_unchecked-requires
+started_at_unchecked-requires c = rw c.time_left.ensures (start_too_late_within c.args.self.timer c.args.now _ c.requires.0 c.requires.1.within (expiry_within (seg_metas c.args.notes c.args.rows.now) _ c.args.now _ c.requires.1 (sym c.expiry_unchecked.ensures ∙ c.in-At.is)).ahead)
+
+pub returns-in-Nothing : goal.returns-in-Nothing
+returns-in-Nothing c = c.with_timer.ensures ∙ ap (λ (t : RetransmissionTimer). clock t c.args.self.timers) (c.cancelled_unchecked.ensures ∙ arm_none c.args.self.timer (seg_metas c.args.notes c.args.rows.now) c.args.now c.in-Nothing.is)
+
+pub returns-in-Nothing-expiry_unchecked : goal.returns-in-Nothing-expiry_unchecked
+returns-in-Nothing-expiry_unchecked c = c.with_timer-in-Nothing-expiry_unchecked.ensures ∙ ap (λ (t : RetransmissionTimer). clock t c.args.self.timers) (c.cancelled_unchecked-in-Nothing-expiry_unchecked.ensures ∙ arm_missing c.args.self.timer (seg_metas c.args.notes c.args.rows.now) c.args.now c.in-Number.is c.expiry_unchecked.ensures c.in-Nothing-expiry_unchecked.is)
+
+pub returns-in-At : goal.returns-in-At
+returns-in-At c = c.with_timer-in-At.ensures ∙ ap (λ (t : RetransmissionTimer). clock t c.args.self.timers) (c.started_at_unchecked.ensures ∙ arm_until c.args.self.timer (seg_metas c.args.notes c.args.rows.now) c.args.now c.in-Number.is c.expiry_unchecked.ensures c.in-At.is c.time_left.ensures)

@@ -1,0 +1,18 @@
+use mathlib.Core.Path.{◌∙◌}
+use Prim.Native.Nat.{◌-◌}
+use native.Mathlib.Omega.{arith}
+use Rattle.receiver.specs.Reply.{ack_after}
+use Rattle.receiver.proofs.Replies.{ack_room}
+use Rattle.receiver.proofs.write_reply.Goals as goal
+
+pub to_bytes_unchecked-requires : goal.to_bytes_unchecked-requires
+to_bytes_unchecked-requires c = let room = ack_room c.args.reply c.in-Ack.n c.args.ack.now c.in-Ack.is c.requires in
+    (omega arith, omega arith)
+
+pub returns-in-Ack : goal.returns-in-Ack
+unfolding ack_after
+returns-in-Ack c = rw c.in-Ack.is (c.to_bytes_unchecked.ensures ∙ rw (c.compute_and_set_checksum_unchecked.ensures, c.new_ack.ensures))
+
+pub returns-in_default : goal.returns-in_default
+unfolding ack_after
+returns-in_default c = rw c.in_default.is

@@ -1,0 +1,9 @@
+use mathlib.Core.Path.{sym, ◌∙◌}
+use Prim.Native.Nat.{◌-◌}
+use Rattle.selective_repeat.proofs.SelectiveRepeatSender.new.Goals as goal
+
+pub returns-in-Window : goal.returns-in-Window
+returns-in-Window c = sym (rw c.in-Window.is) ∙ c.new.ensures
+
+pub returns-in-Refused : goal.returns-in-Refused
+returns-in-Refused c = sym (rw c.in-Refused.is) ∙ c.new.ensures

@@ -1,0 +1,7 @@
+use mathlib.Core.Path.{sym}
+use lib.Dec.{lit<}
+use Rattle.store.proofs.Laws.{slot_byte}
+use Rattle.store.proofs.flags_unchecked.Goals as goal
+
+pub returns : goal.returns
+returns c = sym (slot_byte c.args.store.now c.args.slot 3 (lit< tt))

@@ -1,0 +1,4 @@
+use Rattle.timer.proofs.deadline_too_late.Goals as goal
+
+pub returns-in-At : goal.returns-in-At
+returns-in-At c = rw c.in-At.is
