@@ -3,12 +3,10 @@ use mathlib.Core.Path.{◌≡◌, refl, ap, ◌∙◌}
 use mathlib.Core.List.{List, ◌++◌, append_assoc}
 use native.Mathlib.Omega.{arith}
 use native.Mathlib.Numerals.{add-one}
-use lib.ListN.{length, take, drop, get_or, set, replicate, length-take}
+use lib.ListN.{length, take, drop, get_or, set, length-take}
 use lib.Seq.{take-suc, take-length, drop-cons, set_at}
+use Rattle.refusal.proofs.padded.Invariants.{zeros}
 use Rattle.refusal.proofs.padded.Goals as goal
-
-abbrev zeros : List ℕ
-zeros = replicate 16 0
 
 one_more : (s : List ℕ) (i : ℕ) → length s ≤ 16 → suc i ≤ length s → set (take i s ++ drop i zeros) i (get_or s i 0) ≡ take (suc i) s ++ drop (suc i) zeros
 one_more s i h k =
