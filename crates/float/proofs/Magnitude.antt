@@ -40,10 +40,22 @@ round_unsigned a c g v = unsigned_of (round binary64 false a c) g (absolute_roun
 
 pub mul_unsigned : (x y : Float) (g : ℕ) → T (unsigned x) → T (unsigned y) → Is (mul binary64 x y) g → T (unsigned (mul binary64 x y))
 unfolding mul
+mul_unsigned nan y g p q v = elim p [ ]
+mul_unsigned (inf _) y g p q v = elim p [ ]
+mul_unsigned (fin false m e) nan g p q v = elim q [ ]
+mul_unsigned (fin false m e) (inf _) g p q v = elim q [ ]
+mul_unsigned (fin false m e) (fin true n d) g p q v = elim q [ ]
+mul_unsigned (fin true m e) y g p q v = elim p [ ]
 mul_unsigned (fin false m e) (fin false n d) g p q v = round_unsigned (m * up e * (n * up d)) (down e * down d) g v
 
 pub add_unsigned : (x y : Float) (g : ℕ) → T (unsigned x) → T (unsigned y) → Is (add binary64 x y) g → T (unsigned (add binary64 x y))
 unfolding add
+add_unsigned nan y g p q v = elim p [ ]
+add_unsigned (inf _) y g p q v = elim p [ ]
+add_unsigned (fin false m e) nan g p q v = elim q [ ]
+add_unsigned (fin false m e) (inf _) g p q v = elim q [ ]
+add_unsigned (fin false m e) (fin true n d) g p q v = elim q [ ]
+add_unsigned (fin true m e) y g p q v = elim p [ ]
 add_unsigned (fin false m e) (fin false n d) g p q v = round_unsigned (m * up e * down d + n * up d * down e) (down e * down d) g v
 
 -- ---- the size of a difference
@@ -67,6 +79,12 @@ absolute_sub m e n d =
         second a b h = omega arith
 
 pub distance : (x y : Float) (gx gy : ℕ) → T (unsigned x) → T (unsigned y) → Is x gx → Is y gy → gx - gy + (gy - gx) ≤ 1 * 2 ^ 2000 → Rounded (absolute (sub binary64 x y)) (gx - gy + (gy - gx)) 1
+distance nan y gx gy p q v w l = elim p [ ]
+distance (inf _) y gx gy p q v w l = elim p [ ]
+distance (fin false m e) nan gx gy p q v w l = elim q [ ]
+distance (fin false m e) (inf _) gx gy p q v w l = elim q [ ]
+distance (fin false m e) (fin true n d) gx gy p q v w l = elim q [ ]
+distance (fin true m e) y gx gy p q v w l = elim p [ ]
 distance (fin false m e) (fin false n d) gx gy p q v w l =
     let a = m * up e * down d in
     let b = n * up d * down e in
@@ -85,6 +103,12 @@ distance (fin false m e) (fin false n d) gx gy p q v w l =
 -- ---- the other operations on values with no sign
 pub div_unsigned : (x y : Float) (g : ℕ) → T (unsigned x) → T (unsigned y) → Is (div binary64 x y) g → T (unsigned (div binary64 x y))
 unfolding div
+div_unsigned nan y g p q v = elim p [ ]
+div_unsigned (inf _) y g p q v = elim p [ ]
+div_unsigned (fin false m e) nan g p q v = elim q [ ]
+div_unsigned (fin false m e) (inf _) g p q v = elim q [ ]
+div_unsigned (fin false m e) (fin true n d) g p q v = elim q [ ]
+div_unsigned (fin true m e) y g p q v = elim p [ ]
 div_unsigned (fin false m e) (fin false n d) g p q v = go (eqb n 0) (eqb m 0) v
   where
     go : (b c : Bool) → Is (cond b (cond c nan (inf false)) (round binary64 false (m * up e * down d) (n * up d * down e))) g → T (unsigned (cond b (cond c nan (inf false)) (round binary64 false (m * up e * down d) (n * up d * down e))))
@@ -99,6 +123,12 @@ whole_unsigned n g v = round_unsigned n 1 g v
 -- ---- the size of a difference, taken the way round that has no sign
 pub difference_lt : (x y : Float) → T (unsigned x) → T (unsigned y) → T (lt x y) → sub binary64 y x ≡ absolute (sub binary64 x y)
 unfolding lt
+difference_lt nan y p q h = elim p [ ]
+difference_lt (inf _) y p q h = elim p [ ]
+difference_lt (fin false m e) nan p q h = elim q [ ]
+difference_lt (fin false m e) (inf _) p q h = elim q [ ]
+difference_lt (fin false m e) (fin true n d) p q h = elim q [ ]
+difference_lt (fin true m e) y p q h = elim p [ ]
 difference_lt (fin false m e) (fin false n d) p q h =
     let a = m * up e * down d in
     let b = n * up d * down e in
@@ -110,6 +140,12 @@ difference_lt (fin false m e) (fin false n d) p q h =
 
 pub difference_ge : (x y : Float) → T (unsigned x) → T (unsigned y) → T (not (lt x y)) → sub binary64 x y ≡ absolute (sub binary64 x y)
 unfolding lt
+difference_ge nan y p q h = elim p [ ]
+difference_ge (inf _) y p q h = elim p [ ]
+difference_ge (fin false m e) nan p q h = elim q [ ]
+difference_ge (fin false m e) (inf _) p q h = elim q [ ]
+difference_ge (fin false m e) (fin true n d) p q h = elim q [ ]
+difference_ge (fin true m e) y p q h = elim p [ ]
 difference_ge (fin false m e) (fin false n d) p q h =
     let a = m * up e * down d in
     let b = n * up d * down e in

@@ -58,7 +58,7 @@ pub hold_octets : (v : Sender) (payload : List ℕ) → length payload ≤ 1400 
 unfolding hold
 hold_octets v payload h o q = fill_octets v.store _ payload 1 (omega arith) h o q
 
-pub mark_octets : (v : Sender) (n : ℕ) → Octets v.store → Octets (mark_retransmitted v n .store)
+pub mark_octets : (v : Sender) (n : ℕ) → Octets v.store → Octets (mark_retransmitted v n).store
 unfolding mark_retransmitted
 mark_octets v n o = let f = flags_octet v.store (slot_for v.window n) o in below_set v.store _ _ (omega arith) o
 
@@ -67,7 +67,7 @@ unfolding release
 release_octets v until o = empty_octets v.store _ _ _ o
 
 -- the calls
-pub send_octets : (selective : Bool) (v : Sender) (payload out : List ℕ) → Octets v.store → Octets payload → Octets (send_chunk selective (v payload out).after.store)
+pub send_octets : (selective : Bool) (v : Sender) (payload out : List ℕ) → Octets v.store → Octets payload → Octets (send_chunk selective v payload out).after.store
 send_octets selective v payload out o q = elim (send_outcome selective v payload out) [
   | send_refused s e ↦ rw e o
   | window_full n e ↦ rw e o

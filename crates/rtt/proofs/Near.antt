@@ -175,12 +175,20 @@ crossed_le X Y L g f De Dd p q a b h =
 
 lt_units : (x y : Float) (g f : ℕ) → Is x g → Is y f → T (lt x y) → g ≤ f
 unfolding lt
+lt_units lib.Ieee.nan y g f v w h = elim v [ ]
+lt_units (lib.Ieee.inf _) y g f v w h = elim v [ ]
+lt_units (fin false m e) lib.Ieee.nan g f v w h = elim w [ ]
+lt_units (fin false m e) (lib.Ieee.inf _) g f v w h = elim w [ ]
 lt_units (fin true m e) y g f v w h = le_trans (le_of_eq v.1) zero-le
 lt_units (fin false m e) (fin true n d) g f v w h = absurd h
 lt_units (fin false m e) (fin false n d) g f v w h = crossed_le (m * up e) (n * up d) (2 ^ 1074) g f (down e) (down d) (down_pos e) (down_pos d) v w (le_of_lt (ltb→lt (m * up e * down d) (n * up d * down e) h))
 
 not_lt_units : (x y : Float) (g f : ℕ) → Is x g → Is y f → T (not (lt x y)) → f ≤ g
 unfolding lt
+not_lt_units x lib.Ieee.nan g f v w h = elim w [ ]
+not_lt_units x (lib.Ieee.inf _) g f v w h = elim w [ ]
+not_lt_units lib.Ieee.nan (fin false n d) g f v w h = elim v [ ]
+not_lt_units (lib.Ieee.inf _) (fin false n d) g f v w h = elim v [ ]
 not_lt_units x (fin true n d) g f v w h = le_trans (le_of_eq w.1) zero-le
 not_lt_units (fin true m e) (fin false n d) g f v w h =
     crossed_le (n * up d) (m * up e) (2 ^ 1074) f g (down d) (down e) (down_pos d) (down_pos e) w (frac (fin true m e) g v) (none (m * up e * down d) (n * up d * down e) (nltb→le 0 (m * up e * down d + n * up d * down e) h))

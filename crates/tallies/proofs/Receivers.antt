@@ -22,7 +22,7 @@ pub every_list : {R : Type 0} (handle : Handling R) (Counted : List PacketReadin
     → (cs : List Call) → Counted (readings_after handle r hs cs) (after_calls handle r cs)
 unfolding after_calls readings_after
 every_list handle Counted each hs r start [] = start
-every_list handle Counted each hs r start (c ∷ cs) = every_list handle Counted each _ _ (each hs r start c.raw c.output c.ack) cs
+every_list handle Counted each hs r start (c ∷ cs) = every_list handle Counted each (readings_with (handle r c.raw c.output c.ack) c.raw hs) (handle r c.raw c.output c.ack).receiver (each hs r start c.raw c.output c.ack) cs
 
 -- a call is refused and changes nothing, or its reading is counted
 reply_received : (r : Reply) → is_received (answer_of r) ≡ true

@@ -57,4 +57,4 @@ pub loop-place-smaller : goal.loop-place-smaller
 loop-place-smaller c = left_less c.loop-place.invariant c.first_due_unchecked.ensures c.in-Packet.is c.remove_first_unchecked-reverse.ensures
 
 pub loop-place-preserved : goal.loop-place-preserved
-loop-place-preserved c = left_next c.loop-place.invariant c.first_due_unchecked.ensures c.in-Packet.is c.remove_first_unchecked-reverse.ensures c.on_ack_unchecked-after.ensures (record { store = c.on_ack_unchecked-after.auto.1.1.1.1.1.0 ∙ c.loop-place.invariant.same.store; rows = c.on_ack_unchecked-after.auto.1.1.1.1.1.1.0 ∙ c.loop-place.invariant.same.rows; records = c.remove_first_unchecked-reverse.auto.1.0 ∙ c.loop-place.invariant.same.records; places = c.remove_first_unchecked-reverse.auto.1.1.0 ∙ c.loop-place.invariant.same.places; keys = c.on_ack_unchecked-after.auto.1.1.1.1.1.1.1.0 ∙ c.loop-place.invariant.same.keys; deadlines = c.on_ack_unchecked-after.auto.1.1.1.1.1.1.1.1.0 ∙ c.loop-place.invariant.same.deadlines })
+loop-place-preserved c = left_next c.loop-place.invariant c.first_due_unchecked.ensures c.in-Packet.is c.remove_first_unchecked-reverse.ensures c.on_ack_unchecked-after.ensures (record { store = c.on_ack_unchecked-after.auto.store ∙ c.loop-place.invariant.same.store; rows = c.on_ack_unchecked-after.auto.rows ∙ c.loop-place.invariant.same.rows; records = c.remove_first_unchecked-reverse.auto.records ∙ c.loop-place.invariant.same.records; places = c.remove_first_unchecked-reverse.auto.places ∙ c.loop-place.invariant.same.places; keys = c.on_ack_unchecked-after.auto.keys ∙ c.loop-place.invariant.same.keys; deadlines = c.on_ack_unchecked-after.auto.deadlines ∙ c.loop-place.invariant.same.deadlines })

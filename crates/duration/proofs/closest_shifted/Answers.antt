@@ -7,13 +7,13 @@ use Rattle.duration.proofs.closest_shifted.Goals.{Start}
 
 -- the divisor, as the shift makes it
 
-divisor : (c : tie.Start) → 1 * 2 ^ c.args.k % 2 ^ 64 ≡ 2 ^ c.args.k
+divisor : (c : goal.Start) → 1 * 2 ^ c.args.k % 2 ^ 64 ≡ 2 ^ c.args.k
 divisor c = shifted c.args.k c.requires.0
 
-some : (c : tie.Start) → 0 < 1 * 2 ^ c.args.k % 2 ^ 64
+some : (c : goal.Start) → 0 < 1 * 2 ^ c.args.k % 2 ^ 64
 some c = subst (λ (z : ℕ). 0 < z) (sym (divisor c)) (pow_pos c.args.k)
 
-most : (c : tie.Start) → 1 * 2 ^ c.args.k % 2 ^ 64 ≤ 9007199254740992
+most : (c : goal.Start) → 1 * 2 ^ c.args.k % 2 ^ 64 ≤ 9007199254740992
 most c = subst (λ (z : ℕ). z ≤ 9007199254740992) (sym (divisor c)) (pow_mono c.requires.0)
 
 pub nonzero_div-q : goal.nonzero_div-q

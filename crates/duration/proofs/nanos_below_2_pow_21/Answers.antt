@@ -12,16 +12,16 @@ use Rattle.duration.proofs.nanos_below_2_pow_21.Goals.{After-sticky_u64, Start}
 
 -- the significand of the argument
 
-known : (c : tie.Start) → Significand (num c.args.x) (den c.args.x) (to_bits binary64 c.args.x)
-known c = span_significand c.args.x (passes _ c.well-formed.0.1) c.requires
+known : (c : goal.Start) → Significand (num c.args.x) (den c.args.x) (to_bits binary64 c.args.x)
+known c = span_significand c.args.x (passes _ c.well_formed.0.1) c.requires
 
 -- the 53 significand, as the code has them
 
-abbrev significand-of : tie.Start → ℕ
+abbrev significand-of : goal.Start → ℕ
 significand-of c = to_bits binary64 c.args.x % 4503599627370496 + 4503599627370496
 
-one-digit : (c : tie.After-sticky-u64) → c.sticky-u64.result ≤ 1
-one-digit c = subst (λ (z : ℕ). z ≤ 1) (sym c.sticky-u64.ensures) (sticky_le (rest (significand-of c.before)))
+one-digit : (c : goal.After-sticky_u64) → c.sticky_u64.result ≤ 1
+one-digit c = subst (λ (z : ℕ). z ≤ 1) (sym c.sticky_u64.ensures) (sticky_le (rest (significand-of (goal.at.overflow_add-n c).Start)))
 
 -- the field is 992 at least, so the shift is 53 at most
 

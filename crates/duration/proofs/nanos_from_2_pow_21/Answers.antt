@@ -7,15 +7,15 @@ use Rattle.duration.proofs.Significand.{Whole, Shift, from_21_significand, from_
 use Rattle.duration.proofs.nanos_from_2_pow_21.Goals as goal
 use Rattle.duration.proofs.nanos_from_2_pow_21.Goals.{Start}
 
-known : (c : tie.Start) → Whole (num c.args.x) (den c.args.x) (to_bits binary64 c.args.x)
-known c = from_21_significand c.args.x (passes _ c.well-formed.0.1) c.requires
+known : (c : goal.Start) → Whole (num c.args.x) (den c.args.x) (to_bits binary64 c.args.x)
+known c = from_21_significand c.args.x (passes _ c.well_formed.0.1) c.requires
 
 -- the significand, and the shift, as the code has them
 
-abbrev significand : tie.Start → ℕ
+abbrev significand : goal.Start → ℕ
 significand c = to_bits binary64 c.args.x % 4503599627370496 + 4503599627370496
 
-abbrev places : tie.Start → ℕ
+abbrev places : goal.Start → ℕ
 places c = 1075 - to_bits binary64 c.args.x / 4503599627370496
 
 short : (f : ℕ) → 1044 ≤ f → 1075 - f ≤ 31
@@ -27,7 +27,7 @@ long f h = omega arith
 fifty-three : (b : ℕ) → b % 4503599627370496 + 4503599627370496 < 2 ^ 53
 fifty-three b = omega arith
 
-shift : (c : tie.Start) → Shift (significand c) (1 * 2 ^ places c % 2 ^ 64)
+shift : (c : goal.Start) → Shift (significand c) (1 * 2 ^ places c % 2 ^ 64)
 shift c = shift_of (significand c) (places c) (fifty-three (to_bits binary64 c.args.x)) (long _ (known c).most) (short _ (known c).least)
 
 pub float_to_bits-bits : goal.float_to_bits-bits

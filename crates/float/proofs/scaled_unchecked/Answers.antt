@@ -13,7 +13,8 @@ int_to_float-n c = le→leb c.args.n (2 ^ 53) c.requires.2
 pub truncating_f64_to_u64-requires : goal.truncating_f64_to_u64-requires
 truncating_f64_to_u64-requires c = let x = c.args.roll in
     let n = c.args.n in
-    asked (mul binary64 x (of_int binary64 (pos n))) n (le_trans c.requires.2 (lit≤ tt)) (roll_under x n (passes _ c.well_formed.0.1) c.requires.0 c.requires.1 c.requires.2)
+    let both = asked (mul binary64 x (of_int binary64 (pos n))) n (le_trans c.requires.2 (lit≤ tt)) (roll_under x n (passes _ c.well_formed.0.1) c.requires.0 c.requires.1 c.requires.2) in
+    record { lower_bound = both.0; upper_bound = both.1 }
 
 pub returns : goal.returns
 returns c = let e = c.truncating_f64_to_u64.ensures in

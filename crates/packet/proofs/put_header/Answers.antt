@@ -37,4 +37,4 @@ shape_of-out c = simp length-set
 pub returns : goal.returns
 unfolding header_bytes
 returns c = let a = c.args in
-    rw c.to_byte.ensures (sets-eq (header_bytes a.p a.payload-len a.p.checksum) a.out.now 0 (omega arith))
+    rw c.to_byte.ensures (sets-eq (header_bytes a.p a.payload_len a.p.checksum) a.out.now 0 (omega arith))

@@ -57,25 +57,25 @@ pub remove_first_unchecked-forward-requires : goal.remove_first_unchecked-forwar
 remove_first_unchecked-forward-requires c = (left_takes c.loop-place.invariant c.first_due_unchecked.ensures c.in-Packet.is).can
 
 pub shape_of-store-then-not-is_going : goal.shape_of-store-then-not-is_going
-shape_of-store-then-not-is_going c = c.on_forward_unchecked-got.auto.1.1.1.1.1.1.1.0 ∙ c.loop-place.invariant.same.store
+shape_of-store-then-not-is_going c = c.on_forward_unchecked-got.auto.store ∙ c.loop-place.invariant.same.store
 
 pub shape_of-output-then-not-is_going : goal.shape_of-output-then-not-is_going
-shape_of-output-then-not-is_going c = c.on_forward_unchecked-got.auto.1.1.1.1.1.1.1.1.0 ∙ c.loop-place.invariant.same.output
+shape_of-output-then-not-is_going c = c.on_forward_unchecked-got.auto.output ∙ c.loop-place.invariant.same.output
 
 pub shape_of-rows-then-not-is_going : goal.shape_of-rows-then-not-is_going
-shape_of-rows-then-not-is_going c = c.on_forward_unchecked-got.auto.1.1.1.1.1.1.1.1.1.0 ∙ c.loop-place.invariant.same.rows
+shape_of-rows-then-not-is_going c = c.on_forward_unchecked-got.auto.rows ∙ c.loop-place.invariant.same.rows
 
 pub shape_of-forward_records-then-not-is_going : goal.shape_of-forward_records-then-not-is_going
-shape_of-forward_records-then-not-is_going c = c.remove_first_unchecked-forward.auto.1.0 ∙ c.loop-place.invariant.same.forward_records
+shape_of-forward_records-then-not-is_going c = c.remove_first_unchecked-forward.auto.records ∙ c.loop-place.invariant.same.forward_records
 
 pub shape_of-forward_places-then-not-is_going : goal.shape_of-forward_places-then-not-is_going
-shape_of-forward_places-then-not-is_going c = c.remove_first_unchecked-forward.auto.1.1.0 ∙ c.loop-place.invariant.same.forward_places
+shape_of-forward_places-then-not-is_going c = c.remove_first_unchecked-forward.auto.places ∙ c.loop-place.invariant.same.forward_places
 
 pub shape_of-reverse_records-then-not-is_going : goal.shape_of-reverse_records-then-not-is_going
-shape_of-reverse_records-then-not-is_going c = c.on_forward_unchecked-got.auto.1.1.1.1.1.1.1.1.1.1.0 ∙ c.loop-place.invariant.same.reverse_records
+shape_of-reverse_records-then-not-is_going c = c.on_forward_unchecked-got.auto.records ∙ c.loop-place.invariant.same.reverse_records
 
 pub shape_of-reverse_places-then-not-is_going : goal.shape_of-reverse_places-then-not-is_going
-shape_of-reverse_places-then-not-is_going c = c.on_forward_unchecked-got.auto.1.1.1.1.1.1.1.1.1.1.1.0 ∙ c.loop-place.invariant.same.reverse_places
+shape_of-reverse_places-then-not-is_going c = c.on_forward_unchecked-got.auto.places ∙ c.loop-place.invariant.same.reverse_places
 
 pub returns-then-not-is_going : goal.returns-then-not-is_going
 returns-then-not-is_going c = left_stops c.loop-place.invariant c.first_due_unchecked.ensures c.in-Packet.is c.remove_first_unchecked-forward.ensures c.on_forward_unchecked-got.ensures c.is_going.ensures c.if-not-is_going.true
@@ -84,4 +84,4 @@ pub loop-place-smaller : goal.loop-place-smaller
 loop-place-smaller c = left_less c.loop-place.invariant c.first_due_unchecked.ensures c.in-Packet.is c.remove_first_unchecked-forward.ensures
 
 pub loop-place-preserved : goal.loop-place-preserved
-loop-place-preserved c = left_next c.loop-place.invariant c.first_due_unchecked.ensures c.in-Packet.is c.remove_first_unchecked-forward.ensures c.on_forward_unchecked-got.ensures c.is_going.ensures c.if-not-is_going.false (record { store = c.on_forward_unchecked-got.auto.1.1.1.1.1.1.1.0 ∙ c.loop-place.invariant.same.store; output = c.on_forward_unchecked-got.auto.1.1.1.1.1.1.1.1.0 ∙ c.loop-place.invariant.same.output; rows = c.on_forward_unchecked-got.auto.1.1.1.1.1.1.1.1.1.0 ∙ c.loop-place.invariant.same.rows; forward_records = c.remove_first_unchecked-forward.auto.1.0 ∙ c.loop-place.invariant.same.forward_records; forward_places = c.remove_first_unchecked-forward.auto.1.1.0 ∙ c.loop-place.invariant.same.forward_places; reverse_records = c.on_forward_unchecked-got.auto.1.1.1.1.1.1.1.1.1.1.0 ∙ c.loop-place.invariant.same.reverse_records; reverse_places = c.on_forward_unchecked-got.auto.1.1.1.1.1.1.1.1.1.1.1.0 ∙ c.loop-place.invariant.same.reverse_places })
+loop-place-preserved c = left_next c.loop-place.invariant c.first_due_unchecked.ensures c.in-Packet.is c.remove_first_unchecked-forward.ensures c.on_forward_unchecked-got.ensures c.is_going.ensures c.if-not-is_going.false (record { store = c.on_forward_unchecked-got.auto.store ∙ c.loop-place.invariant.same.store; output = c.on_forward_unchecked-got.auto.output ∙ c.loop-place.invariant.same.output; rows = c.on_forward_unchecked-got.auto.rows ∙ c.loop-place.invariant.same.rows; forward_records = c.remove_first_unchecked-forward.auto.records ∙ c.loop-place.invariant.same.forward_records; forward_places = c.remove_first_unchecked-forward.auto.places ∙ c.loop-place.invariant.same.forward_places; reverse_records = c.on_forward_unchecked-got.auto.records ∙ c.loop-place.invariant.same.reverse_records; reverse_places = c.on_forward_unchecked-got.auto.places ∙ c.loop-place.invariant.same.reverse_places })

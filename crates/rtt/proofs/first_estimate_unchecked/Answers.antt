@@ -10,8 +10,8 @@ use Rattle.rtt.proofs.Range.{Fits, first_fits}
 use Rattle.rtt.proofs.first_estimate_unchecked.Goals as goal
 use Rattle.rtt.proofs.first_estimate_unchecked.Goals.{Start}
 
-known : (s : tie.Start) → Fits s.args.k s.args.multiplier s.args.granularity (to_ms s.args.sample) (first_rttvar_ms s.args.sample)
-known s = first_fits s.args.k s.args.multiplier s.args.granularity (passes _ s.well-formed.0.1) (passes _ s.well-formed.1.0.1) s.requires.0 s.requires.1 s.requires.2 s.args.sample (le_trans s.requires.3 (lit≤ tt))
+known : (s : goal.Start) → Fits s.args.k s.args.multiplier s.args.granularity (to_ms s.args.sample) (first_rttvar_ms s.args.sample)
+known s = first_fits s.args.k s.args.multiplier s.args.granularity (passes _ s.well_formed.0.1) (passes _ s.well_formed.1.0.1) s.requires.0 s.requires.1 s.requires.2 s.args.sample (le_trans s.requires.3 (lit≤ tt))
 
 pub estimate_from-requires : goal.estimate_from-requires
 unfolding of_bits

@@ -14,13 +14,12 @@ use Rattle.rtt.proofs.next_estimate_unchecked.Goals.{After-weighted-new_srtt_ms}
 
 -- what the callees gave, put together
 
-rttvar-value : (c : tie.After-weighted2) → let s = c.before.before.before.before.before.before in c.before.weighted.result ≡ next_rttvar_ms s.args.beta s.args.rttvar s.args.srtt s.args.sample
+rttvar-value : (c : goal.After-weighted-new_srtt_ms) → c.weighted-new_rttvar_ms.result ≡ next_rttvar_ms c.args.beta c.args.rttvar c.args.srtt c.args.sample
 rttvar-value c =
-    let s = c.before.before.before.before.before.before in
-    c.before.weighted.ensures ∙ ap₂ (weighted s.args.beta) c.before.before.before.to-ms3.ensures (c.before.before.distance.ensures ∙ ap₂ distance c.before.before.before.before.to-ms2.ensures c.before.before.before.before.before.to-ms.ensures)
+    c.weighted-new_rttvar_ms.ensures ∙ ap₂ (weighted c.args.beta) c.to_ms.ensures (c.distance.ensures ∙ ap₂ distance c.to_ms-srtt_ms.ensures c.to_ms-sample_ms.ensures)
 
-srtt-value : (c : tie.After-weighted2) → let s = c.before.before.before.before.before.before in c.weighted2.result ≡ next_srtt_ms s.args.alpha s.args.srtt s.args.sample
-srtt-value c = let s = c.before.before.before.before.before.before in c.weighted2.ensures ∙ ap₂ (weighted s.args.alpha) c.before.before.before.before.to-ms2.ensures c.before.before.before.before.before.to-ms.ensures
+srtt-value : (c : goal.After-weighted-new_srtt_ms) → c.weighted-new_srtt_ms.result ≡ next_srtt_ms c.args.alpha c.args.srtt c.args.sample
+srtt-value c = c.weighted-new_srtt_ms.ensures ∙ ap₂ (weighted c.args.alpha) c.to_ms-srtt_ms.ensures c.to_ms-sample_ms.ensures
 
 pub distance-requires : goal.distance-requires
 distance-requires c = (

@@ -31,22 +31,22 @@ pub retransmit_unchecked-resent-requires : goal.retransmit_unchecked-resent-requ
 retransmit_unchecked-resent-requires c = left_can c.loop-left.invariant c.loop-left-test.true
 
 pub shape_of-rows-then-not-going : goal.shape_of-rows-then-not-going
-shape_of-rows-then-not-going c = c.retransmit_unchecked-resent.auto.1.1.1.1.1.1.1.1.1.0 ∙ c.loop-left.invariant.same.rows
+shape_of-rows-then-not-going c = c.retransmit_unchecked-resent.auto.rows ∙ c.loop-left.invariant.same.rows
 
 pub shape_of-events-then-not-going : goal.shape_of-events-then-not-going
-shape_of-events-then-not-going c = c.retransmit_unchecked-resent.auto.1.1.1.1.1.1.1.1.1.1.0 ∙ c.loop-left.invariant.same.events
+shape_of-events-then-not-going c = c.retransmit_unchecked-resent.auto.events ∙ c.loop-left.invariant.same.events
 
 pub shape_of-records-then-not-going : goal.shape_of-records-then-not-going
-shape_of-records-then-not-going c = c.retransmit_unchecked-resent.auto.1.1.1.1.1.1.1.1.1.1.1.0 ∙ c.loop-left.invariant.same.records
+shape_of-records-then-not-going c = c.retransmit_unchecked-resent.auto.records ∙ c.loop-left.invariant.same.records
 
 pub shape_of-places-then-not-going : goal.shape_of-places-then-not-going
-shape_of-places-then-not-going c = c.retransmit_unchecked-resent.auto.1.1.1.1.1.1.1.1.1.1.1.1.0 ∙ c.loop-left.invariant.same.places
+shape_of-places-then-not-going c = c.retransmit_unchecked-resent.auto.places ∙ c.loop-left.invariant.same.places
 
 pub shape_of-keys-then-not-going : goal.shape_of-keys-then-not-going
-shape_of-keys-then-not-going c = c.retransmit_unchecked-resent.auto.1.1.1.1.1.1.1.1.1.1.1.1.1.0 ∙ c.loop-left.invariant.same.keys
+shape_of-keys-then-not-going c = c.retransmit_unchecked-resent.auto.keys ∙ c.loop-left.invariant.same.keys
 
 pub shape_of-deadlines-then-not-going : goal.shape_of-deadlines-then-not-going
-shape_of-deadlines-then-not-going c = c.retransmit_unchecked-resent.auto.1.1.1.1.1.1.1.1.1.1.1.1.1.1.0 ∙ c.loop-left.invariant.same.deadlines
+shape_of-deadlines-then-not-going c = c.retransmit_unchecked-resent.auto.deadlines ∙ c.loop-left.invariant.same.deadlines
 
 pub returns-then-not-going : goal.returns-then-not-going
 returns-then-not-going c = left_stopped c.loop-left.invariant c.loop-left-test.true c.ceiling_met-met.ensures c.if-met.false c.retransmit_unchecked-resent.ensures c.is_going-going.ensures c.if-not-going.true
@@ -61,7 +61,7 @@ pub loop-left-smaller : goal.loop-left-smaller
 loop-left-smaller c = left_less c.loop-left.invariant c.loop-left-test.true
 
 pub loop-left-preserved : goal.loop-left-preserved
-loop-left-preserved c = left_next c.loop-left.invariant c.loop-left-test.true c.ceiling_met-met.ensures c.if-met.false c.retransmit_unchecked-resent.ensures c.is_going-going.ensures c.if-not-going.false (record { rows = c.retransmit_unchecked-resent.auto.1.1.1.1.1.1.1.1.1.0 ∙ c.loop-left.invariant.same.rows; events = c.retransmit_unchecked-resent.auto.1.1.1.1.1.1.1.1.1.1.0 ∙ c.loop-left.invariant.same.events; records = c.retransmit_unchecked-resent.auto.1.1.1.1.1.1.1.1.1.1.1.0 ∙ c.loop-left.invariant.same.records; places = c.retransmit_unchecked-resent.auto.1.1.1.1.1.1.1.1.1.1.1.1.0 ∙ c.loop-left.invariant.same.places; keys = c.retransmit_unchecked-resent.auto.1.1.1.1.1.1.1.1.1.1.1.1.1.0 ∙ c.loop-left.invariant.same.keys; deadlines = c.retransmit_unchecked-resent.auto.1.1.1.1.1.1.1.1.1.1.1.1.1.1.0 ∙ c.loop-left.invariant.same.deadlines })
+loop-left-preserved c = left_next c.loop-left.invariant c.loop-left-test.true c.ceiling_met-met.ensures c.if-met.false c.retransmit_unchecked-resent.ensures c.is_going-going.ensures c.if-not-going.false (record { rows = c.retransmit_unchecked-resent.auto.rows ∙ c.loop-left.invariant.same.rows; events = c.retransmit_unchecked-resent.auto.events ∙ c.loop-left.invariant.same.events; records = c.retransmit_unchecked-resent.auto.records ∙ c.loop-left.invariant.same.records; places = c.retransmit_unchecked-resent.auto.places ∙ c.loop-left.invariant.same.places; keys = c.retransmit_unchecked-resent.auto.keys ∙ c.loop-left.invariant.same.keys; deadlines = c.retransmit_unchecked-resent.auto.deadlines ∙ c.loop-left.invariant.same.deadlines })
 
 pub shape_of-rows : goal.shape_of-rows
 shape_of-rows c = c.loop-left.invariant.same.rows

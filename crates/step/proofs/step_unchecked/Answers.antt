@@ -26,8 +26,8 @@ run4 c = run_of c.if4.state (lent c.if4.sender_store c.before.before.before.befo
 after2 : (c : tie.Joined2) → AfterForward c.before.before.before.before.before.before.before.before.before.before.before.before.before.before.before.before.before.before.args.plan (given0 c.before.before.before.before.before.before.before.before.before.before.before.before.before.before.before.before.before.before) (run0 c.before.before.before.before.before.before.before.before.before.before.before.before.before.before.before.before.before.before) (run2 c) c.if2.progress
 after2 c =
     ⊎_elim
-    (λ w. same_forward c.before.before.before.before.before.before.before.before.before.before.before.before.before.before.before.before.before.before.args.plan (given0 c.before.before.before.before.before.before.before.before.before.before.before.before.before.before.before.before.before.before) (run0 c.before.before.before.before.before.before.before.before.before.before.before.before.before.before.before.before.before.before) (same_run (w.33 ∙ w.23.ensures ∙ ap (λ (z : State). forward_state z w.11.result) c.before.before.before.round-less.ensures) refl w.26 w.27 w.28 refl w.29 w.30 w.31 w.32 refl refl) w.34 (forward_due c.before.before.before.before.before.before.before.before.before.before.before.before.before.before.before.before.before.before.args.plan (given0 c.before.before.before.before.before.before.before.before.before.before.before.before.before.before.before.before.before.before) (run0 c.before.before.before.before.before.before.before.before.before.before.before.before.before.before.before.before.before.before) w.11.ensures w.24.ensures w.25.left))
-    (λ w. same_forward c.before.before.before.before.before.before.before.before.before.before.before.before.before.before.before.before.before.before.args.plan (given0 c.before.before.before.before.before.before.before.before.before.before.before.before.before.before.before.before.before.before) (run0 c.before.before.before.before.before.before.before.before.before.before.before.before.before.before.before.before.before.before) (same_run (w.8 ∙ c.before.before.before.round-less.ensures) refl w.1 w.2 w.3 refl w.4 w.5 w.6 w.7 refl refl) w.9 (forward_not_due c.before.before.before.before.before.before.before.before.before.before.before.before.before.before.before.before.before.before.args.plan (given0 c.before.before.before.before.before.before.before.before.before.before.before.before.before.before.before.before.before.before) (run0 c.before.before.before.before.before.before.before.before.before.before.before.before.before.before.before.before.before.before) (sym c.before.is-due-unchecked.ensures ∙ w.0.left)))
+    (λ w. same_forward c.before.before.before.before.before.before.before.before.before.before.before.before.before.before.before.before.before.before.args.plan (given0 c.before.before.before.before.before.before.before.before.before.before.before.before.before.before.before.before.before.before) (run0 c.before.before.before.before.before.before.before.before.before.before.before.before.before.before.before.before.before.before) (same_run (w.33 ∙ w.23.ensures ∙ ap (λ (z : State). forward_state z w.11.result) c.before.before.before.round_less.ensures) refl w.26 w.27 w.28 refl w.29 w.30 w.31 w.32 refl refl) w.34 (forward_due c.before.before.before.before.before.before.before.before.before.before.before.before.before.before.before.before.before.before.args.plan (given0 c.before.before.before.before.before.before.before.before.before.before.before.before.before.before.before.before.before.before) (run0 c.before.before.before.before.before.before.before.before.before.before.before.before.before.before.before.before.before.before) w.11.ensures w.24.ensures w.25.left))
+    (λ w. same_forward c.before.before.before.before.before.before.before.before.before.before.before.before.before.before.before.before.before.before.args.plan (given0 c.before.before.before.before.before.before.before.before.before.before.before.before.before.before.before.before.before.before) (run0 c.before.before.before.before.before.before.before.before.before.before.before.before.before.before.before.before.before.before) (same_run (w.8 ∙ c.before.before.before.round_less.ensures) refl w.1 w.2 w.3 refl w.4 w.5 w.6 w.7 refl refl) w.9 (forward_not_due c.before.before.before.before.before.before.before.before.before.before.before.before.before.before.before.before.before.before.args.plan (given0 c.before.before.before.before.before.before.before.before.before.before.before.before.before.before.before.before.before.before) (run0 c.before.before.before.before.before.before.before.before.before.before.before.before.before.before.before.before.before.before) (sym c.before.is_due_unchecked.ensures ∙ w.0.left)))
     c.if2.branch
 
 receiver-store-2 : (c : tie.Joined2) → length c.if2.receiver_store ≡ length c.before.before.before.before.before.before.before.before.before.before.before.before.before.before.before.before.before.before.args.receiver_store.now
@@ -83,46 +83,46 @@ pub round_less-state-requires : goal.round_less-state-requires
 round_less-state-requires c = some_round _ c.if-state-eq0.false
 
 pub is_due_unchecked-due-requires : goal.is_due_unchecked-due-requires
-is_due_unchecked-due-requires c = (can_settle c.requires.1).0.0
+is_due_unchecked-due-requires c = (can_settle c.requires.good_run).0.0
 
 pub serve_forward_unchecked-served-requires : goal.serve_forward_unchecked-served-requires
-serve_forward_unchecked-served-requires c = (can_arrive c.requires.1).forward
+serve_forward_unchecked-served-requires c = (can_arrive c.requires.good_run).forward
 
 pub shape_of-receiver_store-then-not-on : goal.shape_of-receiver_store-then-not-on
-shape_of-receiver_store-then-not-on c = c.serve_forward_unchecked-served.auto.1.1.1.1.1.1.1.0
+shape_of-receiver_store-then-not-on c = c.serve_forward_unchecked-served.auto.store
 
 pub shape_of-output-then-not-on : goal.shape_of-output-then-not-on
-shape_of-output-then-not-on c = c.serve_forward_unchecked-served.auto.1.1.1.1.1.1.1.1.0
+shape_of-output-then-not-on c = c.serve_forward_unchecked-served.auto.output
 
 pub shape_of-rows-then-not-on : goal.shape_of-rows-then-not-on
-shape_of-rows-then-not-on c = c.serve_forward_unchecked-served.auto.1.1.1.1.1.1.1.1.1.0
+shape_of-rows-then-not-on c = c.serve_forward_unchecked-served.auto.rows
 
 pub shape_of-forward_records-then-not-on : goal.shape_of-forward_records-then-not-on
-shape_of-forward_records-then-not-on c = c.serve_forward_unchecked-served.auto.1.1.1.1.1.1.1.1.1.1.0
+shape_of-forward_records-then-not-on c = c.serve_forward_unchecked-served.auto.forward_records
 
 pub shape_of-forward_places-then-not-on : goal.shape_of-forward_places-then-not-on
-shape_of-forward_places-then-not-on c = c.serve_forward_unchecked-served.auto.1.1.1.1.1.1.1.1.1.1.1.0
+shape_of-forward_places-then-not-on c = c.serve_forward_unchecked-served.auto.forward_places
 
 pub shape_of-reverse_records-then-not-on : goal.shape_of-reverse_records-then-not-on
-shape_of-reverse_records-then-not-on c = c.serve_forward_unchecked-served.auto.1.1.1.1.1.1.1.1.1.1.1.1.0
+shape_of-reverse_records-then-not-on c = c.serve_forward_unchecked-served.auto.reverse_records
 
 pub shape_of-reverse_places-then-not-on : goal.shape_of-reverse_places-then-not-on
-shape_of-reverse_places-then-not-on c = c.serve_forward_unchecked-served.auto.1.1.1.1.1.1.1.1.1.1.1.1.1.0
+shape_of-reverse_places-then-not-on c = c.serve_forward_unchecked-served.auto.reverse_places
 
 pub returns-then-not-on : goal.returns-then-not-on
 returns-then-not-on c = forward_stops c.args.plan (given0 (goal.at.returns-then-not-on c).Start) (run0 (goal.at.returns-then-not-on c).Start) (ne_eqb _ _ c.if-state-eq0.false) c.serve_forward_unchecked-served.ensures c.is_going-on.ensures c.if-not-on.true (stops_at (c.with_forward-state.ensures ∙ ap (λ (z : State). forward_state z c.serve_forward_unchecked-served.result) c.round_less-state.ensures) (lent c.args.sender_store.now c.serve_forward_unchecked-served.new.store c.serve_forward_unchecked-served.new.output c.serve_forward_unchecked-served.new.rows c.args.events.now c.serve_forward_unchecked-served.new.forward_records c.serve_forward_unchecked-served.new.forward_places c.serve_forward_unchecked-served.new.reverse_records c.serve_forward_unchecked-served.new.reverse_places c.args.keys.now c.args.deadlines.now) c.serve_forward_unchecked-served.result.stop (λ rest h. c.stopped.ensures (lent c.args.sender_store.now c.serve_forward_unchecked-served.new.store c.serve_forward_unchecked-served.new.output c.serve_forward_unchecked-served.new.rows c.args.events.now c.serve_forward_unchecked-served.new.forward_records c.serve_forward_unchecked-served.new.forward_places c.serve_forward_unchecked-served.new.reverse_records c.serve_forward_unchecked-served.new.reverse_places c.args.keys.now c.args.deadlines.now) rest h))
 
 pub is_due_unchecked-due-requires-2 : goal.is_due_unchecked-due-requires-2
-is_due_unchecked-due-requires-2 c = records_within (run2 (goal.at.is_due_unchecked-due-requires-2 c).After-is_due_unchecked-due).arrivals.inbound.reverse (can_reverse c.args.plan (given0 (goal.at.is_due_unchecked-due-requires-2 c).Start) (run0 (goal.at.is_due_unchecked-due-requires-2 c).Start) (after2 (goal.at.is_due_unchecked-due-requires-2 c).After-is_due_unchecked-due) c.requires.1).sound
+is_due_unchecked-due-requires-2 c = records_within (run2 (goal.at.is_due_unchecked-due-requires-2 c).After-is_due_unchecked-due).arrivals.inbound.reverse (can_reverse c.args.plan (given0 (goal.at.is_due_unchecked-due-requires-2 c).Start) (run0 (goal.at.is_due_unchecked-due-requires-2 c).Start) (after2 (goal.at.is_due_unchecked-due-requires-2 c).After-is_due_unchecked-due) c.requires.good_run).sound
 
 pub serve_reverse_unchecked-served-requires : goal.serve_reverse_unchecked-served-requires
-serve_reverse_unchecked-served-requires c = can_reverse c.args.plan (given0 (goal.at.serve_reverse_unchecked-served-requires c).Start) (run0 (goal.at.serve_reverse_unchecked-served-requires c).Start) (after2 (goal.at.serve_reverse_unchecked-served-requires c).After-is_due_unchecked-due) c.requires.1
+serve_reverse_unchecked-served-requires c = can_reverse c.args.plan (given0 (goal.at.serve_reverse_unchecked-served-requires c).Start) (run0 (goal.at.serve_reverse_unchecked-served-requires c).Start) (after2 (goal.at.serve_reverse_unchecked-served-requires c).After-is_due_unchecked-due) c.requires.good_run
 
 pub finish_round-requires : goal.finish_round-requires
-finish_round-requires c = record { good_plan = c.requires.0; good_run = good_arrived c.args.plan (given0 (goal.at.finish_round-requires c).Start) (run0 (goal.at.finish_round-requires c).Start) (after4 (goal.at.finish_round-requires c).Joined-due) c.requires.1 }
+finish_round-requires c = record { good_plan = c.requires.good_plan; good_run = good_arrived c.args.plan (given0 (goal.at.finish_round-requires c).Start) (run0 (goal.at.finish_round-requires c).Start) (after4 (goal.at.finish_round-requires c).Joined-due) c.requires.good_run }
 
 pub shape_of-sender_store : goal.shape_of-sender_store
-shape_of-sender_store c = c.finish_round.auto.1.1.1.1.1.1.0 ∙ sender-store-4 (goal.at.shape_of-sender_store c).Joined-due
+shape_of-sender_store c = c.finish_round.auto.sender_store ∙ sender-store-4 (goal.at.shape_of-sender_store c).Joined-due
 
 pub shape_of-receiver_store : goal.shape_of-receiver_store
 shape_of-receiver_store c = receiver-store-2 (goal.at.shape_of-receiver_store c).Else-state-eq0
@@ -131,16 +131,16 @@ pub shape_of-output : goal.shape_of-output
 shape_of-output c = output-2 (goal.at.shape_of-output c).Else-state-eq0
 
 pub shape_of-rows : goal.shape_of-rows
-shape_of-rows c = c.finish_round.auto.1.1.1.1.1.1.1.1.1.0 ∙ rows-4 (goal.at.shape_of-rows c).Joined-due ∙ rows-2 (goal.at.shape_of-rows c).Else-state-eq0
+shape_of-rows c = c.finish_round.auto.rows ∙ rows-4 (goal.at.shape_of-rows c).Joined-due ∙ rows-2 (goal.at.shape_of-rows c).Else-state-eq0
 
 pub shape_of-events : goal.shape_of-events
-shape_of-events c = c.finish_round.auto.1.1.1.1.1.1.1.1.1.1.0
+shape_of-events c = c.finish_round.auto.events
 
 pub shape_of-forward_records : goal.shape_of-forward_records
-shape_of-forward_records c = c.finish_round.auto.1.1.1.1.1.1.1.1.1.1.1.0 ∙ forward-records-2 (goal.at.shape_of-forward_records c).Else-state-eq0
+shape_of-forward_records c = c.finish_round.auto.forward_records ∙ forward-records-2 (goal.at.shape_of-forward_records c).Else-state-eq0
 
 pub shape_of-forward_places : goal.shape_of-forward_places
-shape_of-forward_places c = c.finish_round.auto.1.1.1.1.1.1.1.1.1.1.1.1.0 ∙ forward-places-2 (goal.at.shape_of-forward_places c).Else-state-eq0
+shape_of-forward_places c = c.finish_round.auto.forward_places ∙ forward-places-2 (goal.at.shape_of-forward_places c).Else-state-eq0
 
 pub shape_of-reverse_records : goal.shape_of-reverse_records
 shape_of-reverse_records c = reverse-records-4 (goal.at.shape_of-reverse_records c).Joined-due ∙ reverse-records-2 (goal.at.shape_of-reverse_records c).Else-state-eq0
@@ -149,10 +149,10 @@ pub shape_of-reverse_places : goal.shape_of-reverse_places
 shape_of-reverse_places c = reverse-places-4 (goal.at.shape_of-reverse_places c).Joined-due ∙ reverse-places-2 (goal.at.shape_of-reverse_places c).Else-state-eq0
 
 pub shape_of-keys : goal.shape_of-keys
-shape_of-keys c = c.finish_round.auto.1.1.1.1.1.1.1.1.1.1.1.1.1.1.1.0 ∙ keys-4 (goal.at.shape_of-keys c).Joined-due
+shape_of-keys c = c.finish_round.auto.keys ∙ keys-4 (goal.at.shape_of-keys c).Joined-due
 
 pub shape_of-deadlines : goal.shape_of-deadlines
-shape_of-deadlines c = c.finish_round.auto.1.1.1.1.1.1.1.1.1.1.1.1.1.1.1.1.0 ∙ deadlines-4 (goal.at.shape_of-deadlines c).Joined-due
+shape_of-deadlines c = c.finish_round.auto.deadlines ∙ deadlines-4 (goal.at.shape_of-deadlines c).Joined-due
 
 pub returns : goal.returns
 returns c = finishes c.args.plan (given0 (goal.at.returns c).Start) (run0 (goal.at.returns c).Start) (ne_eqb _ _ c.if-state-eq0.false) (after4 (goal.at.returns c).Joined-due) c.finish_round.ensures

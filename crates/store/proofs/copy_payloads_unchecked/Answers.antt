@@ -12,22 +12,22 @@ use Rattle.store.specs.Slot.{slot_length, slot_payload, slot_at}
 use Rattle.store.proofs.copy_payloads_unchecked.Goals as goal
 
 pub nonzero_rem-slot : goal.nonzero_rem-slot
-nonzero_rem-slot c = omega (arith, c.requires.0.0.positive)
+nonzero_rem-slot c = omega (arith, c.requires.payloads_in.0.positive)
 
 pub loop-k-init : goal.loop-k-init
 loop-k-init c = (omega arith, refl, rw (add-zero, sub-zero), rw (add-zero, sub-zero), ap (λ (n : ℕ). n % c.args.window) (omega arith))
 
 pub payload_unchecked-payload-requires : goal.payload_unchecked-payload-requires
-payload_unchecked-payload-requires c = let short = c.requires.0.0.short c.loop-k.k c.loop-k-test.true in
+payload_unchecked-payload-requires c = let short = c.requires.payloads_in.0.short c.loop-k.k c.loop-k-test.true in
     let same = ap (λ (s : ℕ). slot_length (slot_at c.args.store.now s)) c.loop-k.invariant.4 in
-    (carried_in c.args.store.now _ (c.args.first + c.loop-k.k) c.args.window c.loop-k.invariant.4 c.requires.0.0.positive c.requires.0.0.room, omega arith)
+    (carried_in c.args.store.now _ (c.args.first + c.loop-k.k) c.args.window c.loop-k.invariant.4 c.requires.payloads_in.0.positive c.requires.payloads_in.0.room, omega arith)
 
 pub overflow_add-end : goal.overflow_add-end
 overflow_add-end c = let size = ap length ((c.payload_unchecked-payload.ensures ∙ ap (λ (s : ℕ). slot_payload (slot_at c.args.store.now s)) c.loop-k.invariant.4)) in
     let turn = payloads_turn_length c.args.store.now c.args.window c.args.first c.loop-k.k c.args.count c.loop-k-test.true in
     let same = c.loop-k.invariant.1 in
     let inv = c.loop-k.invariant.2 in
-    let room = c.requires.1 in
+    let room = c.requires.count_in_bounds in
     omega arith
 
 pub slice_bounds-copy_unchecked-end : goal.slice_bounds-copy_unchecked-end
@@ -35,18 +35,18 @@ slice_bounds-copy_unchecked-end c = let size = ap length ((c.payload_unchecked-p
     let turn = payloads_turn_length c.args.store.now c.args.window c.args.first c.loop-k.k c.args.count c.loop-k-test.true in
     let same = c.loop-k.invariant.1 in
     let inv = c.loop-k.invariant.2 in
-    let room = c.requires.1 in
+    let room = c.requires.count_in_bounds in
     omega arith
 
 pub next_slot_unchecked-slot-requires : goal.next_slot_unchecked-slot-requires
-next_slot_unchecked-slot-requires c = carried_below _ (c.args.first + c.loop-k.k) c.args.window c.loop-k.invariant.4 c.requires.0.0.positive
+next_slot_unchecked-slot-requires c = carried_below _ (c.args.first + c.loop-k.k) c.args.window c.loop-k.invariant.4 c.requires.payloads_in.0.positive
 
 pub loop-k-preserved : goal.loop-k-preserved
 loop-k-preserved c = let size = ap length ((c.payload_unchecked-payload.ensures ∙ ap (λ (s : ℕ). slot_payload (slot_at c.args.store.now s)) c.loop-k.invariant.4)) in
     let turn = payloads_turn_length c.args.store.now c.args.window c.args.first c.loop-k.k c.args.count c.loop-k-test.true in
     let same = c.loop-k.invariant.1 in
     let inv = c.loop-k.invariant.2 in
-    let room = c.requires.1 in
+    let room = c.requires.count_in_bounds in
     let p = c.payload_unchecked-payload.result.now in
     let fits : c.loop-k.start + length c.payload_unchecked-payload.result.now ≤ length c.loop-k.buffer = omega arith in
     let over = part_written c.loop-k.buffer c.copy_unchecked.new.dst p c.loop-k.start (length p) c.copy_unchecked.ensures in (

@@ -9,7 +9,7 @@ use Rattle.store.proofs.fill_unchecked.Goals as goal
 
 pub write_slot-requires : goal.write_slot-requires
 write_slot-requires c = let u = c.used_unchecked-used.ensures in
-    let e = lent_slot c.args.store.now c.args.slot in record { slot_len = (ap length e ∙ slot_length_lem c.args.store.now c.args.slot c.requires.0.0, c.requires.0.1); used_le_slot_size = (u.0, ap (drop c.used_unchecked-used.result) e ∙ u.1) }
+    let e = lent_slot c.args.store.now c.args.slot in record { slot_len = (ap length e ∙ slot_length_lem c.args.store.now c.args.slot c.requires.slot_in.0, c.requires.slot_in.1); used_le_slot_size = (u.0, ap (drop c.used_unchecked-used.result) e ∙ u.1) }
 
 pub returns : goal.returns
 unfolding put_slot

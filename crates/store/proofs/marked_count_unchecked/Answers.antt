@@ -4,12 +4,12 @@ use mathlib.Core.Bool.{Bool, cond}
 use native.Mathlib.Omega.{arith}
 use borrow.Author.Tests.{eq-eqb, ne_eqb}
 use native.Mathlib.Nat.{add-zero, sub-zero, zero-add}
-use mathlib.Core.Logic.{⊎_elim}
 use Rattle.store.specs.Numbers.{marked}
 use Rattle.store.proofs.Tests.{carried_in, carried_below, carried_on}
 use Rattle.store.proofs.Numbers.{count_turn, count_end, count_within}
 use Rattle.store.specs.Slot.{slot_mark, slot_at}
 use Rattle.store.proofs.marked_count_unchecked.Goals as goal
+use Rattle.store.proofs.marked_count_unchecked.Goals.{then-mark_unchecked-mark, else-mark_unchecked-mark}
 
 pub nonzero_rem-slot : goal.nonzero_rem-slot
 nonzero_rem-slot c = omega (arith, c.requires.0)
@@ -28,10 +28,10 @@ next_slot_unchecked-slot-requires c = carried_below _ (c.args.first + c.loop-k.k
 
 pub loop-k-preserved : goal.loop-k-preserved
 loop-k-preserved c = let here = marked c.args.mark c.args.store.now c.args.window (c.args.first + c.loop-k.k) in
-    let total : c.if-mark_unchecked-mark.total ≡ c.loop-k.total + cond here 1 0 = ⊎_elim
-    (λ came. came.1 ∙ sym (ap (λ (b : Bool). c.loop-k.total + cond b 1 0) (eq-eqb _ _ (sym ((c.mark_unchecked.ensures ∙ ap (λ (s : ℕ). slot_mark (slot_at c.args.store.now s)) c.loop-k.invariant.2)) ∙ came.0.taken))))
-    (λ came. came.1 ∙ sym (ap (λ (b : Bool). c.loop-k.total + cond b 1 0) (ne_eqb _ _ (λ e. came.0.left ((c.mark_unchecked.ensures ∙ ap (λ (s : ℕ). slot_mark (slot_at c.args.store.now s)) c.loop-k.invariant.2) ∙ e))) ∙ add-zero c.loop-k.total))
-    c.if-mark_unchecked-mark.branch in
+    let total : c.if-mark_unchecked-mark.total ≡ c.loop-k.total + cond here 1 0 = elim c.if-mark_unchecked-mark.branch [
+      | then-mark_unchecked-mark w ↦ w.total-is ∙ sym (ap (λ (b : Bool). c.loop-k.total + cond b 1 0) (eq-eqb _ _ (sym ((c.mark_unchecked.ensures ∙ ap (λ (s : ℕ). slot_mark (slot_at c.args.store.now s)) c.loop-k.invariant.2)) ∙ w.if-mark_unchecked-mark.true)))
+      | else-mark_unchecked-mark w ↦ w.total-is ∙ sym (ap (λ (b : Bool). c.loop-k.total + cond b 1 0) (ne_eqb _ _ (λ e. w.if-mark_unchecked-mark.false ((c.mark_unchecked.ensures ∙ ap (λ (s : ℕ). slot_mark (slot_at c.args.store.now s)) c.loop-k.invariant.2) ∙ e))) ∙ add-zero c.loop-k.total)
+    ] in
     let turn = count_turn c.args.store.now c.args.window c.args.first c.loop-k.k c.args.count c.loop-k-test.true c.args.mark in
     let inv = c.loop-k.invariant.1 in
     (omega arith, omega arith, carried_on _ _ c.args.first c.loop-k.k c.args.window c.loop-k.invariant.2 c.next_slot_unchecked-slot.ensures)

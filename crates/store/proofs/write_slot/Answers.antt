@@ -11,7 +11,7 @@ returns-then-end-used c = let p = c.args.payload.now in
     let head = head_bytes (length p) c.args.mark c.args.flags in
     slot_written head p c.args.slot.now _
     (front_written head p c.copy_unchecked.new.dst c.args.slot.now c.write_head.new.slot 4 refl c.write_head.ensures c.copy_unchecked.ensures)
-    refl c.requires.0.0 c.requires.0.1 c.args.used c.requires.1.1 c.clear.new.dst c.if-end-used.true c.requires.1.0 c.clear.ensures
+    refl c.requires.slot_len.0 c.requires.slot_len.1 c.args.used c.requires.used_le_slot_size.1 c.clear.new.dst c.if-end-used.true c.requires.used_le_slot_size.0 c.clear.ensures
 
 pub returns-else-end-used : goal.returns-else-end-used
 unfolding slot_bytes
@@ -19,4 +19,4 @@ returns-else-end-used c = let p = c.args.payload.now in
     let head = head_bytes (length p) c.args.mark c.args.flags in
     slot_covered head p c.args.slot.now _
     (front_written head p c.copy_unchecked.new.dst c.args.slot.now c.write_head.new.slot 4 refl c.write_head.ensures c.copy_unchecked.ensures)
-    refl c.requires.0.0 c.requires.0.1 c.args.used c.requires.1.1 c.if-end-used.false
+    refl c.requires.slot_len.0 c.requires.slot_len.1 c.args.used c.requires.used_le_slot_size.1 c.if-end-used.false

@@ -9,10 +9,10 @@ pub timed_out-requires : goal.timed_out-requires
 timed_out-requires c = can_cancelled _ _ _ _ c.cancel_number_unchecked-clock.ensures c.requires
 
 pub shape_of-keys : goal.shape_of-keys
-shape_of-keys c = c.timed_out.auto.1.1.1.1.1.1.1.1.1.1.1.1.1.1.0 ∙ c.cancel_number_unchecked-clock.auto.1.0
+shape_of-keys c = c.timed_out.auto.keys ∙ c.cancel_number_unchecked-clock.auto.keys
 
 pub shape_of-deadlines : goal.shape_of-deadlines
-shape_of-deadlines c = c.timed_out.auto.1.1.1.1.1.1.1.1.1.1.1.1.1.1.1.0 ∙ c.cancel_number_unchecked-clock.auto.1.1.0
+shape_of-deadlines c = c.timed_out.auto.deadlines ∙ c.cancel_number_unchecked-clock.auto.deadlines
 
 pub returns : goal.returns
 returns c = fires_number _ _ _ _ c.cancel_number_unchecked-clock.ensures _ c.timed_out.ensures

@@ -63,25 +63,25 @@ pub fire_number-fired-requires : goal.fire_number-fired-requires
 fire_number-fired-requires c = c.loop-n.invariant.can
 
 pub shape_of-store-then-not-going : goal.shape_of-store-then-not-going
-shape_of-store-then-not-going c = c.fire_number-fired.auto.1.1.1.1.1.1.1.1.0 ∙ c.loop-n.invariant.same.store
+shape_of-store-then-not-going c = c.fire_number-fired.auto.store ∙ c.loop-n.invariant.same.store
 
 pub shape_of-rows-then-not-going : goal.shape_of-rows-then-not-going
-shape_of-rows-then-not-going c = c.fire_number-fired.auto.1.1.1.1.1.1.1.1.1.0 ∙ c.loop-n.invariant.same.rows
+shape_of-rows-then-not-going c = c.fire_number-fired.auto.rows ∙ c.loop-n.invariant.same.rows
 
 pub shape_of-events-then-not-going : goal.shape_of-events-then-not-going
-shape_of-events-then-not-going c = c.fire_number-fired.auto.1.1.1.1.1.1.1.1.1.1.0 ∙ c.loop-n.invariant.same.events
+shape_of-events-then-not-going c = c.fire_number-fired.auto.events ∙ c.loop-n.invariant.same.events
 
 pub shape_of-records-then-not-going : goal.shape_of-records-then-not-going
-shape_of-records-then-not-going c = c.fire_number-fired.auto.1.1.1.1.1.1.1.1.1.1.1.0 ∙ c.loop-n.invariant.same.records
+shape_of-records-then-not-going c = c.fire_number-fired.auto.records ∙ c.loop-n.invariant.same.records
 
 pub shape_of-places-then-not-going : goal.shape_of-places-then-not-going
-shape_of-places-then-not-going c = c.fire_number-fired.auto.1.1.1.1.1.1.1.1.1.1.1.1.0 ∙ c.loop-n.invariant.same.places
+shape_of-places-then-not-going c = c.fire_number-fired.auto.places ∙ c.loop-n.invariant.same.places
 
 pub shape_of-keys-then-not-going : goal.shape_of-keys-then-not-going
-shape_of-keys-then-not-going c = c.fire_number-fired.auto.1.1.1.1.1.1.1.1.1.1.1.1.1.0 ∙ c.loop-n.invariant.same.keys
+shape_of-keys-then-not-going c = c.fire_number-fired.auto.keys ∙ c.loop-n.invariant.same.keys
 
 pub shape_of-deadlines-then-not-going : goal.shape_of-deadlines-then-not-going
-shape_of-deadlines-then-not-going c = c.fire_number-fired.auto.1.1.1.1.1.1.1.1.1.1.1.1.1.1.0 ∙ c.loop-n.invariant.same.deadlines
+shape_of-deadlines-then-not-going c = c.fire_number-fired.auto.deadlines ∙ c.loop-n.invariant.same.deadlines
 
 pub returns-then-not-going : goal.returns-then-not-going
 returns-then-not-going c = left_stopped c.loop-n.invariant c.next_expired_unchecked-next.ensures c.in-Key.is c.ceiling_met-met.ensures c.if-met.false c.fire_number-fired.ensures c.is_going-going.ensures c.if-not-going.true
@@ -93,4 +93,4 @@ pub loop-n-smaller : goal.loop-n-smaller
 loop-n-smaller c = left_less c.loop-n.invariant c.next_expired_unchecked-next.ensures c.in-Key.is
 
 pub loop-n-preserved : goal.loop-n-preserved
-loop-n-preserved c = left_next c.loop-n.invariant c.next_expired_unchecked-next.ensures c.in-Key.is c.ceiling_met-met.ensures c.if-met.false c.fire_number-fired.ensures c.is_going-going.ensures c.if-not-going.false (record { store = c.fire_number-fired.auto.1.1.1.1.1.1.1.1.0 ∙ c.loop-n.invariant.same.store; rows = c.fire_number-fired.auto.1.1.1.1.1.1.1.1.1.0 ∙ c.loop-n.invariant.same.rows; events = c.fire_number-fired.auto.1.1.1.1.1.1.1.1.1.1.0 ∙ c.loop-n.invariant.same.events; records = c.fire_number-fired.auto.1.1.1.1.1.1.1.1.1.1.1.0 ∙ c.loop-n.invariant.same.records; places = c.fire_number-fired.auto.1.1.1.1.1.1.1.1.1.1.1.1.0 ∙ c.loop-n.invariant.same.places; keys = c.fire_number-fired.auto.1.1.1.1.1.1.1.1.1.1.1.1.1.0 ∙ c.loop-n.invariant.same.keys; deadlines = c.fire_number-fired.auto.1.1.1.1.1.1.1.1.1.1.1.1.1.1.0 ∙ c.loop-n.invariant.same.deadlines })
+loop-n-preserved c = left_next c.loop-n.invariant c.next_expired_unchecked-next.ensures c.in-Key.is c.ceiling_met-met.ensures c.if-met.false c.fire_number-fired.ensures c.is_going-going.ensures c.if-not-going.false (record { store = c.fire_number-fired.auto.store ∙ c.loop-n.invariant.same.store; rows = c.fire_number-fired.auto.rows ∙ c.loop-n.invariant.same.rows; events = c.fire_number-fired.auto.events ∙ c.loop-n.invariant.same.events; records = c.fire_number-fired.auto.records ∙ c.loop-n.invariant.same.records; places = c.fire_number-fired.auto.places ∙ c.loop-n.invariant.same.places; keys = c.fire_number-fired.auto.keys ∙ c.loop-n.invariant.same.keys; deadlines = c.fire_number-fired.auto.deadlines ∙ c.loop-n.invariant.same.deadlines })

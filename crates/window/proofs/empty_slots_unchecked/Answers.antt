@@ -11,20 +11,20 @@ use Rattle.window.proofs.Clean.{emptied_clean}
 use Rattle.window.proofs.empty_slots_unchecked.Goals as goal
 
 pub loop-n-init : goal.loop-n-init
-loop-n-init c = (omega arith, omega arith, refl, refl, c.requires.1)
+loop-n-init c = (omega arith, omega arith, refl, refl, c.requires.clean_slots)
 
 pub nonzero_rem-n : goal.nonzero_rem-n
-nonzero_rem-n c = omega (arith, c.requires.0.0)
+nonzero_rem-n c = omega (arith, c.requires.window_nonzero.0)
 
 pub empty_unchecked-requires : goal.empty_unchecked-requires
-empty_unchecked-requires c = let room = c.requires.0.1 in
+empty_unchecked-requires c = let room = c.requires.window_nonzero.1 in
     let same = c.loop-n.invariant.2 in
     let a = c.args in
-    let some = c.requires.0.0 in record { slot_in = slot_in c.loop-n.store c.loop-n.n a.window some (omega arith); clean_slot = λ k. (c.loop-n.invariant.4 k).each _ (mod-lt c.loop-n.n some) }
+    let some = c.requires.window_nonzero.0 in record { slot_in = slot_in c.loop-n.store c.loop-n.n a.window some (omega arith); clean_slot = λ k. (c.loop-n.invariant.4 k).each _ (mod-lt c.loop-n.n some) }
 
 pub loop-n-preserved : goal.loop-n-preserved
-loop-n-preserved c = let room = c.requires.0.1 in
-    let some = c.requires.0.0 in
+loop-n-preserved c = let room = c.requires.window_nonzero.1 in
+    let some = c.requires.window_nonzero.0 in
     let same = c.loop-n.invariant.2 in
     let n = c.loop-n.n in
     let e = c.empty_unchecked.ensures in

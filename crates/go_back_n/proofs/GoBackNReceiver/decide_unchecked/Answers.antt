@@ -4,10 +4,10 @@ use Rattle.receiver.proofs.Laws.{counts_low}
 use Rattle.go_back_n.proofs.GoBackNReceiver.decide_unchecked.Goals as goal
 
 pub overflow_add-self : goal.overflow_add-self
-overflow_add-self c = let low = counts_low c.args.self.total_received c.args.self.discarded_out_of_order c.args.self.duplicate_acks_sent c.requires.0 in omega (arith, low.0)
+overflow_add-self c = let low = counts_low c.args.self.total_received c.args.self.discarded_out_of_order c.args.self.duplicate_acks_sent c.requires.duplicate_acks_sent_value in omega (arith, low.0)
 
 pub decide_data-requires : goal.decide_data-requires
-decide_data-requires c = let low = counts_low c.args.self.total_received c.args.self.discarded_out_of_order c.args.self.duplicate_acks_sent c.requires.0 in (c.requires.1, low.1, low.2)
+decide_data-requires c = let low = counts_low c.args.self.total_received c.args.self.discarded_out_of_order c.args.self.duplicate_acks_sent c.requires.duplicate_acks_sent_value in (c.requires.expected_seq_bound, low.1, low.2)
 
 pub returns-in-Data : goal.returns-in-Data
 unfolding decision

@@ -7,7 +7,7 @@ use Rattle.go_back_n.specs.Sender.{acknowledged}
 use Rattle.go_back_n.proofs.GoBackNSender.handle_ack.Goals as goal
 
 pub acknowledge_unchecked-requires : goal.acknowledge_unchecked-requires
-acknowledge_unchecked-requires c = let a = ack_accepted false c.args.self.window c.args.store.now c.args.raw.now _ _ (sym c.decide_ack.ensures ∙ c.in-Accept.is) in let low = a.state.low in let below = a.below in record { window_size_nonzero = a.state.positive; send_base_bound = a.state.room; clean = ((a.from, omega arith), λ k. absurd (false≢true k)) }
+acknowledge_unchecked-requires c = let a = ack_accepted false c.args.self.window c.args.store.now c.args.raw.now _ _ (sym c.decide_ack.ensures ∙ c.in-Accept.is) in let low = a.state.low in let below = a.below in record { window_size_nonzero = (a.state.positive, a.state.room); send_base_bound = (a.from, omega arith); clean = λ k. absurd (false≢true k) }
 
 pub returns-in-Accept : goal.returns-in-Accept
 returns-in-Accept c = on_accept (sender c.args.self.window c.args.store.now) (acknowledged (sender c.args.self.window c.args.store.now)) _ _ (sym c.decide_ack.ensures ∙ c.in-Accept.is) c.acknowledge_unchecked.ensures

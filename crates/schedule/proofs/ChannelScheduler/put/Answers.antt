@@ -12,18 +12,18 @@ use Rattle.schedule.proofs.ChannelScheduler.put.Goals as goal
 
 pub lowest_free-place-requires : goal.lowest_free-place-requires
 lowest_free-place-requires c = let m = schedule c.args.records.now c.args.places.now c.args.self in
-    (within m c.requires.0.sound, some_free m c.args.packet.now c.requires.0, inside m c.requires.0.sound, single m c.requires.0.sound)
+    (within m c.requires.can_put.sound, some_free m c.args.packet.now c.requires.can_put, inside m c.requires.can_put.sound, single m c.requires.can_put.sound)
 
 pub fill_place-requires : goal.fill_place-requires
-fill_place-requires c = let m = schedule c.args.records.now c.args.places.now c.args.self in record { place_size_in_bounds = (rw c.lowest_free-place.ensures (place_inside m c.args.packet.now c.requires.0), short m c.args.packet.now c.requires.0); zeros_from = λ e. free_zeros m c.args.packet.now c.requires.0 (c.requires.1 e) c.lowest_free-place.ensures }
+fill_place-requires c = let m = schedule c.args.records.now c.args.places.now c.args.self in record { place_size_in_bounds = (rw c.lowest_free-place.ensures (place_inside m c.args.packet.now c.requires.can_put), short m c.args.packet.now c.requires.can_put); zeros_from = λ e. free_zeros m c.args.packet.now c.requires.can_put (c.requires.cleared e) c.lowest_free-place.ensures }
 
 pub insert-requires : goal.insert-requires
 insert-requires c = let m = schedule c.args.records.now c.args.places.now c.args.self in
-    (slot m c.args.packet.now c.requires.0, in_order_lem m c.requires.0.sound)
+    (slot m c.args.packet.now c.requires.can_put, in_order_lem m c.requires.can_put.sound)
 
 pub overflow_add-result : goal.overflow_add-result
 overflow_add-result c = let m = schedule c.args.records.now c.args.places.now c.args.self in
-    omega (arith, slot m c.args.packet.now c.requires.0)
+    omega (arith, slot m c.args.packet.now c.requires.can_put)
 
 pub returns : goal.returns
 returns c = let packed = c.packed.ensures in

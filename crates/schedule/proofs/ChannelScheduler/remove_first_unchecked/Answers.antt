@@ -32,13 +32,13 @@ module _ (m : Schedule) {r : Scheduled} (e : r ≡ scheduled_of (first_record m.
       ∙ ap (λ (x : List ℕ). schedule (drop 1 (waiting_records m) ++ vacant ∷ drop m.scheduler.count m.records) x s) (q ∙ ap (λ (x : Scheduled). placed m.places x.place (replicate 1410 0)) e)
 
 pub slice_copy_out-unpacked : goal.slice_copy_out-unpacked
-slice_copy_out-unpacked c = omega (arith, within (schedule c.args.records.now c.args.places.now c.args.self) c.requires.0.0, c.requires.0.1)
+slice_copy_out-unpacked c = omega (arith, within (schedule c.args.records.now c.args.places.now c.args.self) c.requires.self_value.0, c.requires.self_value.1)
 
 pub remove_first-requires : goal.remove_first-requires
-remove_first-requires c = (c.requires.0.1, within (schedule c.args.records.now c.args.places.now c.args.self) c.requires.0.0)
+remove_first-requires c = (c.requires.self_value.1, within (schedule c.args.records.now c.args.places.now c.args.self) c.requires.self_value.0)
 
 pub clear_place-requires : goal.clear_place-requires
-clear_place-requires c = can-clear (schedule c.args.records.now c.args.places.now c.args.self) c.unpacked-first.ensures c.requires.0.0 c.requires.0.1 c.requires.1
+clear_place-requires c = can-clear (schedule c.args.records.now c.args.places.now c.args.self) c.unpacked-first.ensures c.requires.self_value.0 c.requires.self_value.1 c.requires.cleared
 
 pub returns : goal.returns
 returns c = removes (schedule c.args.records.now c.args.places.now c.args.self) c.unpacked-first.ensures c.remove_first.ensures c.clear_place.ensures

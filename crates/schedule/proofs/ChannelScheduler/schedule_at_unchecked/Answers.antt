@@ -11,15 +11,15 @@ pub loop-k-init : goal.loop-k-init
 loop-k-init c = (omega arith, put_none _ _ _ _, refl, refl)
 
 pub overflow_mul-delay : goal.overflow_mul-delay
-overflow_mul-delay c = let f = next_fits (schedule c.args.records.now c.args.places.now c.args.self) c.args.now c.args.packet.now c.args.deliveries c.loop-k.k c.requires.0 c.copies_of-copies.ensures c.loop-k-test.true c.delay_of-delay.ensures in
+overflow_mul-delay c = let f = next_fits (schedule c.args.records.now c.args.places.now c.args.self) c.args.now c.args.packet.now c.args.deliveries c.loop-k.k c.requires.can_schedule c.copies_of-copies.ensures c.loop-k-test.true c.delay_of-delay.ensures in
     omega arith
 
 pub overflow_add-now : goal.overflow_add-now
-overflow_add-now c = let f = next_fits (schedule c.args.records.now c.args.places.now c.args.self) c.args.now c.args.packet.now c.args.deliveries c.loop-k.k c.requires.0 c.copies_of-copies.ensures c.loop-k-test.true c.delay_of-delay.ensures in
+overflow_add-now c = let f = next_fits (schedule c.args.records.now c.args.places.now c.args.self) c.args.now c.args.packet.now c.args.deliveries c.loop-k.k c.requires.can_schedule c.copies_of-copies.ensures c.loop-k-test.true c.delay_of-delay.ensures in
     omega arith
 
 pub put-scheduler-requires : goal.put-scheduler-requires
-put-scheduler-requires c = record { can_put = can_next (schedule c.args.records.now c.args.places.now c.args.self) c.args.now c.args.packet.now c.args.deliveries c.loop-k.k c.requires.0 c.copies_of-copies.ensures c.loop-k-test.true c.loop-k.invariant.1; cleared = λ e. next_cleared (schedule c.args.records.now c.args.places.now c.args.self) c.args.now c.args.packet.now c.args.deliveries c.loop-k.k c.requires.0 (c.requires.1 e) c.copies_of-copies.ensures c.loop-k-test.true c.loop-k.invariant.1 }
+put-scheduler-requires c = record { can_put = can_next (schedule c.args.records.now c.args.places.now c.args.self) c.args.now c.args.packet.now c.args.deliveries c.loop-k.k c.requires.can_schedule c.copies_of-copies.ensures c.loop-k-test.true c.loop-k.invariant.1; cleared = λ e. next_cleared (schedule c.args.records.now c.args.places.now c.args.self) c.args.now c.args.packet.now c.args.deliveries c.loop-k.k c.requires.can_schedule (c.requires.cleared e) c.copies_of-copies.ensures c.loop-k-test.true c.loop-k.invariant.1 }
 
 pub loop-k-preserved : goal.loop-k-preserved
 loop-k-preserved c = (omega arith, put_more (schedule c.args.records.now c.args.places.now c.args.self) c.args.now c.args.packet.now c.args.deliveries c.loop-k.k c.loop-k.invariant.1 c.delay_of-delay.ensures c.put-scheduler.ensures, search rules, search rules)

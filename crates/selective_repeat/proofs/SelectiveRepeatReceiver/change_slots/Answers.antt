@@ -8,27 +8,27 @@ use Rattle.window.specs.Slots.{empty_from}
 use Rattle.selective_repeat.proofs.SelectiveRepeatReceiver.change_slots.Goals as goal
 
 pub overflow_add-next : goal.overflow_add-next
-overflow_add-next c = omega (arith, c.requires.0.0.low)
+overflow_add-next c = omega (arith, c.requires.ready.0.low)
 
 pub nonzero_rem-n : goal.nonzero_rem-n
-nonzero_rem-n c = c.requires.0.0.positive
+nonzero_rem-n c = c.requires.ready.0.positive
 
 pub fill_unchecked-requires : goal.fill_unchecked-requires
-fill_unchecked-requires c = record { slot_in = (slot_in c.args.store.now c.in-Hold.n c.args.self.window_size c.requires.0.0.positive c.requires.0.0.room, c.requires.1); clean_slot = λ k. absurd (false≢true k) }
+fill_unchecked-requires c = record { slot_in = (slot_in c.args.store.now c.in-Hold.n c.args.self.window_size c.requires.ready.0.positive c.requires.ready.0.room, c.requires.payload_len_bound); clean_slot = λ k. absurd (false≢true k) }
 
 pub overflow_cast-k : goal.overflow_cast-k
-overflow_cast-k c = let few = rw c.in-Release.is at c.requires.0.1 in
-    let small = c.requires.0.0.small in
+overflow_cast-k c = let few = rw c.in-Release.is at c.requires.ready.1 in
+    let small = c.requires.ready.0.small in
     omega arith
 
 pub overflow_add-next-in-Release : goal.overflow_add-next-in-Release
-overflow_add-next-in-Release c = let few = rw c.in-Release.is at c.requires.0.1 in
-    let small = c.requires.0.0.small in
-    let low = c.requires.0.0.low in
+overflow_add-next-in-Release c = let few = rw c.in-Release.is at c.requires.ready.1 in
+    let small = c.requires.ready.0.small in
+    let low = c.requires.ready.0.low in
     omega arith
 
 pub empty_slots_unchecked-requires : goal.empty_slots_unchecked-requires
-empty_slots_unchecked-requires c = let ready = c.requires.0.0 in record { window_nonzero = (ready.positive, ready.room, omega arith); clean_slots = λ k. absurd (false≢true k) }
+empty_slots_unchecked-requires c = let ready = c.requires.ready.0 in record { window_nonzero = (ready.positive, ready.room, omega arith); clean_slots = λ k. absurd (false≢true k) }
 
 pub returns-in-Unchanged : goal.returns-in-Unchanged
 returns-in-Unchanged c = rw c.in-Unchanged.is

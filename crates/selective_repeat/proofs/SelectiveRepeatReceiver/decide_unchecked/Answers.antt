@@ -5,11 +5,11 @@ use Rattle.receiver.proofs.Laws.{counts_low}
 use Rattle.selective_repeat.proofs.SelectiveRepeatReceiver.decide_unchecked.Goals as goal
 
 pub overflow_add-self : goal.overflow_add-self
-overflow_add-self c = let low = counts_low c.args.self.total_received c.args.self.buffered_out_of_order c.args.self.duplicates_count c.requires.1 in omega (arith, low.0)
+overflow_add-self c = let low = counts_low c.args.self.total_received c.args.self.buffered_out_of_order c.args.self.duplicates_count c.requires.self_value in omega (arith, low.0)
 
 pub decide_data-requires : goal.decide_data-requires
-decide_data-requires c = let s = ready c.args.self c.args.store.now c.requires.0 in
-    let low = counts_low c.args.self.total_received c.args.self.buffered_out_of_order c.args.self.duplicates_count c.requires.1 in record { ready = record { positive = s.positive; small = s.small; room = s.room; low = s.low; slots = s.slots }; buffered_out_of_order_bound = (low.1, low.2) }
+decide_data-requires c = let s = ready c.args.self c.args.store.now c.requires.store_value in
+    let low = counts_low c.args.self.total_received c.args.self.buffered_out_of_order c.args.self.duplicates_count c.requires.self_value in record { ready = record { positive = s.positive; small = s.small; room = s.room; low = s.low; slots = s.slots }; buffered_out_of_order_bound = (low.1, low.2) }
 
 pub returns-in-Data : goal.returns-in-Data
 unfolding decision

@@ -19,9 +19,9 @@ pub overflow_add-result : goal.overflow_add-result
 overflow_add-result c = let small = c.requires.0.small in
     let few = c.requires.1 in
     let k = c.released.ensures in
-    let most = c.payloads_length_unchecked-held.ensures.1 in
+    let most = c.payloads_length_unchecked-held.ensures.upper_bound in
     omega arith
 
 pub returns : goal.returns
 unfolding delivered_bytes
-returns c = rw (c.payloads_length_unchecked-held.ensures.0, c.released.ensures) (sym (length-append c.args.payload.now _))
+returns c = rw (c.payloads_length_unchecked-held.ensures.value, c.released.ensures) (sym (length-append c.args.payload.now _))

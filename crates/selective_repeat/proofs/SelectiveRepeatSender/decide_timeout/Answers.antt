@@ -20,8 +20,8 @@ pub is_due_unchecked-requires : goal.is_due_unchecked-requires
 is_due_unchecked-requires c = let s = sound true c.args.self.window c.args.store.now (sym c.state_broken.ensures ∙ c.if-state_broken.false) in record { window_size_nonzero = s.positive; slot_size_in_bounds = s.room }
 
 pub returns-then-not-is_due_unchecked : goal.returns-then-not-is_due_unchecked
-returns-then-not-is_due_unchecked c = sym (decision_nothing (state_broken true c.args.self.window c.args.store.now) (counts_broken c.args.self.window) c.args.seq_num (cond (due (sender c.args.self.window c.args.store.now) c.args.seq_num) 1 0) (sym c.state_broken.ensures ∙ c.if-state_broken.false) (sym c.counts_broken.ensures ∙ c.if-counts_broken.false) (ap (λ (b : Bool). cond b 1 0) (sym c.is_due_unchecked.ensures ∙ not-true c.is_due_unchecked.result c.if-not-is_due_unchecked.true)))
+returns-then-not-is_due_unchecked c = sym (decision_nothing (state_broken true c.args.self.window c.args.store.now) (counts_broken c.args.self.window) c.args.seq_num (cond (due (sender c.args.self.window c.args.store.now) c.args.seq_num) 1 0) (sym c.state_broken.ensures ∙ c.if-state_broken.false) (sym c.counts_broken.ensures ∙ c.if-counts_broken.false) (ap (λ (b : Bool). cond b 1 0) (sym c.is_due_unchecked.ensures ∙ c.if-not-is_due_unchecked.true)))
 
 pub returns : goal.returns
-returns c = let one : ◌≡◌ {A = ℕ} (cond (due (sender c.args.self.window c.args.store.now) c.args.seq_num) 1 0) 1 = ap (λ (b : Bool). cond b 1 0) (sym c.is_due_unchecked.ensures ∙ not-false c.is_due_unchecked.result c.if-not-is_due_unchecked.false) in
+returns c = let one : ◌≡◌ {A = ℕ} (cond (due (sender c.args.self.window c.args.store.now) c.args.seq_num) 1 0) 1 = ap (λ (b : Bool). cond b 1 0) (sym c.is_due_unchecked.ensures ∙ c.if-not-is_due_unchecked.false) in
     ap (decision.Resend c.args.seq_num) (sym one) ∙ sym (decision_resend (state_broken true c.args.self.window c.args.store.now) (counts_broken c.args.self.window) c.args.seq_num (cond (due (sender c.args.self.window c.args.store.now) c.args.seq_num) 1 0) (sym c.state_broken.ensures ∙ c.if-state_broken.false) (sym c.counts_broken.ensures ∙ c.if-counts_broken.false) (λ e. omega (arith, one)))

@@ -7,7 +7,7 @@ use Rattle.selective_repeat.proofs.Acknowledging.{decide_ack_within, handle_ack_
 use Rattle.selective_repeat.proofs.SelectiveRepeatSender.handle_ack.Goals as goal
 
 pub acknowledge_one-window-requires : goal.acknowledge_one-window-requires
-acknowledge_one-window-requires c = let k = decide_ack_within (sender c.args.self.window c.args.store.now) c.args.raw.now _ _ (sym c.decide_ack.ensures ∙ c.in-Accept.is) in record { store_value = k.0.state_sound; base_value = k.0.within; clean = (k.1, λ e. absurd (false≢true e)) }
+acknowledge_one-window-requires c = let k = decide_ack_within (sender c.args.self.window c.args.store.now) c.args.raw.now _ _ (sym c.decide_ack.ensures ∙ c.in-Accept.is) in record { store_value = (k.0.state_sound, k.0.within); base_value = k.1; clean = λ e. absurd (false≢true e) }
 
 pub returns-in-Accept : goal.returns-in-Accept
 returns-in-Accept c = on_accept (sender c.args.self.window c.args.store.now) (acknowledge_one (sender c.args.self.window c.args.store.now)) _ _ (sym c.decide_ack.ensures ∙ c.in-Accept.is) c.acknowledge_one-window.ensures ∙ handle_ack_decided (sender c.args.self.window c.args.store.now) c.args.raw.now

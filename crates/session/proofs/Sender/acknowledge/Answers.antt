@@ -10,19 +10,19 @@ use Rattle.session.proofs.Sends.{acknowledged_in_lem}
 use Rattle.session.proofs.Sender.acknowledge.Goals as goal
 
 pub acknowledge_unchecked-s-requires : goal.acknowledge_unchecked-s-requires
-acknowledge_unchecked-s-requires c = let h = subst (λ (x : SenderState). CleanSender (sender_in x c.args.store.now)) c.in-StopAndWait.is c.requires.0 in
-    let i = subst (λ (x : SenderState). is_in_window (window_in x) c.args.seq_num ≡ true) c.in-StopAndWait.is c.requires.1 in
+acknowledge_unchecked-s-requires c = let h = subst (λ (x : SenderState). CleanSender (sender_in x c.args.store.now)) c.in-StopAndWait.is c.requires.clean_sender in
+    let i = subst (λ (x : SenderState). is_in_window (window_in x) c.args.seq_num ≡ true) c.in-StopAndWait.is c.requires.seq_num_value in
     let o = outstanding_number false _ _ _ h.state i in
     let room = o.room in record { self_value = o.numbers; current_seq_bound = (o.from, o.low, omega arith); clean = λ e. h.clean }
 
 pub acknowledge_unchecked-s-requires-in-GoBackN : goal.acknowledge_unchecked-s-requires-in-GoBackN
-acknowledge_unchecked-s-requires-in-GoBackN c = let h = subst (λ (x : SenderState). CleanSender (sender_in x c.args.store.now)) c.in-GoBackN.is c.requires.0 in
-    let i = subst (λ (x : SenderState). is_in_window (window_in x) c.args.seq_num ≡ true) c.in-GoBackN.is c.requires.1 in
+acknowledge_unchecked-s-requires-in-GoBackN c = let h = subst (λ (x : SenderState). CleanSender (sender_in x c.args.store.now)) c.in-GoBackN.is c.requires.clean_sender in
+    let i = subst (λ (x : SenderState). is_in_window (window_in x) c.args.seq_num ≡ true) c.in-GoBackN.is c.requires.seq_num_value in
     let o = outstanding_number false _ _ _ h.state i in record { window_size_nonzero = o.positive; send_base_bound = o.room; clean = ((o.from, o.low), λ e. h.clean) }
 
 pub acknowledge_unchecked-s-requires-in-SelectiveRepeat : goal.acknowledge_unchecked-s-requires-in-SelectiveRepeat
-acknowledge_unchecked-s-requires-in-SelectiveRepeat c = let h = subst (λ (x : SenderState). CleanSender (sender_in x c.args.store.now)) c.in-SelectiveRepeat.is c.requires.0 in
-    let i = subst (λ (x : SenderState). is_in_window (window_in x) c.args.seq_num ≡ true) c.in-SelectiveRepeat.is c.requires.1 in record { store_value = h.state; seq_num_value = i; clean = λ e. h.clean }
+acknowledge_unchecked-s-requires-in-SelectiveRepeat c = let h = subst (λ (x : SenderState). CleanSender (sender_in x c.args.store.now)) c.in-SelectiveRepeat.is c.requires.clean_sender in
+    let i = subst (λ (x : SenderState). is_in_window (window_in x) c.args.seq_num ≡ true) c.in-SelectiveRepeat.is c.requires.seq_num_value in record { store_value = h.state; seq_num_value = i; clean = λ e. h.clean }
 
 pub returns-in-StopAndWait : goal.returns-in-StopAndWait
 returns-in-StopAndWait c = acknowledged_in_lem _ _ _ _ c.in-StopAndWait.is (ap stop_and_wait_end c.acknowledge_unchecked-s.ensures)

@@ -11,10 +11,10 @@ pub selective_repeat_timeout-requires : goal.selective_repeat_timeout-requires
 selective_repeat_timeout-requires c = unbroken_in c.args.self.state _ c.args.store.now c.in-SelectiveRepeat.is c.requires
 
 pub returns-in-StopAndWait : goal.returns-in-StopAndWait
-returns-in-StopAndWait c = record { count_after = resent_in c.args.self.state _ c.args.store.now c.in-StopAndWait.is _ c.stop_and_wait_timeout.ensures.0; within = c.stop_and_wait_timeout.ensures.1 }
+returns-in-StopAndWait c = record { count_after = resent_in c.args.self.state _ c.args.store.now c.in-StopAndWait.is _ c.stop_and_wait_timeout.ensures.count_after; within = c.stop_and_wait_timeout.ensures.within }
 
 pub returns-in-GoBackN : goal.returns-in-GoBackN
-returns-in-GoBackN c = record { count_after = resent_in c.args.self.state _ c.args.store.now c.in-GoBackN.is _ c.go_back_n_timeout.ensures.0; within = c.go_back_n_timeout.ensures.1 }
+returns-in-GoBackN c = record { count_after = resent_in c.args.self.state _ c.args.store.now c.in-GoBackN.is _ c.go_back_n_timeout.ensures.count_after; within = c.go_back_n_timeout.ensures.within }
 
 pub returns-in-SelectiveRepeat : goal.returns-in-SelectiveRepeat
-returns-in-SelectiveRepeat c = record { count_after = resent_in c.args.self.state _ c.args.store.now c.in-SelectiveRepeat.is _ c.selective_repeat_timeout.ensures.0; within = c.selective_repeat_timeout.ensures.1 }
+returns-in-SelectiveRepeat c = record { count_after = resent_in c.args.self.state _ c.args.store.now c.in-SelectiveRepeat.is _ c.selective_repeat_timeout.ensures.count_after; within = c.selective_repeat_timeout.ensures.within }

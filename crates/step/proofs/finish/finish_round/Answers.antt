@@ -26,7 +26,7 @@ after1 : (c : tie.Joined1) → AfterTimers c.before.before.before.before.before.
 after1 c =
     ⊎_elim
     (λ w. same_timers c.before.before.before.before.before.before.before.before.before.before.before.before.before.before.before.before.before.before.before.args.plan (given0 c.before.before.before.before.before.before.before.before.before.before.before.before.before.before.before.before.before.before.before) c.before.before.before.before.before.before.before.before.before.before.before.before.before.before.before.before.before.before.before.args.arrived (run0 c.before.before.before.before.before.before.before.before.before.before.before.before.before.before.before.before.before.before.before) (same_run (w.34 ∙ w.23.ensures) w.27 refl refl w.28 w.29 w.30 w.31 refl refl w.32 w.33) (w.35 ∙ w.26.ensures) (fired_due c.before.before.before.before.before.before.before.before.before.before.before.before.before.before.before.before.before.before.before.args.plan (given0 c.before.before.before.before.before.before.before.before.before.before.before.before.before.before.before.before.before.before.before) c.before.before.before.before.before.before.before.before.before.before.before.before.before.before.before.before.before.before.before.args.arrived (run0 c.before.before.before.before.before.before.before.before.before.before.before.before.before.before.before.before.before.before.before) w.11.ensures w.24.ensures w.25.left))
-    (λ w. same_timers c.before.before.before.before.before.before.before.before.before.before.before.before.before.before.before.before.before.before.before.args.plan (given0 c.before.before.before.before.before.before.before.before.before.before.before.before.before.before.before.before.before.before.before) c.before.before.before.before.before.before.before.before.before.before.before.before.before.before.before.before.before.before.before.args.arrived (run0 c.before.before.before.before.before.before.before.before.before.before.before.before.before.before.before.before.before.before.before) (same_run w.8 w.1 refl refl w.2 w.3 w.4 w.5 refl refl w.6 w.7) w.9 (fired_not_due c.before.before.before.before.before.before.before.before.before.before.before.before.before.before.before.before.before.before.before.args.plan (given0 c.before.before.before.before.before.before.before.before.before.before.before.before.before.before.before.before.before.before.before) c.before.before.before.before.before.before.before.before.before.before.before.before.before.before.before.before.before.before.before.args.arrived (run0 c.before.before.before.before.before.before.before.before.before.before.before.before.before.before.before.before.before.before.before) (sym c.before.timers-due-unchecked.ensures ∙ w.0.left)))
+    (λ w. same_timers c.before.before.before.before.before.before.before.before.before.before.before.before.before.before.before.before.before.before.before.args.plan (given0 c.before.before.before.before.before.before.before.before.before.before.before.before.before.before.before.before.before.before.before) c.before.before.before.before.before.before.before.before.before.before.before.before.before.before.before.before.before.before.before.args.arrived (run0 c.before.before.before.before.before.before.before.before.before.before.before.before.before.before.before.before.before.before.before) (same_run w.8 w.1 refl refl w.2 w.3 w.4 w.5 refl refl w.6 w.7) w.9 (fired_not_due c.before.before.before.before.before.before.before.before.before.before.before.before.before.before.before.before.before.before.before.args.plan (given0 c.before.before.before.before.before.before.before.before.before.before.before.before.before.before.before.before.before.before.before) c.before.before.before.before.before.before.before.before.before.before.before.before.before.before.before.before.before.before.before.args.arrived (run0 c.before.before.before.before.before.before.before.before.before.before.before.before.before.before.before.before.before.before.before) (sym c.before.timers_due_unchecked.ensures ∙ w.0.left)))
     c.if1.branch
 
 sender-store-1 : (c : tie.Joined1) → length c.if1.sender_store ≡ length c.before.before.before.before.before.before.before.before.before.before.before.before.before.before.before.before.before.before.before.args.sender_store.now
@@ -54,7 +54,7 @@ after4 : (c : tie.Joined4) → AfterBoth c.before.before.before.before.before.be
 after4 c =
     ⊎_elim
     (λ w. same_both c.before.before.before.before.before.before.before.before.before.before.before.before.before.before.before.before.before.before.before.before.before.before.before.before.before.before.args.plan (given0 c.before.before.before.before.before.before.before.before.before.before.before.before.before.before.before.before.before.before.before.before.before.before.before.before.before.before) c.before.before.before.before.before.before.before.before.before.before.before.before.before.before.before.before.before.before.before.before.before.before.before.before.before.before.args.arrived (run0 c.before.before.before.before.before.before.before.before.before.before.before.before.before.before.before.before.before.before.before.before.before.before.before.before.before.before) (same_run (w.35 ∙ w.24.ensures) w.28 refl refl w.29 w.30 w.31 w.32 refl refl w.33 w.34) (w.36 ∙ w.27.ensures) (chunks_due c.before.before.before.before.before.before.before.before.before.before.before.before.before.before.before.before.before.before.before.before.before.before.before.before.before.before.args.plan (given0 c.before.before.before.before.before.before.before.before.before.before.before.before.before.before.before.before.before.before.before.before.before.before.before.before.before.before) c.before.before.before.before.before.before.before.before.before.before.before.before.before.before.before.before.before.before.before.before.before.before.before.before.before.before.args.arrived (run0 c.before.before.before.before.before.before.before.before.before.before.before.before.before.before.before.before.before.before.before.before.before.before.before.before.before.before) (after1 c.before.before.before.before.before.before.before) c.before.before.before.before.before.if3.false w.12.ensures w.25.ensures w.26.left))
-    (λ w. same_both c.before.before.before.before.before.before.before.before.before.before.before.before.before.before.before.before.before.before.before.before.before.before.before.before.before.before.args.plan (given0 c.before.before.before.before.before.before.before.before.before.before.before.before.before.before.before.before.before.before.before.before.before.before.before.before.before.before) c.before.before.before.before.before.before.before.before.before.before.before.before.before.before.before.before.before.before.before.before.before.before.before.before.before.before.args.arrived (run0 c.before.before.before.before.before.before.before.before.before.before.before.before.before.before.before.before.before.before.before.before.before.before.before.before.before.before) (same_run w.8 w.1 refl refl w.2 w.3 w.4 w.5 refl refl w.6 w.7) w.9 (chunks_not_due c.before.before.before.before.before.before.before.before.before.before.before.before.before.before.before.before.before.before.before.before.before.before.before.before.before.before.args.plan (given0 c.before.before.before.before.before.before.before.before.before.before.before.before.before.before.before.before.before.before.before.before.before.before.before.before.before.before) c.before.before.before.before.before.before.before.before.before.before.before.before.before.before.before.before.before.before.before.before.before.before.before.before.before.before.args.arrived (run0 c.before.before.before.before.before.before.before.before.before.before.before.before.before.before.before.before.before.before.before.before.before.before.before.before.before.before) (after1 c.before.before.before.before.before.before.before) c.before.before.before.before.before.if3.false c.before.before.before.before.before.before.before.before.before.before.before.before.before.before.before.before.before.before.before.before.before.before.before.before.before.before.requires.0 c.before.before.before.before.before.before.before.before.before.before.before.before.before.before.before.before.before.before.before.before.before.before.before.before.before.before.requires.1 (sym c.before.can-pump-unchecked.ensures ∙ w.0.left)))
+    (λ w. same_both c.before.before.before.before.before.before.before.before.before.before.before.before.before.before.before.before.before.before.before.before.before.before.before.before.before.before.args.plan (given0 c.before.before.before.before.before.before.before.before.before.before.before.before.before.before.before.before.before.before.before.before.before.before.before.before.before.before) c.before.before.before.before.before.before.before.before.before.before.before.before.before.before.before.before.before.before.before.before.before.before.before.before.before.before.args.arrived (run0 c.before.before.before.before.before.before.before.before.before.before.before.before.before.before.before.before.before.before.before.before.before.before.before.before.before.before) (same_run w.8 w.1 refl refl w.2 w.3 w.4 w.5 refl refl w.6 w.7) w.9 (chunks_not_due c.before.before.before.before.before.before.before.before.before.before.before.before.before.before.before.before.before.before.before.before.before.before.before.before.before.before.args.plan (given0 c.before.before.before.before.before.before.before.before.before.before.before.before.before.before.before.before.before.before.before.before.before.before.before.before.before.before) c.before.before.before.before.before.before.before.before.before.before.before.before.before.before.before.before.before.before.before.before.before.before.before.before.before.before.args.arrived (run0 c.before.before.before.before.before.before.before.before.before.before.before.before.before.before.before.before.before.before.before.before.before.before.before.before.before.before) (after1 c.before.before.before.before.before.before.before) c.before.before.before.before.before.if3.false c.before.before.before.before.before.before.before.before.before.before.before.before.before.before.before.before.before.before.before.before.before.before.before.before.before.before.requires.0 c.before.before.before.before.before.before.before.before.before.before.before.before.before.before.before.before.before.before.before.before.before.before.before.before.before.before.requires.1 (sym c.before.can_pump_unchecked.ensures ∙ w.0.left)))
     c.if4.branch
 
 sender-store-4 : (c : tie.Joined4) → length c.if4.sender_store ≡ length c.before.before.before.before.before.before.before.if1.sender_store
@@ -79,31 +79,31 @@ deadlines-4 : (c : tie.Joined4) → length c.if4.deadlines ≡ length c.before.b
 deadlines-4 c = ⊎_elim (λ w. ap length w.34 ∙ w.12.kept.1.1.1.1.1.1.1.1.1.1.1.1.1.1.1.0) (λ w. ap length w.7) c.if4.branch
 
 pub timers_due_unchecked-due-requires : goal.timers_due_unchecked-due-requires
-timers_due_unchecked-due-requires c = record { held = fire_due_asks (can_fire c.args.plan (given0 (goal.at.timers_due_unchecked-due-requires c).Start) c.args.arrived (run0 (goal.at.timers_due_unchecked-due-requires c).Start) c.requires.0 c.requires.1); sender_value = fire_numbers_sound (can_fire c.args.plan (given0 (goal.at.timers_due_unchecked-due-requires c).Start) c.args.arrived (run0 (goal.at.timers_due_unchecked-due-requires c).Start) c.requires.0 c.requires.1) }
+timers_due_unchecked-due-requires c = record { held = fire_due_asks (can_fire c.args.plan (given0 (goal.at.timers_due_unchecked-due-requires c).Start) c.args.arrived (run0 (goal.at.timers_due_unchecked-due-requires c).Start) c.requires.good_plan c.requires.good_run); sender_value = fire_numbers_sound (can_fire c.args.plan (given0 (goal.at.timers_due_unchecked-due-requires c).Start) c.args.arrived (run0 (goal.at.timers_due_unchecked-due-requires c).Start) c.requires.good_plan c.requires.good_run) }
 
 pub fire_timers_unchecked-fired-requires : goal.fire_timers_unchecked-fired-requires
-fire_timers_unchecked-fired-requires c = can_fire c.args.plan (given0 (goal.at.fire_timers_unchecked-fired-requires c).Start) c.args.arrived (run0 (goal.at.fire_timers_unchecked-fired-requires c).Start) c.requires.0 c.requires.1
+fire_timers_unchecked-fired-requires c = can_fire c.args.plan (given0 (goal.at.fire_timers_unchecked-fired-requires c).Start) c.args.arrived (run0 (goal.at.fire_timers_unchecked-fired-requires c).Start) c.requires.good_plan c.requires.good_run
 
 pub shape_of-sender_store-then-not-on : goal.shape_of-sender_store-then-not-on
-shape_of-sender_store-then-not-on c = c.fire_timers_unchecked-fired.auto.1.1.1.1.1.1.1.1.0
+shape_of-sender_store-then-not-on c = c.fire_timers_unchecked-fired.auto.store
 
 pub shape_of-rows-then-not-on : goal.shape_of-rows-then-not-on
-shape_of-rows-then-not-on c = c.fire_timers_unchecked-fired.auto.1.1.1.1.1.1.1.1.1.0
+shape_of-rows-then-not-on c = c.fire_timers_unchecked-fired.auto.rows
 
 pub shape_of-events-then-not-on : goal.shape_of-events-then-not-on
-shape_of-events-then-not-on c = c.fire_timers_unchecked-fired.auto.1.1.1.1.1.1.1.1.1.1.0
+shape_of-events-then-not-on c = c.fire_timers_unchecked-fired.auto.events
 
 pub shape_of-forward_records-then-not-on : goal.shape_of-forward_records-then-not-on
-shape_of-forward_records-then-not-on c = c.fire_timers_unchecked-fired.auto.1.1.1.1.1.1.1.1.1.1.1.0
+shape_of-forward_records-then-not-on c = c.fire_timers_unchecked-fired.auto.records
 
 pub shape_of-forward_places-then-not-on : goal.shape_of-forward_places-then-not-on
-shape_of-forward_places-then-not-on c = c.fire_timers_unchecked-fired.auto.1.1.1.1.1.1.1.1.1.1.1.1.0
+shape_of-forward_places-then-not-on c = c.fire_timers_unchecked-fired.auto.places
 
 pub shape_of-keys-then-not-on : goal.shape_of-keys-then-not-on
-shape_of-keys-then-not-on c = c.fire_timers_unchecked-fired.auto.1.1.1.1.1.1.1.1.1.1.1.1.1.0
+shape_of-keys-then-not-on c = c.fire_timers_unchecked-fired.auto.keys
 
 pub shape_of-deadlines-then-not-on : goal.shape_of-deadlines-then-not-on
-shape_of-deadlines-then-not-on c = c.fire_timers_unchecked-fired.auto.1.1.1.1.1.1.1.1.1.1.1.1.1.1.0
+shape_of-deadlines-then-not-on c = c.fire_timers_unchecked-fired.auto.deadlines
 
 pub returns-then-not-on : goal.returns-then-not-on
 returns-then-not-on c = timers_stop c.args.plan (given0 (goal.at.returns-then-not-on c).Start) c.args.arrived (run0 (goal.at.returns-then-not-on c).Start) c.fire_timers_unchecked-fired.ensures c.is_going-on.ensures c.if-not-on.true (stops_at c.with_fired-state.ensures (lent c.fire_timers_unchecked-fired.new.store c.args.receiver_store.now c.args.output.now c.fire_timers_unchecked-fired.new.rows c.fire_timers_unchecked-fired.new.events c.fire_timers_unchecked-fired.new.records c.fire_timers_unchecked-fired.new.places c.args.reverse_records.now c.args.reverse_places.now c.fire_timers_unchecked-fired.new.keys c.fire_timers_unchecked-fired.new.deadlines) c.fire_timers_unchecked-fired.result.stop (λ rest h. c.stopped.ensures (lent c.fire_timers_unchecked-fired.new.store c.args.receiver_store.now c.args.output.now c.fire_timers_unchecked-fired.new.rows c.fire_timers_unchecked-fired.new.events c.fire_timers_unchecked-fired.new.records c.fire_timers_unchecked-fired.new.places c.args.reverse_records.now c.args.reverse_places.now c.fire_timers_unchecked-fired.new.keys c.fire_timers_unchecked-fired.new.deadlines) rest h))
@@ -133,31 +133,31 @@ pub returns-then-resends : goal.returns-then-resends
 returns-then-resends c = exhausted_end c.args.plan (given0 (goal.at.returns-then-resends c).Start) c.args.arrived (run0 (goal.at.returns-then-resends c).Start) (after1 (goal.at.returns-then-resends c).Joined-due) c.if-resends.true (c.over.ensures (lent c.if-due.sender_store c.args.receiver_store.now c.args.output.now c.if-due.rows c.if-due.events c.if-due.forward_records c.if-due.forward_places c.args.reverse_records.now c.args.reverse_places.now c.if-due.keys c.if-due.deadlines))
 
 pub can_pump_unchecked-due-requires : goal.can_pump_unchecked-due-requires
-can_pump_unchecked-due-requires c = unbroken_numbers (run1 (goal.at.can_pump_unchecked-due-requires c).Joined-due).arrivals.sender (can_pump_then c.args.plan (given0 (goal.at.can_pump_unchecked-due-requires c).Start) c.args.arrived (run0 (goal.at.can_pump_unchecked-due-requires c).Start) (after1 (goal.at.can_pump_unchecked-due-requires c).Joined-due) c.if-resends.false c.requires.0 c.requires.1).good.sender.state
+can_pump_unchecked-due-requires c = unbroken_numbers (run1 (goal.at.can_pump_unchecked-due-requires c).Joined-due).arrivals.sender (can_pump_then c.args.plan (given0 (goal.at.can_pump_unchecked-due-requires c).Start) c.args.arrived (run0 (goal.at.can_pump_unchecked-due-requires c).Start) (after1 (goal.at.can_pump_unchecked-due-requires c).Joined-due) c.if-resends.false c.requires.good_plan c.requires.good_run).good.sender.state
 
 pub pump_sends_unchecked-pumped-requires : goal.pump_sends_unchecked-pumped-requires
-pump_sends_unchecked-pumped-requires c = can_pump_then c.args.plan (given0 (goal.at.pump_sends_unchecked-pumped-requires c).Start) c.args.arrived (run0 (goal.at.pump_sends_unchecked-pumped-requires c).Start) (after1 (goal.at.pump_sends_unchecked-pumped-requires c).Joined-due) c.if-resends.false c.requires.0 c.requires.1
+pump_sends_unchecked-pumped-requires c = can_pump_then c.args.plan (given0 (goal.at.pump_sends_unchecked-pumped-requires c).Start) c.args.arrived (run0 (goal.at.pump_sends_unchecked-pumped-requires c).Start) (after1 (goal.at.pump_sends_unchecked-pumped-requires c).Joined-due) c.if-resends.false c.requires.good_plan c.requires.good_run
 
 pub shape_of-sender_store-then-not-on-2 : goal.shape_of-sender_store-then-not-on-2
-shape_of-sender_store-then-not-on-2 c = c.pump_sends_unchecked-pumped.auto.1.1.1.1.1.1.1.1.1.0 ∙ sender-store-1 (goal.at.shape_of-sender_store-then-not-on-2 c).Joined-due
+shape_of-sender_store-then-not-on-2 c = c.pump_sends_unchecked-pumped.auto.store ∙ sender-store-1 (goal.at.shape_of-sender_store-then-not-on-2 c).Joined-due
 
 pub shape_of-rows-then-not-on-2 : goal.shape_of-rows-then-not-on-2
-shape_of-rows-then-not-on-2 c = c.pump_sends_unchecked-pumped.auto.1.1.1.1.1.1.1.1.1.1.0 ∙ rows-1 (goal.at.shape_of-rows-then-not-on-2 c).Joined-due
+shape_of-rows-then-not-on-2 c = c.pump_sends_unchecked-pumped.auto.rows ∙ rows-1 (goal.at.shape_of-rows-then-not-on-2 c).Joined-due
 
 pub shape_of-events-then-not-on-2 : goal.shape_of-events-then-not-on-2
-shape_of-events-then-not-on-2 c = c.pump_sends_unchecked-pumped.auto.1.1.1.1.1.1.1.1.1.1.1.0 ∙ events-1 (goal.at.shape_of-events-then-not-on-2 c).Joined-due
+shape_of-events-then-not-on-2 c = c.pump_sends_unchecked-pumped.auto.events ∙ events-1 (goal.at.shape_of-events-then-not-on-2 c).Joined-due
 
 pub shape_of-forward_records-then-not-on-2 : goal.shape_of-forward_records-then-not-on-2
-shape_of-forward_records-then-not-on-2 c = c.pump_sends_unchecked-pumped.auto.1.1.1.1.1.1.1.1.1.1.1.1.0 ∙ forward-records-1 (goal.at.shape_of-forward_records-then-not-on-2 c).Joined-due
+shape_of-forward_records-then-not-on-2 c = c.pump_sends_unchecked-pumped.auto.records ∙ forward-records-1 (goal.at.shape_of-forward_records-then-not-on-2 c).Joined-due
 
 pub shape_of-forward_places-then-not-on-2 : goal.shape_of-forward_places-then-not-on-2
-shape_of-forward_places-then-not-on-2 c = c.pump_sends_unchecked-pumped.auto.1.1.1.1.1.1.1.1.1.1.1.1.1.0 ∙ forward-places-1 (goal.at.shape_of-forward_places-then-not-on-2 c).Joined-due
+shape_of-forward_places-then-not-on-2 c = c.pump_sends_unchecked-pumped.auto.places ∙ forward-places-1 (goal.at.shape_of-forward_places-then-not-on-2 c).Joined-due
 
 pub shape_of-keys-then-not-on-2 : goal.shape_of-keys-then-not-on-2
-shape_of-keys-then-not-on-2 c = c.pump_sends_unchecked-pumped.auto.1.1.1.1.1.1.1.1.1.1.1.1.1.1.0 ∙ keys-1 (goal.at.shape_of-keys-then-not-on-2 c).Joined-due
+shape_of-keys-then-not-on-2 c = c.pump_sends_unchecked-pumped.auto.keys ∙ keys-1 (goal.at.shape_of-keys-then-not-on-2 c).Joined-due
 
 pub shape_of-deadlines-then-not-on-2 : goal.shape_of-deadlines-then-not-on-2
-shape_of-deadlines-then-not-on-2 c = c.pump_sends_unchecked-pumped.auto.1.1.1.1.1.1.1.1.1.1.1.1.1.1.1.0 ∙ deadlines-1 (goal.at.shape_of-deadlines-then-not-on-2 c).Joined-due
+shape_of-deadlines-then-not-on-2 c = c.pump_sends_unchecked-pumped.auto.deadlines ∙ deadlines-1 (goal.at.shape_of-deadlines-then-not-on-2 c).Joined-due
 
 pub returns-then-not-on-2 : goal.returns-then-not-on-2
 returns-then-not-on-2 c = chunks_stop c.args.plan (given0 (goal.at.returns-then-not-on-2 c).Start) c.args.arrived (run0 (goal.at.returns-then-not-on-2 c).Start) (after1 (goal.at.returns-then-not-on-2 c).Joined-due) c.if-resends.false c.pump_sends_unchecked-pumped.ensures c.is_going-on-then-due-2.ensures c.if-not-on-2.true (stops_at c.with_pumped-state.ensures (lent c.pump_sends_unchecked-pumped.new.store c.args.receiver_store.now c.args.output.now c.pump_sends_unchecked-pumped.new.rows c.pump_sends_unchecked-pumped.new.events c.pump_sends_unchecked-pumped.new.records c.pump_sends_unchecked-pumped.new.places c.args.reverse_records.now c.args.reverse_places.now c.pump_sends_unchecked-pumped.new.keys c.pump_sends_unchecked-pumped.new.deadlines) c.pump_sends_unchecked-pumped.result.stop (λ rest h. c.stopped-then-not-on-2.ensures (lent c.pump_sends_unchecked-pumped.new.store c.args.receiver_store.now c.args.output.now c.pump_sends_unchecked-pumped.new.rows c.pump_sends_unchecked-pumped.new.events c.pump_sends_unchecked-pumped.new.records c.pump_sends_unchecked-pumped.new.places c.args.reverse_records.now c.args.reverse_places.now c.pump_sends_unchecked-pumped.new.keys c.pump_sends_unchecked-pumped.new.deadlines) rest h))
@@ -187,7 +187,7 @@ pub returns-then-progress : goal.returns-then-progress
 returns-then-progress c = goes_on c.args.plan (given0 (goal.at.returns-then-progress c).Start) c.args.arrived (run0 (goal.at.returns-then-progress c).Start) (after4 (goal.at.returns-then-progress c).Joined-due-2) c.if-progress.true (c.going.ensures (lent c.if-due-2.sender_store c.args.receiver_store.now c.args.output.now c.if-due-2.rows c.if-due-2.events c.if-due-2.forward_records c.if-due-2.forward_places c.args.reverse_records.now c.args.reverse_places.now c.if-due-2.keys c.if-due-2.deadlines))
 
 pub settle-requires : goal.settle-requires
-settle-requires c = let both = can_settle (good_both c.args.plan (given0 (goal.at.settle-requires c).Start) c.args.arrived (run0 (goal.at.settle-requires c).Start) (after4 (goal.at.settle-requires c).After-acks-2-1) c.requires.0 c.requires.1) in record { count_in_bounds = both.0; held = both.1 }
+settle-requires c = let both = can_settle (good_both c.args.plan (given0 (goal.at.settle-requires c).Start) c.args.arrived (run0 (goal.at.settle-requires c).Start) (after4 (goal.at.settle-requires c).After-acks-2-1) c.requires.good_plan c.requires.good_run) in record { count_in_bounds = both.0; held = both.1 }
 
 pub shape_of-sender_store : goal.shape_of-sender_store
 shape_of-sender_store c = sender-store-4 (goal.at.shape_of-sender_store c).After-acks-2-1 ∙ sender-store-1 (goal.at.shape_of-sender_store c).After-clock-1

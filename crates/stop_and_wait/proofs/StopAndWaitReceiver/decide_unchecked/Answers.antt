@@ -4,13 +4,13 @@ use Rattle.receiver.proofs.Laws.{counts_low}
 use Rattle.stop_and_wait.proofs.StopAndWaitReceiver.decide_unchecked.Goals as goal
 
 pub overflow_add-self : goal.overflow_add-self
-overflow_add-self c = let low = counts_low c.args.self.total_received c.args.self.duplicates_count c.args.self.corrupted_count c.requires.0 in omega (arith, low.0)
+overflow_add-self c = let low = counts_low c.args.self.total_received c.args.self.duplicates_count c.args.self.corrupted_count c.requires.corrupted_count_value in omega (arith, low.0)
 
 pub decide_data-requires : goal.decide_data-requires
-decide_data-requires c = let low = counts_low c.args.self.total_received c.args.self.duplicates_count c.args.self.corrupted_count c.requires.0 in (c.requires.1, low.1)
+decide_data-requires c = let low = counts_low c.args.self.total_received c.args.self.duplicates_count c.args.self.corrupted_count c.requires.corrupted_count_value in (c.requires.expected_seq_bound, low.1)
 
 pub overflow_add-self-in-Corrupted : goal.overflow_add-self-in-Corrupted
-overflow_add-self-in-Corrupted c = let low = counts_low c.args.self.total_received c.args.self.duplicates_count c.args.self.corrupted_count c.requires.0 in omega (arith, low.2)
+overflow_add-self-in-Corrupted c = let low = counts_low c.args.self.total_received c.args.self.duplicates_count c.args.self.corrupted_count c.requires.corrupted_count_value in omega (arith, low.2)
 
 pub returns-in-Data : goal.returns-in-Data
 unfolding decision

@@ -3,10 +3,10 @@ use Rattle.receiver.proofs.Laws.{state_low, apply_refused, apply_received}
 use Rattle.stop_and_wait.proofs.StopAndWaitReceiver.handle_packet_unchecked.Goals as goal
 
 pub decide_unchecked-after-requires : goal.decide_unchecked-after-requires
-decide_unchecked-after-requires c = record { corrupted_count_value = c.requires.1; expected_seq_bound = (state_low _ _ _ c.requires.0).0 }
+decide_unchecked-after-requires c = record { corrupted_count_value = c.requires.corrupted_count_value; expected_seq_bound = (state_low _ _ _ c.requires.output_value).0 }
 
 pub apply_unchecked-result-requires : goal.apply_unchecked-result-requires
-apply_unchecked-result-requires c = (state_low _ _ _ c.requires.0).1
+apply_unchecked-result-requires c = (state_low _ _ _ c.requires.output_value).1
 
 pub returns-then-is_refused : goal.returns-then-is_refused
 returns-then-is_refused c = apply_refused _ _ _ (c.apply_unchecked-result.ensures ∙ rw c.decide_unchecked-after.ensures) c.is_refused.ensures c.if-is_refused.true

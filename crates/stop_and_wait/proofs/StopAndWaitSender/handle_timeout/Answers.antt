@@ -21,8 +21,9 @@ resend_unchecked-result-requires c = let d = decided (state_broken false (window
     let ordered = s.ordered in
     let first = d.first in
     let count = d.count in
-    subst (λ (w : SendWindow). Resendable w c.args.store.now c.in-Resend.first c.in-Resend.count × ((w.total_sent < count_limit) × (w.retransmissions < count_limit)))
-    (sym c.window_unchecked-window.ensures) (resendable false (window_of c.args.self) c.args.store.now c.in-Resend.first c.in-Resend.count s (omega arith) (omega arith), counts_low (window_of c.args.self) d.counts_low)
+    let both = subst (λ (w : SendWindow). Resendable w c.args.store.now c.in-Resend.first c.in-Resend.count × ((w.total_sent < count_limit) × (w.retransmissions < count_limit)))
+    (sym c.window_unchecked-window.ensures) (resendable false (window_of c.args.self) c.args.store.now c.in-Resend.first c.in-Resend.count s (omega arith) (omega arith), counts_low (window_of c.args.self) d.counts_low) in
+    record { resendable = both.0; total_sent_bound = both.1 }
 
 pub after_timeout_unchecked-requires : goal.after_timeout_unchecked-requires
 after_timeout_unchecked-requires c = λ n g. let d = decided (state_broken false (window_of c.args.self) c.args.store.now) (counts_broken (window_of c.args.self)) c.args.self.current_seq (min (retries_left c.args.self) (outstanding (window_of c.args.self))) _ _ (sym c.decide_timeout.ensures ∙ c.in-Resend.is) in retry_left c.args.self (outstanding (window_of c.args.self)) d.some

@@ -3,4 +3,4 @@ use Rattle.timer.proofs.RetransmissionTimer.cancelled_unchecked.Goals as goal
 
 pub returns : goal.returns
 unfolding cancelled_unchecked
-returns c = simp c.wrapping_add_u64-next.ensures
+returns c = simp c.wrapping_add_u64-next.ensures.value

@@ -8,4 +8,4 @@ overflow_add-result c = omega (arith, start_in_time (deadline_too_late c.args.se
 
 pub returns : goal.returns
 unfolding started_at_unchecked
-returns c = simp c.wrapping_add_u64.ensures
+returns c = simp c.wrapping_add_u64.ensures.value

@@ -10,4 +10,4 @@ pub returns-then-counts_broken : goal.returns-then-counts_broken
 returns-then-counts_broken c = sym (ack_counts _ _ _ _ (sym c.state_broken.ensures ∙ c.if-state_broken.false) (sym c.counts_broken.ensures ∙ c.if-counts_broken.true))
 
 pub returns : goal.returns
-returns c = c.decide_reading.ensures ∙ ap (by_reading _) c.read_datagram.ensures ∙ sym (ack_read _ _ _ _ (sym c.state_broken.ensures ∙ c.if-state_broken.false) (sym c.counts_broken.ensures ∙ c.if-counts_broken.false))
+returns c = c.decide_reading.ensures ∙ ap (by_reading c.args.self) c.read_datagram.ensures ∙ sym (ack_read _ _ _ _ (sym c.state_broken.ensures ∙ c.if-state_broken.false) (sym c.counts_broken.ensures ∙ c.if-counts_broken.false))

@@ -5,10 +5,10 @@ use Rattle.packet.proofs.Laws.{bit_0_set}
 use Rattle.window.proofs.SendWindow.mark_retransmitted_unchecked.Goals as goal
 
 pub flags_unchecked-flags-requires : goal.flags_unchecked-flags-requires
-flags_unchecked-flags-requires c = slot_in c.args.store.now c.args.seq_num c.args.self.window_size c.requires.0.0 c.requires.0.1
+flags_unchecked-flags-requires c = slot_in c.args.store.now c.args.seq_num c.args.self.window_size c.requires.window_size_nonzero.0 c.requires.window_size_nonzero.1
 
 pub set_flags_unchecked-requires : goal.set_flags_unchecked-requires
-set_flags_unchecked-requires c = slot_in c.args.store.now c.args.seq_num c.args.self.window_size c.requires.0.0 c.requires.0.1
+set_flags_unchecked-requires c = slot_in c.args.store.now c.args.seq_num c.args.self.window_size c.requires.window_size_nonzero.0 c.requires.window_size_nonzero.1
 
 pub returns : goal.returns
 unfolding mark_retransmitted

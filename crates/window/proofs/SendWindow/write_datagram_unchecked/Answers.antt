@@ -11,19 +11,19 @@ use Rattle.window.proofs.Slots.{slot_payload_length}
 use Rattle.window.proofs.SendWindow.write_datagram_unchecked.Goals as goal
 
 pub payload_unchecked-payload-requires : goal.payload_unchecked-payload-requires
-payload_unchecked-payload-requires c = (slot_in c.args.store.now c.args.seq_num c.args.self.window_size c.requires.0.0 c.requires.0.1, c.requires.1.0)
+payload_unchecked-payload-requires c = (slot_in c.args.store.now c.args.seq_num c.args.self.window_size c.requires.window_size_nonzero.0 c.requires.window_size_nonzero.1, c.requires.seq_num_bound.0)
 
 pub flags_unchecked-requires : goal.flags_unchecked-requires
-flags_unchecked-requires c = slot_in c.args.store.now c.args.seq_num c.args.self.window_size c.requires.0.0 c.requires.0.1
+flags_unchecked-requires c = slot_in c.args.store.now c.args.seq_num c.args.self.window_size c.requires.window_size_nonzero.0 c.requires.window_size_nonzero.1
 
 pub compute_and_set_checksum_unchecked-requires : goal.compute_and_set_checksum_unchecked-requires
-compute_and_set_checksum_unchecked-requires c = let n = ap length c.payload_unchecked-payload.ensures ∙ slot_payload_length c.args.store.now (slot_for c.args.self c.args.seq_num) (slot_in c.args.store.now c.args.seq_num c.args.self.window_size c.requires.0.0 c.requires.0.1) c.requires.1.0 in
-    let few = c.requires.1.0 in
+compute_and_set_checksum_unchecked-requires c = let n = ap length c.payload_unchecked-payload.ensures ∙ slot_payload_length c.args.store.now (slot_for c.args.self c.args.seq_num) (slot_in c.args.store.now c.args.seq_num c.args.self.window_size c.requires.window_size_nonzero.0 c.requires.window_size_nonzero.1) c.requires.seq_num_bound.0 in
+    let few = c.requires.seq_num_bound.0 in
     omega arith
 
 pub to_bytes_unchecked-requires : goal.to_bytes_unchecked-requires
-to_bytes_unchecked-requires c = let n = ap length c.payload_unchecked-payload.ensures ∙ slot_payload_length c.args.store.now (slot_for c.args.self c.args.seq_num) (slot_in c.args.store.now c.args.seq_num c.args.self.window_size c.requires.0.0 c.requires.0.1) c.requires.1.0 in
-    let few = c.requires.1 in
+to_bytes_unchecked-requires c = let n = ap length c.payload_unchecked-payload.ensures ∙ slot_payload_length c.args.store.now (slot_for c.args.self c.args.seq_num) (slot_in c.args.store.now c.args.seq_num c.args.self.window_size c.requires.window_size_nonzero.0 c.requires.window_size_nonzero.1) c.requires.seq_num_bound.0 in
+    let few = c.requires.seq_num_bound in
     (omega arith, omega arith)
 
 pub returns : goal.returns

@@ -1,0 +1,10 @@
+use Rattle.refusal.specs.Order.{decide}
+use Rattle.host_ends.proofs.unless_refused.Goals as goal
+
+pub returns-in-Accepted : goal.returns-in-Accepted
+unfolding decide
+returns-in-Accepted c = rw c.in-Accepted.is
+
+pub returns-in-Refused : goal.returns-in-Refused
+unfolding decide
+returns-in-Refused c = rw c.in-Refused.is c.refusal_answer.ensures

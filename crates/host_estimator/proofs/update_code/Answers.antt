@@ -1,0 +1,14 @@
+use Rattle.host_estimator.specs.Estimator.{update_code}
+use Rattle.host_estimator.proofs.update_code.Goals as goal
+
+pub returns-then-b : goal.returns-then-b
+unfolding update_code
+returns-then-b c = rw (c.in-Accepted.is, c.if-b.true) c.pack_unchecked.ensures
+
+pub returns-else-b : goal.returns-else-b
+unfolding update_code
+returns-else-b c = rw (c.in-Accepted.is, c.if-b.false) c.pack_unchecked-in-Accepted.ensures
+
+pub returns-in-Refused : goal.returns-in-Refused
+unfolding update_code
+returns-in-Refused c = rw c.in-Refused.is c.refusal_answer.ensures

@@ -1,0 +1,5 @@
+use Rattle.host_report.proofs.Laws.{on_reported}
+use Rattle.host_report.proofs.report.Goals as goal
+
+pub returns : goal.returns
+returns c = on_reported c.place_code.ensures c.write_report.ensures

@@ -1,0 +1,12 @@
+use native.Mathlib.Omega.{arith}
+use lib.ListN.{length-set}
+use Rattle.host_run.proofs.outcome.put_course.Goals as goal
+
+pub bounds-words-1 : goal.bounds-words-1
+bounds-words-1 c = simp length-set (omega arith)
+
+pub bounds-words-2 : goal.bounds-words-2
+bounds-words-2 c = simp length-set (omega arith)
+
+pub returns : goal.returns
+returns c = rw (c.flag-done.ensures, c.end_word-end.ensures)
