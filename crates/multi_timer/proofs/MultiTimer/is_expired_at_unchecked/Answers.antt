@@ -5,10 +5,10 @@ use Rattle.multi_timer.proofs.Places.{at_bound, at_lookup, absent_lookup}
 use Rattle.multi_timer.proofs.MultiTimer.is_expired_at_unchecked.Goals as goal
 use Rattle.multi_timer.proofs.MultiTimer.is_expired_at_unchecked.Goals.{In-At, Start}
 
-place : (c : tie.After-known-told) → c.before.position.given.0.0 < c.before.before.before.before.before.before.args.self.count
-place c = let s = c.before.before.before.before.before.before in at_bound s.args.self.count s.args.keys.now s.args.deadlines.now (good_of s.args.self.count s.args.keys.now s.args.deadlines.now s.requires) s.args.key _ (sym c.before.position.given.1 ∙ c.before.before.before.search.ensures)
+place : (c : goal.In-At) → c.in-At.i < c.args.self.count
+place c = at_bound c.args.self.count c.args.keys.now c.args.deadlines.now (good_of c.args.self.count c.args.keys.now c.args.deadlines.now c.requires) c.args.key _ (sym c.in-At.is ∙ c.search-position.ensures)
 
-within : (c : tie.Start) → c.args.self.count ≤ length c.args.deadlines.now
+within : (c : goal.Start) → c.args.self.count ≤ length c.args.deadlines.now
 within c = let g = good_of c.args.self.count c.args.keys.now c.args.deadlines.now c.requires in subst (λ (m : ℕ). c.args.self.count ≤ m) g.same g.within
 
 pub search-position-requires : goal.search-position-requires

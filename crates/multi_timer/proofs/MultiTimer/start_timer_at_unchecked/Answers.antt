@@ -15,7 +15,7 @@ pub overflow_add-result : goal.overflow_add-result
 overflow_add-result c = omega (arith, unused c.args.self c.args.keys.now c.args.deadlines.now c.requires.0 c.args.key _ (sym c.in-Absent.is ∙ c.search-position.ensures) c.requires.1)
 
 pub returns-in-At : goal.returns-in-At
-returns-in-At c = started_at c.args.self c.args.keys.now c.args.deadlines.now c.requires.0 c.args.key c.args.deadline _ _ _ (sym c.in-At.is ∙ c.search-position.ensures) c.wrapping_add_u64-next.ensures c.set_deadline.ensures
+returns-in-At c = started_at c.args.self c.args.keys.now c.args.deadlines.now c.requires.0 c.args.key c.args.deadline _ _ _ (sym c.in-At.is ∙ c.search-position.ensures) c.wrapping_add_u64-next.ensures.value c.set_deadline.ensures
 
 pub returns-in-Absent : goal.returns-in-Absent
-returns-in-Absent c = let e = c.insert_at.ensures in started_absent c.args.self c.args.keys.now c.args.deadlines.now c.requires.0 c.args.key c.args.deadline _ _ _ _ (sym c.in-Absent.is ∙ c.search-position.ensures) c.wrapping_add_u64-next.ensures e.0 e.1
+returns-in-Absent c = let e = c.insert_at.ensures in started_absent c.args.self c.args.keys.now c.args.deadlines.now c.requires.0 c.args.key c.args.deadline _ _ _ _ (sym c.in-Absent.is ∙ c.search-position.ensures) c.wrapping_add_u64-next.ensures.value e.0 e.1

@@ -1,4 +1,4 @@
-use Rattle.std.proofs.Common.{◌-◌, refl, ◌∙◌, rules}
+use Rattle.std.proofs.Common.{refl, ◌∙◌, rules}
 use Rattle.multi_timer.proofs.Loops.{late_found, late_step, late_end}
 use Rattle.multi_timer.proofs.checks.any_late.Goals as goal
 

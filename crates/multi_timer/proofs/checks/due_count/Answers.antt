@@ -1,4 +1,4 @@
-use Rattle.std.proofs.Common.{ℕ, ◌+◌, ◌-◌, ◌≤◌, leb, get_or, sym, ap, ◌∙◌, subst, zero-add, arith, rules}
+use Rattle.std.proofs.Common.{ℕ, ◌+◌, ◌≤◌, leb, get_or, sym, ap, ◌∙◌, subst, zero-add, arith, rules}
 use Rattle.multi_timer.proofs.Lists.{rest}
 use Rattle.multi_timer.specs.Internal.{due_in}
 use Rattle.multi_timer.proofs.Changes.{due_step, due_one_most, due_end}

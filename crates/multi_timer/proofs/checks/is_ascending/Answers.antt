@@ -1,4 +1,4 @@
-use Rattle.std.proofs.Common.{◌-◌, ◌∙◌, rules}
+use Rattle.std.proofs.Common.{◌∙◌, rules}
 use Rattle.multi_timer.proofs.Loops.{ascending_start, ascending_step, ascending_end}
 use Rattle.multi_timer.proofs.checks.is_ascending.Goals as goal
 

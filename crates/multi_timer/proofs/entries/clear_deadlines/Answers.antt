@@ -1,4 +1,4 @@
-use Rattle.std.proofs.Common.{◌-◌, arith, rules}
+use Rattle.std.proofs.Common.{arith, rules}
 use borrow.Author.Fill.{fill_none}
 use Rattle.multi_timer.proofs.Lists.{length_filled, filled_step, filled_end}
 use Rattle.multi_timer.proofs.entries.clear_deadlines.Goals as goal

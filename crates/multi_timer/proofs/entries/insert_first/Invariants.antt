@@ -1,4 +1,4 @@
-use Rattle.std.proofs.Common.{◌≡◌, ◌-◌, ◌≤◌, length}
+use Rattle.std.proofs.Common.{◌≡◌, ◌≤◌, length}
 use Rattle.multi_timer.proofs.Lists.{moved_up}
 use Rattle.multi_timer.proofs.entries.insert_first.Given as goal
 

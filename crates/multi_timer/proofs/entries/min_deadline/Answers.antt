@@ -1,4 +1,4 @@
-use Rattle.std.proofs.Common.{ℕ, ◌+◌, ◌-◌, sym, ap, ◌∙◌, rules}
+use Rattle.std.proofs.Common.{ℕ, ◌+◌, sym, ap, ◌∙◌, rules}
 use Rattle.multi_timer.proofs.Lists.{rest}
 use Rattle.multi_timer.specs.Map.{min_of}
 use mathlib.Core.Option.{some}

@@ -1,4 +1,4 @@
-use Rattle.std.proofs.Common.{◌-◌, ◌∙◌}
+use Rattle.std.proofs.Common.{◌∙◌}
 use Rattle.multi_timer.proofs.DueKeys.{next_found, next_step, next_end}
 use Rattle.multi_timer.proofs.entries.next_due.Goals as goal
 

@@ -1,4 +1,4 @@
-use Rattle.std.proofs.Common.{◌-◌, ◌∙◌, rules}
+use Rattle.std.proofs.Common.{◌∙◌, rules}
 use Rattle.multi_timer.proofs.Loops.{search_at, search_absent, search_step, search_end}
 use Rattle.multi_timer.proofs.entries.search.Goals as goal
 

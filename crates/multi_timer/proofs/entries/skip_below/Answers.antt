@@ -1,4 +1,4 @@
-use Rattle.std.proofs.Common.{◌+◌, ◌-◌, ◌<◌, rules}
+use Rattle.std.proofs.Common.{◌+◌, ◌<◌, rules}
 use Rattle.multi_timer.proofs.Loops.{skip_step, later_none}
 use Rattle.multi_timer.proofs.entries.skip_below.Goals as goal
 
