@@ -16,10 +16,10 @@ after_forward c = elim c.if-due.branch [
   | else-due w ↦ same_forward c.args.plan (given c.args.file.now c.args.forward_rolls.now c.args.reverse_rolls.now) (run_of c.args.state (lent c.args.sender_store.now c.args.receiver_store.now c.args.output.now c.args.rows.now c.args.events.now c.args.forward_records.now c.args.forward_places.now c.args.reverse_records.now c.args.reverse_places.now c.args.keys.now c.args.deadlines.now)) (same_run (w.state-is ∙ c.round_less-state.ensures) refl w.receiver_store-is w.output-is w.rows-is refl w.forward_records-is w.forward_places-is w.reverse_records-is w.reverse_places-is refl refl) w.progress-is (forward_not_due c.args.plan (given c.args.file.now c.args.forward_rolls.now c.args.reverse_rolls.now) (run_of c.args.state (lent c.args.sender_store.now c.args.receiver_store.now c.args.output.now c.args.rows.now c.args.events.now c.args.forward_records.now c.args.forward_places.now c.args.reverse_records.now c.args.reverse_places.now c.args.keys.now c.args.deadlines.now)) (sym c.is_due_unchecked-due.ensures ∙ w.if-due.false))
 ]
 
-after_reverse : (c : Joined-due-2) → AfterReverse c.args.plan (given c.args.file.now c.args.forward_rolls.now c.args.reverse_rolls.now) (run_of c.args.state (lent c.args.sender_store.now c.args.receiver_store.now c.args.output.now c.args.rows.now c.args.events.now c.args.forward_records.now c.args.forward_places.now c.args.reverse_records.now c.args.reverse_places.now c.args.keys.now c.args.deadlines.now)) (run_of c.if-due-2.state (lent c.if-due-2.sender_store c.if-due.receiver_store c.if-due.output c.if-due-2.rows c.args.events.now c.if-due.forward_records c.if-due.forward_places c.if-due-2.reverse_records c.if-due-2.reverse_places c.if-due-2.keys c.if-due-2.deadlines)) c.if-due-2.progress
-after_reverse c = elim c.if-due-2.branch [
-  | then-due-2 w ↦ same_reverse c.args.plan (given c.args.file.now c.args.forward_rolls.now c.args.reverse_rolls.now) (run_of c.args.state (lent c.args.sender_store.now c.args.receiver_store.now c.args.output.now c.args.rows.now c.args.events.now c.args.forward_records.now c.args.forward_places.now c.args.reverse_records.now c.args.reverse_places.now c.args.keys.now c.args.deadlines.now)) (same_run (w.state-is ∙ w.with_reverse-state.ensures) w.sender_store-is refl refl w.rows-is refl refl refl w.reverse_records-is w.reverse_places-is w.keys-is w.deadlines-is) (w.progress-is ∙ w.either-progress.ensures) (reverse_due c.args.plan (given c.args.file.now c.args.forward_rolls.now c.args.reverse_rolls.now) (run_of c.args.state (lent c.args.sender_store.now c.args.receiver_store.now c.args.output.now c.args.rows.now c.args.events.now c.args.forward_records.now c.args.forward_places.now c.args.reverse_records.now c.args.reverse_places.now c.args.keys.now c.args.deadlines.now)) (after_forward c.Joined-due) w.serve_reverse_unchecked-served.ensures)
-  | else-due-2 w ↦ same_reverse c.args.plan (given c.args.file.now c.args.forward_rolls.now c.args.reverse_rolls.now) (run_of c.args.state (lent c.args.sender_store.now c.args.receiver_store.now c.args.output.now c.args.rows.now c.args.events.now c.args.forward_records.now c.args.forward_places.now c.args.reverse_records.now c.args.reverse_places.now c.args.keys.now c.args.deadlines.now)) (same_run w.state-is w.sender_store-is refl refl w.rows-is refl refl refl w.reverse_records-is w.reverse_places-is w.keys-is w.deadlines-is) w.progress-is (reverse_not_due c.args.plan (given c.args.file.now c.args.forward_rolls.now c.args.reverse_rolls.now) (run_of c.args.state (lent c.args.sender_store.now c.args.receiver_store.now c.args.output.now c.args.rows.now c.args.events.now c.args.forward_records.now c.args.forward_places.now c.args.reverse_records.now c.args.reverse_places.now c.args.keys.now c.args.deadlines.now)) (after_forward c.Joined-due) (sym c.is_due_unchecked-due-2.ensures ∙ w.if-due-2.false))
+after_reverse : (c : Joined-due-2) → AfterForward c.args.plan (given c.args.file.now c.args.forward_rolls.now c.args.reverse_rolls.now) (run_of c.args.state (lent c.args.sender_store.now c.args.receiver_store.now c.args.output.now c.args.rows.now c.args.events.now c.args.forward_records.now c.args.forward_places.now c.args.reverse_records.now c.args.reverse_places.now c.args.keys.now c.args.deadlines.now)) (run_of c.if-due.state (lent c.args.sender_store.now c.if-due.receiver_store c.if-due.output c.if-due.rows c.args.events.now c.if-due.forward_records c.if-due.forward_places c.if-due.reverse_records c.if-due.reverse_places c.args.keys.now c.args.deadlines.now)) c.if-due.progress → AfterReverse c.args.plan (given c.args.file.now c.args.forward_rolls.now c.args.reverse_rolls.now) (run_of c.args.state (lent c.args.sender_store.now c.args.receiver_store.now c.args.output.now c.args.rows.now c.args.events.now c.args.forward_records.now c.args.forward_places.now c.args.reverse_records.now c.args.reverse_places.now c.args.keys.now c.args.deadlines.now)) (run_of c.if-due-2.state (lent c.if-due-2.sender_store c.if-due.receiver_store c.if-due.output c.if-due-2.rows c.args.events.now c.if-due.forward_records c.if-due.forward_places c.if-due-2.reverse_records c.if-due-2.reverse_places c.if-due-2.keys c.if-due-2.deadlines)) c.if-due-2.progress
+after_reverse c forward = elim c.if-due-2.branch [
+  | then-due-2 w ↦ same_reverse c.args.plan (given c.args.file.now c.args.forward_rolls.now c.args.reverse_rolls.now) (run_of c.args.state (lent c.args.sender_store.now c.args.receiver_store.now c.args.output.now c.args.rows.now c.args.events.now c.args.forward_records.now c.args.forward_places.now c.args.reverse_records.now c.args.reverse_places.now c.args.keys.now c.args.deadlines.now)) (same_run (w.state-is ∙ w.with_reverse-state.ensures) w.sender_store-is refl refl w.rows-is refl refl refl w.reverse_records-is w.reverse_places-is w.keys-is w.deadlines-is) (w.progress-is ∙ w.either-progress.ensures) (reverse_due c.args.plan (given c.args.file.now c.args.forward_rolls.now c.args.reverse_rolls.now) (run_of c.args.state (lent c.args.sender_store.now c.args.receiver_store.now c.args.output.now c.args.rows.now c.args.events.now c.args.forward_records.now c.args.forward_places.now c.args.reverse_records.now c.args.reverse_places.now c.args.keys.now c.args.deadlines.now)) forward w.serve_reverse_unchecked-served.ensures)
+  | else-due-2 w ↦ same_reverse c.args.plan (given c.args.file.now c.args.forward_rolls.now c.args.reverse_rolls.now) (run_of c.args.state (lent c.args.sender_store.now c.args.receiver_store.now c.args.output.now c.args.rows.now c.args.events.now c.args.forward_records.now c.args.forward_places.now c.args.reverse_records.now c.args.reverse_places.now c.args.keys.now c.args.deadlines.now)) (same_run w.state-is w.sender_store-is refl refl w.rows-is refl refl refl w.reverse_records-is w.reverse_places-is w.keys-is w.deadlines-is) w.progress-is (reverse_not_due c.args.plan (given c.args.file.now c.args.forward_rolls.now c.args.reverse_rolls.now) (run_of c.args.state (lent c.args.sender_store.now c.args.receiver_store.now c.args.output.now c.args.rows.now c.args.events.now c.args.forward_records.now c.args.forward_places.now c.args.reverse_records.now c.args.reverse_places.now c.args.keys.now c.args.deadlines.now)) forward (sym c.is_due_unchecked-due-2.ensures ∙ w.if-due-2.false))
 ]
 
 pub returns-then-state-eq0 : goal.returns-then-state-eq0
@@ -44,7 +44,7 @@ pub serve_reverse_unchecked-served-requires : goal.serve_reverse_unchecked-serve
 serve_reverse_unchecked-served-requires c = can_reverse c.args.plan (given c.args.file.now c.args.forward_rolls.now c.args.reverse_rolls.now) (run_of c.args.state (lent c.args.sender_store.now c.args.receiver_store.now c.args.output.now c.args.rows.now c.args.events.now c.args.forward_records.now c.args.forward_places.now c.args.reverse_records.now c.args.reverse_places.now c.args.keys.now c.args.deadlines.now)) (after_forward (goal.at.serve_reverse_unchecked-served-requires c).Joined-due) c.requires.good_run
 
 pub finish_round-requires : goal.finish_round-requires
-finish_round-requires c = record { good_plan = c.requires.good_plan; good_run = good_arrived c.args.plan (given c.args.file.now c.args.forward_rolls.now c.args.reverse_rolls.now) (run_of c.args.state (lent c.args.sender_store.now c.args.receiver_store.now c.args.output.now c.args.rows.now c.args.events.now c.args.forward_records.now c.args.forward_places.now c.args.reverse_records.now c.args.reverse_places.now c.args.keys.now c.args.deadlines.now)) (after_reverse (goal.at.finish_round-requires c).Joined-due-2) c.requires.good_run }
+finish_round-requires c = record { good_plan = c.requires.good_plan; good_run = good_arrived c.args.plan (given c.args.file.now c.args.forward_rolls.now c.args.reverse_rolls.now) (run_of c.args.state (lent c.args.sender_store.now c.args.receiver_store.now c.args.output.now c.args.rows.now c.args.events.now c.args.forward_records.now c.args.forward_places.now c.args.reverse_records.now c.args.reverse_places.now c.args.keys.now c.args.deadlines.now)) (after_reverse (goal.at.finish_round-requires c).Joined-due-2 (after_forward (goal.at.finish_round-requires c).Joined-due)) c.requires.good_run }
 
 pub returns : goal.returns
-returns c = finishes c.args.plan (given c.args.file.now c.args.forward_rolls.now c.args.reverse_rolls.now) (run_of c.args.state (lent c.args.sender_store.now c.args.receiver_store.now c.args.output.now c.args.rows.now c.args.events.now c.args.forward_records.now c.args.forward_places.now c.args.reverse_records.now c.args.reverse_places.now c.args.keys.now c.args.deadlines.now)) (ne_eqb _ _ c.if-state-eq0.false) (after_reverse (goal.at.returns c).Joined-due-2) c.finish_round.ensures
+returns c = finishes c.args.plan (given c.args.file.now c.args.forward_rolls.now c.args.reverse_rolls.now) (run_of c.args.state (lent c.args.sender_store.now c.args.receiver_store.now c.args.output.now c.args.rows.now c.args.events.now c.args.forward_records.now c.args.forward_places.now c.args.reverse_records.now c.args.reverse_places.now c.args.keys.now c.args.deadlines.now)) (ne_eqb _ _ c.if-state-eq0.false) (after_reverse (goal.at.returns c).Joined-due-2 (after_forward (goal.at.returns c).Joined-due)) c.finish_round.ensures
