@@ -18,7 +18,6 @@ use Rattle.schedule.specs.declared.ReadyAnswer.TheVariants as ready
 use Rattle.schedule.specs.declared.Scheduled.{Scheduled}
 use Rattle.schedule.specs.declared.Deliveries.{Deliveries}
 use Rattle.schedule.specs.declared.OwnedSchedule.{OwnedSchedule}
-use Rattle.schedule.specs.contracts.Scheduled as T
 use Rattle.schedule.specs.contracts.OwnedSchedule as S
 use Rattle.schedule.proofs.Calls.{first_not_due, can_take, taken_law}
 
@@ -64,7 +63,7 @@ module _ (m : Schedule) (now : ℕ) (out : List ℕ) (some : m.scheduler.count �
 
 -- the records are eight
 pub owned_length : (x : OwnedSchedule) (vs : List Val) → Is S.the_row x vs → length x.records ≡ 8
-owned_length x vs p = sym (length-map x.records (T.the_type).to) ∙ p.1.1.0.1.0.1
+owned_length x vs p = p.1.1.0.1.0.1
 
 pub owned_rows : (x : OwnedSchedule) (vs : List Val) → Is S.the_row x vs → length (rows x.records) ≡ 8
 owned_rows x vs p = length-map x.records row_of ∙ owned_length x vs p

@@ -2,11 +2,11 @@
 use mathlib.Core.Path.{◌≡◌, refl, sym, ◌∙◌, ap, subst}
 use Prim.Native.Nat.{ℕ, zero, suc, ◌<◌, ◌≤◌, ◌+◌, ◌-◌}
 use native.Mathlib.Omega.{arith}
-use native.Mathlib.Numerals.{add-one}
+use native.Mathlib.Numerals.{add-one, unary_clauses}
 use mathlib.Core.Bool.{Bool, true, false, cond, not, ◌&&◌}
 use mathlib.Core.List.{List, [], ◌∷◌, ◌++◌, append_assoc, map}
-use lib.ListN.{length, set, get_or, take, drop, length-set}
-use lib.Seq.{take-suc, drop-cons, set_split, take-set-le, drop-set-lt, get_or-set_same, get_or-set_other, length-take-le, take_at}
+use lib.ListN.{length, set, get_or, take, drop, length-set, drop_of_length-le}
+use lib.Seq.{take-suc, drop-cons, set_split, take-set-le, drop-set-lt, get_or-set_same, get_or-set_other, length-take-le, take_at, get_or-take}
 use Rattle.schedule.specs.Record.{record4, time_of, order_of, vacant, after, inserted, ordered_from, ordered, lowest_free}
 use Rattle.schedule.specs.State.{schedule, place_count}
 use Rattle.schedule.specs.Schedule.{first_record, put_copy, without_first}
@@ -226,6 +226,63 @@ inserts r n ys zs l h e =
 pub taken : (n : ℕ) (ys : List Scheduled) (c : Scheduled) (zs : List Scheduled) → 0 < n → n ≤ length ys → c ≡ earliest empty n ys → zs ≡ pushed empty n ys → (row_of c ≡ first_record (rows ys)) × (rows zs ≡ drop 1 (take n (rows ys)) ++ vacant ∷ drop n (rows ys))
 taken zero ys c zs p l e₁ e₂ = absurd (omega arith)
 taken (suc j) ys c zs p l e₁ e₂ = (ap row_of (e₁ ∙ earliest_is empty j ys) ∙ rows_first ys (omega arith), ap rows (e₂ ∙ pushed_is empty j ys (omega arith)) ∙ rows_append (drop 1 (take (suc j) ys)) (empty ∷ drop (suc j) ys) ∙ ap (λ (xs : List (List ℕ)). xs ++ vacant ∷ rows (drop (suc j) ys)) (rows_drop 1 (take (suc j) ys) ∙ ap (drop 1) (rows_take (suc j) ys)) ∙ ap (λ (xs : List (List ℕ)). drop 1 (take (suc j) (rows ys)) ++ vacant ∷ xs) (rows_drop (suc j) ys))
+
+-- ---- one turn of each loop
+-- a look at the records in order: what is left to look at is in order after p where the whole is in order
+look_none : (p : Scheduled) → true ≡ ordered_from leaves p []
+unfolding ordered_from
+look_none p = refl
+
+look_wrong : (p x : Scheduled) (xs : List Scheduled) → leaves p x ≡ true → false ≡ ordered_from leaves p (x ∷ xs)
+unfolding ordered_from
+look_wrong p x xs e = sym (ap (λ (t : Bool). not t && ordered_from leaves x xs) e)
+
+look_right : (p x : Scheduled) (xs : List Scheduled) → leaves p x ≡ false → ordered_from leaves x xs ≡ ordered_from leaves p (x ∷ xs)
+unfolding ordered_from
+look_right p x xs e = sym (ap (λ (t : Bool). not t && ordered_from leaves x xs) e)
+
+module _ (n : ℕ) (ys : List Scheduled) (within : n ≤ length ys) (p : Scheduled) (i : ℕ) (h : ordered_from leaves p (drop i (take n ys)) ≡ ordered_from leaves empty (take n ys)) where
+  look_at : i < n → drop i (take n ys) ≡ get_or ys i empty ∷ drop (suc i) (take n ys)
+  look_at l = drop-cons (take n ys) i empty (subst (λ (m : ℕ). i < m) (sym (length-take-le n ys within)) l) ∙ ap (λ (r : Scheduled). r ∷ drop (suc i) (take n ys)) (get_or-take n ys i empty l)
+
+  pub look_ends : n ≤ i → true ≡ ordered (take n (rows ys))
+  look_ends l = look_none p ∙ ap (ordered_from leaves p) (sym (drop_of_length-le (take n ys) (subst (λ (m : ℕ). m ≤ i) (sym (length-take-le n ys within)) l))) ∙ h ∙ in_order_is n ys
+
+  pub look_fails : i < n → leaves p (get_or ys i empty) ≡ true → false ≡ ordered (take n (rows ys))
+  look_fails l e = look_wrong p (get_or ys i empty) (drop (suc i) (take n ys)) e ∙ ap (ordered_from leaves p) (sym (look_at l)) ∙ h ∙ in_order_is n ys
+
+  pub look_goes_on : i < n → leaves p (get_or ys i empty) ≡ false → ordered_from leaves (get_or ys i empty) (drop (i + 1) (take n ys)) ≡ ordered_from leaves empty (take n ys)
+  look_goes_on l e = ap (λ (m : ℕ). ordered_from leaves (get_or ys i empty) (drop m (take n ys))) (add-one i) ∙ look_right p (get_or ys i empty) (drop (suc i) (take n ys)) e ∙ ap (ordered_from leaves p) (sym (look_at l)) ∙ h
+
+-- an insertion
+pub sifts_on : (r : Scheduled) (i : ℕ) (zs : List Scheduled) → 0 < i → leaves (get_or zs (i - 1) empty) r ≡ true → sifted r (i - 1) (set zs i (get_or zs (i - 1) empty)) ≡ sifted r i zs
+sifts_on r zero zs l e = absurd (omega arith)
+sifts_on r (suc j) zs l e = simp unary_clauses (sym (sifted_on r j zs true (simp unary_clauses at e)))
+
+pub sifts_here : (r : Scheduled) (i : ℕ) (zs : List Scheduled) → 0 < i → leaves (get_or zs (i - 1) empty) r ≡ false → set zs i r ≡ sifted r i zs
+sifts_here r zero zs l e = absurd (omega arith)
+sifts_here r (suc j) zs l e = sym (sifted_on r j zs false (simp unary_clauses at e))
+
+pub sifts_first : (r : Scheduled) (i : ℕ) (zs : List Scheduled) → i ≤ 0 → set zs i r ≡ sifted r i zs
+sifts_first r zero zs l = sym (sifted_none r zs)
+sifts_first r (suc j) zs l = absurd (omega arith)
+
+-- a taking out
+pub pushes_on : (c : Scheduled) (i : ℕ) (zs : List Scheduled) → 0 < i → pushed (get_or zs (i - 1) empty) (i - 1) (set zs (i - 1) c) ≡ pushed c i zs
+pushes_on c zero zs l = absurd (omega arith)
+pushes_on c (suc j) zs l = simp unary_clauses (sym (pushed_on c j zs))
+
+pub falls_on : (c : Scheduled) (i : ℕ) (zs : List Scheduled) → 0 < i → earliest (get_or zs (i - 1) empty) (i - 1) (set zs (i - 1) c) ≡ earliest c i zs
+falls_on c zero zs l = absurd (omega arith)
+falls_on c (suc j) zs l = simp unary_clauses (sym (earliest_on c j zs))
+
+pub pushes_none : (c : Scheduled) (i : ℕ) (zs : List Scheduled) → i ≤ 0 → zs ≡ pushed c i zs
+pushes_none c zero zs l = sym (pushed_none c zs)
+pushes_none c (suc j) zs l = absurd (omega arith)
+
+pub falls_out : (c : Scheduled) (i : ℕ) (zs : List Scheduled) → i ≤ 0 → c ≡ earliest c i zs
+falls_out c zero zs l = sym (earliest_none c zs)
+falls_out c (suc j) zs l = absurd (omega arith)
 
 -- what an insertion leaves is in order: so the next call may follow
 pub inserts_in_order : (r : List ℕ) (n : ℕ) (rs qs : List (List ℕ)) → n ≤ length rs → ordered (take n rs) ≡ true → qs ≡ inserted after r (take n rs) ++ drop (n + 1) rs → ordered (take (n + 1) qs) ≡ true

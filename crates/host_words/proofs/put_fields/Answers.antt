@@ -1,3 +1,5 @@
+use borrow.Author.Rules.{rules}
+use Rattle.host_words.specs.Words.{with_fields}
 use native.Mathlib.Omega.{arith}
 use lib.ListN.{length-set}
 use Rattle.host_words.proofs.put_fields.Goals as goal
@@ -16,3 +18,7 @@ bounds-state-5 c = simp length-set (omega arith)
 
 pub bounds-state-6 : goal.bounds-state-6
 bounds-state-6 c = simp length-set (omega arith)
+
+pub returns : goal.returns
+unfolding with_fields
+returns c = search rules

@@ -1,3 +1,5 @@
+use mathlib.Core.Path.{ap}
+use mathlib.Core.Bool.{not}
 use mathlib.Core.Path.{◌∙◌}
 use native.Mathlib.Omega.{arith}
 use Rattle.path.specs.Direction.{direction}
@@ -78,10 +80,10 @@ pub shape_of-reverse_places-then-not-is_going : goal.shape_of-reverse_places-the
 shape_of-reverse_places-then-not-is_going c = c.on_forward_unchecked-got.auto.places ∙ c.loop-place.invariant.same.reverse_places
 
 pub returns-then-not-is_going : goal.returns-then-not-is_going
-returns-then-not-is_going c = left_stops c.loop-place.invariant c.first_due_unchecked.ensures c.in-Packet.is c.remove_first_unchecked-forward.ensures c.on_forward_unchecked-got.ensures c.is_going.ensures c.if-not-is_going.true
+returns-then-not-is_going c = left_stops c.loop-place.invariant c.first_due_unchecked.ensures c.in-Packet.is c.remove_first_unchecked-forward.ensures c.on_forward_unchecked-got.ensures c.is_going.ensures (ap not c.if-not-is_going.true)
 
 pub loop-place-smaller : goal.loop-place-smaller
 loop-place-smaller c = left_less c.loop-place.invariant c.first_due_unchecked.ensures c.in-Packet.is c.remove_first_unchecked-forward.ensures
 
 pub loop-place-preserved : goal.loop-place-preserved
-loop-place-preserved c = left_next c.loop-place.invariant c.first_due_unchecked.ensures c.in-Packet.is c.remove_first_unchecked-forward.ensures c.on_forward_unchecked-got.ensures c.is_going.ensures c.if-not-is_going.false (record { store = c.on_forward_unchecked-got.auto.store ∙ c.loop-place.invariant.same.store; output = c.on_forward_unchecked-got.auto.output ∙ c.loop-place.invariant.same.output; rows = c.on_forward_unchecked-got.auto.rows ∙ c.loop-place.invariant.same.rows; forward_records = c.remove_first_unchecked-forward.auto.records ∙ c.loop-place.invariant.same.forward_records; forward_places = c.remove_first_unchecked-forward.auto.places ∙ c.loop-place.invariant.same.forward_places; reverse_records = c.on_forward_unchecked-got.auto.records ∙ c.loop-place.invariant.same.reverse_records; reverse_places = c.on_forward_unchecked-got.auto.places ∙ c.loop-place.invariant.same.reverse_places })
+loop-place-preserved c = left_next c.loop-place.invariant c.first_due_unchecked.ensures c.in-Packet.is c.remove_first_unchecked-forward.ensures c.on_forward_unchecked-got.ensures c.is_going.ensures (ap not c.if-not-is_going.false) (record { store = c.on_forward_unchecked-got.auto.store ∙ c.loop-place.invariant.same.store; output = c.on_forward_unchecked-got.auto.output ∙ c.loop-place.invariant.same.output; rows = c.on_forward_unchecked-got.auto.rows ∙ c.loop-place.invariant.same.rows; forward_records = c.remove_first_unchecked-forward.auto.records ∙ c.loop-place.invariant.same.forward_records; forward_places = c.remove_first_unchecked-forward.auto.places ∙ c.loop-place.invariant.same.forward_places; reverse_records = c.on_forward_unchecked-got.auto.records ∙ c.loop-place.invariant.same.reverse_records; reverse_places = c.on_forward_unchecked-got.auto.places ∙ c.loop-place.invariant.same.reverse_places })

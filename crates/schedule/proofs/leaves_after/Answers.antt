@@ -18,10 +18,10 @@ third : (p r : List ℕ) → get_or r 0 0 ≤ get_or p 0 0 → get_or p 0 0 ≤ 
 third p r a b = simp (le-ltb _ _ a, le-ltb _ _ b)
 
 pub returns-then-pt-rt : goal.returns-then-pt-rt
-returns-then-pt-rt c = first c.args.row c.args.t2 c.if-pt-rt.true
+returns-then-pt-rt c = first c.args.p c.args.r c.if-pt-rt.true
 
 pub returns-then-rt-pt : goal.returns-then-rt-pt
-returns-then-rt-pt c = second c.args.row c.args.t2 c.if-pt-rt.false c.if-rt-pt.true
+returns-then-rt-pt c = second c.args.p c.args.r c.if-pt-rt.false c.if-rt-pt.true
 
 pub returns : goal.returns
-returns c = third c.args.row c.args.t2 c.if-pt-rt.false c.if-rt-pt.false
+returns c = third c.args.p c.args.r c.if-pt-rt.false c.if-rt-pt.false

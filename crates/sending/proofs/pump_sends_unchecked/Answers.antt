@@ -1,3 +1,5 @@
+use mathlib.Core.Path.{ap}
+use mathlib.Core.Bool.{not}
 use Prim.Native.Nat.{ℕ, ◌-◌}
 use mathlib.Core.Path.{sym, ◌∙◌}
 use lib.ListN.{length-replicate}
@@ -40,13 +42,13 @@ pub shape_of-deadlines-then-not-going : goal.shape_of-deadlines-then-not-going
 shape_of-deadlines-then-not-going c = c.send_one-sent.auto.deadlines ∙ c.loop-timing.invariant.0.same.deadlines
 
 pub returns-then-not-going : goal.returns-then-not-going
-returns-then-not-going c = left_stopped c.loop-timing.invariant.0 c.can_pump_unchecked.ensures c.loop-timing-test.true c.send_one-sent.ensures c.is_going-going.ensures c.if-not-going.true
+returns-then-not-going c = left_stopped c.loop-timing.invariant.0 c.can_pump_unchecked.ensures c.loop-timing-test.true c.send_one-sent.ensures c.is_going-going.ensures (ap not c.if-not-going.true)
 
 pub loop-timing-smaller : goal.loop-timing-smaller
 loop-timing-smaller c = left_less c.loop-timing.invariant.0 c.can_pump_unchecked.ensures c.loop-timing-test.true c.send_one-sent.ensures c.is_going-going.ensures
 
 pub loop-timing-preserved : goal.loop-timing-preserved
-loop-timing-preserved c = (left_next c.loop-timing.invariant.0 c.can_pump_unchecked.ensures c.loop-timing-test.true c.send_one-sent.ensures c.is_going-going.ensures c.if-not-going.false (record { store = c.send_one-sent.auto.store ∙ c.loop-timing.invariant.0.same.store; rows = c.send_one-sent.auto.rows ∙ c.loop-timing.invariant.0.same.rows; events = c.send_one-sent.auto.events ∙ c.loop-timing.invariant.0.same.events; records = c.send_one-sent.auto.records ∙ c.loop-timing.invariant.0.same.records; places = c.send_one-sent.auto.places ∙ c.loop-timing.invariant.0.same.places; keys = c.send_one-sent.auto.keys ∙ c.loop-timing.invariant.0.same.keys; deadlines = c.send_one-sent.auto.deadlines ∙ c.loop-timing.invariant.0.same.deadlines }), c.send_one-sent.auto.wire ∙ c.loop-timing.invariant.1)
+loop-timing-preserved c = (left_next c.loop-timing.invariant.0 c.can_pump_unchecked.ensures c.loop-timing-test.true c.send_one-sent.ensures c.is_going-going.ensures (ap not c.if-not-going.false) (record { store = c.send_one-sent.auto.store ∙ c.loop-timing.invariant.0.same.store; rows = c.send_one-sent.auto.rows ∙ c.loop-timing.invariant.0.same.rows; events = c.send_one-sent.auto.events ∙ c.loop-timing.invariant.0.same.events; records = c.send_one-sent.auto.records ∙ c.loop-timing.invariant.0.same.records; places = c.send_one-sent.auto.places ∙ c.loop-timing.invariant.0.same.places; keys = c.send_one-sent.auto.keys ∙ c.loop-timing.invariant.0.same.keys; deadlines = c.send_one-sent.auto.deadlines ∙ c.loop-timing.invariant.0.same.deadlines }), c.send_one-sent.auto.wire ∙ c.loop-timing.invariant.1)
 
 pub shape_of-store : goal.shape_of-store
 shape_of-store c = c.loop-timing.invariant.0.same.store

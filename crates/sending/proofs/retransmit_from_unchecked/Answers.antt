@@ -1,3 +1,5 @@
+use mathlib.Core.Path.{ap}
+use mathlib.Core.Bool.{not}
 use native.Mathlib.Omega.{arith}
 use mathlib.Core.Path.{◌∙◌}
 use Rattle.sending.proofs.Resending.{left_start, left_none, left_can, left_low, left_met, left_stopped, left_next, left_less, left_sub}
@@ -49,7 +51,7 @@ pub shape_of-deadlines-then-not-going : goal.shape_of-deadlines-then-not-going
 shape_of-deadlines-then-not-going c = c.retransmit_unchecked-resent.auto.deadlines ∙ c.loop-left.invariant.same.deadlines
 
 pub returns-then-not-going : goal.returns-then-not-going
-returns-then-not-going c = left_stopped c.loop-left.invariant c.loop-left-test.true c.ceiling_met-met.ensures c.if-met.false c.retransmit_unchecked-resent.ensures c.is_going-going.ensures c.if-not-going.true
+returns-then-not-going c = left_stopped c.loop-left.invariant c.loop-left-test.true c.ceiling_met-met.ensures c.if-met.false c.retransmit_unchecked-resent.ensures c.is_going-going.ensures (ap not c.if-not-going.true)
 
 pub overflow_add-seq : goal.overflow_add-seq
 overflow_add-seq c = let h = left_low c.loop-left.invariant c.loop-left-test.true in omega (arith, h)
@@ -61,7 +63,7 @@ pub loop-left-smaller : goal.loop-left-smaller
 loop-left-smaller c = left_less c.loop-left.invariant c.loop-left-test.true
 
 pub loop-left-preserved : goal.loop-left-preserved
-loop-left-preserved c = left_next c.loop-left.invariant c.loop-left-test.true c.ceiling_met-met.ensures c.if-met.false c.retransmit_unchecked-resent.ensures c.is_going-going.ensures c.if-not-going.false (record { rows = c.retransmit_unchecked-resent.auto.rows ∙ c.loop-left.invariant.same.rows; events = c.retransmit_unchecked-resent.auto.events ∙ c.loop-left.invariant.same.events; records = c.retransmit_unchecked-resent.auto.records ∙ c.loop-left.invariant.same.records; places = c.retransmit_unchecked-resent.auto.places ∙ c.loop-left.invariant.same.places; keys = c.retransmit_unchecked-resent.auto.keys ∙ c.loop-left.invariant.same.keys; deadlines = c.retransmit_unchecked-resent.auto.deadlines ∙ c.loop-left.invariant.same.deadlines })
+loop-left-preserved c = left_next c.loop-left.invariant c.loop-left-test.true c.ceiling_met-met.ensures c.if-met.false c.retransmit_unchecked-resent.ensures c.is_going-going.ensures (ap not c.if-not-going.false) (record { rows = c.retransmit_unchecked-resent.auto.rows ∙ c.loop-left.invariant.same.rows; events = c.retransmit_unchecked-resent.auto.events ∙ c.loop-left.invariant.same.events; records = c.retransmit_unchecked-resent.auto.records ∙ c.loop-left.invariant.same.records; places = c.retransmit_unchecked-resent.auto.places ∙ c.loop-left.invariant.same.places; keys = c.retransmit_unchecked-resent.auto.keys ∙ c.loop-left.invariant.same.keys; deadlines = c.retransmit_unchecked-resent.auto.deadlines ∙ c.loop-left.invariant.same.deadlines })
 
 pub shape_of-rows : goal.shape_of-rows
 shape_of-rows c = c.loop-left.invariant.same.rows

@@ -1,3 +1,5 @@
+use mathlib.Core.Path.{ap}
+use mathlib.Core.Bool.{not}
 use Prim.Native.Nat.{◌-◌}
 use native.Mathlib.Omega.{arith}
 use mathlib.Core.Path.{◌∙◌}
@@ -84,7 +86,7 @@ pub shape_of-deadlines-then-not-going : goal.shape_of-deadlines-then-not-going
 shape_of-deadlines-then-not-going c = c.fire_number-fired.auto.deadlines ∙ c.loop-n.invariant.same.deadlines
 
 pub returns-then-not-going : goal.returns-then-not-going
-returns-then-not-going c = left_stopped c.loop-n.invariant c.next_expired_unchecked-next.ensures c.in-Key.is c.ceiling_met-met.ensures c.if-met.false c.fire_number-fired.ensures c.is_going-going.ensures c.if-not-going.true
+returns-then-not-going c = left_stopped c.loop-n.invariant c.next_expired_unchecked-next.ensures c.in-Key.is c.ceiling_met-met.ensures c.if-met.false c.fire_number-fired.ensures c.is_going-going.ensures (ap not c.if-not-going.true)
 
 pub overflow_add-from : goal.overflow_add-from
 overflow_add-from c = let h = left_fits c.loop-n.invariant c.next_expired_unchecked-next.ensures c.in-Key.is in omega (arith, h)
@@ -93,4 +95,4 @@ pub loop-n-smaller : goal.loop-n-smaller
 loop-n-smaller c = left_less c.loop-n.invariant c.next_expired_unchecked-next.ensures c.in-Key.is
 
 pub loop-n-preserved : goal.loop-n-preserved
-loop-n-preserved c = left_next c.loop-n.invariant c.next_expired_unchecked-next.ensures c.in-Key.is c.ceiling_met-met.ensures c.if-met.false c.fire_number-fired.ensures c.is_going-going.ensures c.if-not-going.false (record { store = c.fire_number-fired.auto.store ∙ c.loop-n.invariant.same.store; rows = c.fire_number-fired.auto.rows ∙ c.loop-n.invariant.same.rows; events = c.fire_number-fired.auto.events ∙ c.loop-n.invariant.same.events; records = c.fire_number-fired.auto.records ∙ c.loop-n.invariant.same.records; places = c.fire_number-fired.auto.places ∙ c.loop-n.invariant.same.places; keys = c.fire_number-fired.auto.keys ∙ c.loop-n.invariant.same.keys; deadlines = c.fire_number-fired.auto.deadlines ∙ c.loop-n.invariant.same.deadlines })
+loop-n-preserved c = left_next c.loop-n.invariant c.next_expired_unchecked-next.ensures c.in-Key.is c.ceiling_met-met.ensures c.if-met.false c.fire_number-fired.ensures c.is_going-going.ensures (ap not c.if-not-going.false) (record { store = c.fire_number-fired.auto.store ∙ c.loop-n.invariant.same.store; rows = c.fire_number-fired.auto.rows ∙ c.loop-n.invariant.same.rows; events = c.fire_number-fired.auto.events ∙ c.loop-n.invariant.same.events; records = c.fire_number-fired.auto.records ∙ c.loop-n.invariant.same.records; places = c.fire_number-fired.auto.places ∙ c.loop-n.invariant.same.places; keys = c.fire_number-fired.auto.keys ∙ c.loop-n.invariant.same.keys; deadlines = c.fire_number-fired.auto.deadlines ∙ c.loop-n.invariant.same.deadlines })

@@ -1,6 +1,5 @@
 use native.Mathlib.Omega.{arith}
 use mathlib.Core.Path.{refl, sym, ◌∙◌}
-use Prim.Native.Nat.{◌-◌}
 use mathlib.Core.List.{[]}
 use Rattle.schedule.proofs.Lists.{rest_cons, rest_none}
 use Rattle.schedule.proofs.Sound.{test_is}

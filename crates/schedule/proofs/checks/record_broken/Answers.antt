@@ -14,12 +14,12 @@ or-alone false b h = h
 
 pub returns-then-bounds_broken : goal.returns-then-bounds_broken
 returns-then-bounds_broken c = let a = c.args in
-    sym (ap (λ (b : Bool). after a.t1 a.t2 || b) (test_is c.bounds_broken.ensures c.if-bounds_broken.true) ∙ or-true (after a.t1 a.t2))
+    sym (ap (λ (b : Bool). after a.front a.r || b) (test_is c.bounds_broken.ensures c.if-bounds_broken.true) ∙ or-true (after a.front a.r))
 
 pub returns-then-before-time : goal.returns-then-before-time
 returns-then-before-time c = let a = c.args in
-    sym (or_both (after a.t1 a.t2) (bounds_broken a.next a.places a.t2) (simp (lt-ltb _ _ c.if-before-time.true)) (test_is c.bounds_broken.ensures c.if-bounds_broken.false))
+    sym (or_both (after a.front a.r) (bounds_broken a.next a.places a.r) (simp (lt-ltb _ _ c.if-before-time.true)) (test_is c.bounds_broken.ensures c.if-bounds_broken.false))
 
 pub returns : goal.returns
 returns c = let a = c.args in
-    c.leaves_after.ensures ∙ sym (or-alone (after a.t1 a.t2) (bounds_broken a.next a.places a.t2) (test_is c.bounds_broken.ensures c.if-bounds_broken.false))
+    c.leaves_after.ensures ∙ sym (or-alone (after a.front a.r) (bounds_broken a.next a.places a.r) (test_is c.bounds_broken.ensures c.if-bounds_broken.false))

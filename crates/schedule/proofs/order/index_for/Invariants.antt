@@ -1,4 +1,4 @@
-use Prim.Native.Nat.{◌≤◌, ◌+◌, ◌-◌}
+use Prim.Native.Nat.{◌≤◌, ◌+◌}
 use lib.ListN.{take}
 use Rattle.schedule.specs.Record.{after}
 use Rattle.schedule.specs.Internal.{index_for}

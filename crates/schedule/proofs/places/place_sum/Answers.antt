@@ -1,7 +1,6 @@
 use native.Mathlib.Omega.{arith}
 use mathlib.Core.Path.{◌∙◌}
-use Prim.Native.Nat.{◌-◌, ◌+◌}
-use Rattle.schedule.specs.Internal.{sum_from}
+use Prim.Native.Nat.{◌+◌}
 use Rattle.schedule.proofs.FreePlaces.{none_past, four_past, four_next}
 use Rattle.schedule.proofs.places.place_sum.Goals as goal
 

@@ -1,6 +1,6 @@
 use native.Mathlib.Omega.{arith}
 use mathlib.Core.Path.{refl, ◌∙◌}
-use Prim.Native.Nat.{ℕ, ◌≤◌, ◌-◌, ◌*◌, ◌+◌}
+use Prim.Native.Nat.{ℕ, ◌≤◌, ◌*◌, ◌+◌}
 use Rattle.schedule.proofs.Lists.{rest_none}
 use Rattle.schedule.proofs.FreePlaces.{sum_none, sum_past, sum_next}
 use Rattle.schedule.proofs.places.sum_from.Goals as goal

@@ -18,7 +18,7 @@ acknowledge_unchecked-s-requires c = let h = subst (λ (x : SenderState). CleanS
 pub acknowledge_unchecked-s-requires-in-GoBackN : goal.acknowledge_unchecked-s-requires-in-GoBackN
 acknowledge_unchecked-s-requires-in-GoBackN c = let h = subst (λ (x : SenderState). CleanSender (sender_in x c.args.store.now)) c.in-GoBackN.is c.requires.clean_sender in
     let i = subst (λ (x : SenderState). is_in_window (window_in x) c.args.seq_num ≡ true) c.in-GoBackN.is c.requires.seq_num_value in
-    let o = outstanding_number false _ _ _ h.state i in record { window_size_nonzero = o.positive; send_base_bound = o.room; clean = ((o.from, o.low), λ e. h.clean) }
+    let o = outstanding_number false _ _ _ h.state i in record { window_size_nonzero = (o.positive, o.room); send_base_bound = (o.from, o.low); clean = λ e. h.clean }
 
 pub acknowledge_unchecked-s-requires-in-SelectiveRepeat : goal.acknowledge_unchecked-s-requires-in-SelectiveRepeat
 acknowledge_unchecked-s-requires-in-SelectiveRepeat c = let h = subst (λ (x : SenderState). CleanSender (sender_in x c.args.store.now)) c.in-SelectiveRepeat.is c.requires.clean_sender in
