@@ -1,11 +1,11 @@
 -- What is known of words and doubles that hold an estimator; to put it back changes nothing, and what is put into them
 -- is what they hold.
-use Prim.Native.Nat.{ℕ, zero, suc, ◌+◌, ◌≤◌, ◌<◌}
+use Prim.Native.Nat.{ℕ, zero, suc, ◌+◌, ◌≤◌}
 use mathlib.Core.Path.{◌≡◌, refl, sym, ap, ◌∙◌}
 use mathlib.Core.Bool.{Bool, true, false, cond, not}
 use mathlib.Core.List.{List, [], ◌∷◌, ◌++◌}
 use native.Mathlib.Omega.{arith}
-use borrow.Author.Tests.{ltb-false, eqb-true, not-false, le-ltb, eq-eqb}
+use borrow.Author.Tests.{ltb-false, eqb-true, not-false, le-ltb}
 use lib.ListN.{length, get_or, drop}
 use lib.Dec.{ltb, eqb}
 use lib.Ieee.{Float, nan}
@@ -15,9 +15,8 @@ use Rattle.refusal.proofs.Laws.{none_of}
 use Rattle.rto.specs.declared.RtoEstimator.{RtoEstimator}
 use Rattle.rto.specs.declared.MaybeDuration.{MaybeDuration}
 use Rattle.rto.specs.declared.MaybeDuration.TheVariants.{Unset, Set}
-use Rattle.host_answer.specs.Exit.{wide}
 use Rattle.host_estimator.specs.declared.HeldEstimator.TheVariants as held
-use Rattle.host_estimator.specs.Words.{estimator_words, estimator_doubles, estimator_word, is_set, time_of, duration_of, duration_broken, duration_at, estimator_in, numbers_broken, broken_at, durations_broken, held_estimator, first_words, second_words, third_words, words_of, doubles_of, with_words, with_doubles, Readable, Room}
+use Rattle.host_estimator.specs.Words.{estimator_words, estimator_doubles, estimator_word, is_set, time_of, duration_of, duration_broken, estimator_in, numbers_broken, broken_at, durations_broken, held_estimator, first_words, second_words, third_words, words_of, doubles_of, with_words, with_doubles, Readable, Room}
 
 -- ---- durations that may be unset
 duration_words : (set time : ℕ) (b : Bool) → eqb set 1 ≡ b → cond b false (any_of (not (eqb set 0) ∷ not (eqb time 0) ∷ [])) ≡ false

@@ -1,14 +1,12 @@
 -- A refused call changes no word and no double.
-use Prim.Native.Nat.{ℕ, ◌*◌, ◌≤◌, ◌<◌, min, max}
-use mathlib.Core.Path.{◌≡◌, refl, sym, ap, ◌∙◌}
-use mathlib.Core.Bool.{Bool, true, false, not, ◌||◌, ◌&&◌, cond}
+use Prim.Native.Nat.{ℕ}
+use mathlib.Core.Path.{◌≡◌, refl, ap, ◌∙◌}
+use mathlib.Core.Bool.{Bool, true, false, not, cond}
 use mathlib.Core.List.{List, [], ◌∷◌}
-use native.Mathlib.Omega.{arith}
 use lib.ListN.{length, set}
 use lib.Dec.{ltb}
 use lib.Ieee.{Float}
 use Rattle.refusal.specs.Clauses.{any_of}
-use Rattle.refusal.specs.declared.Refusal.{Refusal}
 use Rattle.refusal.specs.declared.Refusal.TheVariants.{State, Setup, Full}
 use Rattle.refusal.specs.declared.DoneAnswer.TheVariants as done
 use Rattle.refusal.specs.Order.{check, verdict}
@@ -28,7 +26,7 @@ use Rattle.host_answer.proofs.Laws.{done_not_refusing}
 use Rattle.host_estimator.specs.declared.HeldEstimator.{HeldEstimator}
 use Rattle.host_estimator.specs.declared.HeldEstimator.TheVariants as held
 use Rattle.host_estimator.specs.Words.{estimator_words, estimator_doubles, held_estimator, with_words, with_doubles}
-use Rattle.host_estimator.specs.Estimator.{EstimatorExit, estimator_exit, left, on_held, changing, make_estimator, update_code, update, rto_code, timeout, reset, MeanExit, mean_exit, mean_to, mean}
+use Rattle.host_estimator.specs.Estimator.{EstimatorExit, estimator_exit, left, on_held, make_estimator, update_code, update, rto_code, timeout, reset, mean_exit, mean_to, mean}
 use Rattle.host_estimator.proofs.Held.{words_back, doubles_back}
 
 -- an estimator's call that keeps the estimator where it is refused

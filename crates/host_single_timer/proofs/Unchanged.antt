@@ -1,7 +1,7 @@
 -- A refused call changes no word; the time that remains survives the packing.
-use Prim.Native.Nat.{ℕ, ◌+◌, ◌-◌, ◌≤◌, ◌<◌}
-use mathlib.Core.Path.{◌≡◌, refl, sym, ap, ◌∙◌}
-use mathlib.Core.Bool.{Bool, true, false, ◌||◌}
+use Prim.Native.Nat.{ℕ, ◌-◌, ◌≤◌}
+use mathlib.Core.Path.{◌≡◌, refl, ap, ◌∙◌}
+use mathlib.Core.Bool.{false}
 use mathlib.Core.List.{List, [], ◌∷◌}
 use native.Mathlib.Omega.{arith}
 use borrow.Author.Tests.{ltb-false}
@@ -9,7 +9,7 @@ use lib.ListN.{length}
 use lib.Dec.{ltb}
 use Rattle.bounds.specs.Bounds.{max_time}
 use Rattle.refusal.specs.declared.Refusal.TheVariants.{Time, Full}
-use Rattle.refusal.specs.Order.{check, verdict, decide}
+use Rattle.refusal.specs.Order.{check, verdict}
 use Rattle.refusal.proofs.Laws.{either_answer, accepted_none_true, or_false}
 use Rattle.timer.specs.Timer.{deadline_too_late, start_too_late, read_too_late, deadline_remaining, new_timer, next_generation, timer_result, started_at_unchecked, started_at, cancelled_unchecked, cancelled, remaining_at}
 use Rattle.timer.specs.declared.Deadline.{Deadline}
@@ -19,7 +19,7 @@ use Rattle.timer.specs.declared.TimerAnswer.TheVariants as timerAnswer
 use Rattle.timer.specs.declared.TimerResult.{TimerResult}
 use Rattle.timer.specs.declared.Remaining.{Remaining}
 use Rattle.timer.specs.declared.Remaining.TheVariants as remainingAnswer
-use Rattle.host_answer.specs.Answer.{packed, value_in, value_limit, refusal_answer, Refusing}
+use Rattle.host_answer.specs.Answer.{packed, value_in, refusal_answer, Refusing}
 use Rattle.host_answer.specs.Exit.{WordsExit, words_exit, broken_words}
 use Rattle.host_answer.proofs.Laws.{done_not_refusing, value_back}
 use Rattle.host_single_timer.specs.declared.HeldTimer.{HeldTimer}

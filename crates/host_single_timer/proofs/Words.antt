@@ -1,12 +1,12 @@
 -- What is known of words that hold a timer; what the calls over them answer, from the equations of the timer's.
-use Prim.Native.Nat.{ℕ, ◌≤◌, ◌<◌}
-use mathlib.Core.Path.{◌≡◌, refl, sym, ap, ◌∙◌}
-use mathlib.Core.Bool.{Bool, true, false, cond, not}
+use Prim.Native.Nat.{ℕ, ◌≤◌}
+use mathlib.Core.Path.{◌≡◌, refl, ap}
+use mathlib.Core.Bool.{Bool, true, false, cond}
 use mathlib.Core.List.{List, [], ◌∷◌}
 use native.Mathlib.Omega.{arith}
 use borrow.Author.Tests.{ltb-false, eqb-true, not-false, le-ltb}
-use lib.ListN.{length, get_or, set}
-use lib.Dec.{ltb, eqb}
+use lib.ListN.{length, get_or}
+use lib.Dec.{eqb}
 use lib.Seq.{set-get_or}
 use Rattle.refusal.specs.Clauses.{any_of}
 use Rattle.refusal.proofs.Laws.{none_of}
@@ -15,8 +15,7 @@ use Rattle.timer.specs.declared.Deadline.{Deadline}
 use Rattle.timer.specs.declared.Deadline.TheVariants.{Unset, At}
 use Rattle.timer.specs.declared.RetransmissionTimer.{RetransmissionTimer}
 use Rattle.timer.specs.declared.TimerResult.{TimerResult}
-use Rattle.host_answer.specs.Exit.{WordsExit, words_exit, broken_words}
-use Rattle.host_single_timer.specs.declared.HeldTimer.{HeldTimer}
+use Rattle.host_answer.specs.Exit.{words_exit, broken_words}
 use Rattle.host_single_timer.specs.declared.HeldTimer.TheVariants as held
 use Rattle.host_single_timer.specs.SingleTimer.{timer_words, timer_word, unreadable, not_unset, held_timer, is_set, time_of, with_timer, on_held, timer_code, changed}
 

@@ -1,13 +1,13 @@
 -- What the calls over words answer, from the equations of the timer set's; and what is known of words that hold one.
 use Prim.Native.Nat.{ℕ, ◌+◌, ◌≤◌}
-use mathlib.Core.Path.{◌≡◌, refl, sym, ap, ◌∙◌}
+use mathlib.Core.Path.{◌≡◌, refl, ap}
 use mathlib.Core.Bool.{Bool, true, false, cond, ◌||◌}
 use mathlib.Core.Option.{Option, none, some}
 use mathlib.Core.List.{List, [], ◌∷◌}
 use native.Mathlib.Omega.{arith}
 use borrow.Author.Tests.{ltb-false, eqb-true, not-false, le-ltb}
 use lib.ListN.{length, get_or}
-use lib.Dec.{ltb, eqb}
+use lib.Dec.{ltb}
 use lib.Seq.{set-get_or}
 use Rattle.refusal.proofs.Laws.{none_of}
 use Rattle.refusal.specs.Clauses.{any_of}
@@ -30,10 +30,9 @@ use Rattle.multi_timer.specs.declared.EarliestAnswer.TheVariants as earliestAnsw
 use Rattle.multi_timer.specs.declared.ClearResult.{ClearResult}
 use Rattle.host_answer.specs.Answer.{packed, refusal_answer, done_answer}
 use Rattle.host_answer.specs.Exit.{words_exit}
-use Rattle.host_timers.specs.declared.HeldTimers.{HeldTimers}
 use Rattle.host_timers.specs.declared.HeldTimers.TheVariants as held
 use Rattle.host_timers.specs.Internal.{none_ran}
-use Rattle.host_timers.specs.Timers.{timers_words, timers_word, timers_in, unreadable, held_timers, with_timers, start_code, started, start_held, start_key, start_wide, cancel_code, cancelled, cancel_held, cancel_key, cancel_wide, pop_code, popped, popped_exit, pop_held, pop, cleared, clear_held, clear}
+use Rattle.host_timers.specs.Timers.{timers_words, timers_word, timers_in, unreadable, held_timers, with_timers, start_code, started, start_held, start_key, start_wide, cancel_code, cancelled, cancel_held, cancel_key, cancel_wide, pop_code, popped_exit, pop_held, pop, cleared, clear_held, clear}
 
 -- words that hold a set
 pub record Readable (s : List ℕ) : Type 0 where

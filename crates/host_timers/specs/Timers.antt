@@ -1,6 +1,6 @@
 -- The timer set for a host: its state in lent words, three at least: 0 the version of this layout times 256 and the
 -- kind 7, 1 how many entries are used, 2 the generation; beside them the lent keys and deadlines.
-use Rattle.std.specs.Prelude.{ℕ, ◌+◌, ◌*◌, ◌≤◌, List, [], ◌∷◌, Bool, cond, not, length, get_or, set, ltb, eqb}
+use Rattle.std.specs.Prelude.{ℕ, List, [], ◌∷◌, Bool, cond, not, length, get_or, set, ltb, eqb}
 use Rattle.refusal.specs.Clauses.{any_of}
 use Rattle.refusal.specs.declared.Refusal.TheVariants.{State, Time, Full}
 use Rattle.refusal.specs.Order.{check, verdict, decide}

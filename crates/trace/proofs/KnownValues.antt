@@ -1,9 +1,8 @@
 -- Document 01's two lines for the one byte 0x41, and lines with no copy and with two.
 use mathlib.Core.Path.{◌≡◌, refl}
-use mathlib.Core.Bool.{true, false}
+use mathlib.Core.Bool.{false}
 use mathlib.Core.List.{[], ◌∷◌, ◌++◌}
 use Rattle.refusal.specs.Refusal.{ascii}
-use Rattle.rows.specs.Rows.{as_number}
 use Rattle.events.specs.Events.{ForwardEvent, event_of}
 use Rattle.text.specs.Decimal.{digits_in, digits}
 use Rattle.trace.specs.Text.{parted, line, joined, columns, head_line, event_line, event_lines, events_text}

@@ -1,4 +1,4 @@
-use borrow.Author.Rules.{rules}
+use mathlib.Core.Path.{refl}
 use Rattle.host_timers.specs.Timers.{with_timers}
 use native.Mathlib.Omega.{arith}
 use lib.ListN.{length-set}
@@ -9,4 +9,4 @@ bounds-state-1 c = simp length-set (omega arith)
 
 pub returns : goal.returns
 unfolding with_timers
-returns c = search rules
+returns c = refl

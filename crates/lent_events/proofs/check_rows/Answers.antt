@@ -1,4 +1,3 @@
-use Prim.Native.Nat.{◌-◌}
 use native.Mathlib.Omega.{arith}
 use Rattle.lent_events.proofs.Rows.{passed_first, passed_refused, passed_next, passed_late, passed_end, later_taken, later_left}
 use Rattle.lent_events.proofs.check_rows.Goals as goal
@@ -11,12 +10,14 @@ pub returns-then-is_no_event : goal.returns-then-is_no_event
 returns-then-is_no_event c = passed_refused c.args.rows.now c.loop-i.invariant.1 (omega arith) c.is_no_event.ensures c.if-is_no_event.true
 
 pub loop-i-preserved : goal.loop-i-preserved
-loop-i-preserved c = let l = c.loop-i in
-    let late = elim c.if-is_late.branch [
-      | then-is_late w ↦ later_taken l.late c.is_late.ensures w.if-is_late.true w.late-is
-      | else-is_late w ↦ later_left l.late c.is_late.ensures w.if-is_late.false w.late-is
-    ] in
-    (omega arith, passed_next c.args.rows.now l.invariant.1 (omega arith) c.is_no_event.ensures c.if-is_no_event.false late)
+loop-i-preserved c = let l = c.loop-i in (
+  omega arith,
+  passed_next c.args.rows.now l.invariant.1 (omega arith) c.is_no_event.ensures c.if-is_no_event.false
+      (elim c.if-is_late.branch [
+        | then-is_late w ↦ later_taken l.late c.is_late.ensures w.if-is_late.true w.late-is
+        | else-is_late w ↦ later_left l.late c.is_late.ensures w.if-is_late.false w.late-is
+      ]),
+)
 
 pub returns-then-late : goal.returns-then-late
 returns-then-late c = passed_late c.args.rows.now c.loop-i.invariant.1 (omega arith) c.if-late.true

@@ -13,6 +13,6 @@ write_columns-requires c = let p = c.requires in
 
 pub returns : goal.returns
 returns c = let a = c.args in
-    let e = line_columns a.t1 c.mark-again.ensures in
+    let e = line_columns a.row c.mark-again.ensures in
     let w = c.write_columns.ensures in
     (w.0 ∙ ap (λ (l : List ℕ). a.at + length l) e, w.1 ∙ ap (written_at a.out.now a.at) e)

@@ -1,4 +1,3 @@
-use Prim.Native.Nat.{◌-◌}
 use native.Mathlib.Omega.{arith}
 use Rattle.text.proofs.Laws.{rest_first}
 use Rattle.trace.proofs.Lines.{line_room, line_next, line_end}
