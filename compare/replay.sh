@@ -32,7 +32,8 @@ compare_lists() { # OUT LAYER
     # Of more wrongs than one the status is the lowest: 6 says that nothing else is wrong than that no answer came.
     [ "$status" -eq 6 ] || break
   done
-  cat "$1/$2.log"
+  # Without what the program wrote.
+  grep -v '^| ' "$1/$2.log" | cut -c 1-600
   echo "$2_replay: other answers than the Rust's on the cases of the seeds above, or none within the time limit (try $try)" >&2
   return 1
 }
