@@ -1,32 +1,39 @@
-# For compare/replays and compare/run: a replay program, compiled but not proved, on cases that the running Rust makes. Sets `room`.
+# For compare/replays and compare/run: a replay program, compiled but not proved, on cases that the running Rust makes.
 # shellcheck shell=bash
 
-# A repository for `rt try` in which the layer's replay has other cases, and the maker of cases, built without the exports: it calls none of them.
+# The maker of cases, built without the exports: it calls none of them. No list is made yet.
 prepare() { # OUT LAYER
-  local crate
   bash compare/build.sh "$1" "compare/$2.rs" -C relro-level=off -C link-args=-Wl,--unresolved-symbols=ignore-all,-z,lazy
-  room=$1/$2.try
-  rm -rf "$room"
-  mkdir -p "$room/crates/$2_replay"
-  ln -s "$PWD/crates.txt" "$room"
-  for crate in crates/*; do
-    [ "$crate" = "crates/$2_replay" ] || ln -s "$PWD/$crate" "$room/crates"
-  done
-  ln -s "$PWD/crates/$2_replay/src" "$room/crates/$2_replay"
+  rm -rf "$1/$2.cases"
+  mkdir -p "$1/$2.cases"
 }
 
-# Makes a list of cases by the MODE of compare/LAYER.rs, --sample or --list, and compares the replay's answers with the list's.
+# Makes a list of cases by the MODE of compare/LAYER.rs, --sample or --list, for compare_lists. What the maker says of it goes to OUT/LAYER.made.
+make_list() { # OUT LAYER MODE SEED
+  "$1/$2" "$3" "$1/$2.list" "$4" >"$1/$2.made"
+  mv "$1/$2.list/stdin" "$1/$2.cases/$4"
+  mv "$1/$2.list/stdout" "$1/$2.cases/$4.stdout"
+}
+
+# Compares the replay's answers with those of the lists that were made since the last time, and removes the lists.
 # On a busy machine a program may be stopped by its time limit, which says nothing of its answers: it is then run again, three times in all.
-compare_list() { # OUT LAYER MODE SEED
-  local try
-  "$1/$2" "$3" "$room/crates/$2_replay" "$4" >"$room/made"
+compare_lists() { # OUT LAYER
+  local try cases made status
+  cases=$(realpath "$1/$2.cases")
+  made=$(find "$cases" -name '*.stdout' | wc -l)
   for try in 1 2 3; do
-    # The interpreter gives up on long lists: the three compiled programs decide.
-    (cd "$room" && rt try "$2_replay") >"$room/log" 2>&1 || true
-    [ "$(grep -c '^ok: the native program' "$room/log")" -eq 3 ] && return
-    grep -q 'did not end within the time limit' "$room/log" || break
+    # The interpreter gives up on long lists: the compiled program decides.
+    status=0
+    (cd "crates/$2_replay" && rt try --seconds 120 --cases "$cases" </dev/null) >"$1/$2.log" 2>&1 || status=$?
+    if [ "$status" -eq 0 ] && [ "$made" -gt 0 ] && [ "$(grep -c '^case=.* run=ended status=0 .* output=expected' "$1/$2.log")" -eq "$made" ]; then
+      rm "$cases"/*
+      return
+    fi
+    # Of more wrongs than one the status is the lowest: 6 says that nothing else is wrong than that no answer came.
+    [ "$status" -eq 6 ] || break
   done
-  cat "$room/log"
-  echo "$2_replay: other answers than the Rust's on the cases of seed $4, or none within the time limit (try $try)" >&2
+  # Without what the program wrote.
+  grep -v '^| ' "$1/$2.log" | cut -c 1-600
+  echo "$2_replay: other answers than the Rust's on the cases of the seeds above, or none within the time limit (try $try)" >&2
   return 1
 }

@@ -1,18 +1,24 @@
 #!/bin/bash
 # The host interface from C, C++ and Rust: the header alone by each compiler that is here, its calls beside the archive's
 # symbols, calls.c and exports.c, the example by each protocol, the Rust tests, and both fuzz drivers.
-# usage: bash examples/test.sh [FUZZ_CALLS]      builds target/staticlib/libpindrelo.a, over what is proved
+# usage: bash examples/test.sh [--after-ci] [FUZZ_CALLS]      builds crates/pindrelo/out/libpindrelo.a by tools/archive.sh
 set -eu
 cd "$(dirname "$0")/.."
+after_ci=
+if [ "${1:-}" = --after-ci ]; then
+  after_ci=$1
+  shift
+fi
 fuzz_calls=${1:-1000000}
-library=target/staticlib/libpindrelo.a
+library=crates/pindrelo/out/libpindrelo.a
 out=target/host
 strict="-Wall -Wextra -Werror -pedantic -Iinclude"
 have() { command -v "$1" >/dev/null || { echo "host: no $1 here: $2 not tested"; return 1; }; }
 
 rm -rf "$out"
 mkdir -p "$out"
-rt staticlib pindrelo >"$out/staticlib.log" 2>&1 || { tail -5 "$out/staticlib.log"; echo "host: no $library" >&2; exit 1; }
+# shellcheck disable=SC2086
+bash tools/archive.sh pindrelo $after_ci >"$out/archive.log" 2>&1 || { tail -5 "$out/archive.log"; echo "host: no $library" >&2; exit 1; }
 
 echo '#include "pindrelo.h"' >"$out/header.c"
 cp "$out/header.c" "$out/header.cpp"
@@ -26,7 +32,7 @@ for compiler in g++ clang++; do
 done
 
 if have rustc "the Rust wrapper"; then
-  rustc --edition 2021 -O --test rust/tests.rs -L native=target/staticlib -l static=pindrelo -o "$out/rust_tests"
+  rustc --edition 2021 -O --test rust/tests.rs -L native=crates/pindrelo/out -l static=pindrelo -o "$out/rust_tests"
   "$out/rust_tests" -q >"$out/rust.log" 2>&1 || { cat "$out/rust.log"; exit 1; }
   echo "host: the Rust tests pass"
 fi

@@ -1,5 +1,5 @@
 //! A safe wrapper of pindrelo.h, without other crates: states own their memory, lent slices can't overlap, answers are
-//! `Result`s. What each call does is said there. Link libpindrelo.a: `-L native=target/staticlib -l static=pindrelo`.
+//! `Result`s. What each call does is said there. Link libpindrelo.a: `-L native=crates/pindrelo/out -l static=pindrelo`.
 #![allow(dead_code, unused_imports)]
 
 mod estimator;

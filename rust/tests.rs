@@ -1,4 +1,4 @@
-//! `rustc --edition 2021 -O --test rust/tests.rs -L native=target/staticlib -l static=pindrelo -o target/rust_tests`
+//! `rustc --edition 2021 -O --test rust/tests.rs -L native=crates/pindrelo/out -l static=pindrelo -o target/rust_tests`
 mod pindrelo;
 use pindrelo::{Clock, End, Estimator, EstimatorSetup, Event, Line, Packet, PacketKind, Protocol, Receiver, Refusal};
 use pindrelo::{RunSetup, Sender, SingleTimer, Timers, OUTCOME_WORDS};

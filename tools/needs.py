@@ -1,5 +1,8 @@
 """Fills the needs of a function's Proof.antt from a script, for work on proofs; no test uses it.
 
+Of the older Rattle: it fits the text up to commit dcf1847, where proofs walked the code. Today a proof is Invariants.antt and Answers.antt, and
+`rt check --start F` writes the files to begin with.
+
     from needs import answer, loop
     answer('packet', 'Packet/payload', ['use mathlib.Core.Path.{sym}'], {'returns': ('payloadOf', 'sym (.. @from-bytes .ensures ..)')})
 

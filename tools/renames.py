@@ -1,6 +1,7 @@
 #!/usr/bin/env python3
 """Renames of names by where they come from: what a file imports from a crate, or defines in it, gets the crate's new name.
-For the trials that were written on the names of commit 675b388.
+For the trials that were written on the names of commit 675b388. The present names are here those of commit dcf1847, the last of the older Rattle; for
+today's spelling of those see tools/spelling.tsv.
 usage: renames.py FOLDER..     each FOLDER has crates/ or is a crate; files are changed in place"""
 import os, re, sys, subprocess
 
