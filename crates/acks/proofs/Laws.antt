@@ -1,6 +1,6 @@
 -- What crates above may cite of ACKs.
 pub use Rattle.acks.proofs.Calls.{acked, acked_unbroken}
-pub use Rattle.acks.proofs.Answers.{on-ack-dropped, on-ack-duplicate, on-ack-accepted, on-accepted-is, by_ack}
+pub use Rattle.acks.proofs.Answers.{on_ack_dropped, on_ack_duplicate, on_ack_accepted, on_accepted_is, by_ack}
 pub use Rattle.acks.proofs.Keeps.{AckKeeps, ack_keeps_same, ack_keeps_then, AckCounts, on_ack_good, on_ack_keeps, on_ack_clock, on_ack_counts}
 pub use Rattle.acks.proofs.Fresh.{new_can_on_ack, new_can_serve_reverse}
 -- the loop: its turns, what it keeps

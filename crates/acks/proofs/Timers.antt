@@ -20,7 +20,7 @@ use Rattle.acks.specs.Acks.{AckState, ack_number, sample_seq, on_accepted, count
 use Rattle.acks.specs.Reverse.{serve_reverse, CanServeReverse}
 use Rattle.acks.specs.declared.AckNumber.{AckNumber}
 use Rattle.acks.specs.declared.AckNumber.TheVariants as ack
-use Rattle.acks.proofs.Answers.{on-ack-dropped, on-ack-duplicate, on-ack-accepted, on-accepted-is}
+use Rattle.acks.proofs.Answers.{on_ack_dropped, on_ack_duplicate, on_ack_accepted, on_accepted_is}
 use Rattle.acks.proofs.Calls.{acked}
 use Rattle.acks.proofs.Keeps.{on_ack_keeps}
 use Rattle.acks.proofs.Serving.{next_taken, can_hand_over, turn_good}
@@ -38,7 +38,7 @@ module _ (timing : Timing) (now : ℕ) (raw : List ℕ) (s : AckState) where
       let v = acknowledged s.sender n in
       let is : handle_ack s.sender raw ≡ ack_exit ackAnswer.Accepted v = acked s.sender raw h n e ∙ sym (ack_accepted s.sender n i refl) in
       let x = sample_rtt s.estimator s.metas seq now in
-      subst Kept (sym (on-accepted-is timing now raw (counted s v) n seq))
+      subst Kept (sym (on_accepted_is timing now raw (counted s v) n seq))
       (rearm_timers timing s.sender v s.clock x.metas (record { time = now; seq = n; rto = x.estimator.current_rto; oldest = oldest_outstanding v.sender }) g held
       (λ q key other d. acknowledged_due s.sender n key h.state (selective q) i other d) (ap (λ (y : AckExit SenderEnd). (window_of y.after.sender).window_size) (sym is) ∙ (ack_keeps_sender s.sender raw).size))
 
@@ -47,11 +47,11 @@ module _ (timing : Timing) (now : ℕ) (raw : List ℕ) (s : AckState) where
   on_ack_timers h held selective g = by_number_lem (ack_number (read_datagram raw)) refl
     where
       by_test_lem : (n : ℕ) → ack_number (read_datagram raw) ≡ ack.Number n → (b : Bool) → is_in_window (window_of s.sender.sender) n ≡ b → Kept (on_ack timing now raw s)
-      by_test_lem n e true i = subst Kept (sym (on-ack-accepted timing now raw s n h e i)) (accepted_timers n h e held selective i g)
-      by_test_lem n e false i = subst Kept (sym (on-ack-duplicate timing now raw s n h e i)) g
+      by_test_lem n e true i = subst Kept (sym (on_ack_accepted timing now raw s n h e i)) (accepted_timers n h e held selective i g)
+      by_test_lem n e false i = subst Kept (sym (on_ack_duplicate timing now raw s n h e i)) g
 
       by_number_lem : (x : AckNumber) → ack_number (read_datagram raw) ≡ x → Kept (on_ack timing now raw s)
-      by_number_lem ack.Nothing e = subst Kept (sym (on-ack-dropped timing now raw s e)) g
+      by_number_lem ack.Nothing e = subst Kept (sym (on_ack_dropped timing now raw s e)) g
       by_number_lem (ack.Number n) e = by_test_lem n e (is_in_window (window_of s.sender.sender) n) refl
 
 -- the loop over what is due on the reverse line

@@ -12,13 +12,13 @@ use Rattle.path.specs.Direction.{Direction}
 use Rattle.path.specs.Rolls.{packet_rolls, rolls_at, rolls_broken}
 use Rattle.path.specs.Path.{is_going, new_path}
 use Rattle.path.specs.declared.Stop.TheVariants.{Going}
-use Rattle.path.proofs.Laws.{rolls_fine, nextRolls, going_is}
+use Rattle.path.proofs.Laws.{rolls_fine, next_rolls, going_is}
 use Rattle.events.specs.Events.{ForwardEvent, events_of}
 use Rattle.events.proofs.Laws.{events_none}
 use Rattle.clock.specs.Clock.{Submission}
 use Rattle.clock.specs.declared.Timing.{Timing}
 use Rattle.submission.specs.Submission.{Outgoing, submit, CanSubmit}
-use Rattle.submission.proofs.Laws.{eventMade, FitsLine, submit-goes, submit-stopped, submit_keeps, going_used, going_events, stopped_events}
+use Rattle.submission.proofs.Laws.{event_made, FitsLine, submit_goes, submit_stopped, submit_keeps, going_used, going_events, stopped_events}
 use Rattle.completion.specs.Flips.{packet_length, PickMayFlip, FlipsFrom, FlipsOutside}
 
 abbrev pub events_in : Outgoing → List ForwardEvent
@@ -56,11 +56,11 @@ module _ (timing : Timing) (rolls : List Float) (x : Submission) (wire : List �
           config = (submit_keeps timing rolls x wire o can).forward.config ∙ l.config;
           used = by_stop_lem _
               (λ e.
-              let n = ap length (going_events timing rolls x wire o e) ∙ length-append (events_in o) (eventMade rolls x wire o ∷ []) in
+              let n = ap length (going_events timing rolls x wire o e) ∙ length-append (events_in o) (event_made rolls x wire o ∷ []) in
               let u = going_used timing rolls x wire o e in
               let w = l.used in
               u ∙ next _ _ (length (events_in (submit timing rolls x wire o).outgoing)) w n)
-              (λ e. ap (λ (y : Outgoing). y.forward.path.used) (submit-stopped timing rolls x wire o e) ∙ l.used ∙ ap (λ (y : List ForwardEvent). packet_rolls * length y) (sym (stopped_events timing rolls x wire o e)));
+              (λ e. ap (λ (y : Outgoing). y.forward.path.used) (submit_stopped timing rolls x wire o e) ∙ l.used ∙ ap (λ (y : List ForwardEvent). packet_rolls * length y) (sym (stopped_events timing rolls x wire o e)));
         }
       where
         next : (u n m : ℕ) → u ≡ packet_rolls * n → m ≡ n + 1 → u + packet_rolls ≡ packet_rolls * m
@@ -69,16 +69,16 @@ module _ (timing : Timing) (rolls : List Float) (x : Submission) (wire : List �
     -- what is asked of the events after it is asked of those before
     module _ (chunks : List (List ℕ)) (f : FlipsOutside c rolls chunks (events_in (submit timing rolls x wire o).outgoing)) where
       last : (submit timing rolls x wire o).stop ≡ Going → FlipsFrom c rolls chunks 0 (events_in o) × PickMayFlip c (rolls_at rolls (0 + packet_rolls * length (events_in o))) (packet_length chunks x.seq)
-      last e = flips_last c rolls chunks 0 (events_in o) (eventMade rolls x wire o) (subst (FlipsFrom c rolls chunks 0) (going_events timing rolls x wire o e) f.each)
+      last e = flips_last c rolls chunks 0 (events_in o) (event_made rolls x wire o) (subst (FlipsFrom c rolls chunks 0) (going_events timing rolls x wire o e) f.each)
 
       pub flips_before : FlipsOutside c rolls chunks (events_in o)
       flips_before = record { each = by_stop_lem _ (λ e. (last e).0) (λ e. subst (FlipsFrom c rolls chunks 0) (stopped_events timing rolls x wire o e) f.each) }
 
       -- and this packet's pick may be hit, if it was carried
-      pub pick_of : FitsLine timing rolls x wire o → PickMayFlip o.forward.path.channel.config (nextRolls o.forward rolls) (packet_length chunks x.seq)
+      pub pick_of : FitsLine timing rolls x wire o → PickMayFlip o.forward.path.channel.config (next_rolls o.forward rolls) (packet_length chunks x.seq)
       pick_of h =
-          let e = submit-goes timing rolls x wire o h in
-          subst (λ (d : ChannelConfig). PickMayFlip d (nextRolls o.forward rolls) (packet_length chunks x.seq)) (sym l.config)
+          let e = submit_goes timing rolls x wire o h in
+          subst (λ (d : ChannelConfig). PickMayFlip d (next_rolls o.forward rolls) (packet_length chunks x.seq)) (sym l.config)
           (subst (λ (n : ℕ). PickMayFlip c (rolls_at rolls n) (packet_length chunks x.seq)) (same _ _ l.used) (last e).1)
         where
           same : (u n : ℕ) → u ≡ n → 0 + n ≡ u

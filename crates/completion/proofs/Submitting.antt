@@ -10,7 +10,7 @@ use Rattle.packet.specs.declared.PacketType.TheVariants.{Data}
 use Rattle.packet.proofs.Laws.{made_length}
 use Rattle.channel.specs.declared.ChannelConfig.{ChannelConfig}
 use Rattle.path.specs.Direction.{Direction}
-use Rattle.path.proofs.Laws.{EachWaiting, nextRolls}
+use Rattle.path.proofs.Laws.{EachWaiting, next_rolls}
 use Rattle.clock.specs.Clock.{Submission}
 use Rattle.clock.specs.declared.Timing.{Timing}
 use Rattle.window.specs.Slots.{first_datagram}
@@ -22,7 +22,7 @@ use Rattle.session.specs.GoodSender.{CanSendChunk}
 use Rattle.session.specs.declared.Oldest.{Oldest}
 use Rattle.session.proofs.Laws.{sent_packets_lem}
 use Rattle.submission.specs.Submission.{Outgoing, entry_free, submit, CanSubmit}
-use Rattle.submission.proofs.Laws.{can_carry, submit-forward}
+use Rattle.submission.proofs.Laws.{can_carry, submit_forward}
 use Rattle.sending.specs.Sending.{PumpState, PumpExit, can_pump, send_one}
 use Rattle.sending.specs.Good.{CanPump}
 use Rattle.sending.specs.Retransmit.{retransmit}
@@ -41,9 +41,9 @@ module _ (timing : Timing) (rolls : List Float) (x : Submission) (wire : List �
       → FlipsOutside c rolls (chunks_in s) (events_in (submit timing rolls x wire o).outgoing) → FollowsIn s u v r output o.forward reverse → FollowsIn s u v r output (submit timing rolls x wire o).outgoing.forward reverse
   submit_follows can l m size flips f =
       on_lines f
-      (subst (EachWaiting (CopyOf u.sent)) (sym (submit-forward timing rolls x wire o))
+      (subst (EachWaiting (CopyOf u.sent)) (sym (submit_forward timing rolls x wire o))
       (carry_copies o.forward rolls (entry_free o) x.time wire (can_carry timing rolls x wire o can) m
-      (λ h. subst (PickMayFlip o.forward.path.channel.config (nextRolls o.forward rolls)) (sym size) (pick_of timing rolls x wire o l (chunks_in s) flips h))
+      (λ h. subst (PickMayFlip o.forward.path.channel.config (next_rolls o.forward rolls)) (sym size) (pick_of timing rolls x wire o l (chunks_in s) flips h))
       f.forward_copies))
       f.reverse_copies
 

@@ -26,7 +26,7 @@ use Rattle.session.specs.declared.Oldest.{Oldest}
 use Rattle.session.specs.declared.Timeout.TheVariants.{Earliest}
 use Rattle.session.proofs.Laws.{datagram_number}
 use Rattle.submission.specs.Submission.{Outgoing, outgoing, note_before, entry_free, on_carriage, submit}
-use Rattle.submission.proofs.Laws.{eventMade, submit-forward, going_written, going_events}
+use Rattle.submission.proofs.Laws.{event_made, submit_forward, going_written, going_events}
 use Rattle.sending.specs.Retransmit.{RetransmitExit, retransmit_exit, retransmit, ceiling_met, retransmit_all}
 use Rattle.sending.specs.declared.Resends.{Resends}
 use Rattle.sending.proofs.Laws.{all_none, all_stopped, all_going}
@@ -122,7 +122,7 @@ module _ (limit : ℕ) (rolls : List Float) (now : ℕ) (s : FireState) (below :
         unfolding retransmit
         expiry_5_4 =
             record {
-              event = eventMade rolls again packet halted;
+              event = event_made rolls again packet halted;
               seq = refl;
               again = refl;
               events = ap (λ (x : FireExit). events_of x.state.outgoing.written x.state.outgoing.events) expiry_is ∙ going_events Edition rolls again packet halted carried;
@@ -147,7 +147,7 @@ unfolding submit
 sent_first rolls x rto wire o =
     let y = with_rto x rto in
     record {
-      forward = submit-forward Edition rolls x wire o ∙ sym (submit-forward Edition rolls y wire o);
+      forward = submit_forward Edition rolls x wire o ∙ sym (submit_forward Edition rolls y wire o);
       written = (by_answer (carry o.forward rolls (entry_free o) x.time wire).result.answer).0;
       events = (by_answer (carry o.forward rolls (entry_free o) x.time wire).result.answer).1;
       stop = refl;

@@ -18,11 +18,11 @@ use Rattle.clock.specs.declared.Timing.TheVariants.{Edition}
 use Rattle.session.specs.Sending.{window_of, oldest_outstanding, acknowledged}
 use Rattle.session.specs.GoodSender.{SenderUnbroken}
 use Rattle.submission.specs.Submission.{Outgoing, submit}
-use Rattle.submission.proofs.Laws.{submit-going, submit-stopped}
+use Rattle.submission.proofs.Laws.{submit_going, submit_stopped}
 use Rattle.sending.specs.Sending.{PumpState, send_one}
 use Rattle.acks.specs.Acks.{AckState, ack_number, sample_seq, on_accepted, counted, on_ack}
 use Rattle.acks.specs.declared.AckNumber.TheVariants as ack
-use Rattle.acks.proofs.Laws.{on-ack-dropped, on-ack-duplicate, on-ack-accepted}
+use Rattle.acks.proofs.Laws.{on_ack_dropped, on_ack_duplicate, on_ack_accepted}
 use Rattle.edition_clock.specs.Section5.{RtoTimer, rto_timer, started, on_sent, on_new_ack}
 use Rattle.edition_clock.specs.AlongARun.{timer_with}
 
@@ -42,11 +42,11 @@ armed_5_1 c m x = on_send_is (timer_of c) x.time x.rto
 module _ (rolls : List Float) (x : Submission) (wire : List ℕ) (o : Outgoing) where
   -- a packet that is carried
   pub submit_5_1 : (submit Edition rolls x wire o).stop ≡ Going → timer_with (submit Edition rolls x wire o).outgoing.clock x.rto ≡ on_sent x.time (timer_with o.clock x.rto)
-  submit_5_1 e = ap (λ (y : Outgoing). timer_with y.clock x.rto) (submit-going Edition rolls x wire o e) ∙ armed_5_1 o.clock _ x
+  submit_5_1 e = ap (λ (y : Outgoing). timer_with y.clock x.rto) (submit_going Edition rolls x wire o e) ∙ armed_5_1 o.clock _ x
 
   -- one that isn't leaves the timer alone: it wasn't sent
   pub submit_not_sent : is_going (submit Edition rolls x wire o).stop ≡ false → (submit Edition rolls x wire o).outgoing.clock ≡ o.clock
-  submit_not_sent e = ap (λ (y : Outgoing). y.clock) (submit-stopped Edition rolls x wire o e)
+  submit_not_sent e = ap (λ (y : Outgoing). y.clock) (submit_stopped Edition rolls x wire o e)
 
 -- a new chunk
 pub send_5_1 : (rolls : List Float) (chunks : List (List ℕ)) (rto now : ℕ) (s : PumpState) → (send_one Edition rolls chunks rto now s).stop ≡ Going
@@ -75,11 +75,11 @@ module _ (now : ℕ) (raw : List ℕ) (s : AckState) where
     -- an ACK of new data, by what it leaves outstanding
     pub ack_5_3 : is_in_window (window_of s.sender.sender) n ≡ true
         → timer_at after ≡ on_new_ack (is_outstanding (oldest_outstanding (acknowledged s.sender n).sender)) now after.estimator.current_rto
-    ack_5_3 i = rw (on-ack-accepted Edition now raw s n h e i) (accepted_5_3 now n (sample_seq s.sender.sender.state n) (counted s (acknowledged s.sender n)))
+    ack_5_3 i = rw (on_ack_accepted Edition now raw s n h e i) (accepted_5_3 now n (sample_seq s.sender.sender.state n) (counted s (acknowledged s.sender n)))
 
     -- any other changes neither timer nor RTO
     pub ack_not_new : is_in_window (window_of s.sender.sender) n ≡ false → timer_at after ≡ timer_at s
-    ack_not_new i = ap timer_at (on-ack-duplicate Edition now raw s n h e i)
+    ack_not_new i = ap timer_at (on_ack_duplicate Edition now raw s n h e i)
 
   pub no_ack : ack_number (read_datagram raw) ≡ ack.Nothing → timer_at after ≡ timer_at s
-  no_ack e = ap timer_at (on-ack-dropped Edition now raw s e)
+  no_ack e = ap timer_at (on_ack_dropped Edition now raw s e)

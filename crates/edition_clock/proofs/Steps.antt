@@ -34,7 +34,7 @@ use Rattle.acks.specs.Good.{CanOnAck}
 use Rattle.acks.specs.Reverse.{serve_reverse, CanServeReverse}
 use Rattle.acks.specs.declared.AckNumber.{AckNumber}
 use Rattle.acks.specs.declared.AckNumber.TheVariants as ack
-use Rattle.acks.proofs.Laws.{on-ack-dropped, on-ack-duplicate, on-ack-accepted, on-accepted-is, next_taken, can_hand_over, turn_good, serve_reverse_invariant}
+use Rattle.acks.proofs.Laws.{on_ack_dropped, on_ack_duplicate, on_ack_accepted, on_accepted_is, next_taken, can_hand_over, turn_good, serve_reverse_invariant}
 use Rattle.arrivals.specs.Arrivals.{ArrivalState, ArrivalExit, acks_of, serve_arrivals, CanServeArrivals}
 use Rattle.arrivals.proofs.Laws.{between, can_serve_reverse, either_exit}
 use Rattle.timeouts.specs.Timeouts.{FireState, FireExit, stopped, fire_timers}
@@ -107,16 +107,16 @@ module _ (limit now : ℕ) (from : Moment) (w a : ℕ) where
           let u = counted s v in
           let k = h.kept in
           let l = sampled s.estimator s.metas seq now (record { limits = k.limits; low = k.low; high = k.high }) in
-          subst Is (sym (on-accepted-is Edition now raw u n seq))
+          subst Is (sym (on_accepted_is Edition now raw u n seq))
           (ack_along h v _ _ (acknowledged_fresh limit s.sender n k.limit_is) l.limits l.low l.high (sampling s.estimator s.metas seq now) (is_outstanding (oldest_outstanding v.sender))
-          (subst (λ (y : AckState). timer_at y ≡ on_new_ack (is_outstanding (oldest_outstanding v.sender)) now y.estimator.current_rto) (on-accepted-is Edition now raw u n seq) (accepted_5_3 now n seq u)))
+          (subst (λ (y : AckState). timer_at y ≡ on_new_ack (is_outstanding (oldest_outstanding v.sender)) now y.estimator.current_rto) (on_accepted_is Edition now raw u n seq) (accepted_5_3 now n seq u)))
 
       by_test_lem : (n : ℕ) → ack_number (read_datagram raw) ≡ ack.Number n → (b : Bool) → is_in_window (window_of s.sender.sender) n ≡ b → Is (on_ack Edition now raw s)
-      by_test_lem n e true i = subst Is (sym (on-ack-accepted Edition now raw s n on.good.sender e i)) (accepted n)
-      by_test_lem n e false i = subst Is (sym (on-ack-duplicate Edition now raw s n on.good.sender e i)) (duplicate_along h)
+      by_test_lem n e true i = subst Is (sym (on_ack_accepted Edition now raw s n on.good.sender e i)) (accepted n)
+      by_test_lem n e false i = subst Is (sym (on_ack_duplicate Edition now raw s n on.good.sender e i)) (duplicate_along h)
 
       by_number_lem : (x : AckNumber) → ack_number (read_datagram raw) ≡ x → Is (on_ack Edition now raw s)
-      by_number_lem ack.Nothing e = subst Is (sym (on-ack-dropped Edition now raw s e)) h
+      by_number_lem ack.Nothing e = subst Is (sym (on_ack_dropped Edition now raw s e)) h
       by_number_lem (ack.Number n) e = by_test_lem n e (is_in_window (window_of s.sender.sender) n) refl
 
   reverse_along : (d : Direction) (s : AckState) → CanServeReverse d s now → Is s → Is (serve_reverse Edition now d s).state

@@ -32,15 +32,15 @@ use Rattle.host_drain.proofs.Delivered.{drained_end, emptied_is, nothing_present
 use Rattle.host_delivery.specs.Host.{HostReceiver, is_done, host_ends, Setup, window_of, made_ends, BothMade}
 use Rattle.host_delivery.specs.Drains.{drain_of, host_draining, made_drainable}
 use Rattle.host_delivery.proofs.Simulation.{ReceiverBy, simulated}
-use Rattle.host_delivery.proofs.Answers.{done-read, refused-not-done}
+use Rattle.host_delivery.proofs.Answers.{done_read, refused_not_done}
 use Rattle.host_delivery.proofs.Receivers.{HoldsReceiver, put_back, put_holds, host_packets, host_output, host_unwritten}
 use Rattle.host_delivery.proofs.Making.{start_of, made, window_fits, made_receiver}
 use Rattle.host_delivery.proofs.Demand3.{simulation, host_follows, made_follows}
 
 drained_read : (a : CountAnswer) → is_done (count_answer a) ≡ is_drained a
 unfolding count_answer
-drained_read (count.Count n) = done-read n
-drained_read (count.Refused r) = refused-not-done r
+drained_read (count.Count n) = done_read n
+drained_read (count.Refused r) = refused_not_done r
 
 any_store : (p : ProtocolType) (store : List ℕ) (r : (ends p).Receiver) → (drain_receiver (receiver_of p store r) (output_of p r)).answer ≡ drain_answer p r
 unfolding drain_receiver

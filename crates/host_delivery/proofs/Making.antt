@@ -28,11 +28,11 @@ use Rattle.session.proofs.Laws.{new_sender_is, new_receiver_is, with_output_of}
 use Rattle.host_answer.specs.Answer.{refusal_answer}
 use Rattle.host_words.specs.Words.{state_words, sender_word, receiver_word, with_kind}
 use Rattle.host_words.proofs.HeldBack.{kind_made, kind_length}
-use Rattle.host_ends.specs.Answers.{CallExit, callExit}
+use Rattle.host_ends.specs.Answers.{CallExit, call_exit}
 use Rattle.host_ends.specs.Making.{make_unless, made_exit, sender_made, sender_broken, make_sender_of, receiver_made, make_receiver_of, by_protocol}
 use Rattle.host_delivery.specs.Host as host
 use Rattle.host_delivery.specs.Host.{HostSender, HostReceiver, is_done, lent, sender_after, protocol_number, window_of, made_ends, BothMade}
-use Rattle.host_delivery.proofs.Answers.{refused-not-done}
+use Rattle.host_delivery.proofs.Answers.{refused_not_done}
 use Rattle.host_delivery.proofs.Senders as senders
 use Rattle.host_delivery.proofs.Senders.{RetriesFit, HoldsSender}
 use Rattle.host_delivery.proofs.Receivers as receivers
@@ -49,12 +49,12 @@ record Makes (slots : ℕ) (setup : Bool) (words store : List ℕ) (made : CallE
   long : state_words ≤ length words
 
 makes_by : (slots : ℕ) (setup : Bool) (words store : List ℕ) (made : CallExit) (v : Verdict) → verdict (make_checks slots setup words store) ≡ v
-    → is_done (decide v (λ r. callExit (refusal_answer r) (words ∷ store ∷ [])) made).answer ≡ true → Makes slots setup words store made
+    → is_done (decide v (λ r. call_exit (refusal_answer r) (words ∷ store ∷ [])) made).answer ≡ true → Makes slots setup words store made
 unfolding make_unless decide
 makes_by slots setup words store made Accepted e h =
     let none = accepted_none_true (make_checks slots setup words store) e in
     record { is = on_accepted _ made e; room = none.0; bounds = none.1.0; long = ltb-false (length words) state_words none.1.1.0 }
-makes_by slots setup words store made (Refused r) e h = let f = refused-not-done r in let z : ◌≡◌ {A = ℕ} 0 1 = cc in absurd (omega arith)
+makes_by slots setup words store made (Refused r) e h = let f = refused_not_done r in let z : ◌≡◌ {A = ℕ} 0 1 = cc in absurd (omega arith)
 
 makes : (slots : ℕ) (setup : Bool) (words store : List ℕ) (made : CallExit) → is_done (make_unless slots setup words store made).answer ≡ true → Makes slots setup words store made
 unfolding make_unless
@@ -66,7 +66,7 @@ made_done : (slots : ℕ) (setup : Bool) (words store words' store' : List ℕ) 
 unfolding make_unless
 made_done slots setup words store words' store' room bounds enough =
     let none = none_true_accepted (make_checks slots setup words store) (room, (bounds, (le-ltb (length words) state_words enough, tt))) in
-    subst (λ (x : CallExit). is_done x.answer ≡ true) (sym (on_accepted (λ r. callExit (refusal_answer r) (words ∷ store ∷ [])) (made_exit words' store') none)) refl
+    subst (λ (x : CallExit). is_done x.answer ≡ true) (sym (on_accepted (λ r. call_exit (refusal_answer r) (words ∷ store ∷ [])) (made_exit words' store') none)) refl
 
 by_number_lem : (p : ProtocolType) (words store : List ℕ) (make : ProtocolType → CallExit) → by_protocol (protocol_number p) words store make ≡ make p
 unfolding by_protocol

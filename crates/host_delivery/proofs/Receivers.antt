@@ -29,7 +29,7 @@ use Rattle.host_ends.specs.Receiver as host
 use Rattle.host_ends.specs.Receiver.{received, receive_held}
 use Rattle.host_delivery.specs.Host.{HostReceiver, host_ends, by_receiver}
 use Rattle.host_delivery.proofs.Simulation.{Does}
-use Rattle.host_delivery.proofs.Answers.{packet_refused, twice-not, replied-bytes}
+use Rattle.host_delivery.proofs.Answers.{packet_refused, twice_not, replied_bytes}
 
 -- words of p's receiver hold r, with its output and, in Selective Repeat, its store; r is good
 pub record HoldsReceiver (p : ProtocolType) (w : ℕ) (h : HostReceiver) (r : (ends p).Receiver) : Type 0 where
@@ -101,8 +101,8 @@ module _ (p : ProtocolType) (w : ℕ) (h : HostReceiver) (r : (ends p).Receiver)
       record {
         after = subst (λ (y : HostReceiver). HoldsReceiver p w y after) (sym put)
             (put_holds p w h.words h.store after before.long before.word (receiver_step_good p w r (record { raw = raw; buffer = ack }) before.good));
-        written = ap (λ (c : CallExit). (by_receiver c).written) e ∙ replied-bytes x.answer x.ack ∙ ap (λ (d : Done (WithOutput ReceiverEnd)). d.written) same;
-        same_done = ap (λ (c : CallExit). (by_receiver c).is_done) e ∙ ap not (packet_refused x.answer) ∙ twice-not (is_received x.answer) ∙ ap (λ (d : Done (WithOutput ReceiverEnd)). d.is_done) same;
+        written = ap (λ (c : CallExit). (by_receiver c).written) e ∙ replied_bytes x.answer x.ack ∙ ap (λ (d : Done (WithOutput ReceiverEnd)). d.written) same;
+        same_done = ap (λ (c : CallExit). (by_receiver c).is_done) e ∙ ap not (packet_refused x.answer) ∙ twice_not (is_received x.answer) ∙ ap (λ (d : Done (WithOutput ReceiverEnd)). d.is_done) same;
         same_refused = ap (λ (c : CallExit). (by_receiver c).is_refused) e ∙ packet_refused x.answer ∙ ap (λ (d : Done (WithOutput ReceiverEnd)). d.is_refused) same;
       }
 

@@ -45,7 +45,7 @@ use Rattle.host_ends.specs.Sender.{words_after, sent, send_held, number_of, ackn
 use Rattle.host_ends.proofs.Fits.{send_fits, timeout_fits}
 use Rattle.host_delivery.specs.Host.{HostSender, host_ends, by_sender, by_ack}
 use Rattle.host_delivery.proofs.Simulation.{Does}
-use Rattle.host_delivery.proofs.Answers.{sent-done, sent-refused, sent-bytes, resent-done, resent-refused, resent-bytes, ack_refused, twice-not}
+use Rattle.host_delivery.proofs.Answers.{sent_done, sent_refused, sent_bytes_lem, resent_done, resent_refused, resent_bytes, ack_refused, twice_not}
 
 -- retries of 32 bits: Stop-and-Wait counts no further than its limit
 abbrev pub RetriesFit : (p : ProtocolType) → (ends p).Sender → Type 0
@@ -213,8 +213,8 @@ host_sends p h s payload out before =
     let e = send_is p h s before payload out in
     call_does p h s before (by_sending x) ((ends p).send_chunk s payload out) (by_sender (host.send h.words h.store payload out)) (send_chunk_is p s payload out)
     (sender_step_sound p s (any.send payload out) before.good) (send_retries p s payload out before.retries) (ap (λ (c : CallExit). (by_sender c).after) e)
-    (ap (λ (c : CallExit). (by_sender c).written) e ∙ sent-bytes x.answer x.out (send_fits (sender_of p s) payload out)) (ap (λ (c : CallExit). (by_sender c).is_done) e ∙ sent-done x.answer)
-    (ap (λ (c : CallExit). (by_sender c).is_refused) e ∙ sent-refused x.answer)
+    (ap (λ (c : CallExit). (by_sender c).written) e ∙ sent_bytes_lem x.answer x.out (send_fits (sender_of p s) payload out)) (ap (λ (c : CallExit). (by_sender c).is_done) e ∙ sent_done x.answer)
+    (ap (λ (c : CallExit). (by_sender c).is_refused) e ∙ sent_refused x.answer)
 
 pub host_times : (p : ProtocolType) (h : HostSender) (s : (ends p).Sender) (t : Timeout) (out : List ℕ) → HoldsSender p h s
     → Does (HoldsSender p) (host_ends.handle_timeout h t out) ((ends p).handle_timeout s (timeout_of p s t) out)
@@ -223,8 +223,8 @@ host_times p h s t out before =
     let e = timeout_is p h s before t out in
     call_does p h s before (by_resending x) ((ends p).handle_timeout s (timeout_of p s t) out) (by_sender (host.timeout h.words h.store t out)) (handle_timeout_is p s t out)
     (sender_step_sound p s (any.timeout (timeout_of p s t) out) before.good) (timeout_retries p s (timeout_of p s t) out before.retries) (ap (λ (c : CallExit). (by_sender c).after) e)
-    (ap (λ (c : CallExit). (by_sender c).written) e ∙ resent-bytes x.answer x.out (timeout_fits (sender_of p s) t out)) (ap (λ (c : CallExit). (by_sender c).is_done) e ∙ resent-done x.answer)
-    (ap (λ (c : CallExit). (by_sender c).is_refused) e ∙ resent-refused x.answer)
+    (ap (λ (c : CallExit). (by_sender c).written) e ∙ resent_bytes x.answer x.out (timeout_fits (sender_of p s) t out)) (ap (λ (c : CallExit). (by_sender c).is_done) e ∙ resent_done x.answer)
+    (ap (λ (c : CallExit). (by_sender c).is_refused) e ∙ resent_refused x.answer)
 
 pub host_acks : (p : ProtocolType) (h : HostSender) (s : (ends p).Sender) (raw : List ℕ) → HoldsSender p h s → Does (HoldsSender p) (host_ends.handle_ack h raw) ((ends p).handle_ack s raw)
 host_acks p h s raw before =
@@ -232,7 +232,7 @@ host_acks p h s raw before =
     let e = acknowledge_is p h s before raw in
     call_does p h s before (by_acknowledging x) ((ends p).handle_ack s raw) (by_ack (host.acknowledge h.words h.store raw)) (handle_ack_is p s raw)
     (sender_step_sound p s (any.ack raw) before.good) (ack_retries p s raw before.retries) (ap (λ (c : CallExit). (by_ack c).after) e) refl
-    (ap (λ (c : CallExit). (by_ack c).is_done) e ∙ ap not (ack_refused (number_of raw) x.answer) ∙ twice-not (is_handled x.answer))
+    (ap (λ (c : CallExit). (by_ack c).is_done) e ∙ ap not (ack_refused (number_of raw) x.answer) ∙ twice_not (is_handled x.answer))
     (ap (λ (c : CallExit). (by_ack c).is_refused) e ∙ ack_refused (number_of raw) x.answer)
 
 pub host_base : (p : ProtocolType) (h : HostSender) (s : (ends p).Sender) → HoldsSender p h s → host_ends.sender_base h ≡ (ends p).sender_base s

@@ -31,7 +31,7 @@ use Rattle.host_answer.specs.Answer.{refusal_answer}
 use Rattle.host_words.specs.declared.HeldSender.TheVariants as heldSenders
 use Rattle.host_words.specs.declared.HeldReceiver.TheVariants as heldReceivers
 use Rattle.host_words.specs.Words.{held, held_sender, held_receiver, with_sender, with_receiver}
-use Rattle.host_ends.specs.Answers.{callExit, sendCode, ackCode, timeoutCode, receiveCode}
+use Rattle.host_ends.specs.Answers.{call_exit, send_code, ack_code, timeout_code, receive_code}
 use Rattle.host_ends.specs.Sender.{sender_verdict, sent, send_held, send, number_of, acknowledged, acknowledge_held, acknowledge, timed_out, timeout_held, timeout}
 use Rattle.host_ends.specs.Internal.{verdict_of}
 use Rattle.host_ends.specs.Receiver.{received, receive_held, receive}
@@ -53,57 +53,57 @@ sender_sound s store e a =
 
 module _ (state store payload out : List ℕ) where
   pub on_sent : {s v : Sender} {a : SendAnswer} {x : ℕ} {state' store' out' : List ℕ} → held_sender state ≡ heldSenders.Sender s
-      → send_exit a (sender_end v store') out' ≡ send_chunk (sender_end s store) payload out → state' ≡ with_sender state v.state → x ≡ sendCode a
-      → callExit x (state' ∷ store' ∷ out' ∷ []) ≡ send state store payload out
+      → send_exit a (sender_end v store') out' ≡ send_chunk (sender_end s store) payload out → state' ≡ with_sender state v.state → x ≡ send_code a
+      → call_exit x (state' ∷ store' ∷ out' ∷ []) ≡ send state store payload out
   unfolding send_held
   on_sent h e p q = rw (h, p, q) (ap (λ (y : SendExit SenderEnd). sent state y) e)
 
   -- by the protocol's own call
   pub sent_of : {w y v : SenderState} {a : SendAnswer} {x : ℕ} {state' store' out' : List ℕ} → held_sender state ≡ held y → w ≡ y
-      → send_exit a (sender_in v store') out' ≡ send_chunk_in w store payload out → state' ≡ with_sender state v → x ≡ sendCode a
-      → callExit x (state' ∷ store' ∷ out' ∷ []) ≡ send state store payload out
+      → send_exit a (sender_in v store') out' ≡ send_chunk_in w store payload out → state' ≡ with_sender state v → x ≡ send_code a
+      → call_exit x (state' ∷ store' ∷ out' ∷ []) ≡ send state store payload out
   unfolding send_chunk
   sent_of h i e p q = on_sent (h ∙ ap held (sym i)) e p q
 
-  pub on_send_broken : {x : ℕ} → held_sender state ≡ heldSenders.Broken → x ≡ refusal_answer State → callExit x (state ∷ store ∷ out ∷ []) ≡ send state store payload out
+  pub on_send_broken : {x : ℕ} → held_sender state ≡ heldSenders.Broken → x ≡ refusal_answer State → call_exit x (state ∷ store ∷ out ∷ []) ≡ send state store payload out
   unfolding send_held
   on_send_broken h q = rw (h, q)
 
 module _ (state store raw : List ℕ) where
   pub on_acknowledged : {s v : Sender} {a : AckAnswer} {n x : ℕ} {state' store' : List ℕ} → held_sender state ≡ heldSenders.Sender s
-      → ack_exit a (sender_end v store') ≡ handle_ack (sender_end s store) raw → state' ≡ with_sender state v.state → n ≡ number_of raw → x ≡ ackCode n a
-      → callExit x (state' ∷ store' ∷ []) ≡ acknowledge state store raw
+      → ack_exit a (sender_end v store') ≡ handle_ack (sender_end s store) raw → state' ≡ with_sender state v.state → n ≡ number_of raw → x ≡ ack_code n a
+      → call_exit x (state' ∷ store' ∷ []) ≡ acknowledge state store raw
   unfolding acknowledge_held
   on_acknowledged h e p r q = rw (h, p, q, r) (ap (λ (y : AckExit SenderEnd). acknowledged (number_of raw) state y) e)
 
   pub acknowledged_of : {w y v : SenderState} {a : AckAnswer} {n x : ℕ} {state' store' : List ℕ} → held_sender state ≡ held y → w ≡ y
-      → ack_exit a (sender_in v store') ≡ handle_ack_in w store raw → state' ≡ with_sender state v → n ≡ number_of raw → x ≡ ackCode n a
-      → callExit x (state' ∷ store' ∷ []) ≡ acknowledge state store raw
+      → ack_exit a (sender_in v store') ≡ handle_ack_in w store raw → state' ≡ with_sender state v → n ≡ number_of raw → x ≡ ack_code n a
+      → call_exit x (state' ∷ store' ∷ []) ≡ acknowledge state store raw
   unfolding handle_ack
   acknowledged_of h i e p r q = on_acknowledged (h ∙ ap held (sym i)) e p r q
 
-  pub on_acknowledge_broken : {x : ℕ} → held_sender state ≡ heldSenders.Broken → x ≡ refusal_answer State → callExit x (state ∷ store ∷ []) ≡ acknowledge state store raw
+  pub on_acknowledge_broken : {x : ℕ} → held_sender state ≡ heldSenders.Broken → x ≡ refusal_answer State → call_exit x (state ∷ store ∷ []) ≡ acknowledge state store raw
   unfolding acknowledge_held
   on_acknowledge_broken h q = rw (h, q)
 
 module _ (state store : List ℕ) (t : Timeout) (out : List ℕ) where
   pub on_timed_out : {s v : Sender} {a : TimeoutAnswer} {x : ℕ} {state' store' out' : List ℕ} → held_sender state ≡ heldSenders.Sender s
-      → timeout_exit a (sender_end v store') out' ≡ handle_timeout (sender_end s store) t out → state' ≡ with_sender state v.state → x ≡ timeoutCode a
-      → callExit x (state' ∷ store' ∷ out' ∷ []) ≡ timeout state store t out
+      → timeout_exit a (sender_end v store') out' ≡ handle_timeout (sender_end s store) t out → state' ≡ with_sender state v.state → x ≡ timeout_code a
+      → call_exit x (state' ∷ store' ∷ out' ∷ []) ≡ timeout state store t out
   unfolding timeout_held
   on_timed_out h e p q = rw (h, p, q) (ap (λ (y : TimeoutExit SenderEnd). timed_out state y) e)
 
-  pub on_timeout_broken : {x : ℕ} → held_sender state ≡ heldSenders.Broken → x ≡ refusal_answer State → callExit x (state ∷ store ∷ out ∷ []) ≡ timeout state store t out
+  pub on_timeout_broken : {x : ℕ} → held_sender state ≡ heldSenders.Broken → x ≡ refusal_answer State → call_exit x (state ∷ store ∷ out ∷ []) ≡ timeout state store t out
   unfolding timeout_held
   on_timeout_broken h q = rw (h, q)
 
 module _ (state store raw output ack : List ℕ) where
   pub on_received : {s v : Receiver} {a : ReceiveAnswer} {x : ℕ} {state' store' output' ack' : List ℕ} → held_receiver state ≡ heldReceivers.Receiver s
-      → receive_exit a (receiver_end v store') output' ack' ≡ handle_packet (receiver_end s store) raw output ack → state' ≡ with_receiver state v.state → x ≡ receiveCode a
-      → callExit x (state' ∷ store' ∷ output' ∷ ack' ∷ []) ≡ receive state store raw output ack
+      → receive_exit a (receiver_end v store') output' ack' ≡ handle_packet (receiver_end s store) raw output ack → state' ≡ with_receiver state v.state → x ≡ receive_code a
+      → call_exit x (state' ∷ store' ∷ output' ∷ ack' ∷ []) ≡ receive state store raw output ack
   unfolding receive_held
   on_received h e p q = rw (h, p, q) (ap (λ (y : ReceiveExit ReceiverEnd). received state y) e)
 
-  pub on_receive_broken : {x : ℕ} → held_receiver state ≡ heldReceivers.Broken → x ≡ refusal_answer State → callExit x (state ∷ store ∷ output ∷ ack ∷ []) ≡ receive state store raw output ack
+  pub on_receive_broken : {x : ℕ} → held_receiver state ≡ heldReceivers.Broken → x ≡ refusal_answer State → call_exit x (state ∷ store ∷ output ∷ ack ∷ []) ≡ receive state store raw output ack
   unfolding receive_held
   on_receive_broken h q = rw (h, q)

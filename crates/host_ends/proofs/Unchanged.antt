@@ -51,17 +51,17 @@ use Rattle.host_words.specs.declared.HeldReceiver.{HeldReceiver}
 use Rattle.host_words.specs.declared.HeldReceiver.TheVariants as heldReceivers
 use Rattle.host_words.specs.Words.{state_words, held_sender, held_receiver, with_receiver}
 use Rattle.host_words.proofs.Words.{sender_back, receiver_back}
-use Rattle.host_ends.specs.Answers.{CallExit, callExit, sendCode, ackCode, timeoutCode, receiveCode}
+use Rattle.host_ends.specs.Answers.{CallExit, call_exit, send_code, ack_code, timeout_code, receive_code}
 use Rattle.host_ends.specs.Sender.{words_after, send_held, send, number_of, acknowledge_held, acknowledge, timeout_held, timeout}
 use Rattle.host_ends.specs.Receiver.{receive_held, receive}
 use Rattle.host_ends.specs.Making.{make_unless, made_exit, make_sender_of, make_receiver_of, by_protocol, make_sender, make_receiver}
 
 -- ---- sending
 abbrev SendKept : {S : Type 0} → S → List ℕ → SendExit S → Type 0
-SendKept v out x = Refusing (sendCode x.answer) → x ≡ send_exit x.answer v out
+SendKept v out x = Refusing (send_code x.answer) → x ≡ send_exit x.answer v out
 
 sent_kept : {S : Type 0} (v w : S) (out o : List ℕ) (n : ℕ) → SendKept v out (send_exit (sendAnswer.Sent n) w o)
-unfolding sendCode
+unfolding send_code
 sent_kept v w out o n h = absurd (done_not_refusing n h)
 
 full_kept : {S : Type 0} (b : Bool) (v : S) (out : List ℕ) (x : SendExit S) → SendKept v out x → SendKept v out (cond b x (send_exit sendAnswer.WindowFull v out))
@@ -75,8 +75,8 @@ window_kept selective v payload out =
     (cond (window_free v.window) (window.send_chunk_unchecked v payload out) (send_exit sendAnswer.WindowFull v out)) (λ r h. refl)
     (λ e. full_kept (window_free v.window) v out (window.send_chunk_unchecked v payload out) (sent_kept v _ out _ _))
 
-by_send_lem : (s : StopAndWaitSender) (a : SendAnswer) (w : SendWindow) → Refusing (sendCode a) → stop_and_wait.by_send s a w ≡ s
-unfolding sendCode
+by_send_lem : (s : StopAndWaitSender) (a : SendAnswer) (w : SendWindow) → Refusing (send_code a) → stop_and_wait.by_send s a w ≡ s
+unfolding send_code
 by_send_lem s (sendAnswer.Sent n) w h = absurd (done_not_refusing n h)
 by_send_lem s sendAnswer.WindowFull w h = refl
 by_send_lem s (sendAnswer.Refused r) w h = refl
@@ -112,10 +112,10 @@ module _ (state store payload out : List ℕ) where
 
 -- ---- ACKs
 abbrev AckKept : {S : Type 0} → ℕ → S → AckExit S → Type 0
-AckKept n v x = Refusing (ackCode n x.answer) → x ≡ ack_exit x.answer v
+AckKept n v x = Refusing (ack_code n x.answer) → x ≡ ack_exit x.answer v
 
 decision_kept : {S : Type 0} (n : ℕ) (v : S) (accept : ℕ → S) (d : AckDecision) → AckKept n v (by_decision d v accept)
-unfolding by_decision ackCode
+unfolding by_decision ack_code
 decision_kept n v accept (decision.Accept m base) h = absurd (done_not_refusing n h)
 decision_kept n v accept decision.NotAccepted h = refl
 decision_kept n v accept (decision.Refused r) h = refl
@@ -144,11 +144,11 @@ module _ (state store raw : List ℕ) where
 
 -- ---- timeouts
 abbrev TimeoutKept : {S : Type 0} → S → List ℕ → TimeoutExit S → Type 0
-TimeoutKept v out x = Refusing (timeoutCode x.answer) → x ≡ timeout_exit x.answer v out
+TimeoutKept v out x = Refusing (timeout_code x.answer) → x ≡ timeout_exit x.answer v out
 
 resent_kept : (b : Bool) (v w : slots.Sender) (out o : List ℕ) (n : ℕ)
     → TimeoutKept v out (cond b (timeout_exit timeoutAnswer.Nothing v out) (timeout_exit (timeoutAnswer.Resent n) w o))
-unfolding timeoutCode
+unfolding timeout_code
 resent_kept true v w out o n h = refl
 resent_kept false v w out o n h = absurd (done_not_refusing n h)
 
@@ -162,8 +162,8 @@ resend_kept sb cb v n k out =
     (λ r h. refl)
     (λ e. resent_kept (eqb k 0) v (mark_from v n k) out (sent_again v n k ++ drop size out) size)
 
-by_timeout_lem : (s : StopAndWaitSender) (a : TimeoutAnswer) (w : SendWindow) → Refusing (timeoutCode a) → stop_and_wait.by_timeout s a w ≡ s
-unfolding timeoutCode
+by_timeout_lem : (s : StopAndWaitSender) (a : TimeoutAnswer) (w : SendWindow) → Refusing (timeout_code a) → stop_and_wait.by_timeout s a w ≡ s
+unfolding timeout_code
 by_timeout_lem s (timeoutAnswer.Resent n) w h = absurd (done_not_refusing n h)
 by_timeout_lem s timeoutAnswer.Nothing w h = refl
 by_timeout_lem s (timeoutAnswer.Refused r) w h = refl
@@ -204,10 +204,10 @@ module _ (state store : List ℕ) (t : Timeout) (out : List ℕ) where
 
 -- ---- receiving
 abbrev ReceiveKept : {R : Type 0} → R → List ℕ → List ℕ → ReceiveExit R → Type 0
-ReceiveKept v output ack x = Refusing (receiveCode x.answer) → x ≡ receive_exit x.answer v output ack
+ReceiveKept v output ack x = Refusing (receive_code x.answer) → x ≡ receive_exit x.answer v output ack
 
-not_refused : (y : Reply) → Refusing (receiveCode (answer_of y)) → ⊥
-unfolding receiveCode
+not_refused : (y : Reply) → Refusing (receive_code (answer_of y)) → ⊥
+unfolding receive_code
 not_refused (reply.Ack n) h = done_not_refusing n h
 not_refused reply.Silent h = ordinary_not_refusing 19 0 (omega arith) (omega arith) h
 
@@ -250,10 +250,10 @@ module _ (state store : List ℕ) where
   unfolding make_unless
   make_kept slots setup words made =
       either_answer MakeKept (verdict (check (store_short store slots) State ∷ check setup Setup ∷ check (ltb (length state) state_words) Full ∷ []))
-      (λ r. callExit (refusal_answer r) (state ∷ store ∷ [])) (made_exit words made) (λ r h. refl) (λ e h. absurd (done_not_refusing 0 h))
+      (λ r. call_exit (refusal_answer r) (state ∷ store ∷ [])) (made_exit words made) (λ r h. refl) (λ e h. absurd (done_not_refusing 0 h))
 
   protocol_kept : (a b c : Bool) (make : ProtocolType → CallExit) → ((p : ProtocolType) → MakeKept (make p))
-      → MakeKept (cond a (make protocol.StopAndWait) (cond b (make protocol.GoBackN) (cond c (make protocol.SelectiveRepeat) (callExit (refusal_answer Setup) (state ∷ store ∷ [])))))
+      → MakeKept (cond a (make protocol.StopAndWait) (cond b (make protocol.GoBackN) (cond c (make protocol.SelectiveRepeat) (call_exit (refusal_answer Setup) (state ∷ store ∷ [])))))
   protocol_kept true b c make k = k protocol.StopAndWait
   protocol_kept false true c make k = k protocol.GoBackN
   protocol_kept false false true make k = k protocol.SelectiveRepeat

@@ -17,33 +17,33 @@ pub record CallExit : Type 0 where
   pub answer : ℕ
   pub lent : List (List ℕ)
 
-abbrev pub callExit : ℕ → List (List ℕ) → CallExit
-callExit answer lent = record { answer = answer; lent = lent }
+abbrev pub call_exit : ℕ → List (List ℕ) → CallExit
+call_exit answer lent = record { answer = answer; lent = lent }
 
 -- words that hold no such end: 9, and nothing is changed
 abbrev pub broken : List (List ℕ) → CallExit
-broken lent = callExit (refusal_answer State) lent
+broken lent = call_exit (refusal_answer State) lent
 
 -- the datagram's length
-unfoldable pub sendCode : SendAnswer → ℕ
-sendCode (sendAnswer.Sent n) = packed done_status n
-sendCode sendAnswer.WindowFull = packed window_full_status 0
-sendCode (sendAnswer.Refused r) = refusal_answer r
+unfoldable pub send_code : SendAnswer → ℕ
+send_code (sendAnswer.Sent n) = packed done_status n
+send_code sendAnswer.WindowFull = packed window_full_status 0
+send_code (sendAnswer.Refused r) = refusal_answer r
 
 -- n the datagram's number
-unfoldable pub ackCode : ℕ → AckAnswer → ℕ
-ackCode n ackAnswer.Accepted = packed done_status n
-ackCode n ackAnswer.NotAccepted = packed not_accepted_status 0
-ackCode n (ackAnswer.Refused r) = refusal_answer r
+unfoldable pub ack_code : ℕ → AckAnswer → ℕ
+ack_code n ackAnswer.Accepted = packed done_status n
+ack_code n ackAnswer.NotAccepted = packed not_accepted_status 0
+ack_code n (ackAnswer.Refused r) = refusal_answer r
 
 -- how many bytes were written
-unfoldable pub timeoutCode : TimeoutAnswer → ℕ
-timeoutCode (timeoutAnswer.Resent n) = packed done_status n
-timeoutCode timeoutAnswer.Nothing = packed nothing_status 0
-timeoutCode (timeoutAnswer.Refused r) = refusal_answer r
+unfoldable pub timeout_code : TimeoutAnswer → ℕ
+timeout_code (timeoutAnswer.Resent n) = packed done_status n
+timeout_code timeoutAnswer.Nothing = packed nothing_status 0
+timeout_code (timeoutAnswer.Refused r) = refusal_answer r
 
 -- the number of the ACK that was written
-unfoldable pub receiveCode : ReceiveAnswer → ℕ
-receiveCode (receiveAnswer.Ack n) = packed done_status n
-receiveCode receiveAnswer.Silent = packed silent_status 0
-receiveCode (receiveAnswer.Refused r) = refusal_answer r
+unfoldable pub receive_code : ReceiveAnswer → ℕ
+receive_code (receiveAnswer.Ack n) = packed done_status n
+receive_code receiveAnswer.Silent = packed silent_status 0
+receive_code (receiveAnswer.Refused r) = refusal_answer r

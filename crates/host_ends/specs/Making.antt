@@ -13,7 +13,7 @@ use Rattle.session.specs.Receiving.{ReceiverEnd, receiver_slot_count, new_receiv
 use Rattle.host_answer.specs.Answer.{packed, done_status, refusal_answer}
 use Rattle.host_answer.specs.Exit.{wide}
 use Rattle.host_words.specs.Words.{state_words, sender_word, receiver_word, with_kind, with_sender, with_receiver}
-use Rattle.host_ends.specs.Answers.{CallExit, callExit}
+use Rattle.host_ends.specs.Answers.{CallExit, call_exit}
 
 -- the checks of making an end with so many slots
 unfoldable pub make_unless : ℕ → Bool → List ℕ → List ℕ → CallExit → CallExit
@@ -21,11 +21,11 @@ make_unless slots setup_broken state store made =
     decide
     (verdict (check (store_short store slots) State ∷ check setup_broken Setup
     ∷ check (ltb (length state) state_words) Full ∷ []))
-    (λ r. callExit (refusal_answer r) (state ∷ store ∷ []))
+    (λ r. call_exit (refusal_answer r) (state ∷ store ∷ []))
     made
 
 abbrev pub made_exit : List ℕ → List ℕ → CallExit
-made_exit words store = callExit (packed done_status 0) (words ∷ store ∷ [])
+made_exit words store = call_exit (packed done_status 0) (words ∷ store ∷ [])
 
 abbrev pub sender_made : ProtocolType → List ℕ → SenderEnd → CallExit
 sender_made p state v = made_exit (with_sender (with_kind state (sender_word p)) v.sender.state) v.store
@@ -53,7 +53,7 @@ unfoldable pub by_protocol : ℕ → List ℕ → List ℕ → (ProtocolType →
 by_protocol n state store make =
     cond (eqb n 1) (make protocol.StopAndWait)
     (cond (eqb n 2) (make protocol.GoBackN)
-    (cond (eqb n 3) (make protocol.SelectiveRepeat) (callExit (refusal_answer Setup) (state ∷ store ∷ []))))
+    (cond (eqb n 3) (make protocol.SelectiveRepeat) (call_exit (refusal_answer Setup) (state ∷ store ∷ []))))
 
 abbrev pub make_sender : ℕ → ℕ → ℕ → List ℕ → List ℕ → CallExit
 make_sender n window limit state store = by_protocol n state store (λ p. make_sender_of p window limit state store)

@@ -15,11 +15,11 @@ use Rattle.host_answer.specs.Answer.{refusal_answer, count_answer}
 use Rattle.host_words.specs.declared.HeldReceiver.{HeldReceiver}
 use Rattle.host_words.specs.declared.HeldReceiver.TheVariants as heldReceivers
 use Rattle.host_words.specs.Words.{held_receiver, with_receiver}
-use Rattle.host_ends.specs.Answers.{CallExit, callExit, broken, receiveCode}
+use Rattle.host_ends.specs.Answers.{CallExit, call_exit, broken, receive_code}
 
 abbrev pub received : List ℕ → ReceiveExit ReceiverEnd → CallExit
 received state x =
-    callExit (receiveCode x.answer)
+    call_exit (receive_code x.answer)
     (with_receiver state x.receiver.receiver.state ∷ x.receiver.store ∷ x.output ∷ x.ack ∷ [])
 
 unfoldable pub receive_held : HeldReceiver → List ℕ → List ℕ → List ℕ → List ℕ → List ℕ → CallExit

@@ -28,14 +28,14 @@ use Rattle.host_answer.specs.Answer.{packed, nothing_status, refusal_answer, tes
 use Rattle.host_words.specs.declared.HeldSender.{HeldSender}
 use Rattle.host_words.specs.declared.HeldSender.TheVariants as heldSenders
 use Rattle.host_words.specs.Words.{held_sender, with_sender}
-use Rattle.host_ends.specs.Answers.{CallExit, callExit, broken, sendCode, ackCode, timeoutCode}
+use Rattle.host_ends.specs.Answers.{CallExit, call_exit, broken, send_code, ack_code, timeout_code}
 
 -- the words after a call
 abbrev pub words_after : List ℕ → SenderEnd → List ℕ
 words_after state v = with_sender state v.sender.state
 
 abbrev pub sent : List ℕ → SendExit SenderEnd → CallExit
-sent state x = callExit (sendCode x.answer) (words_after state x.after ∷ x.after.store ∷ x.out ∷ [])
+sent state x = call_exit (send_code x.answer) (words_after state x.after ∷ x.after.store ∷ x.out ∷ [])
 
 unfoldable pub send_held : HeldSender → List ℕ → List ℕ → List ℕ → List ℕ → CallExit
 send_held (heldSenders.Sender s) state store payload out = sent state (send_chunk (sender_end s store) payload out)
@@ -53,7 +53,7 @@ abbrev pub number_of : List ℕ → ℕ
 number_of raw = number_in (from_bytes raw)
 
 abbrev pub acknowledged : ℕ → List ℕ → AckExit SenderEnd → CallExit
-acknowledged n state x = callExit (ackCode n x.answer) (words_after state x.after ∷ x.after.store ∷ [])
+acknowledged n state x = call_exit (ack_code n x.answer) (words_after state x.after ∷ x.after.store ∷ [])
 
 unfoldable pub acknowledge_held : HeldSender → List ℕ → List ℕ → List ℕ → CallExit
 acknowledge_held (heldSenders.Sender s) state store raw =
@@ -64,7 +64,7 @@ abbrev pub acknowledge : List ℕ → List ℕ → List ℕ → CallExit
 acknowledge state store raw = acknowledge_held (held_sender state) state store raw
 
 abbrev pub timed_out : List ℕ → TimeoutExit SenderEnd → CallExit
-timed_out state x = callExit (timeoutCode x.answer) (words_after state x.after ∷ x.after.store ∷ x.out ∷ [])
+timed_out state x = call_exit (timeout_code x.answer) (words_after state x.after ∷ x.after.store ∷ x.out ∷ [])
 
 unfoldable pub timeout_held : HeldSender → List ℕ → List ℕ → Timeout → List ℕ → CallExit
 timeout_held (heldSenders.Sender s) state store t out = timed_out state (handle_timeout (sender_end s store) t out)

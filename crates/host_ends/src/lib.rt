@@ -7,7 +7,7 @@ ghost use Rattle.bounds.specs.Bounds.{slot_size};
 ghost use Rattle.window.specs.Slots as slots;
 ghost use Rattle.session.specs.Sending.{slot_count, sender_in, sender_end, window_end};
 ghost use Rattle.session.specs.Receiving.{receiver_slot_count};
-ghost use Rattle.host_ends.specs.Answers.{callExit, sendCode, ackCode, timeoutCode, receiveCode};
+ghost use Rattle.host_ends.specs.Answers.{call_exit, send_code, ack_code, timeout_code, receive_code};
 ghost use Rattle.host_ends.specs.Sender.{send, number_of, acknowledge, timeout, can_send_in, can_send, in_flight_in};
 ghost use Rattle.host_ends.specs.Sender.{in_flight, sender_verdict, unless_broken, sent_again, is_retransmitted};
 ghost use Rattle.host_ends.specs.Internal.{verdict_of};
@@ -36,7 +36,7 @@ pub fn make_sender(
     state: &mut [u64],
     store: &mut [u8],
 ) -> u64
-    ensures { callExit result (state.new ∷ store.new ∷ [])
+    ensures { call_exit result (state.new ∷ store.new ∷ [])
         ≡ make_sender protocol window_size max_retries state.old store.old }
 {
     if protocol == 1 {
@@ -56,7 +56,7 @@ pub fn make_sender(
 
 // A receiver; Stop-and-Wait's and Go-Back-N's leave the store as it is.
 pub fn make_receiver(protocol: u64, window_size: usize, state: &mut [u64], store: &mut [u8]) -> u64
-    ensures { callExit result (state.new ∷ store.new ∷ [])
+    ensures { call_exit result (state.new ∷ store.new ∷ [])
         ≡ make_receiver protocol window_size state.old store.old }
 {
     if protocol == 1 {
@@ -73,7 +73,7 @@ pub fn make_receiver(protocol: u64, window_size: usize, state: &mut [u64], store
 
 // A chunk to send: done with the datagram's length, window full, or refused.
 pub fn send(state: &mut [u64], store: &mut [u8], payload: &[u8], out: &mut [u8]) -> u64
-    ensures { callExit result (state.new ∷ store.new ∷ out.new ∷ [])
+    ensures { call_exit result (state.new ∷ store.new ∷ out.new ∷ [])
         ≡ send state.old store.old payload.now out.old }
 {
     match host_words::sender_kind(state) {
@@ -107,7 +107,7 @@ pub fn send(state: &mut [u64], store: &mut [u8], payload: &[u8], out: &mut [u8])
 
 // A datagram as an ACK: done with its number, not accepted, or refused.
 pub fn acknowledge(state: &mut [u64], store: &mut [u8], raw: &[u8]) -> u64
-    ensures { callExit result (state.new ∷ store.new ∷ [])
+    ensures { call_exit result (state.new ∷ store.new ∷ [])
         ≡ acknowledge state.old store.old raw.now }
 {
     match host_words::sender_kind(state) {
@@ -141,7 +141,7 @@ pub fn acknowledge(state: &mut [u64], store: &mut [u8], raw: &[u8]) -> u64
 
 // A timeout: done with the bytes written, nothing, or refused.
 pub fn timeout(state: &mut [u64], store: &mut [u8], which: Timeout, out: &mut [u8]) -> u64
-    ensures { callExit result (state.new ∷ store.new ∷ out.new ∷ [])
+    ensures { call_exit result (state.new ∷ store.new ∷ out.new ∷ [])
         ≡ timeout state.old store.old which out.old }
 {
     match host_words::held_sender(state) {
@@ -158,7 +158,7 @@ pub fn timeout(state: &mut [u64], store: &mut [u8], which: Timeout, out: &mut [u
 
 // A timeout of a number, as above; one above 32 bits isn't outstanding.
 pub fn timeout_number(state: &mut [u64], store: &mut [u8], seq_num: u64, out: &mut [u8]) -> u64
-    ensures { callExit result (state.new ∷ store.new ∷ out.new ∷ [])
+    ensures { call_exit result (state.new ∷ store.new ∷ out.new ∷ [])
         ≡ timeout state.old store.old (Timeout.Number seq_num) out.old }
 {
     timeout(state, store, Timeout::Number(at_most_u32(seq_num)), out)
@@ -208,7 +208,7 @@ pub fn receive(
     output: &mut [u8],
     ack: &mut [u8],
 ) -> u64
-    ensures { callExit result
+    ensures { call_exit result
         (state.new ∷ store.new ∷ output.new ∷ ack.new ∷ [])
         ≡ receive state.old store.old raw.now output.old
         ack.old }
@@ -245,7 +245,7 @@ fn make_sender_of(
     state: &mut [u64],
     store: &mut [u8],
 ) -> u64
-    ensures { callExit result (state.new ∷ store.new ∷ [])
+    ensures { call_exit result (state.new ∷ store.new ∷ [])
         ≡ make_sender_of protocol window_size max_retries state.old store.old }
 {
     let slots = slot_count(protocol, window_size);
@@ -273,7 +273,7 @@ fn make_receiver_of(
     state: &mut [u64],
     store: &mut [u8],
 ) -> u64
-    ensures { callExit result (state.new ∷ store.new ∷ [])
+    ensures { call_exit result (state.new ∷ store.new ∷ [])
         ≡ make_receiver_of protocol window_size state.old store.old }
 {
     let slots = receiver_slot_count(protocol, window_size);
@@ -452,7 +452,7 @@ fn number_of(raw: &[u8]) -> u32
 }
 
 fn send_code(a: SendAnswer) -> u64
-    ensures { result ≡ sendCode a }
+    ensures { result ≡ send_code a }
 {
     match a {
         SendAnswer::Sent(n) => host_answer::pack_unchecked(host_answer::DONE, n as u64),
@@ -462,7 +462,7 @@ fn send_code(a: SendAnswer) -> u64
 }
 
 fn ack_code(seq_num: u32, a: AckAnswer) -> u64
-    ensures { result ≡ ackCode seq_num a }
+    ensures { result ≡ ack_code seq_num a }
 {
     match a {
         AckAnswer::Accepted => host_answer::pack_unchecked(host_answer::DONE, seq_num as u64),
@@ -472,7 +472,7 @@ fn ack_code(seq_num: u32, a: AckAnswer) -> u64
 }
 
 fn timeout_code(a: TimeoutAnswer) -> u64
-    ensures { result ≡ timeoutCode a }
+    ensures { result ≡ timeout_code a }
 {
     match a {
         TimeoutAnswer::Resent(n) => host_answer::pack_unchecked(host_answer::DONE, n as u64),
@@ -482,7 +482,7 @@ fn timeout_code(a: TimeoutAnswer) -> u64
 }
 
 fn receive_code(a: ReceiveAnswer) -> u64
-    ensures { result ≡ receiveCode a }
+    ensures { result ≡ receive_code a }
 {
     match a {
         ReceiveAnswer::Ack(n) => host_answer::pack_unchecked(host_answer::DONE, n as u64),

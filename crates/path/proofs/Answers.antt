@@ -35,24 +35,24 @@ use Rattle.path.specs.declared.Carriage.TheVariants.{RollsSpent, EventsFull, Sch
 use Rattle.path.proofs.Packets.{carry_spent, carry_no_entry, carry_by_lem, by_full, by_room, orders_below, can_process, delays_fine, can_put}
 
 -- ---- a packet by the next rolls: the copies that they grant, the bytes of each, and the direction once they are scheduled
-abbrev pub nextRolls : Direction → List Float → Rolls
-nextRolls d rolls = rolls_at rolls d.path.used
+abbrev pub next_rolls : Direction → List Float → Rolls
+next_rolls d rolls = rolls_at rolls d.path.used
 
 abbrev pub granted : Direction → List Float → Deliveries
-granted d rolls = deliveries_of d.path.channel.config (nextRolls d rolls)
+granted d rolls = deliveries_of d.path.channel.config (next_rolls d rolls)
 
 abbrev pub copy_bytes : Direction → List Float → List ℕ → List ℕ
-copy_bytes d rolls wire = carried_bytes d.path.channel.config (nextRolls d rolls) wire
+copy_bytes d rolls wire = carried_bytes d.path.channel.config (next_rolls d rolls) wire
 
-abbrev pub countedChannel : Direction → List Float → List ℕ → Channel
-countedChannel d rolls wire = channel_of d.path.channel.config (counted_stats d.path.channel.config (nextRolls d rolls) (length wire) d.path.channel.stats)
+abbrev pub counted_channel : Direction → List Float → List ℕ → Channel
+counted_channel d rolls wire = channel_of d.path.channel.config (counted_stats d.path.channel.config (next_rolls d rolls) (length wire) d.path.channel.stats)
 
-abbrev pub carriedOn : Direction → List Float → ℕ → List ℕ → Direction
-carriedOn d rolls now wire = on_path (schedule_at_unchecked (schedule_of d) now (copy_bytes d rolls wire) (granted d rolls)) (countedChannel d rolls wire) (d.path.used + packet_rolls)
+abbrev pub carried_on : Direction → List Float → ℕ → List ℕ → Direction
+carried_on d rolls now wire = on_path (schedule_at_unchecked (schedule_of d) now (copy_bytes d rolls wire) (granted d rolls)) (counted_channel d rolls wire) (d.path.used + packet_rolls)
 
 -- ---- what the channel wrote is the copies' bytes, or nothing is scheduled
-sent-bytes : (ch : Channel) (wire : List ℕ) (r : Rolls) (out : List ℕ) → is_lost ch.config r ≡ false → take (length wire) (process_unchecked ch wire r out).out ≡ carried_bytes ch.config r wire
-sent-bytes ch wire r out h = ap (take (length wire)) (process_writes ch wire r out h) ∙ take_at (carried_bytes ch.config r wire) (drop (length wire) out) (length wire) (carried_length ch.config r wire)
+sent_bytes_lem : (ch : Channel) (wire : List ℕ) (r : Rolls) (out : List ℕ) → is_lost ch.config r ≡ false → take (length wire) (process_unchecked ch wire r out).out ≡ carried_bytes ch.config r wire
+sent_bytes_lem ch wire r out h = ap (take (length wire)) (process_writes ch wire r out h) ∙ take_at (carried_bytes ch.config r wire) (drop (length wire) out) (length wire) (carried_length ch.config r wire)
 
 sent_same : (ch : Channel) (wire : List ℕ) (r : Rolls) (out : List ℕ) {A : Type 0} (f : Deliveries → List ℕ → A) → ((x y : List ℕ) → f Lost x ≡ f Lost y)
     → f (deliveries_of ch.config r) (take (length wire) (process_unchecked ch wire r out).out) ≡ f (deliveries_of ch.config r) (carried_bytes ch.config r wire)
@@ -60,11 +60,11 @@ sent_same ch wire r out f none = go (is_lost ch.config r) refl
   where
     go : (b : Bool) → is_lost ch.config r ≡ b → f (deliveries_of ch.config r) (take (length wire) (process_unchecked ch wire r out).out) ≡ f (deliveries_of ch.config r) (carried_bytes ch.config r wire)
     go true h = rw (lost_only ch.config r 0 h).3 (none _ _)
-    go false h = ap (f (deliveries_of ch.config r)) (sent-bytes ch wire r out h)
+    go false h = ap (f (deliveries_of ch.config r)) (sent_bytes_lem ch wire r out h)
 
-lost-alike : (d : Direction) (ch : Channel) (now : ℕ) (x y : List ℕ) → on_carry (on_path (schedule_at_unchecked (schedule_of d) now x Lost) ch (d.path.used + packet_rolls)) (Carried Lost (copy_fold Lost x)) ≡ on_carry (on_path (schedule_at_unchecked (schedule_of d) now y Lost) ch (d.path.used + packet_rolls)) (Carried Lost (copy_fold Lost y))
+lost_alike : (d : Direction) (ch : Channel) (now : ℕ) (x y : List ℕ) → on_carry (on_path (schedule_at_unchecked (schedule_of d) now x Lost) ch (d.path.used + packet_rolls)) (Carried Lost (copy_fold Lost x)) ≡ on_carry (on_path (schedule_at_unchecked (schedule_of d) now y Lost) ch (d.path.used + packet_rolls)) (Carried Lost (copy_fold Lost y))
 unfolding schedule_at_unchecked copy_fold
-lost-alike d ch now x y = refl
+lost_alike d ch now x y = refl
 
 sent_length : (ch : Channel) (wire : List ℕ) (r : Rolls) (out : List ℕ) → length wire ≤ length out → length (take (length wire) (process_unchecked ch wire r out).out) ≡ length wire
 unfolding process_unchecked
@@ -72,11 +72,11 @@ sent_length ch wire r out h = go (is_lost ch.config r) refl
   where
     go : (b : Bool) → is_lost ch.config r ≡ b → length (take (length wire) (process_unchecked ch wire r out).out) ≡ length wire
     go true e = rw e (length-take-le (length wire) out h)
-    go false e = ap length (sent-bytes ch wire r out e) ∙ carried_length ch.config r wire
+    go false e = ap length (sent_bytes_lem ch wire r out e) ∙ carried_length ch.config r wire
 
 -- of the checks of `schedule_at` only the last is true
-full-alone : (m : Schedule) (now n : ℕ) (ds : Deliveries) → state_broken m ≡ false → counts_broken m ≡ false → late now ≡ false → held_late (waiting_records m) ≡ false → deliveries_late now ds ≡ false → ltb max_datagram n ≡ false → lacks_room m (copies ds) ≡ true → verdict (schedule_checks m now n ds) ≡ Refused Full
-full-alone m now n ds a b c e f g h = last (state_broken m) (counts_broken m) (late now || (held_late (waiting_records m) || deliveries_late now ds)) (ltb max_datagram n) (lacks_room m (copies ds)) a b (or_both _ _ c (or_both _ _ e f)) g h
+full_alone : (m : Schedule) (now n : ℕ) (ds : Deliveries) → state_broken m ≡ false → counts_broken m ≡ false → late now ≡ false → held_late (waiting_records m) ≡ false → deliveries_late now ds ≡ false → ltb max_datagram n ≡ false → lacks_room m (copies ds) ≡ true → verdict (schedule_checks m now n ds) ≡ Refused Full
+full_alone m now n ds a b c e f g h = last (state_broken m) (counts_broken m) (late now || (held_late (waiting_records m) || deliveries_late now ds)) (ltb max_datagram n) (lacks_room m (copies ds)) a b (or_both _ _ c (or_both _ _ e f)) g h
   where
     last : (a b c e f : Bool) → a ≡ false → b ≡ false → c ≡ false → e ≡ false → f ≡ true → verdict (check a State ∷ check b Counts ∷ check c Time ∷ check e Long ∷ check f Full ∷ []) ≡ Refused Full
     last a b c e f p q r s t = rw (p, q, r, s, t) (false_check State _ ∙ false_check Counts _ ∙ false_check Time _ ∙ false_check Long _ ∙ true_check Full [] tt)
@@ -98,14 +98,14 @@ going_is stop.RollsSpent e = absurd (false≢true e)
 going_is stop.EventsFull e = absurd (false≢true e)
 going_is stop.ScheduleFull e = absurd (false≢true e)
 
-pub stop-going : (a : Carriage) → stop_of a ≡ stop.Going → IsCarried a
-stop-going (Carried ds n) e = record { deliveries = ds; fold = n; is = refl }
-stop-going RollsSpent e = absurd (false≢true (ap is_going e))
-stop-going EventsFull e = absurd (false≢true (ap is_going e))
-stop-going ScheduleFull e = absurd (false≢true (ap is_going e))
+pub stop_going : (a : Carriage) → stop_of a ≡ stop.Going → IsCarried a
+stop_going (Carried ds n) e = record { deliveries = ds; fold = n; is = refl }
+stop_going RollsSpent e = absurd (false≢true (ap is_going e))
+stop_going EventsFull e = absurd (false≢true (ap is_going e))
+stop_going ScheduleFull e = absurd (false≢true (ap is_going e))
 
-pub carried-going : {a : Carriage} → IsCarried a → stop_of a ≡ stop.Going
-carried-going c = ap stop_of c.is
+pub carried_going : {a : Carriage} → IsCarried a → stop_of a ≡ stop.Going
+carried_going c = ap stop_of c.is
 
 module _ (d : Direction) (rolls : List Float) (entry_free : Bool) (now : ℕ) (wire : List ℕ) where
   -- there are rolls, an entry, and room for the copies
@@ -117,33 +117,33 @@ module _ (d : Direction) (rolls : List Float) (entry_free : Bool) (now : ℕ) (w
   pub spends : rolls_spent d.path rolls ≡ true → carry d rolls entry_free now wire ≡ on_carry d RollsSpent
   spends h = sym (carry_spent d rolls entry_free now wire h)
 
-  pub no-entry : rolls_spent d.path rolls ≡ false → entry_free ≡ false → carry d rolls entry_free now wire ≡ on_carry d EventsFull
-  no-entry h k = sym (carry_no_entry d rolls entry_free now wire h (ap not k))
+  pub no_entry : rolls_spent d.path rolls ≡ false → entry_free ≡ false → carry d rolls entry_free now wire ≡ on_carry d EventsFull
+  no_entry h k = sym (carry_no_entry d rolls entry_free now wire h (ap not k))
 
   pub fills : rolls_spent d.path rolls ≡ false → entry_free ≡ true → lacks_room (schedule_of d) (copies (granted d rolls)) ≡ true → carry d rolls entry_free now wire ≡ on_carry d ScheduleFull
   unfolding process_unchecked
   fills h k l = sym (by_full d (sent d.path rolls wire) now wire l ∙ carry_by_lem d rolls entry_free now wire h (ap not k))
 
-  pub carries : Fits → carry d rolls entry_free now wire ≡ on_carry (carriedOn d rolls now wire) (Carried (granted d rolls) (copy_fold (granted d rolls) (copy_bytes d rolls wire)))
+  pub carries : Fits → carry d rolls entry_free now wire ≡ on_carry (carried_on d rolls now wire) (Carried (granted d rolls) (copy_fold (granted d rolls) (copy_bytes d rolls wire)))
   unfolding process_unchecked
   carries f =
       sym (by_room d (sent d.path rolls wire) now wire f.room ∙ carry_by_lem d rolls entry_free now wire f.left (ap not f.entry))
-      ∙ sent_same d.path.channel wire (nextRolls d rolls) (replicate max_datagram 0) (λ (ds : Deliveries) (x : List ℕ). on_carry (on_path (schedule_at_unchecked (schedule_of d) now x ds) (countedChannel d rolls wire) (d.path.used + packet_rolls)) (Carried ds (copy_fold ds x))) (lost-alike d (countedChannel d rolls wire) now)
+      ∙ sent_same d.path.channel wire (next_rolls d rolls) (replicate max_datagram 0) (λ (ds : Deliveries) (x : List ℕ). on_carry (on_path (schedule_at_unchecked (schedule_of d) now x ds) (counted_channel d rolls wire) (d.path.used + packet_rolls)) (Carried ds (copy_fold ds x))) (lost_alike d (counted_channel d rolls wire) now)
 
   -- whatever holds of the four exits holds of the call's
   pub by_answer : (P : CarryExit → Type 0) → (rolls_spent d.path rolls ≡ true → P (on_carry d RollsSpent)) → (rolls_spent d.path rolls ≡ false → entry_free ≡ false → P (on_carry d EventsFull))
       → (rolls_spent d.path rolls ≡ false → entry_free ≡ true → lacks_room (schedule_of d) (copies (granted d rolls)) ≡ true → P (on_carry d ScheduleFull))
-      → (Fits → P (on_carry (carriedOn d rolls now wire) (Carried (granted d rolls) (copy_fold (granted d rolls) (copy_bytes d rolls wire))))) → P (carry d rolls entry_free now wire)
+      → (Fits → P (on_carry (carried_on d rolls now wire) (Carried (granted d rolls) (copy_fold (granted d rolls) (copy_bytes d rolls wire))))) → P (carry d rolls entry_free now wire)
   by_answer P spent events full carried = go (rolls_spent d.path rolls) entry_free (lacks_room (schedule_of d) (copies (granted d rolls))) refl refl refl
     where
       go : (a b c : Bool) → rolls_spent d.path rolls ≡ a → entry_free ≡ b → lacks_room (schedule_of d) (copies (granted d rolls)) ≡ c → P (carry d rolls entry_free now wire)
       go true b c p q r = subst P (sym (spends p)) (spent p)
-      go false false c p q r = subst P (sym (no-entry p q)) (events p q)
+      go false false c p q r = subst P (sym (no_entry p q)) (events p q)
       go false true true p q r = subst P (sym (fills p q r)) (full p q r)
       go false true false p q r = let f : Fits = record { left = p; entry = q; room = r } in subst P (sym (carries f)) (carried f)
 
   -- in all but the last the direction is as it was
-  pub by_left : (P : Direction → Type 0) → P d → (Fits → P (carriedOn d rolls now wire)) → P (left_by_carry (carry d rolls entry_free now wire))
+  pub by_left : (P : Direction → Type 0) → P d → (Fits → P (carried_on d rolls now wire)) → P (left_by_carry (carry d rolls entry_free now wire))
   by_left P same next = by_answer (λ (x : CarryExit). P (left_by_carry x)) (λ h. same) (λ h k. same) (λ h k l. same) next
 
   -- an answer tells what was true of the packet
@@ -153,29 +153,29 @@ module _ (d : Direction) (rolls : List Float) (entry_free : Bool) (now : ℕ) (w
   Why ScheduleFull = (rolls_spent d.path rolls ≡ false) × (entry_free ≡ true) × (lacks_room (schedule_of d) (copies (granted d rolls)) ≡ true)
   Why (Carried ds n) = Fits × (ds ≡ granted d rolls) × (n ≡ copy_fold (granted d rolls) (copy_bytes d rolls wire))
 
-  pub answer-why : (a : Carriage) → (carry d rolls entry_free now wire).result.answer ≡ a → Why a
-  answer-why a e = subst Why e (by_answer (λ (x : CarryExit). Why x.result.answer) (λ h. h) (λ h k. (h, k)) (λ h k l. (h, k, l)) (λ f. (f, refl, refl)))
+  pub answer_why : (a : Carriage) → (carry d rolls entry_free now wire).result.answer ≡ a → Why a
+  answer_why a e = subst Why e (by_answer (λ (x : CarryExit). Why x.result.answer) (λ h. h) (λ h k. (h, k)) (λ h k l. (h, k, l)) (λ f. (f, refl, refl)))
 
   -- it goes on where the packet fits, and only there
-  pub going-fits : stop_of (carry d rolls entry_free now wire).result.answer ≡ stop.Going → Fits
-  going-fits e = let c = stop-going _ e in (answer-why _ c.is).0
+  pub going_fits : stop_of (carry d rolls entry_free now wire).result.answer ≡ stop.Going → Fits
+  going_fits e = let c = stop_going _ e in (answer_why _ c.is).0
 
-  pub fits-going : Fits → stop_of (carry d rolls entry_free now wire).result.answer ≡ stop.Going
-  fits-going f = ap (λ (x : CarryExit). stop_of x.result.answer) (carries f)
+  pub fits_going : Fits → stop_of (carry d rolls entry_free now wire).result.answer ≡ stop.Going
+  fits_going f = ap (λ (x : CarryExit). stop_of x.result.answer) (carries f)
 
   -- and one that ends a run leaves all as it was
-  pub stop-same : (a : Carriage) → stops a ≡ true → (carry d rolls entry_free now wire).result.answer ≡ a → carry d rolls entry_free now wire ≡ on_carry d a
-  stop-same a s =
+  pub stop_same : (a : Carriage) → stops a ≡ true → (carry d rolls entry_free now wire).result.answer ≡ a → carry d rolls entry_free now wire ≡ on_carry d a
+  stop_same a s =
       by_answer (λ (x : CarryExit). x.result.answer ≡ a → x ≡ on_carry d a) (λ h e. ap (on_carry d) e) (λ h k e. ap (on_carry d) e) (λ h k l e. ap (on_carry d) e)
       (λ f e. absurd (false≢true (ap stops e ∙ s)))
 
   -- ---- the same answers by the entry points: `process` delivers, then `schedule_at` is done, or refuses the copies as full
   module _ (can : CanCarry d rolls now wire) (left : rolls_spent d.path rolls ≡ false) where
-    pub process-is : process d.path.channel wire (nextRolls d rolls) (replicate max_datagram 0) ≡ transited (sent d.path rolls wire)
-    process-is = process_accepted d.path.channel wire (nextRolls d rolls) (replicate max_datagram 0) (process_accepts d.path.channel wire (nextRolls d rolls) (replicate max_datagram 0) (can_process d rolls entry_free now wire left can refl (rw (length-replicate {A = ℕ} max_datagram 0) can.short)))
+    pub process_is : process d.path.channel wire (next_rolls d rolls) (replicate max_datagram 0) ≡ transited (sent d.path rolls wire)
+    process_is = process_accepted d.path.channel wire (next_rolls d rolls) (replicate max_datagram 0) (process_accepts d.path.channel wire (next_rolls d rolls) (replicate max_datagram 0) (can_process d rolls entry_free now wire left can refl (rw (length-replicate {A = ℕ} max_datagram 0) can.short)))
 
     size : length (sent_bytes (sent d.path rolls wire) wire) ≡ length wire
-    size = sent_length d.path.channel wire (nextRolls d rolls) (replicate max_datagram 0) (rw (length-replicate {A = ℕ} max_datagram 0) can.short)
+    size = sent_length d.path.channel wire (next_rolls d rolls) (replicate max_datagram 0) (rw (length-replicate {A = ℕ} max_datagram 0) can.short)
 
     in_time : late now ≡ false
     in_time = le-ltb max_time now (soon now can.in_time)
@@ -183,12 +183,12 @@ module _ (d : Direction) (rolls : List Float) (entry_free : Bool) (now : ℕ) (w
         soon : (now : ℕ) → now ≤ max_duration → now ≤ max_time
         soon now h = omega arith
 
-    pub schedule-is : lacks_room (schedule_of d) (copies (granted d rolls)) ≡ false
+    pub schedule_is : lacks_room (schedule_of d) (copies (granted d rolls)) ≡ false
         → schedule_at (schedule_of d) now (sent_bytes (sent d.path rolls wire) wire) (granted d rolls) ≡ on_schedule (schedule_at_unchecked (schedule_of d) now (sent_bytes (sent d.path rolls wire) wire) (granted d rolls)) done.Done
-    schedule-is h = schedule_accepted (schedule_of d) now (sent_bytes (sent d.path rolls wire) wire) (granted d rolls) (schedule_accepts (schedule_of d) now (sent_bytes (sent d.path rolls wire) wire) (granted d rolls) (can_put d rolls entry_free now wire left can h size) in_time can.good.times)
+    schedule_is h = schedule_accepted (schedule_of d) now (sent_bytes (sent d.path rolls wire) wire) (granted d rolls) (schedule_accepts (schedule_of d) now (sent_bytes (sent d.path rolls wire) wire) (granted d rolls) (can_put d rolls entry_free now wire left can h size) in_time can.good.times)
 
-    pub schedule-refuses : lacks_room (schedule_of d) (copies (granted d rolls)) ≡ true → schedule_at (schedule_of d) now (sent_bytes (sent d.path rolls wire) wire) (granted d rolls) ≡ on_schedule (schedule_of d) (done.Refused Full)
+    pub schedule_refuses : lacks_room (schedule_of d) (copies (granted d rolls)) ≡ true → schedule_at (schedule_of d) now (sent_bytes (sent d.path rolls wire) wire) (granted d rolls) ≡ on_schedule (schedule_of d) (done.Refused Full)
     unfolding schedule_at
-    schedule-refuses h =
+    schedule_refuses h =
         on_refused (λ r. on_schedule (schedule_of d) (done.Refused r)) _
-        (full-alone (schedule_of d) now (length (sent_bytes (sent d.path rolls wire) wire)) (granted d rolls) can.good.sound (orders_below d rolls can.good) in_time can.good.times (delays_fine d rolls entry_free now wire left can) (le-ltb max_datagram (length (sent_bytes (sent d.path rolls wire) wire)) (rw size can.short)) h)
+        (full_alone (schedule_of d) now (length (sent_bytes (sent d.path rolls wire) wire)) (granted d rolls) can.good.sound (orders_below d rolls can.good) in_time can.good.times (delays_fine d rolls entry_free now wire left can) (le-ltb max_datagram (length (sent_bytes (sent d.path rolls wire) wire)) (rw size can.short)) h)

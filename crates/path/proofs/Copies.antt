@@ -22,7 +22,7 @@ use Rattle.path.specs.Direction.{Direction, schedule_of}
 use Rattle.path.specs.Path.{on_path, CarryExit, on_carry, left_by_carry, new_path, rolls_spent, copy_fold, carry, left_by_take, take_ready, CanCarry}
 use Rattle.path.specs.declared.Carriage.TheVariants.{Carried}
 use Rattle.path.proofs.Packets.{rolls_left, rolls_fine, can_put}
-use Rattle.path.proofs.Answers.{nextRolls, granted, copy_bytes, countedChannel, carries, by_left}
+use Rattle.path.proofs.Answers.{next_rolls, granted, copy_bytes, counted_channel, carries, by_left}
 
 pub record EachWaiting (P : List ℕ → Type 0) (d : Direction) : Type 0 where
   pub each : All (λ (c : WaitingCopy). P c.bytes) (waiting (schedule_of d))
@@ -52,7 +52,7 @@ module _ {P : List ℕ → Type 0} where
   carry_each d rolls entry_free now wire can h a =
       by_left d rolls entry_free now wire (EachWaiting P) a
       (λ f. record {
-        each = schedule_all (schedule_of d) now (copy_bytes d rolls wire) (granted d rolls) (can_put d rolls entry_free now wire f.left can f.room (carried_length d.path.channel.config (nextRolls d rolls) wire)) (copies_each P d.path.scheduler.next_order now (copy_bytes d rolls wire) (granted d rolls) h) a.each;
+        each = schedule_all (schedule_of d) now (copy_bytes d rolls wire) (granted d rolls) (can_put d rolls entry_free now wire f.left can f.room (carried_length d.path.channel.config (next_rolls d rolls) wire)) (copies_each P d.path.scheduler.next_order now (copy_bytes d rolls wire) (granted d rolls) h) a.each;
       })
 
   module _ (d : Direction) (now : ℕ) (out : List ℕ) (sound : state_broken (schedule_of d) ≡ false) (a : EachWaiting P d) where
@@ -83,25 +83,25 @@ each_weaker f a = record { each = all_weaker (λ (c : WaitingCopy). f c.bytes) a
 
 -- ---- all chances 0.0
 module _ (d : Direction) (rolls : List Float) (entry_free : Bool) (now : ℕ) (wire : List ℕ) (can : CanCarry d rolls now wire) (none : NoFaults d.path.channel.config) (left : rolls_spent d.path rolls ≡ false) where
-  whole : CarriedWhole d.path.channel.config (nextRolls d rolls)
-  whole = carried_whole d.path.channel.config (nextRolls d rolls) none (rolls_fine rolls d.path.used (rolls_left d rolls entry_free now wire left) can.good.in_bounds)
+  whole : CarriedWhole d.path.channel.config (next_rolls d rolls)
+  whole = carried_whole d.path.channel.config (next_rolls d rolls) none (rolls_fine rolls d.path.used (rolls_left d rolls entry_free now wire left) can.good.in_bounds)
 
   pub whole_bytes : copy_bytes d rolls wire ≡ wire
   whole_bytes = whole.bytes wire
 
   -- base delay and jitter of the one copy
   abbrev pub whole_delay : ℕ
-  whole_delay = d.path.channel.config.base_delay_ms + scaled (nextRolls d rolls).jitter_roll (d.path.channel.config.jitter_ms + 1)
+  whole_delay = d.path.channel.config.base_delay_ms + scaled (next_rolls d rolls).jitter_roll (d.path.channel.config.jitter_ms + 1)
 
   pub whole_granted : granted d rolls ≡ One whole_delay
   whole_granted = whole.once
 
   pub carries_whole : entry_free ≡ true → lacks_room (schedule_of d) 1 ≡ false
-      → carry d rolls entry_free now wire ≡ on_carry (on_path (schedule_at_unchecked (schedule_of d) now wire (One whole_delay)) (countedChannel d rolls wire) (d.path.used + packet_rolls)) (Carried (One whole_delay) (fold_bytes wire))
+      → carry d rolls entry_free now wire ≡ on_carry (on_path (schedule_at_unchecked (schedule_of d) now wire (One whole_delay)) (counted_channel d rolls wire) (d.path.used + packet_rolls)) (Carried (One whole_delay) (fold_bytes wire))
   unfolding copy_fold
   carries_whole e room =
       carries d rolls entry_free now wire (record { left = left; entry = e; room = ap (λ (ds : Deliveries). lacks_room (schedule_of d) (copies ds)) whole_granted ∙ room })
       ∙ ap (λ (ds : Deliveries). made ds (copy_bytes d rolls wire)) whole_granted ∙ ap (made (One whole_delay)) whole_bytes
     where
       made : Deliveries → List ℕ → CarryExit
-      made ds x = on_carry (on_path (schedule_at_unchecked (schedule_of d) now x ds) (countedChannel d rolls wire) (d.path.used + packet_rolls)) (Carried ds (copy_fold ds x))
+      made ds x = on_carry (on_path (schedule_at_unchecked (schedule_of d) now x ds) (counted_channel d rolls wire) (d.path.used + packet_rolls)) (Carried ds (copy_fold ds x))

@@ -22,7 +22,7 @@ use Rattle.path.specs.Direction.{Direction, schedule_of}
 use Rattle.path.specs.Path.{path_of, on_path, CarryExit, carry_exit, on_carry, rolls_spent, copy_fold, carry, wire_after, CanCarry}
 use Rattle.path.specs.declared.Carriage.TheVariants.{ScheduleFull, Carried}
 use Rattle.path.proofs.Packets.{can_put}
-use Rattle.path.proofs.Answers.{granted, copy_bytes, countedChannel, carriedOn, Fits, fills, carries}
+use Rattle.path.proofs.Answers.{granted, copy_bytes, counted_channel, carried_on, Fits, fills, carries}
 
 module _ (d : Direction) (rolls : List Float) (entry_free : Bool) (now : ℕ) (wire : List ℕ) where
   pub wire_spent : rolls_spent d.path rolls ≡ true → wire ≡ wire_after d.path rolls entry_free wire
@@ -42,7 +42,7 @@ module _ (d : Direction) (rolls : List Float) (entry_free : Bool) (now : ℕ) (w
     unfolding process_unchecked
     granted_is = ap (λ (x : TransitExit). x.result.deliveries) done ∙ ap (deliveries_of d.path.channel.config) e
 
-    channel_is : t.channel ≡ countedChannel d rolls wire
+    channel_is : t.channel ≡ counted_channel d rolls wire
     unfolding process_unchecked
     channel_is = ap (λ (x : TransitExit). x.result.channel) done ∙ ap (λ (x : Rolls). channel_of d.path.channel.config (counted_stats d.path.channel.config x (length wire) d.path.channel.stats)) e
 

@@ -34,8 +34,8 @@ use Rattle.path.specs.Path.{new_path, left_by_carry, carry, TakeExit, on_take, l
 use Rattle.path.specs.declared.NextDeadline.TheVariants as deadline
 use Rattle.path.proofs.Packets.{orders_below, can_put}
 pub use Rattle.path.proofs.Packets.{rolls_left, rolls_fine, rolls_doubles}
-use Rattle.path.proofs.Answers.{nextRolls, granted, copy_bytes, carriedOn, Fits, carries, by_left}
-pub use Rattle.path.proofs.Answers.{nextRolls, granted, copy_bytes, countedChannel, carriedOn, Fits, spends, no-entry, fills, carries, by_answer, by_left, Why, answer-why, IsCarried, going_is, stop-going, carried-going, going-fits, fits-going, stops, stop-same, process-is, schedule-is, schedule-refuses}
+use Rattle.path.proofs.Answers.{next_rolls, granted, copy_bytes, carried_on, Fits, carries, by_left}
+pub use Rattle.path.proofs.Answers.{next_rolls, granted, copy_bytes, counted_channel, carried_on, Fits, spends, no_entry, fills, carries, by_answer, by_left, Why, answer_why, IsCarried, going_is, stop_going, carried_going, going_fits, fits_going, stops, stop_same, process_is, schedule_is, schedule_refuses}
 pub use Rattle.path.proofs.Orders.{RiseAlike, rise_same, rise_then, carry_orders, orders_low}
 pub use Rattle.path.proofs.Copies.{EachWaiting, TakesCopy, new_each, carry_each, take_each, take_copy, take_front, each_weaker, whole_bytes, whole_delay, whole_granted, carries_whole}
 
@@ -99,9 +99,9 @@ module _ (d : Direction) (rolls : List Float) (entry_free : Bool) (now : ℕ) (w
 
   module _ (can : CanCarry d rolls now wire) where
     can_fit : Fits d rolls entry_free now wire → CanSchedule (schedule_of d) now (copy_bytes d rolls wire) (granted d rolls)
-    can_fit f = can_put d rolls entry_free now wire f.left can f.room (carried_length d.path.channel.config (nextRolls d rolls) wire)
+    can_fit f = can_put d rolls entry_free now wire f.left can f.room (carried_length d.path.channel.config (next_rolls d rolls) wire)
 
-    leaves_schedule : Fits d rolls entry_free now wire → Leaves (schedule_of d) (schedule_of (carriedOn d rolls now wire)) (copies (granted d rolls))
+    leaves_schedule : Fits d rolls entry_free now wire → Leaves (schedule_of d) (schedule_of (carried_on d rolls now wire)) (copies (granted d rolls))
     leaves_schedule f = schedule_leaves (schedule_of d) now (copy_bytes d rolls wire) (granted d rolls) (can_fit f) can.good.times
 
     pub carry_good : Good (left_by_carry (carry d rolls entry_free now wire)) rolls
@@ -111,7 +111,7 @@ module _ (d : Direction) (rolls : List Float) (entry_free : Bool) (now : ℕ) (w
         let s = leaves_schedule f in
         record {
           config = can.good.config;
-          counted = counted_more d.path.channel.config (nextRolls d rolls) (length wire) d.path.channel.stats d.path.scheduler.next_order d.path.used can.good.counted s.next;
+          counted = counted_more d.path.channel.config (next_rolls d rolls) (length wire) d.path.channel.stats d.path.scheduler.next_order d.path.used can.good.counted s.next;
           doubles = can.good.doubles;
           in_bounds = can.good.in_bounds;
           used = ltb-false (length rolls) (d.path.used + packet_rolls) f.left;

@@ -4,7 +4,7 @@
 
 ghost use Rattle.std.specs.Prelude.{◌≡◌, [], ◌∷◌, not, eqb};
 ghost use Rattle.session.specs.declared.Timeout.TheVariants as timeouts;
-ghost use Rattle.host_ends.specs.Answers.{callExit};
+ghost use Rattle.host_ends.specs.Answers.{call_exit};
 ghost use Rattle.host_ends.specs.Sender as sender;
 ghost use Rattle.host_ends.specs.Receiver as receiver;
 ghost use Rattle.host_ends.specs.Making.{make_sender, make_receiver};
@@ -34,7 +34,7 @@ pub extern "C" fn pindrelo_make_sender(
     state: &mut [u64],
     store: &mut [u8],
 ) -> u64
-    ensures { callExit result (state.new ∷ store.new ∷ [])
+    ensures { call_exit result (state.new ∷ store.new ∷ [])
         ≡ make_sender protocol window max_retries state.old store.old }
 {
     host_ends::make_sender(protocol, window, max_retries, state, store)
@@ -47,7 +47,7 @@ pub extern "C" fn pindrelo_send(
     payload: &[u8],
     out: &mut [u8],
 ) -> u64
-    ensures { callExit result (state.new ∷ store.new ∷ out.new ∷ [])
+    ensures { call_exit result (state.new ∷ store.new ∷ out.new ∷ [])
         ≡ sender.send state.old store.old payload.now out.old }
 {
     host_ends::send(state, store, payload, out)
@@ -55,7 +55,7 @@ pub extern "C" fn pindrelo_send(
 
 #[unsafe(no_mangle)]
 pub extern "C" fn pindrelo_acknowledge(state: &mut [u64], store: &mut [u8], raw: &[u8]) -> u64
-    ensures { callExit result (state.new ∷ store.new ∷ [])
+    ensures { call_exit result (state.new ∷ store.new ∷ [])
         ≡ sender.acknowledge state.old store.old raw.now }
 {
     host_ends::acknowledge(state, store, raw)
@@ -63,7 +63,7 @@ pub extern "C" fn pindrelo_acknowledge(state: &mut [u64], store: &mut [u8], raw:
 
 #[unsafe(no_mangle)]
 pub extern "C" fn pindrelo_timeout_all(state: &mut [u64], store: &mut [u8], out: &mut [u8]) -> u64
-    ensures { callExit result (state.new ∷ store.new ∷ out.new ∷ [])
+    ensures { call_exit result (state.new ∷ store.new ∷ out.new ∷ [])
         ≡ sender.timeout state.old store.old timeouts.All out.old }
 {
     host_ends::timeout(state, store, Timeout::All, out)
@@ -75,7 +75,7 @@ pub extern "C" fn pindrelo_timeout_earliest(
     store: &mut [u8],
     out: &mut [u8],
 ) -> u64
-    ensures { callExit result (state.new ∷ store.new ∷ out.new ∷ [])
+    ensures { call_exit result (state.new ∷ store.new ∷ out.new ∷ [])
         ≡ sender.timeout state.old store.old timeouts.Earliest out.old }
 {
     host_ends::timeout(state, store, Timeout::Earliest, out)
@@ -88,7 +88,7 @@ pub extern "C" fn pindrelo_timeout_number(
     seq_num: u64,
     out: &mut [u8],
 ) -> u64
-    ensures { callExit result (state.new ∷ store.new ∷ out.new ∷ [])
+    ensures { call_exit result (state.new ∷ store.new ∷ out.new ∷ [])
         ≡ sender.timeout state.old store.old (timeouts.Number seq_num) out.old }
 {
     host_ends::timeout_number(state, store, seq_num, out)
@@ -122,7 +122,7 @@ pub extern "C" fn pindrelo_make_receiver(
     state: &mut [u64],
     store: &mut [u8],
 ) -> u64
-    ensures { callExit result (state.new ∷ store.new ∷ [])
+    ensures { call_exit result (state.new ∷ store.new ∷ [])
         ≡ make_receiver protocol window state.old store.old }
 {
     host_ends::make_receiver(protocol, window, state, store)
@@ -136,7 +136,7 @@ pub extern "C" fn pindrelo_receive(
     output: &mut [u8],
     ack: &mut [u8],
 ) -> u64
-    ensures { callExit result
+    ensures { call_exit result
         (state.new ∷ store.new ∷ output.new ∷ ack.new ∷ [])
         ≡ receiver.receive state.old store.old raw.now output.old
         ack.old }

@@ -28,7 +28,7 @@ use Rattle.channel.specs.Faults.{is_corrupted, byte_at, bit_at}
 use Rattle.channel.proofs.Laws.{uncorrupted_is, corrupted_is, corrupted_some, byte_below, bit_below}
 use Rattle.path.specs.Direction.{Direction}
 use Rattle.path.specs.Path.{left_by_carry, carry, CanCarry}
-use Rattle.path.proofs.Laws.{rolls_left, rolls_fine, rolls_doubles, nextRolls, copy_bytes, Fits, EachWaiting}
+use Rattle.path.proofs.Laws.{rolls_left, rolls_fine, rolls_doubles, next_rolls, copy_bytes, Fits, EachWaiting}
 use Rattle.completion.proofs.Laws.{carry_each_fits}
 use Rattle.prefixes.specs.Prefixes.{IsPrefix}
 use Rattle.prefixes.proofs.Receiver.{Honest}
@@ -95,17 +95,17 @@ module _ (P : ℕ → Chunk → Type 0) (q : Segment) (raw : List ℕ) (d : Data
 -- ---- on a line
 module _ (d : Direction) (rolls : List Float) (entry_free : Bool) (now : ℕ) (wire : List ℕ) (can : CanCarry d rolls now wire) {P : ℕ → Chunk → Type 0} (h : AllHonest P wire) where
   copy_honest : Fits d rolls entry_free now wire → Honest P (copy_bytes d rolls wire)
-  copy_honest f = go (is_corrupted d.path.channel.config (nextRolls d rolls) (length wire)) refl
+  copy_honest f = go (is_corrupted d.path.channel.config (next_rolls d rolls) (length wire)) refl
     where
-      go : (b : Bool) → is_corrupted d.path.channel.config (nextRolls d rolls) (length wire) ≡ b → Honest P (copy_bytes d rolls wire)
-      go false e = subst (Honest P) (sym (uncorrupted_is d.path.channel.config (nextRolls d rolls) wire e)) h.whole
+      go : (b : Bool) → is_corrupted d.path.channel.config (next_rolls d rolls) (length wire) ≡ b → Honest P (copy_bytes d rolls wire)
+      go false e = subst (Honest P) (sym (uncorrupted_is d.path.channel.config (next_rolls d rolls) wire e)) h.whole
       go true e =
           let left = rolls_left d rolls entry_free now wire f.left in
           let doubles = rolls_doubles rolls d.path.used left can.good.doubles in
           let fine = rolls_fine rolls d.path.used left can.good.in_bounds in
-          subst (Honest P) (sym (corrupted_is d.path.channel.config (nextRolls d rolls) wire e))
-          (h.flipped (byte_at (nextRolls d rolls) (length wire)) (bit_at (nextRolls d rolls))
-          (byte_below (nextRolls d rolls) doubles fine (length wire) (corrupted_some d.path.channel.config (nextRolls d rolls) (length wire) e) can.short) (bit_below (nextRolls d rolls) doubles fine))
+          subst (Honest P) (sym (corrupted_is d.path.channel.config (next_rolls d rolls) wire e))
+          (h.flipped (byte_at (next_rolls d rolls) (length wire)) (bit_at (next_rolls d rolls))
+          (byte_below (next_rolls d rolls) doubles fine (length wire) (corrupted_some d.path.channel.config (next_rolls d rolls) (length wire) e) can.short) (bit_below (next_rolls d rolls) doubles fine))
 
   pub carry_honest : EachWaiting (Honest P) d → EachWaiting (Honest P) (left_by_carry (carry d rolls entry_free now wire))
   carry_honest a = carry_each_fits d rolls entry_free now wire can copy_honest a

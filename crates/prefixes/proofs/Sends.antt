@@ -27,7 +27,7 @@ use Rattle.session.specs.declared.Timeout.{Timeout}
 use Rattle.session.specs.declared.Timeout.TheVariants as timeout
 use Rattle.session.proofs.Laws.{datagram_short, ResentAs}
 use Rattle.submission.specs.Submission.{Outgoing, entry_free, submit, CanSubmit}
-use Rattle.submission.proofs.Laws.{can_carry, submit-forward}
+use Rattle.submission.proofs.Laws.{can_carry, submit_forward}
 use Rattle.sending.specs.Sending.{PumpState, PumpExit, can_pump, next_number, send_one, pump_sends}
 use Rattle.sending.specs.Good.{CanPump}
 use Rattle.sending.specs.Retransmit.{RetransmitExit, retransmit, retransmit_all, CanRetransmitAll, ceiling_met, exhausted}
@@ -53,7 +53,7 @@ pub record Sends (chunks : List Chunk) (v : SenderEnd) (forward : Direction) : T
 pub submit_waits : (chunks : List Chunk) (t : Timing) (rolls : List Float) (x : Submission) (wire : List ℕ) (o : Outgoing) (n : ℕ) → CanSubmit t rolls x wire o → ChunkData chunks n wire → PrefixesWait chunks o.forward
     → PrefixesWait chunks (submit t rolls x wire o).outgoing.forward
 submit_waits chunks t rolls x wire o n can c a =
-    subst (PrefixesWait chunks) (sym (submit-forward t rolls x wire o))
+    subst (PrefixesWait chunks) (sym (submit_forward t rolls x wire o))
     (carry_honest o.forward rolls (entry_free o) x.time wire (can_carry t rolls x wire o can) (chunk_honest chunks n wire c) a)
 
 -- ---- chunks that are sent

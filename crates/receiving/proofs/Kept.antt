@@ -23,7 +23,7 @@ use Rattle.path.specs.Path.{left_by_carry, carry, stop_of, CanCarry}
 use Rattle.path.specs.declared.Carriage.{Carriage}
 use Rattle.path.specs.declared.Carriage.TheVariants as carriage
 use Rattle.path.specs.declared.Stop.TheVariants as stop
-use Rattle.path.proofs.Laws.{granted, copy_bytes, carriedOn, Fits, carries, stops, stop-same, Keeps, carry_good, carry_keeps, EachWaiting, carry_each}
+use Rattle.path.proofs.Laws.{granted, copy_bytes, carried_on, Fits, carries, stops, stop_same, Keeps, carry_good, carry_keeps, EachWaiting, carry_each}
 use Rattle.session.specs.Receiving.{receiver_end, base, is_cumulative}
 use Rattle.session.specs.GoodReceiver.{GoodReceiver}
 use Rattle.session.specs.declared.Receiver.{Receiver}
@@ -101,7 +101,7 @@ module _ (rolls : List Float) (now seq : ℕ) (wire : List ℕ) (b : Inbound) wh
   -- the run ends at it: it is counted, and nothing else has changed
   pub submit_stops : (a : Carriage) → stops a ≡ true → (carry b.reverse rolls true now wire).result.answer ≡ a → submit_ack rolls now seq wire b ≡ forward_exit (inbound (ack_counted b.side) b.store b.output b.metas b.reverse) (stop_of a)
   unfolding submit_ack
-  submit_stops a s e = rw (stop-same b.reverse rolls true now wire a s e, none a s)
+  submit_stops a s e = rw (stop_same b.reverse rolls true now wire a s e, none a s)
     where
       none : (a : Carriage) → stops a ≡ true → any_copies a ≡ false
       none carriage.RollsSpent s = refl
@@ -110,7 +110,7 @@ module _ (rolls : List Float) (now seq : ℕ) (wire : List ℕ) (b : Inbound) wh
       none (carriage.Carried ds n) s = absurd (false≢true s)
 
   -- it is carried; where the line drops it, nothing is marked
-  pub submit_carries : Fits b.reverse rolls true now wire → submit_ack rolls now seq wire b ≡ forward_exit (inbound (ack_counted b.side) b.store b.output (cond (ltb 0 (copies (granted b.reverse rolls))) marked_metas b.metas) (carriedOn b.reverse rolls now wire)) stop.Going
+  pub submit_carries : Fits b.reverse rolls true now wire → submit_ack rolls now seq wire b ≡ forward_exit (inbound (ack_counted b.side) b.store b.output (cond (ltb 0 (copies (granted b.reverse rolls))) marked_metas b.metas) (carried_on b.reverse rolls now wire)) stop.Going
   unfolding submit_ack
   submit_carries f = rw (carries b.reverse rolls true now wire f)
 
@@ -267,7 +267,7 @@ module _ (rolls : List Float) (total now : ℕ) (raw : List ℕ) (b : Inbound) w
 
   pub forward_carried : (n : ℕ) → is_data (read_datagram raw) ≡ true → (handled raw b).answer ≡ receiveAnswer.Ack n → Fits b.reverse rolls true now (made (new_packet n packetType.Ack) [])
       → on_forward rolls total now raw b ≡ forward_exit (inbound (ack_counted (received total now raw b).side) (handled raw b).receiver.store (handled raw b).output
-      (cond (ltb 0 (copies (granted b.reverse rolls))) (mark_ack_scheduled b.metas n (is_cumulative (received total now raw b).side.receiver)) b.metas) (carriedOn b.reverse rolls now (made (new_packet n packetType.Ack) []))) stop.Going
+      (cond (ltb 0 (copies (granted b.reverse rolls))) (mark_ack_scheduled b.metas n (is_cumulative (received total now raw b).side.receiver)) b.metas) (carried_on b.reverse rolls now (made (new_packet n packetType.Ack) []))) stop.Going
   unfolding received
   forward_carried n h e f = forward_acknowledged n h e ∙ submit_carries rolls now n (made (new_packet n packetType.Ack) []) (received total now raw b) f
 

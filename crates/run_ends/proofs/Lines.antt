@@ -14,7 +14,7 @@ use Rattle.path.specs.Direction.{Direction, schedule_of}
 use Rattle.path.specs.Path.{CarryExit, left_by_carry, rolls_spent, carry, stop_of, is_going, take_ready, left_by_take, new_path}
 use Rattle.path.specs.declared.Stop.{Stop}
 use Rattle.path.specs.declared.Stop.TheVariants as stop
-use Rattle.path.proofs.Laws.{nextRolls, granted, copy_bytes, carriedOn, by_answer, going_is}
+use Rattle.path.proofs.Laws.{next_rolls, granted, copy_bytes, carried_on, by_answer, going_is}
 use Rattle.run_ends.proofs.Waiting.{Tidy, schedule_tidy, take_tidy, new_tidy}
 
 -- ---- whether the last packet that was due was carried; why not
@@ -61,13 +61,13 @@ module _ {c : ChannelConfig} {rolls : List Float} {free : Bool} {n : ℕ} {d : D
   pub line_stopped : (st : Stop) → not_carried st ≡ 1 → StoppedAt st d rolls free → LineAt st c rolls free (n + 1) d
   line_stopped st e w = record { config = q.config; used = q.used; due = one_more n (seen d) (not_carried st) q.due e; why = w; tidy = q.tidy }
 
-  counted : seen (carriedOn d rolls now wire) ≡ seen d + 1
-  counted = (counted_rises d.path.channel.config (nextRolls d rolls) (length wire) d.path.channel.stats).seen
+  counted : seen (carried_on d rolls now wire) ≡ seen d + 1
+  counted = (counted_rises d.path.channel.config (next_rolls d rolls) (length wire) d.path.channel.stats).seen
 
   some_copied : 0 < length (copy_bytes d rolls wire)
-  some_copied = subst (λ (k : ℕ). 0 < k) (sym (carried_length d.path.channel.config (nextRolls d rolls) wire)) some
+  some_copied = subst (λ (k : ℕ). 0 < k) (sym (carried_length d.path.channel.config (next_rolls d rolls) wire)) some
 
-  pub line_carried : (other : Bool) → LineAt stop.Going c rolls other (n + 1) (carriedOn d rolls now wire)
+  pub line_carried : (other : Bool) → LineAt stop.Going c rolls other (n + 1) (carried_on d rolls now wire)
   line_carried other =
       record {
         config = q.config;

@@ -19,7 +19,7 @@ use Rattle.path.specs.Direction.{schedule_of}
 use Rattle.path.specs.Path.{rolls_spent, is_going}
 use Rattle.path.specs.declared.Stop.{Stop}
 use Rattle.path.specs.declared.Stop.TheVariants as stop
-use Rattle.path.proofs.Laws.{nextRolls, granted}
+use Rattle.path.proofs.Laws.{next_rolls, granted}
 use Rattle.rto.specs.Rto.{on_timeout_unchecked}
 use Rattle.clock.specs.Clock.{ClockState, cancel_number, Submission}
 use Rattle.clock.specs.declared.Timing.{Timing}
@@ -30,7 +30,7 @@ use Rattle.session.specs.declared.Timeout.{Timeout}
 use Rattle.session.specs.declared.Timeout.TheVariants as timeout
 use Rattle.session.proofs.Laws.{ResentAs, resent_as}
 use Rattle.submission.specs.Submission.{Outgoing, SubmitExit, entry_free, submit}
-use Rattle.submission.proofs.Laws.{submit-spent, submit-no-entry, submit-full, submit-carried}
+use Rattle.submission.proofs.Laws.{submit_spent, submit_no_entry, submit_full, submit_carried}
 use Rattle.sending.specs.Sending.{PumpState, PumpExit, next_number, can_pump, send_one, pump_sends}
 use Rattle.sending.specs.Good.{CanPump}
 use Rattle.sending.specs.Retransmit.{RetransmitExit, retransmit, ceiling_met, exhausted, retransmit_all}
@@ -76,12 +76,12 @@ module _ (c : ChannelConfig) (rolls : List Float) where
       event_more w a b h k = omega arith
 
       go : (a b k : Bool) → rolls_spent o.forward.path rolls ≡ a → entry_free o ≡ b → lacks_room (schedule_of o.forward) (copies (granted o.forward rolls)) ≡ k → P (submit t rolls x wire o)
-      go true b k e f h = subst P (sym (submit-spent t rolls x wire o e)) (record { line = line_stopped x.time wire some q.line stop.RollsSpent refl e; events = q.events })
-      go false false k e f h = subst P (sym (submit-no-entry t rolls x wire o e f)) (record { line = line_stopped x.time wire some q.line stop.EventsFull refl (e, f); events = q.events })
-      go false true true e f h = subst P (sym (submit-full t rolls x wire o e f h)) (record { line = line_stopped x.time wire some q.line stop.ScheduleFull refl (e, f, h); events = q.events })
+      go true b k e f h = subst P (sym (submit_spent t rolls x wire o e)) (record { line = line_stopped x.time wire some q.line stop.RollsSpent refl e; events = q.events })
+      go false false k e f h = subst P (sym (submit_no_entry t rolls x wire o e f)) (record { line = line_stopped x.time wire some q.line stop.EventsFull refl (e, f); events = q.events })
+      go false true true e f h = subst P (sym (submit_full t rolls x wire o e f h)) (record { line = line_stopped x.time wire some q.line stop.ScheduleFull refl (e, f, h); events = q.events })
       go false true false e f h =
-          subst P (sym (submit-carried t rolls x wire o (record { left = e; entry = f; room = h })))
-          (record { line = line_carried x.time wire some q.line _; events = event_more o.written (seen o.forward) _ q.events (counted_rises o.forward.path.channel.config (nextRolls o.forward rolls) (length wire) o.forward.path.channel.stats).seen })
+          subst P (sym (submit_carried t rolls x wire o (record { left = e; entry = f; room = h })))
+          (record { line = line_carried x.time wire some q.line _; events = event_more o.written (seen o.forward) _ q.events (counted_rises o.forward.path.channel.config (next_rolls o.forward rolls) (length wire) o.forward.path.channel.stats).seen })
 
   as_going : {st : Stop} {n : ℕ} {o : Outgoing} → is_going st ≡ true → ForwardAt st n o → ForwardAt stop.Going n o
   as_going g q = record { line = line_going g q.line; events = q.events }

@@ -29,7 +29,7 @@ use Rattle.channel.specs.declared.Channel.{Channel}
 use Rattle.channel.proofs.Laws.{NoFaults}
 use Rattle.schedule.specs.State.{state_broken, waiting_records, held_late, copies}
 use Rattle.schedule.specs.declared.Deliveries.{Deliveries}
-use Rattle.path.proofs.Laws.{going_is, going-fits, whole_granted}
+use Rattle.path.proofs.Laws.{going_is, going_fits, whole_granted}
 use Rattle.notes.specs.Notes.{SegMetas, mark_ack_scheduled}
 use Rattle.sending.specs.declared.Resends.{Resends}
 use Rattle.run_history.specs.Premature.{covers}
@@ -167,7 +167,7 @@ module _ (b : Origin) (v : SenderEnd) (e : RtoEstimator) (acks duplicates : ℕ)
       marks g =
           let d = data_received total now raw i in
           let stop_is = (ack_submitted b.reverse_rolls now n wire later).stop in
-          let fits = going-fits later.reverse b.reverse_rolls true now wire (sym stop_is ∙ going_is _ g) in
+          let fits = going_fits later.reverse b.reverse_rolls true now wire (sym stop_is ∙ going_is _ g) in
           ap (λ (x : ForwardExit). x.inbound.metas) (submit_carries b.reverse_rolls now n wire later fits)
           ∙ ap (λ (ds : Deliveries). cond (ltb 0 (copies ds)) (marked_metas b.reverse_rolls now n wire later) later.metas) (whole_granted later.reverse b.reverse_rolls true now wire (can_carry can n) no_faults fits.left)
           ∙ ap (λ (x : SegMetas). mark_ack_scheduled x n (is_cumulative later.side.receiver)) d.metas ∙ ap (λ (r : Receiver). mark_ack_scheduled i.metas n (is_cumulative r)) d.receiver

@@ -21,12 +21,12 @@ use Rattle.path.specs.Direction.{Direction, schedule_of}
 use Rattle.path.specs.Rolls.{packet_rolls, rolls_at}
 use Rattle.path.specs.Path.{CarryExit, is_going, left_by_carry, carry, stop_of, copy_fold, left_by_take, take_ready, packet_buffer}
 use Rattle.path.specs.declared.Stop.TheVariants.{Going}
-use Rattle.path.proofs.Laws.{nextRolls, granted, copy_bytes, carriedOn, going_is, going-fits, carries, stop-same, take_count}
+use Rattle.path.proofs.Laws.{next_rolls, granted, copy_bytes, carried_on, going_is, going_fits, carries, stop_same, take_count}
 use Rattle.events.specs.Events.{ForwardEvent, forward_event, events_of}
 use Rattle.clock.specs.Clock as clock
 use Rattle.clock.specs.declared.Timing.{Timing}
 use Rattle.submission.specs.Submission.{Outgoing, submit}
-use Rattle.submission.proofs.Laws.{eventMade, submit-going, submit-stopped, going_written, going_events, stopped_events}
+use Rattle.submission.proofs.Laws.{event_made, submit_going, submit_stopped, going_written, going_events, stopped_events}
 use Rattle.run_history.specs.Calls.{Submission, submission, Reply, one}
 use Rattle.run_history.specs.Lines.{filter, count, carried_of, forward_wires, reverse_wires, packets, event_for, events_from}
 use Rattle.run_history.proofs.Lists.{filter_more, packet_at, packets_more, events_more}
@@ -88,20 +88,20 @@ line_taken {came = came} d after t q =
     }
 
 module _ {c : ChannelConfig} {rolls : List Float} {wires : List (List ℕ)} {came : ℕ} (d : Direction) (q : LineAfter c rolls wires came (line_of d)) where
-  next_rolls : nextRolls d rolls ≡ rolls_at rolls (0 + length wires * packet_rolls)
-  next_rolls = ap (rolls_at rolls) (from_zero _ _ q.used_is)
+  next_rolls_lem : next_rolls d rolls ≡ rolls_at rolls (0 + length wires * packet_rolls)
+  next_rolls_lem = ap (rolls_at rolls) (from_zero _ _ q.used_is)
 
   config_is : d.path.channel.config ≡ c
   config_is = ap (λ (x : Channel). x.config) q.channel_is
 
-  pub line_carried : (now : ℕ) (wire : List ℕ) → LineAfter c rolls (wires ++ wire ∷ []) came (line_of (carriedOn d rolls now wire))
+  pub line_carried : (now : ℕ) (wire : List ℕ) → LineAfter c rolls (wires ++ wire ∷ []) came (line_of (carried_on d rolls now wire))
   unfolding counted_stats
   line_carried now wire =
       record {
         all_come = more_come came _ _ _ (copies (granted d rolls)) q.all_come (scheduled_more (schedule_of d) now (copy_bytes d rolls wire) (granted d rolls));
         used_is = more_used d.path.used (length wires) _ q.used_is (length-append wires (wire ∷ []));
         channel_is =
-            ap (λ (x : Channel). channel_of x.config (counted_stats x.config (nextRolls d rolls) (length wire) x.stats)) q.channel_is
+            ap (λ (x : Channel). channel_of x.config (counted_stats x.config (next_rolls d rolls) (length wire) x.stats)) q.channel_is
             ∙ ap (λ (n : ℕ). channel_of c (counted_stats c (rolls_at rolls n) (length wire) (tallies c (packets rolls wires)))) (from_zero _ _ q.used_is)
             ∙ ap (channel_of c) (tallied c (packet_at rolls (0 + length wires * packet_rolls) wire) (packets rolls wires))
             ∙ ap (λ (l : List Call). channel_of c (tallies c l)) (sym (packets_more rolls 0 [] wires wire));
@@ -111,7 +111,7 @@ module _ {c : ChannelConfig} {rolls : List Float} {wires : List (List ℕ)} {cam
   pub event_next : (x : clock.Submission) (wire : List ℕ) (carried : Bool)
       → forward_event x.seq x.retransmission (granted d rolls) (copy_fold (granted d rolls) (copy_bytes d rolls wire)) ≡ event_for c (rolls_at rolls (0 + length wires * packet_rolls)) (submission x.seq x.retransmission wire carried)
   event_next x wire carried =
-      ap (λ (k : ChannelConfig). event_for k (nextRolls d rolls) (submission x.seq x.retransmission wire carried)) config_is
+      ap (λ (k : ChannelConfig). event_for k (next_rolls d rolls) (submission x.seq x.retransmission wire carried)) config_is
       ∙ ap (λ (n : ℕ). event_for c (rolls_at rolls n) (submission x.seq x.retransmission wire carried)) (from_zero _ _ q.used_is)
 
 -- ---- the forward line with its events and the count of what was sent again
@@ -155,20 +155,20 @@ module _ (t : Timing) {c : ChannelConfig} {rolls : List Float} {xs : List Submis
       record {
         again_are = counted (λ (y : Submission). y.again) xs (this true) again q.again_are ∙ k;
         written_are = ap length carried_of_lem ∙ length-append (carried_of xs) (this true ∷ []) ∙ ap (λ (n : ℕ). n + 1) q.written_are ∙ sym (going_written t rolls x wire o on);
-        line = subst (LineAfter c rolls (forward_wires (xs ++ this true ∷ [])) came) (ap (λ (y : Outgoing). line_of y.forward) (sym (submit-going t rolls x wire o on)))
-            (subst (λ (l : List (List ℕ)). LineAfter c rolls l came (line_of (carriedOn o.forward rolls x.time wire))) (sym wires_carried) (line_carried o.forward q.line x.time wire));
+        line = subst (LineAfter c rolls (forward_wires (xs ++ this true ∷ [])) came) (ap (λ (y : Outgoing). line_of y.forward) (sym (submit_going t rolls x wire o on)))
+            (subst (λ (l : List (List ℕ)). LineAfter c rolls l came (line_of (carried_on o.forward rolls x.time wire))) (sym wires_carried) (line_carried o.forward q.line x.time wire));
         events_are =
             ap (events_from c rolls 0) carried_of_lem ∙ events_more c rolls 0 (carried_of xs) (this true)
             ∙ ap (λ (n : ℕ). events_from c rolls 0 (carried_of xs) ++ event_for c (rolls_at rolls (0 + n * packet_rolls)) (this true) ∷ []) (sym same_length)
             ∙ ap (λ (e : ForwardEvent). events_from c rolls 0 (carried_of xs) ++ e ∷ []) (sym (event_next o.forward q.line x wire true))
-            ∙ ap (λ (l : List ForwardEvent). l ++ eventMade rolls x wire o ∷ []) q.events_are
+            ∙ ap (λ (l : List ForwardEvent). l ++ event_made rolls x wire o ∷ []) q.events_are
             ∙ sym (going_events t rolls x wire o on);
       }
   submit_sending k false g =
       record {
         again_are = counted (λ (y : Submission). y.again) xs (this false) again q.again_are ∙ k;
-        written_are = ap length stopped_of ∙ q.written_are ∙ ap (λ (y : Outgoing). y.written) (sym (submit-stopped t rolls x wire o g));
-        line = subst (LineAfter c rolls (forward_wires (xs ++ this false ∷ [])) came) (ap (λ (y : Outgoing). line_of y.forward) (sym (submit-stopped t rolls x wire o g)))
+        written_are = ap length stopped_of ∙ q.written_are ∙ ap (λ (y : Outgoing). y.written) (sym (submit_stopped t rolls x wire o g));
+        line = subst (LineAfter c rolls (forward_wires (xs ++ this false ∷ [])) came) (ap (λ (y : Outgoing). line_of y.forward) (sym (submit_stopped t rolls x wire o g)))
             (subst (λ (l : List (List ℕ)). LineAfter c rolls l came (line_of o.forward)) (sym wires_stopped) q.line);
         events_are = ap (events_from c rolls 0) stopped_of ∙ q.events_are ∙ sym (stopped_events t rolls x wire o g);
       }
@@ -192,12 +192,12 @@ module _ {c : ChannelConfig} {rolls : List Float} {xs : List Reply} {came acks :
   carry_replying true g =
       record {
         acks_are = length-append xs (ack true ∷ []) ∙ ap (λ (n : ℕ). n + 1) q.acks_are;
-        line = subst (LineAfter c rolls (reverse_wires (xs ++ ack true ∷ [])) came) (ap (λ (y : CarryExit). line_of (left_by_carry y)) (sym (carries d rolls true now wire (going-fits d rolls true now wire (going_is _ g)))))
-            (subst (λ (l : List (List ℕ)). LineAfter c rolls l came (line_of (carriedOn d rolls now wire))) (sym reply_carried) (line_carried d q.line now wire));
+        line = subst (LineAfter c rolls (reverse_wires (xs ++ ack true ∷ [])) came) (ap (λ (y : CarryExit). line_of (left_by_carry y)) (sym (carries d rolls true now wire (going_fits d rolls true now wire (going_is _ g)))))
+            (subst (λ (l : List (List ℕ)). LineAfter c rolls l came (line_of (carried_on d rolls now wire))) (sym reply_carried) (line_carried d q.line now wire));
       }
   carry_replying false g =
       record {
         acks_are = length-append xs (ack false ∷ []) ∙ ap (λ (n : ℕ). n + 1) q.acks_are;
         line = subst (λ (l : List (List ℕ)). LineAfter c rolls l came (line_of (left_by_carry (carry d rolls true now wire)))) (sym reply_stopped)
-            (subst (LineAfter c rolls (reverse_wires xs) came) (ap (λ (y : CarryExit). line_of (left_by_carry y)) (sym (stop-same d rolls true now wire _ (ap not g) refl))) q.line);
+            (subst (LineAfter c rolls (reverse_wires xs) came) (ap (λ (y : CarryExit). line_of (left_by_carry y)) (sym (stop_same d rolls true now wire _ (ap not g) refl))) q.line);
       }

@@ -49,7 +49,7 @@ use Rattle.rows.specs.Rows.{as_number}
 use Rattle.notes.specs.Notes.{SegMetas, is_premature}
 use Rattle.path.proofs.Laws.{granted, going_is, carry_good}
 use Rattle.submission.specs.Submission.{note_before}
-use Rattle.submission.proofs.Laws.{can_carry, metasOf, eventMade, submit-going, submit-forward, going_events, after_again}
+use Rattle.submission.proofs.Laws.{can_carry, metas_of, event_made, submit_going, submit_forward, going_events, after_again}
 use Rattle.run_history.specs.Calls.{Reply, one}
 use Rattle.run_history.specs.Lines.{filter, count, any, forward_wires}
 use Rattle.run_history.specs.Copies.{copies_from}
@@ -137,14 +137,14 @@ module _ (c : ChannelConfig) (rolls : List Float) (limit : ℕ) (t : Timing) (rt
 
   again_good : (wire : List ℕ) (r : Resends) (o : Outgoing) → CanCarry o.forward rolls now wire → GoodLine (again wire r o).outgoing.forward rolls
   unfolding retransmit
-  again_good wire r o can = subst (λ (d : Direction). GoodLine d rolls) (sym (submit-forward t rolls (given wire) wire o)) (carry_good o.forward rolls (entry_free o) now wire can)
+  again_good wire r o can = subst (λ (d : Direction). GoodLine d rolls) (sym (submit_forward t rolls (given wire) wire o)) (carry_good o.forward rolls (entry_free o) now wire can)
 
   -- the notes after one that is carried
-  again_metas : (wire : List ℕ) (r : Resends) (o : Outgoing) → is_going (again wire r o).stop ≡ true → (again wire r o).outgoing.metas ≡ metasOf rolls (given wire) o
+  again_metas : (wire : List ℕ) (r : Resends) (o : Outgoing) → is_going (again wire r o).stop ≡ true → (again wire r o).outgoing.metas ≡ metas_of rolls (given wire) o
   unfolding retransmit
-  again_metas wire r o g = ap (λ (y : Outgoing). y.metas) (submit-going t rolls (given wire) wire o (going_is _ g))
+  again_metas wire r o g = ap (λ (y : Outgoing). y.metas) (submit_going t rolls (given wire) wire o (going_is _ g))
 
-  again_events : (wire : List ℕ) (r : Resends) (o : Outgoing) → is_going (again wire r o).stop ≡ true → events_in (again wire r o).outgoing ≡ events_in o ++ eventMade rolls (given wire) wire o ∷ []
+  again_events : (wire : List ℕ) (r : Resends) (o : Outgoing) → is_going (again wire r o).stop ≡ true → events_in (again wire r o).outgoing ≡ events_in o ++ event_made rolls (given wire) wire o ∷ []
   unfolding retransmit
   again_events wire r o g = going_events t rolls (given wire) wire o (going_is _ g)
 
@@ -253,7 +253,7 @@ module _ (b : Origin) (i : Inbound) (acks duplicates : ℕ) where
       let made = going_events t b.forward_rolls given wire o on in
       same_noted (pump_moment e again (send_one t b.forward_rolls chunks rto now w).state) xs ys
       (subst (λ (n : ℕ). NotedBy (events_in (submit t b.forward_rolls given wire o).outgoing) xs ys n (submit t b.forward_rolls given wire o).outgoing.metas) (sym grows)
-      (subst (NotedBy (events_in (submit t b.forward_rolls given wire o).outgoing) xs ys (next_number w + 1)) (ap (λ (y : Outgoing). y.metas) (sym (submit-going t b.forward_rolls given wire o on)))
+      (subst (NotedBy (events_in (submit t b.forward_rolls given wire o).outgoing) xs ys (next_number w + 1)) (ap (λ (y : Outgoing). y.metas) (sym (submit_going t b.forward_rolls given wire o on)))
       (noted_first k now rto ds row (λ n. ap (any (is_first_granted n)) made ∙ first_more (events_in o) (next_number w) _ ds n) (λ n. ap (any (is_event_again n)) made ∙ first_once (events_in o) (next_number w) _ ds n)))))
 
   pub pumps_told : {t : Timing} {size : ℕ} {file : List ℕ} {total rto now : ℕ} → b.chunks ≡ chunks_of size file → (e : RtoEstimator) (again : Resends) (w : PumpState) → CanPump t b.forward_rolls size file total rto now w → Told b (pump_moment e again w)

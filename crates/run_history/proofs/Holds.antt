@@ -26,11 +26,11 @@ use Rattle.path.specs.Rolls.{packet_rolls, rolls_at}
 use Rattle.path.specs.Path.{new_path, CarryExit, is_going, stop_of, left_by_carry, carry, left_by_take, take_ready, packet_buffer, CanCarry}
 use Rattle.path.specs.declared.Stop.TheVariants.{Going}
 use Rattle.path.proofs.Packets.{can_put}
-use Rattle.path.proofs.Laws.{nextRolls, granted, copy_bytes, carriedOn, Fits, going_is, going-fits, carries, stop-same, EachWaiting, take_copy, taken_keeps}
+use Rattle.path.proofs.Laws.{next_rolls, granted, copy_bytes, carried_on, Fits, going_is, going_fits, carries, stop_same, EachWaiting, take_copy, taken_keeps}
 use Rattle.clock.specs.Clock as clock
 use Rattle.clock.specs.declared.Timing.{Timing}
 use Rattle.submission.specs.Submission.{Outgoing, entry_free, submit}
-use Rattle.submission.proofs.Laws.{submit-fits, submit-going, submit-stopped}
+use Rattle.submission.proofs.Laws.{submit_fits, submit_going, submit_stopped}
 use Rattle.run_history.specs.Calls.{Call, Submission, submission, Reply}
 use Rattle.run_history.specs.Lines.{any, forward_wires, reverse_wires}
 use Rattle.run_history.specs.Copies.{copies_from, Came, other, copy as copied}
@@ -151,16 +151,16 @@ from_zero u n h = omega arith
 module _ {c : ChannelConfig} {rolls : List Float} {wires : List (List ℕ)} {came : ℕ} (d : Direction) (q : LineAfter c rolls wires came (line_of d)) where
   next_copies : (wire : List ℕ) → copies_from c rolls 0 wires ++ replicate (copies (granted d rolls)) (copy_bytes d rolls wire) ≡ copies_from c rolls 0 (wires ++ wire ∷ [])
   next_copies wire =
-      ap (λ (k : ChannelConfig). copies_from c rolls 0 wires ++ replicate (copies (deliveries_of k (nextRolls d rolls))) (carried_bytes k (nextRolls d rolls) wire)) (ap (λ (x : Channel). x.config) q.channel_is)
+      ap (λ (k : ChannelConfig). copies_from c rolls 0 wires ++ replicate (copies (deliveries_of k (next_rolls d rolls))) (carried_bytes k (next_rolls d rolls) wire)) (ap (λ (x : Channel). x.config) q.channel_is)
       ∙ ap (λ (n : ℕ). copies_from c rolls 0 wires ++ replicate (copies (deliveries_of c (rolls_at rolls n))) (carried_bytes c (rolls_at rolls n) wire)) (from_zero _ _ q.used_is)
       ∙ sym (copies_more c rolls 0 wires wire)
 
   pub holds_carried : {places : List ℕ} (free : Bool) (now : ℕ) (wire : List ℕ) → CanCarry d rolls now wire → Fits d rolls free now wire → LineHolds (copies_from c rolls 0 wires) places (line_of d)
-      → LineHolds (copies_from c rolls 0 (wires ++ wire ∷ [])) places (line_of (carriedOn d rolls now wire))
+      → LineHolds (copies_from c rolls 0 (wires ++ wire ∷ [])) places (line_of (carried_on d rolls now wire))
   holds_carried {places} free now wire can f h =
       let m = schedule_of d in
       let x = copy_bytes d rolls wire in
-      let put = can_put d rolls free now wire f.left can f.room (carried_length d.path.channel.config (nextRolls d rolls) wire) in
+      let put = can_put d rolls free now wire f.left can f.room (carried_length d.path.channel.config (next_rolls d rolls) wire) in
       holds_as (next_copies wire) (sym (scheduled_order m now x (granted d rolls))) (sym (schedule_waits m now x (granted d rolls) put)) (holds_more h now x (granted d rolls))
 
 -- a datagram to the forward line, carried or not
@@ -169,11 +169,11 @@ module _ (t : Timing) {c : ChannelConfig} {rolls : List Float} {xs : List Submis
       → LineHolds (copies_from c rolls 0 (forward_wires (xs ++ submission x.seq x.retransmission wire b ∷ []))) places (line_of (submit t rolls x wire o).outgoing.forward)
   submit_holds {places} can h true g =
       let on : (submit t rolls x wire o).stop ≡ Going = going_is _ g in
-      subst (λ (l : Line). LineHolds (copies_from c rolls 0 (forward_wires (xs ++ submission x.seq x.retransmission wire true ∷ []))) places l) (ap (λ (y : Outgoing). line_of y.forward) (sym (submit-going t rolls x wire o on)))
-      (subst (λ (l : List (List ℕ)). LineHolds (copies_from c rolls 0 l) places (line_of (carriedOn o.forward rolls x.time wire))) (sym (wires_carried t x wire o q))
-      (holds_carried o.forward q.line (entry_free o) x.time wire can (submit-fits t rolls x wire o on) h))
+      subst (λ (l : Line). LineHolds (copies_from c rolls 0 (forward_wires (xs ++ submission x.seq x.retransmission wire true ∷ []))) places l) (ap (λ (y : Outgoing). line_of y.forward) (sym (submit_going t rolls x wire o on)))
+      (subst (λ (l : List (List ℕ)). LineHolds (copies_from c rolls 0 l) places (line_of (carried_on o.forward rolls x.time wire))) (sym (wires_carried t x wire o q))
+      (holds_carried o.forward q.line (entry_free o) x.time wire can (submit_fits t rolls x wire o on) h))
   submit_holds {places} can h false g =
-      subst (λ (l : Line). LineHolds (copies_from c rolls 0 (forward_wires (xs ++ submission x.seq x.retransmission wire false ∷ []))) places l) (ap (λ (y : Outgoing). line_of y.forward) (sym (submit-stopped t rolls x wire o g)))
+      subst (λ (l : Line). LineHolds (copies_from c rolls 0 (forward_wires (xs ++ submission x.seq x.retransmission wire false ∷ []))) places l) (ap (λ (y : Outgoing). line_of y.forward) (sym (submit_stopped t rolls x wire o g)))
       (subst (λ (l : List (List ℕ)). LineHolds (copies_from c rolls 0 l) places (line_of o.forward)) (sym (wires_stopped t x wire o q)) h)
 
 -- an ACK to the reverse line
@@ -181,12 +181,12 @@ module _ {c : ChannelConfig} {rolls : List Float} {xs : List Reply} {came acks :
   pub reply_holds : {places : List ℕ} → CanCarry d rolls now wire → LineHolds (copies_from c rolls 0 (reverse_wires xs)) places (line_of d) → (b : Bool) → is_going (stop_of (carry d rolls true now wire).result.answer) ≡ b
       → LineHolds (copies_from c rolls 0 (reverse_wires (xs ++ record { number = number; cumulative = cumulative; sent = sent; wire = wire; carried = b } ∷ []))) places (line_of (left_by_carry (carry d rolls true now wire)))
   reply_holds {places} can h true g =
-      let fits = going-fits d rolls true now wire (going_is _ g) in
+      let fits = going_fits d rolls true now wire (going_is _ g) in
       rw (reply_carried now number sent cumulative wire d q)
       (subst (λ (l : Line). LineHolds (copies_from c rolls 0 (reverse_wires xs ++ wire ∷ [])) places l) (ap (λ (y : CarryExit). line_of (left_by_carry y)) (sym (carries d rolls true now wire fits))) (holds_carried d q.line true now wire can fits h))
   reply_holds {places} can h false g =
       rw (reply_stopped now number sent cumulative wire d q)
-      (subst (λ (l : Line). LineHolds (copies_from c rolls 0 (reverse_wires xs)) places l) (ap (λ (y : CarryExit). line_of (left_by_carry y)) (sym (stop-same d rolls true now wire _ (ap not g) refl))) h)
+      (subst (λ (l : Line). LineHolds (copies_from c rolls 0 (reverse_wires xs)) places l) (ap (λ (y : CarryExit). line_of (left_by_carry y)) (sym (stop_same d rolls true now wire _ (ap not g) refl))) h)
 
 -- ---- a copy is taken: it waited first
 all_first : {A : Type 0} {P : A → Type 0} {x : A} {xs : List A} → All P (x ∷ xs) → P x

@@ -32,7 +32,7 @@ use Rattle.acks.specs.Good.{CanOnAck}
 use Rattle.acks.specs.Reverse.{serve_reverse, CanServeReverse}
 use Rattle.acks.specs.declared.AckNumber.{AckNumber}
 use Rattle.acks.specs.declared.AckNumber.TheVariants as ack
-use Rattle.acks.proofs.Laws.{on-ack-dropped, on-ack-duplicate, on-ack-accepted, on-accepted-is, next_taken, can_hand_over, turn_good, serve_reverse_invariant}
+use Rattle.acks.proofs.Laws.{on_ack_dropped, on_ack_duplicate, on_ack_accepted, on_accepted_is, next_taken, can_hand_over, turn_good, serve_reverse_invariant}
 use Rattle.arrivals.specs.Arrivals.{ArrivalState, ArrivalExit, acks_of, serve_arrivals, CanServeArrivals}
 use Rattle.arrivals.proofs.Laws.{between, can_serve_reverse, either_exit}
 use Rattle.timeouts.specs.Timeouts.{stopped}
@@ -140,7 +140,7 @@ module _ (top : ℕ) (t : Timing) (now : ℕ) where
           let u = counted s (acknowledged s.sender n) in
           let x = sample_rtt s.estimator s.metas seq now in
           let m = short_sampled top s.metas h.notes s.estimator seq now in
-          subst OfAcks (sym (on-accepted-is t now raw u n seq))
+          subst OfAcks (sym (on_accepted_is t now raw u n seq))
           (record {
             estimator = sampled_limited top s.estimator s.metas seq now h.estimator;
             notes = m;
@@ -149,11 +149,11 @@ module _ (top : ℕ) (t : Timing) (now : ℕ) where
           })
 
       by_test_lem : (n : ℕ) → ack_number (read_datagram raw) ≡ ack.Number n → (b : Bool) → is_in_window (window_of s.sender.sender) n ≡ b → OfAcks (on_ack t now raw s)
-      by_test_lem n e true i = subst OfAcks (sym (on-ack-accepted t now raw s n on.good.sender e i)) (accepted n)
-      by_test_lem n e false i = subst OfAcks (sym (on-ack-duplicate t now raw s n on.good.sender e i)) (record { estimator = h.estimator; notes = h.notes; near = h.near })
+      by_test_lem n e true i = subst OfAcks (sym (on_ack_accepted t now raw s n on.good.sender e i)) (accepted n)
+      by_test_lem n e false i = subst OfAcks (sym (on_ack_duplicate t now raw s n on.good.sender e i)) (record { estimator = h.estimator; notes = h.notes; near = h.near })
 
       by_number_lem : (x : AckNumber) → ack_number (read_datagram raw) ≡ x → OfAcks (on_ack t now raw s)
-      by_number_lem ack.Nothing e = subst OfAcks (sym (on-ack-dropped t now raw s e)) h
+      by_number_lem ack.Nothing e = subst OfAcks (sym (on_ack_dropped t now raw s e)) h
       by_number_lem (ack.Number n) e = by_test_lem n e (is_in_window (window_of s.sender.sender) n) refl
 
   reverse_ahead : (d : Direction) (s : AckState) → CanServeReverse d s now → OfAcks s → OfAcks (serve_reverse t now d s).state

@@ -37,7 +37,7 @@ use Rattle.acks.specs.Good.{CanOnAck}
 use Rattle.acks.specs.Reverse.{serve_reverse, CanServeReverse}
 use Rattle.acks.specs.declared.AckNumber.{AckNumber}
 use Rattle.acks.specs.declared.AckNumber.TheVariants as ack
-use Rattle.acks.proofs.Laws.{on-ack-dropped, on-ack-duplicate, on-ack-accepted, on-accepted-is, on_ack_keeps, next_taken, can_hand_over, turn_good, serve_reverse_invariant}
+use Rattle.acks.proofs.Laws.{on_ack_dropped, on_ack_duplicate, on_ack_accepted, on_accepted_is, on_ack_keeps, next_taken, can_hand_over, turn_good, serve_reverse_invariant}
 use Rattle.arrivals.specs.Arrivals.{ArrivalState, ArrivalExit, acks_of, serve_arrivals, CanServeArrivals}
 use Rattle.arrivals.proofs.Laws.{between, can_serve_reverse, either_exit}
 use Rattle.timeouts.specs.Timeouts.{FireState, FireExit, fire_number, fire_numbers, expired, fire_timers}
@@ -81,7 +81,7 @@ module _ (now : ℕ) where
           let seq = sample_seq s.sender.sender.state n in
           let u = counted s (acknowledged s.sender n) in
           let x = sample_rtt s.estimator s.metas seq now in
-          subst OfAcks (sym (on-accepted-is PerNumber now raw u n seq))
+          subst OfAcks (sym (on_accepted_is PerNumber now raw u n seq))
           (record {
             each = λ k d.
                 let b = acknowledged_before s.sender n k on.good.sender.state selective i d in
@@ -90,11 +90,11 @@ module _ (now : ℕ) where
           })
 
       by_test_lem : (n : ℕ) → ack_number (read_datagram raw) ≡ ack.Number n → (b : Bool) → is_in_window (window_of s.sender.sender) n ≡ b → OfAcks (on_ack PerNumber now raw s)
-      by_test_lem n e true i = subst OfAcks (sym (on-ack-accepted PerNumber now raw s n on.good.sender e i)) (accepted n i)
-      by_test_lem n e false i = subst OfAcks (sym (on-ack-duplicate PerNumber now raw s n on.good.sender e i)) (record { each = h.each })
+      by_test_lem n e true i = subst OfAcks (sym (on_ack_accepted PerNumber now raw s n on.good.sender e i)) (accepted n i)
+      by_test_lem n e false i = subst OfAcks (sym (on_ack_duplicate PerNumber now raw s n on.good.sender e i)) (record { each = h.each })
 
       by_number_lem : (x : AckNumber) → ack_number (read_datagram raw) ≡ x → OfAcks (on_ack PerNumber now raw s)
-      by_number_lem ack.Nothing e = subst OfAcks (sym (on-ack-dropped PerNumber now raw s e)) h
+      by_number_lem ack.Nothing e = subst OfAcks (sym (on_ack_dropped PerNumber now raw s e)) h
       by_number_lem (ack.Number n) e = by_test_lem n e (is_in_window (window_of s.sender.sender) n) refl
 
   reverse_each : (d : Direction) (s : AckState) → CanServeReverse d s now → is_selective s.sender.sender.state ≡ true → OfAcks s → OfAcks (serve_reverse PerNumber now d s).state

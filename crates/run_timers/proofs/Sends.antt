@@ -24,7 +24,7 @@ use Rattle.session.specs.declared.Oldest.{Oldest}
 use Rattle.session.specs.declared.Timeout.{Timeout}
 use Rattle.session.specs.declared.Timeout.TheVariants as timeout
 use Rattle.submission.specs.Submission.{Outgoing, note_before, submit, CanSubmit}
-use Rattle.submission.proofs.Laws.{metasOf, by-outgoing, armed, before_timely, after_timely}
+use Rattle.submission.proofs.Laws.{metas_of, by_outgoing, armed, before_timely, after_timely}
 use Rattle.sending.specs.Sending.{PumpState, can_pump, send_one, pump_sends}
 use Rattle.sending.specs.Good.{CanPump}
 use Rattle.sending.specs.Retransmit.{retransmit}
@@ -59,8 +59,8 @@ module _ (top : ℕ) (t : Timing) (now : ℕ) (rolls : List Float) where
 
   again_sent : (seq rto : ℕ) (oldest : Oldest) (packet : List ℕ) (o : Outgoing) → rto ≤ max_duration → rto ≤ top → Sent o → Sent (submit t rolls (record { time = now; seq = seq; rto = rto; retransmission = true; oldest = oldest }) packet o).outgoing
   again_sent seq rto oldest packet o long short q =
-      by-outgoing t rolls x packet o Sent (record { timely = noted; notes = listed; near = q.near })
-      (λ f. record { timely = noted_after; notes = listed_after; near = λ other. armed_near top t o.clock (metasOf rolls x o) x noted_after listed_after short (λ e. absurd (other e)) (q.near other) })
+      by_outgoing t rolls x packet o Sent (record { timely = noted; notes = listed; near = q.near })
+      (λ f. record { timely = noted_after; notes = listed_after; near = λ other. armed_near top t o.clock (metas_of rolls x o) x noted_after listed_after short (λ e. absurd (other e)) (q.near other) })
     where
       x : Submission
       x = record { time = now; seq = seq; rto = rto; retransmission = true; oldest = oldest }
@@ -71,10 +71,10 @@ module _ (top : ℕ) (t : Timing) (now : ℕ) (rolls : List Float) where
       listed : Short top (note_before o.metas seq true now rto)
       listed = short_again top o.metas q.notes seq now rto short
 
-      noted_after : Timely (metasOf rolls x o) now
+      noted_after : Timely (metas_of rolls x o) now
       noted_after = after_timely (note_before o.metas seq true now rto) seq (granted o.forward rolls) true now noted
 
-      listed_after : Short top (metasOf rolls x o)
+      listed_after : Short top (metas_of rolls x o)
       listed_after = short_after top (note_before o.metas seq true now rto) listed seq true (granted o.forward rolls)
 
   timed_out_fires : (limit : ℕ) (of : Timeout) (s : FireState) → (on_timeout_unchecked s.estimator).current_rto ≤ max_duration → Fires s → Fires (timed_out limit t rolls now of s).state
@@ -127,8 +127,8 @@ module _ (top : ℕ) (t : Timing) (now : ℕ) (rolls : List Float) where
     chunk_ahead : (s : PumpState) → CanPump t rolls size file total e.current_rto now s → can_pump total s.sender.sender ≡ true → OfPump s → OfPump (send_one t rolls (chunks_of size file) e.current_rto now s).state
     unfolding send_one
     chunk_ahead s can free h =
-        by-outgoing t rolls (given can free) (written can free) s.outgoing (λ (y : Outgoing). Ahead top t now e y.clock y.metas) (record { estimator = h.estimator; notes = listed; near = h.near })
-        (λ f. record { estimator = h.estimator; notes = listed_after; near = armed_near top t s.outgoing.clock (metasOf rolls (given can free) s.outgoing) (given can free) noted_after listed_after h.estimator.rto (λ i. armed t rolls (given can free) (written can free) s.outgoing sub) h.near })
+        by_outgoing t rolls (given can free) (written can free) s.outgoing (λ (y : Outgoing). Ahead top t now e y.clock y.metas) (record { estimator = h.estimator; notes = listed; near = h.near })
+        (λ f. record { estimator = h.estimator; notes = listed_after; near = armed_near top t s.outgoing.clock (metas_of rolls (given can free) s.outgoing) (given can free) noted_after listed_after h.estimator.rto (λ i. armed t rolls (given can free) (written can free) s.outgoing sub) h.near })
       where
         sub : CanSubmit t rolls (given can free) (written can free) s.outgoing
         sub = can_submit_next can free
@@ -139,10 +139,10 @@ module _ (top : ℕ) (t : Timing) (now : ℕ) (rolls : List Float) where
         listed : Short top (note_before s.outgoing.metas seq false now e.current_rto)
         listed = short_first top s.outgoing.metas h.notes seq now e.current_rto h.estimator.rto sub.row
 
-        listed_after : Short top (metasOf rolls (given can free) s.outgoing)
+        listed_after : Short top (metas_of rolls (given can free) s.outgoing)
         listed_after = short_after top (note_before s.outgoing.metas seq false now e.current_rto) listed seq false (granted s.outgoing.forward rolls)
 
-        noted_after : Timely (metasOf rolls (given can free) s.outgoing) now
+        noted_after : Timely (metas_of rolls (given can free) s.outgoing) now
         noted_after =
             after_timely (note_before s.outgoing.metas seq false now e.current_rto) seq (granted s.outgoing.forward rolls) false now
             (before_timely s.outgoing.metas seq now e.current_rto false sub.row sub.rto sub.good.notes)

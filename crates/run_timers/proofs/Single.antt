@@ -41,7 +41,7 @@ use Rattle.session.specs.declared.Timeout.TheVariants.{All}
 use Rattle.session.proofs.Laws.{SameWindow, resent_as}
 use Rattle.session.proofs.Resends.{go_back_n_resent, stop_and_wait_resent}
 use Rattle.submission.specs.Submission.{Outgoing, submit}
-use Rattle.submission.proofs.Laws.{metasOf, submitted, submit-going, submit-stopped, submit_again_notes}
+use Rattle.submission.proofs.Laws.{metas_of, submitted, submit_going, submit_stopped, submit_again_notes}
 use Rattle.sending.specs.Sending.{PumpState, PumpExit, can_pump, next_number, send_one, pump_sends}
 use Rattle.sending.specs.Good.{CanPump}
 use Rattle.sending.specs.Retransmit.{RetransmitExit, retransmit, ceiling_met, exhausted, retransmit_all}
@@ -52,7 +52,7 @@ use Rattle.acks.specs.Good.{CanOnAck}
 use Rattle.acks.specs.Reverse.{serve_reverse, CanServeReverse}
 use Rattle.acks.specs.declared.AckNumber.{AckNumber}
 use Rattle.acks.specs.declared.AckNumber.TheVariants as ack
-use Rattle.acks.proofs.Laws.{on-ack-dropped, on-ack-duplicate, on-ack-accepted, on_ack_keeps, next_taken, can_hand_over, turn_good, serve_reverse_invariant}
+use Rattle.acks.proofs.Laws.{on_ack_dropped, on_ack_duplicate, on_ack_accepted, on_ack_keeps, next_taken, can_hand_over, turn_good, serve_reverse_invariant}
 use Rattle.receiving.proofs.Laws.{serve_keeps_sizes}
 use Rattle.arrivals.specs.Arrivals.{ArrivalState, ArrivalExit, acks_of, serve_arrivals, CanServeArrivals}
 use Rattle.arrivals.proofs.Laws.{between, can_serve_reverse, either_exit}
@@ -124,12 +124,12 @@ module _ (limit now again : ℕ) where
 
       by_test_lem : (n : ℕ) → ack_number (read_datagram raw) ≡ ack.Number n → (b : Bool) → is_in_window (window_of s.sender.sender) n ≡ b → OfAcks (on_ack Single now raw s)
       by_test_lem n e true i =
-          let is = on-ack-accepted Single now raw s n on.good.sender e i in
+          let is = on_ack_accepted Single now raw s n on.good.sender e i in
           subst OfAcks (sym is) (accepted n (subst (λ (y : AckState). y.metas.notes.count ≡ next_of y.sender) is still_noted))
-      by_test_lem n e false i = subst OfAcks (sym (on-ack-duplicate Single now raw s n on.good.sender e i)) (record { noted = h.noted; runs = h.runs; limit_is = h.limit_is; retries = h.retries })
+      by_test_lem n e false i = subst OfAcks (sym (on_ack_duplicate Single now raw s n on.good.sender e i)) (record { noted = h.noted; runs = h.runs; limit_is = h.limit_is; retries = h.retries })
 
       by_number_lem : (x : AckNumber) → ack_number (read_datagram raw) ≡ x → OfAcks (on_ack Single now raw s)
-      by_number_lem ack.Nothing e = subst OfAcks (sym (on-ack-dropped Single now raw s e)) h
+      by_number_lem ack.Nothing e = subst OfAcks (sym (on_ack_dropped Single now raw s e)) h
       by_number_lem (ack.Number n) e = by_test_lem n e (is_in_window (window_of s.sender.sender) n) refl
 
   reverse_runs : (d : Direction) (s : AckState) → CanServeReverse d s now → OfAcks s → OfAcks (serve_reverse Single now d s).state
@@ -177,9 +177,9 @@ module _ (rolls : List Float) (rto now : ℕ) (s : Sender) (some : has_outstandi
   unfolding retransmit
   again_set packet r o e g =
       let seq = number_of packet in
-      let is = submit-going Single rolls (again (number_of packet)) packet o (going_is _ g) in
-      let c : (metasOf rolls (again (number_of packet)) o).notes.count ≡ (window_of s).next_seq_num = ap (λ (y : Outgoing). y.metas.notes.count) (sym is) ∙ carried_noted (number_of packet) o packet e in
-      ap (λ (y : Outgoing). is_set y.clock) is ∙ armed_set o.clock (metasOf rolls (again (number_of packet)) o) (number_of packet) (omega (arith, c))
+      let is = submit_going Single rolls (again (number_of packet)) packet o (going_is _ g) in
+      let c : (metas_of rolls (again (number_of packet)) o).notes.count ≡ (window_of s).next_seq_num = ap (λ (y : Outgoing). y.metas.notes.count) (sym is) ∙ carried_noted (number_of packet) o packet e in
+      ap (λ (y : Outgoing). is_set y.clock) is ∙ armed_set o.clock (metas_of rolls (again (number_of packet)) o) (number_of packet) (omega (arith, c))
 
   -- and else it stays as it was
   again_armed : (least : ℕ) (packet : List ℕ) (r : Resends) (o : Outgoing) → Armed (window_of s).next_seq_num least r o → Armed (window_of s).next_seq_num least (sends packet r o).resends (sends packet r o).outgoing
@@ -192,7 +192,7 @@ module _ (rolls : List Float) (rto now : ℕ) (s : Sender) (some : has_outstandi
       }
     where
       same : is_going (sends packet r o).stop ≡ false → is_set (sends packet r o).outgoing.clock ≡ true
-      same g = ap (λ (y : Outgoing). is_set y.clock) (submit-stopped Single rolls (again (number_of packet)) packet o g) ∙ a.runs
+      same g = ap (λ (y : Outgoing). is_set y.clock) (submit_stopped Single rolls (again (number_of packet)) packet o g) ∙ a.runs
 
       by_stop_lem : (b : Bool) → is_going (sends packet r o).stop ≡ b → is_set (sends packet r o).outgoing.clock ≡ true
       by_stop_lem true g = again_set packet r o a.noted g
@@ -351,7 +351,7 @@ module _ (limit top now : ℕ) (rolls : List Float) (enough : top ≤ limit) whe
     chunk_runs s can free going h =
         record {
           noted = grown;
-          runs = ap (λ (y : Outgoing). is_set y.clock) is ∙ sent_set s.outgoing.clock (metasOf rolls (given can free) s.outgoing) (given can free) v.sender refl refl some (omega (arith, fits)) before ∙ sym some;
+          runs = ap (λ (y : Outgoing). is_set y.clock) is ∙ sent_set s.outgoing.clock (metas_of rolls (given can free) s.outgoing) (given can free) v.sender refl refl some (omega (arith, fits)) before ∙ sym some;
           limit_is = f.limit_is;
           retries = let z = f.retries in omega (arith, z);
         }
@@ -366,9 +366,9 @@ module _ (limit top now : ℕ) (rolls : List Float) (enough : top ≤ limit) whe
         grown = notes_grow can free h.noted
 
         is : (submit Single rolls (given can free) (written can free) s.outgoing).outgoing ≡ submitted Single rolls (given can free) (written can free) s.outgoing
-        is = submit-going Single rolls (given can free) (written can free) s.outgoing (going_is _ going)
+        is = submit_going Single rolls (given can free) (written can free) s.outgoing (going_is _ going)
 
-        fits : (metasOf rolls (given can free) s.outgoing).notes.count ≡ next_of v
+        fits : (metas_of rolls (given can free) s.outgoing).notes.count ≡ next_of v
         fits = ap (λ (y : Outgoing). y.metas.notes.count) (sym is) ∙ grown
 
         ordered : (window_of s.sender.sender).send_base ≤ next_number s

@@ -14,11 +14,11 @@ use Rattle.channel.proofs.Laws.{granted_le}
 use Rattle.path.specs.Rolls.{packet_rolls}
 use Rattle.path.specs.Direction.{Direction, schedule_of}
 use Rattle.path.specs.declared.Stop.TheVariants.{Going}
-use Rattle.path.proofs.Laws.{nextRolls, granted}
+use Rattle.path.proofs.Laws.{next_rolls, granted}
 use Rattle.clock.specs.Clock.{Submission}
 use Rattle.clock.specs.declared.Timing.{Timing}
 use Rattle.submission.specs.Submission.{Outgoing, submit, CanSubmit}
-use Rattle.submission.proofs.Laws.{FitsLine, submit-goes, submit_keeps, submit_orders, going_written, going_used}
+use Rattle.submission.proofs.Laws.{FitsLine, submit_goes, submit_keeps, submit_orders, going_written, going_used}
 
 -- ---- records and places for n copies, of which so many wait
 places_left : (unused count n k size : ℕ) → unused + count ≡ size / place_size → count + k ≤ n → n * place_size ≤ size → k ≤ unused
@@ -64,12 +64,12 @@ module _ (n : ℕ) (t : Timing) (rolls : List Float) (x : Submission) (wire : Li
         entry = lt-ltb o.written (length o.events) (below few room.events);
         room = room_left o.forward (2 * n) (copies (granted o.forward rolls)) can.good.forward.sound
             (copies_few o.forward.path.scheduler.count o.forward.path.scheduler.next_order o.forward.path.used o.written n (copies (granted o.forward rolls)) room.waiting can.good.forward.counted.orders room.used few
-            (granted_le o.forward.path.channel.config (nextRolls o.forward rolls)))
+            (granted_le o.forward.path.channel.config (next_rolls o.forward rolls)))
             room.records room.places;
       }
 
   pub submit_sized : (submit t rolls x wire o).stop ≡ Going
-  submit_sized = submit-goes t rolls x wire o fits
+  submit_sized = submit_goes t rolls x wire o fits
 
   pub written_more : (submit t rolls x wire o).outgoing.written ≡ o.written + 1
   written_more = going_written t rolls x wire o submit_sized

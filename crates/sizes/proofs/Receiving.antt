@@ -21,7 +21,7 @@ use Rattle.path.specs.Rolls.{packet_rolls}
 use Rattle.path.specs.Direction.{Direction, schedule_of}
 use Rattle.path.specs.Path.{CarryExit, left_by_carry, rolls_spent, is_going, packet_buffer, left_by_take, CanCarry}
 use Rattle.path.specs.declared.Stop.TheVariants.{Going}
-use Rattle.path.proofs.Laws.{granted, copy_bytes, carriedOn, Fits, carries, Keeps, carry_keeps, whole_delay, whole_granted, TakeKeeps, take_count}
+use Rattle.path.proofs.Laws.{granted, copy_bytes, carried_on, Fits, carries, Keeps, carry_keeps, whole_delay, whole_granted, TakeKeeps, take_count}
 use Rattle.clock.specs.declared.Timing.{Timing}
 use Rattle.acks.proofs.Laws.{AckCounts, serve_reverse_counts, serve_reverse_keeps_direction}
 use Rattle.receiving.specs.Receiving.{Inbound, ForwardExit, submit_ack, received, on_forward, ServeForwardExit, serve_forward}
@@ -57,7 +57,7 @@ used_more used acks e = omega arith
 waits_more : (count acks count' : ℕ) → count ≤ acks → count' ≡ count + 1 → count' ≤ acks + 1
 waits_more count acks count' h e = omega arith
 
-count_more : (d : Direction) (rolls : List Float) (now : ℕ) (wire : List ℕ) {k : ℕ} → granted d rolls ≡ One k → (carriedOn d rolls now wire).path.scheduler.count ≡ d.path.scheduler.count + 1
+count_more : (d : Direction) (rolls : List Float) (now : ℕ) (wire : List ℕ) {k : ℕ} → granted d rolls ≡ One k → (carried_on d rolls now wire).path.scheduler.count ≡ d.path.scheduler.count + 1
 unfolding schedule_at_unchecked put_copy
 count_more d rolls now wire e = ap (λ (ds : Deliveries). (schedule_at_unchecked (schedule_of d) now (copy_bytes d rolls wire) ds).scheduler.count) e
 
@@ -78,7 +78,7 @@ module _ (m : ℕ) (rolls : List Float) (now seq : ℕ) (wire : List ℕ) (b : I
             ∙ room_left b.reverse m 1 can.good.sound (one_more b.reverse.path.scheduler.count b.side.ack_sent m q.waiting few) q.records q.places;
       }
 
-  line_kept : Keeps b.reverse (carriedOn b.reverse rolls now wire)
+  line_kept : Keeps b.reverse (carried_on b.reverse rolls now wire)
   line_kept = subst (λ (c : CarryExit). Keeps b.reverse (left_by_carry c)) (carries b.reverse rolls true now wire fits) (carry_keeps b.reverse rolls true now wire can)
 
   ack_sized : Replied m rolls (submit_ack rolls now seq wire b)

@@ -9,7 +9,7 @@ use Rattle.schedule.specs.State.{copies, lacks_room}
 use Rattle.path.specs.Direction.{schedule_of}
 use Rattle.path.specs.Path.{CarryExit, left_by_carry, rolls_spent, copy_fold, carry, stop_of, is_going}
 use Rattle.path.specs.declared.Stop.TheVariants.{Going, RollsSpent, EventsFull, ScheduleFull}
-use Rattle.path.proofs.Laws.{granted, copy_bytes, carriedOn, Fits, spends, no-entry, fills, carries, by_answer, going-fits, fits-going}
+use Rattle.path.proofs.Laws.{granted, copy_bytes, carried_on, Fits, spends, no_entry, fills, carries, by_answer, going_fits, fits_going}
 use Rattle.notes.specs.Notes.{SegMetas}
 use Rattle.events.specs.Events.{ForwardEvent, forward_event, row_of}
 use Rattle.clock.specs.Clock.{Submission, arm_after_submit}
@@ -21,66 +21,66 @@ abbrev pub noted : Submission → Outgoing → Outgoing
 noted x o = outgoing o.forward (note_before o.metas x.seq x.retransmission x.time x.rto) o.written o.events o.clock
 
 -- what the next rolls make of it: its note, its event, and all that is left
-abbrev pub metasOf : List Float → Submission → Outgoing → SegMetas
-metasOf rolls x o = note_after (noted x o).metas x.seq x.retransmission (granted o.forward rolls)
+abbrev pub metas_of : List Float → Submission → Outgoing → SegMetas
+metas_of rolls x o = note_after (noted x o).metas x.seq x.retransmission (granted o.forward rolls)
 
-abbrev pub eventMade : List Float → Submission → List ℕ → Outgoing → ForwardEvent
-eventMade rolls x wire o = forward_event x.seq x.retransmission (granted o.forward rolls) (copy_fold (granted o.forward rolls) (copy_bytes o.forward rolls wire))
+abbrev pub event_made : List Float → Submission → List ℕ → Outgoing → ForwardEvent
+event_made rolls x wire o = forward_event x.seq x.retransmission (granted o.forward rolls) (copy_fold (granted o.forward rolls) (copy_bytes o.forward rolls wire))
 
 abbrev pub submitted : Timing → List Float → Submission → List ℕ → Outgoing → Outgoing
 submitted timing rolls x wire o =
-    outgoing (carriedOn o.forward rolls x.time wire) (metasOf rolls x o) (o.written + 1) (set o.events o.written (row_of (eventMade rolls x wire o))) (arm_after_submit timing o.clock (metasOf rolls x o) x)
+    outgoing (carried_on o.forward rolls x.time wire) (metas_of rolls x o) (o.written + 1) (set o.events o.written (row_of (event_made rolls x wire o))) (arm_after_submit timing o.clock (metas_of rolls x o) x)
 
 module _ (timing : Timing) (rolls : List Float) (x : Submission) (wire : List ℕ) (o : Outgoing) where
-  abbrev exitBy : CarryExit → SubmitExit
-  exitBy c = submit_exit (on_carriage c.result.answer timing x (outgoing (left_by_carry c) (noted x o).metas o.written o.events o.clock)) (stop_of c.result.answer)
+  abbrev exit_by : CarryExit → SubmitExit
+  exit_by c = submit_exit (on_carriage c.result.answer timing x (outgoing (left_by_carry c) (noted x o).metas o.written o.events o.clock)) (stop_of c.result.answer)
 
   -- there are rolls, an entry for the event, and room for the copies
   abbrev pub FitsLine : Type 0
   FitsLine = Fits o.forward rolls (entry_free o) x.time wire
 
-  pub submit-spent : rolls_spent o.forward.path rolls ≡ true → submit timing rolls x wire o ≡ submit_exit (noted x o) RollsSpent
+  pub submit_spent : rolls_spent o.forward.path rolls ≡ true → submit timing rolls x wire o ≡ submit_exit (noted x o) RollsSpent
   unfolding submit
-  submit-spent h = ap exitBy (spends o.forward rolls (entry_free o) x.time wire h)
+  submit_spent h = ap exit_by (spends o.forward rolls (entry_free o) x.time wire h)
 
-  pub submit-no-entry : rolls_spent o.forward.path rolls ≡ false → entry_free o ≡ false → submit timing rolls x wire o ≡ submit_exit (noted x o) EventsFull
+  pub submit_no_entry : rolls_spent o.forward.path rolls ≡ false → entry_free o ≡ false → submit timing rolls x wire o ≡ submit_exit (noted x o) EventsFull
   unfolding submit
-  submit-no-entry h k = ap exitBy (no-entry o.forward rolls (entry_free o) x.time wire h k)
+  submit_no_entry h k = ap exit_by (no_entry o.forward rolls (entry_free o) x.time wire h k)
 
-  pub submit-full : rolls_spent o.forward.path rolls ≡ false → entry_free o ≡ true → lacks_room (schedule_of o.forward) (copies (granted o.forward rolls)) ≡ true → submit timing rolls x wire o ≡ submit_exit (noted x o) ScheduleFull
+  pub submit_full : rolls_spent o.forward.path rolls ≡ false → entry_free o ≡ true → lacks_room (schedule_of o.forward) (copies (granted o.forward rolls)) ≡ true → submit timing rolls x wire o ≡ submit_exit (noted x o) ScheduleFull
   unfolding submit
-  submit-full h k l = ap exitBy (fills o.forward rolls (entry_free o) x.time wire h k l)
+  submit_full h k l = ap exit_by (fills o.forward rolls (entry_free o) x.time wire h k l)
 
-  pub submit-carried : FitsLine → submit timing rolls x wire o ≡ submit_exit (submitted timing rolls x wire o) Going
+  pub submit_carried : FitsLine → submit timing rolls x wire o ≡ submit_exit (submitted timing rolls x wire o) Going
   unfolding submit
-  submit-carried f = ap exitBy (carries o.forward rolls (entry_free o) x.time wire f)
+  submit_carried f = ap exit_by (carries o.forward rolls (entry_free o) x.time wire f)
 
   -- whatever holds of these four exits holds of the call's
-  pub by-submit : (P : SubmitExit → Type 0) → P (submit_exit (noted x o) RollsSpent) → P (submit_exit (noted x o) EventsFull) → P (submit_exit (noted x o) ScheduleFull) → (FitsLine → P (submit_exit (submitted timing rolls x wire o) Going)) → P (submit timing rolls x wire o)
+  pub by_submit : (P : SubmitExit → Type 0) → P (submit_exit (noted x o) RollsSpent) → P (submit_exit (noted x o) EventsFull) → P (submit_exit (noted x o) ScheduleFull) → (FitsLine → P (submit_exit (submitted timing rolls x wire o) Going)) → P (submit timing rolls x wire o)
   unfolding submit
-  by-submit P spent events full carried = by_answer o.forward rolls (entry_free o) x.time wire (λ (c : CarryExit). P (exitBy c)) (λ h. spent) (λ h k. events) (λ h k l. full) carried
+  by_submit P spent events full carried = by_answer o.forward rolls (entry_free o) x.time wire (λ (c : CarryExit). P (exit_by c)) (λ h. spent) (λ h k. events) (λ h k l. full) carried
 
-  pub by-outgoing : (P : Outgoing → Type 0) → P (noted x o) → (FitsLine → P (submitted timing rolls x wire o)) → P (submit timing rolls x wire o).outgoing
-  by-outgoing P same next = by-submit (λ (e : SubmitExit). P e.outgoing) same same same next
+  pub by_outgoing : (P : Outgoing → Type 0) → P (noted x o) → (FitsLine → P (submitted timing rolls x wire o)) → P (submit timing rolls x wire o).outgoing
+  by_outgoing P same next = by_submit (λ (e : SubmitExit). P e.outgoing) same same same next
 
   -- the run goes on where the packet was carried, and only there
-  pub submit-stop : (submit timing rolls x wire o).stop ≡ stop_of (carry o.forward rolls (entry_free o) x.time wire).result.answer
+  pub submit_stop : (submit timing rolls x wire o).stop ≡ stop_of (carry o.forward rolls (entry_free o) x.time wire).result.answer
   unfolding submit
-  submit-stop = refl
+  submit_stop = refl
 
-  pub submit-fits : (submit timing rolls x wire o).stop ≡ Going → FitsLine
-  submit-fits e = going-fits o.forward rolls (entry_free o) x.time wire (sym submit-stop ∙ e)
+  pub submit_fits : (submit timing rolls x wire o).stop ≡ Going → FitsLine
+  submit_fits e = going_fits o.forward rolls (entry_free o) x.time wire (sym submit_stop ∙ e)
 
-  pub submit-goes : FitsLine → (submit timing rolls x wire o).stop ≡ Going
-  submit-goes f = submit-stop ∙ fits-going o.forward rolls (entry_free o) x.time wire f
+  pub submit_goes : FitsLine → (submit timing rolls x wire o).stop ≡ Going
+  submit_goes f = submit_stop ∙ fits_going o.forward rolls (entry_free o) x.time wire f
 
-  pub submit-going : (submit timing rolls x wire o).stop ≡ Going → (submit timing rolls x wire o).outgoing ≡ submitted timing rolls x wire o
-  submit-going e = ap (λ (y : SubmitExit). y.outgoing) (submit-carried (submit-fits e))
+  pub submit_going : (submit timing rolls x wire o).stop ≡ Going → (submit timing rolls x wire o).outgoing ≡ submitted timing rolls x wire o
+  submit_going e = ap (λ (y : SubmitExit). y.outgoing) (submit_carried (submit_fits e))
 
-  pub submit-stopped : is_going (submit timing rolls x wire o).stop ≡ false → (submit timing rolls x wire o).outgoing ≡ noted x o
-  submit-stopped = by-submit (λ (y : SubmitExit). is_going y.stop ≡ false → y.outgoing ≡ noted x o) (λ e. refl) (λ e. refl) (λ e. refl) (λ f e. absurd (true≢false e))
+  pub submit_stopped : is_going (submit timing rolls x wire o).stop ≡ false → (submit timing rolls x wire o).outgoing ≡ noted x o
+  submit_stopped = by_submit (λ (y : SubmitExit). is_going y.stop ≡ false → y.outgoing ≡ noted x o) (λ e. refl) (λ e. refl) (λ e. refl) (λ f e. absurd (true≢false e))
 
   -- the line is as `carry` leaves it, whatever the answer
-  pub submit-forward : (submit timing rolls x wire o).outgoing.forward ≡ left_by_carry (carry o.forward rolls (entry_free o) x.time wire)
+  pub submit_forward : (submit timing rolls x wire o).outgoing.forward ≡ left_by_carry (carry o.forward rolls (entry_free o) x.time wire)
   unfolding submit
-  submit-forward = by_answer o.forward rolls (entry_free o) x.time wire (λ (c : CarryExit). (exitBy c).outgoing.forward ≡ left_by_carry c) (λ h. refl) (λ h k. refl) (λ h k l. refl) (λ f. refl)
+  submit_forward = by_answer o.forward rolls (entry_free o) x.time wire (λ (c : CarryExit). (exit_by c).outgoing.forward ≡ left_by_carry c) (λ h. refl) (λ h k. refl) (λ h k l. refl) (λ f. refl)

@@ -12,7 +12,7 @@ use Rattle.path.specs.declared.Carriage.{Carriage}
 use Rattle.path.specs.declared.Carriage.TheVariants.{Carried}
 use Rattle.path.specs.declared.CarryResult.{CarryResult}
 use Rattle.path.specs.declared.Stop.TheVariants.{Going}
-use Rattle.path.proofs.Laws.{answer-why}
+use Rattle.path.proofs.Laws.{answer_why}
 use Rattle.notes.specs.Notes.{SegMetas, Timely}
 use Rattle.events.specs.Events.{forward_event, row_of}
 use Rattle.clock.specs.Clock.{ClockState, Submission, arm_after_submit, CanArm}
@@ -50,7 +50,7 @@ module _ (timing : Timing) (rolls : List Float) (x : Submission) (wire : List �
       module _ {ds : Deliveries} {fold : ℕ} (q : r.answer ≡ Carried ds fold) where
         -- a packet that was carried had a free entry
         pub had_entry : o.written < length o.events
-        had_entry = ltb-true _ _ (answer-why o.forward rolls (entry_free o) x.time wire (Carried ds fold) (sym (ap (λ (y : CarryExit). y.result.answer) e) ∙ q)).0.entry
+        had_entry = ltb-true _ _ (answer_why o.forward rolls (entry_free o) x.time wire (Carried ds fold) (sym (ap (λ (y : CarryExit). y.result.answer) e) ∙ q)).0.entry
 
         pub by_carried : {m' : SegMetas} {row : List ℕ} {events' : List (List ℕ)} {s : ClockState} → m' ≡ note_after m x.seq x.retransmission ds → row ≡ row_of (forward_event x.seq x.retransmission ds fold) → events' ≡ set o.events o.written row → s ≡ arm_after_submit timing o.clock m' x
             → submit_exit (outgoing (direction rs ps r.path) m' (o.written + 1) events' s) Going ≡ submit timing rolls x wire o

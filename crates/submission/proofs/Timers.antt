@@ -28,7 +28,7 @@ use Rattle.session.specs.Sending.{SenderEnd, is_due}
 use Rattle.submission.specs.Submission.{Outgoing, note_before, note_after, submit, GoodOutgoing, CanSubmit}
 use Rattle.submission.proofs.Metas.{before_first, before_again, after_first, after_again}
 use Rattle.submission.proofs.Keeps.{armed}
-use Rattle.submission.proofs.Answers.{noted, metasOf, by-outgoing, submit-going}
+use Rattle.submission.proofs.Answers.{noted, metas_of, by_outgoing, submit_going}
 
 -- ---- the RTO noted of the number is the current one
 module _ (m : SegMetas) (seq now rto : ℕ) (ds : Deliveries) (fits : m.notes.count ≤ length m.rows) where
@@ -59,32 +59,32 @@ module _ (rolls : List Float) (x : Submission) (wire : List ℕ) (o : Outgoing) 
   can_submit timing {low} {high} g s h n w l u k = record { good = g; short = s; rto = h; row = n; entry = λ e. start_full_within (timers_of o.clock) o.clock.keys o.clock.deadlines low high x.seq g.clock.state w l u (k e) }
 
   -- of a first sending of the next number, and of every resending
-  pub submit_rto : (timing : Timing) → CanSubmit timing rolls x wire o → (x.retransmission ≡ false → x.seq ≡ o.metas.notes.count) → rto_at_send (metasOf rolls x o) x.seq x.rto ≡ x.rto
+  pub submit_rto : (timing : Timing) → CanSubmit timing rolls x wire o → (x.retransmission ≡ false → x.seq ≡ o.metas.notes.count) → rto_at_send (metas_of rolls x o) x.seq x.rto ≡ x.rto
   submit_rto timing can next = go x.retransmission refl
     where
-      go : (b : Bool) → x.retransmission ≡ b → rto_at_send (metasOf rolls x o) x.seq x.rto ≡ x.rto
+      go : (b : Bool) → x.retransmission ≡ b → rto_at_send (metas_of rolls x o) x.seq x.rto ≡ x.rto
       go true e = rw e (again_rto o.metas x.seq x.time x.rto (granted o.forward rolls) can.good.notes.fits)
       go false e = rw e (first_rto o.metas x.seq x.time x.rto (granted o.forward rolls) can.good.notes.fits (next e) can.row)
 
   -- ---- a timer for each number: its deadline is set, the others are as they were
   module _ (can : CanSubmit PerNumber rolls x wire o) (e : (submit PerNumber rolls x wire o).stop ≡ Going) where
-    pub number_running : running (submit PerNumber rolls x wire o).outgoing.clock ≡ put x.seq (x.time + rto_at_send (metasOf rolls x o) x.seq x.rto) (running o.clock)
-    number_running = ap (λ (y : Outgoing). running y.clock) (submit-going PerNumber rolls x wire o e) ∙ submit_entries o.clock (metasOf rolls x o) x (armed PerNumber rolls x wire o can)
+    pub number_running : running (submit PerNumber rolls x wire o).outgoing.clock ≡ put x.seq (x.time + rto_at_send (metas_of rolls x o) x.seq x.rto) (running o.clock)
+    number_running = ap (λ (y : Outgoing). running y.clock) (submit_going PerNumber rolls x wire o e) ∙ submit_entries o.clock (metas_of rolls x o) x (armed PerNumber rolls x wire o can)
 
-    pub number_lookup : (key : ℕ) → lookup key (running (submit PerNumber rolls x wire o).outgoing.clock) ≡ cond (eqb x.seq key) (some (x.time + rto_at_send (metasOf rolls x o) x.seq x.rto)) (lookup key (running o.clock))
-    number_lookup key = ap (lookup key) number_running ∙ lookup_put x.seq (x.time + rto_at_send (metasOf rolls x o) x.seq x.rto) key (running o.clock)
+    pub number_lookup : (key : ℕ) → lookup key (running (submit PerNumber rolls x wire o).outgoing.clock) ≡ cond (eqb x.seq key) (some (x.time + rto_at_send (metas_of rolls x o) x.seq x.rto)) (lookup key (running o.clock))
+    number_lookup key = ap (lookup key) number_running ∙ lookup_put x.seq (x.time + rto_at_send (metas_of rolls x o) x.seq x.rto) key (running o.clock)
 
   -- one timer leaves the set alone
   pub single_running : running (submit Single rolls x wire o).outgoing.clock ≡ running o.clock
-  single_running = by-outgoing Single rolls x wire o (λ (y : Outgoing). running y.clock ≡ running o.clock) refl (λ f. submit_single_entries o.clock (metasOf rolls x o) x)
+  single_running = by_outgoing Single rolls x wire o (λ (y : Outgoing). running y.clock ≡ running o.clock) refl (λ f. submit_single_entries o.clock (metas_of rolls x o) x)
 
   pub edition_running : running (submit Edition rolls x wire o).outgoing.clock ≡ running o.clock
-  edition_running = by-outgoing Edition rolls x wire o (λ (y : Outgoing). running y.clock ≡ running o.clock) refl (λ f. submit_edition_entries o.clock (metasOf rolls x o) x)
+  edition_running = by_outgoing Edition rolls x wire o (λ (y : Outgoing). running y.clock ≡ running o.clock) refl (λ f. submit_edition_entries o.clock (metas_of rolls x o) x)
 
   -- a number of the window: the timers' numbers stay in it
   pub submit_within : (timing : Timing) {low high : ℕ} → CanSubmit timing rolls x wire o → low ≤ x.seq → x.seq < high → Within low high (running o.clock) → Within low high (running (submit timing rolls x wire o).outgoing.clock)
-  submit_within timing {low} {high} can l u w = by-outgoing timing rolls x wire o (λ (y : Outgoing). Within low high (running y.clock)) w (λ f. submit_window timing o.clock (metasOf rolls x o) x (armed timing rolls x wire o can) w l u)
+  submit_within timing {low} {high} can l u w = by_outgoing timing rolls x wire o (λ (y : Outgoing). Within low high (running y.clock)) w (λ f. submit_window timing o.clock (metas_of rolls x o) x (armed timing rolls x wire o can) w l u)
 
   -- a due number: each number that has a timer is due
   pub submit_timers : (timing : Timing) (v : SenderEnd) → CanSubmit timing rolls x wire o → (timing ≡ PerNumber → is_due v x.seq ≡ true) → GoodTimers timing v o.clock → GoodTimers timing v (submit timing rolls x wire o).outgoing.clock
-  submit_timers timing v can due g = by-outgoing timing rolls x wire o (λ (y : Outgoing). GoodTimers timing v y.clock) g (λ f. arm_timers timing v o.clock (metasOf rolls x o) x g (armed timing rolls x wire o can) due)
+  submit_timers timing v can due g = by_outgoing timing rolls x wire o (λ (y : Outgoing). GoodTimers timing v y.clock) g (λ f. arm_timers timing v o.clock (metas_of rolls x o) x g (armed timing rolls x wire o can) due)

@@ -35,7 +35,7 @@ use Rattle.session.specs.declared.Oldest.{Oldest}
 use Rattle.session.specs.declared.Timeout.TheVariants as timeout
 use Rattle.session.proofs.Laws.{due_within, timeout_due, timeout_not_due, timeout_due_one, datagram_number, datagram_short}
 use Rattle.submission.specs.Submission.{Outgoing, GoodOutgoing}
-use Rattle.submission.proofs.Laws.{metasOf, by-outgoing, armed, submit_rto}
+use Rattle.submission.proofs.Laws.{metas_of, by_outgoing, armed, submit_rto}
 use Rattle.sending.specs.Retransmit.{RetransmitExit, retransmit_exit, retransmit, CanRetransmit, ceiling_met, exhausted, retransmit_all}
 use Rattle.sending.specs.declared.Resends.{Resends}
 use Rattle.sending.proofs.Laws.{can_resubmit, retransmit_good, retransmit_keeps, retransmit_going_used, retransmit_timers, can_retransmit_first, all_none, all_met, all_stopped, all_going}
@@ -151,9 +151,9 @@ module _ {rolls : List Float} {samples now : ℕ} {s : FireState} (g : GoodFire 
       resent_timers P stays starts =
           let can = can_resubmit can_resend oldest packet packet_short in
           let stopped = cancel_number_entries s.outgoing.clock n g.outgoing.clock.state in
-          by-outgoing PerNumber rolls given packet (cancelled s n).outgoing (λ (y : Outgoing). P (running y.clock))
+          by_outgoing PerNumber rolls given packet (cancelled s n).outgoing (λ (y : Outgoing). P (running y.clock))
           (subst P (sym stopped) stays)
-          (λ f. subst P (sym (submit_entries (cancelled s n).outgoing.clock (metasOf rolls given (cancelled s n).outgoing) given (armed PerNumber rolls given packet (cancelled s n).outgoing can)
+          (λ f. subst P (sym (submit_entries (cancelled s n).outgoing.clock (metas_of rolls given (cancelled s n).outgoing) given (armed PerNumber rolls given packet (cancelled s n).outgoing can)
           ∙ ap (λ (k : ℕ). put n (now + k) (running (cancelled s n).outgoing.clock)) (submit_rto rolls given packet (cancelled s n).outgoing PerNumber can (λ e. absurd (true≢false e)))
           ∙ ap (put n (now + (on_timeout_unchecked s.estimator).current_rto)) stopped)) starts)
 
