@@ -20,14 +20,15 @@
 #![tactic(auto)]
 
 use go_back_n::{GoBackNReceiver, GoBackNSender, GoBackNSenderAnswer};
-use libc::STDIN_FILENO;
 use receiver::ReceiveAnswer;
 use refusal::{CountAnswer, Refusal, TestAnswer};
-use replay_io::Fields;
+use replay_io::{Fields, Lines};
 use selective_repeat::{
     SelectiveRepeatReceiver, SelectiveRepeatReceiverAnswer, SelectiveRepeatSender,
     SelectiveRepeatSenderAnswer,
 };
+use std::io;
+use std::io::Write;
 use stop_and_wait::{StopAndWaitReceiver, StopAndWaitSender, StopAndWaitSenderAnswer};
 use window::{AckAnswer, SendAnswer, SendWindow, TimeoutAnswer};
 
@@ -55,14 +56,22 @@ struct Ends {
     output: usize,
 }
 
-fn main() {
+fn main(rt: HostRuntime) -> io::Result<()> {
+    let mut writer = rt.stdout();
     let mut text = replay_io::buffer();
-    let n = io::read_full(STDIN_FILENO, &mut text);
+    let n = replay_io::read_full(&mut rt.stdin(), &mut text)?;
     let mut sent = no_slots();
     let mut held = no_slots();
     let mut output = no_output();
-    replay_io::print_if_full(&text, n);
-    replay(&text[..n], start(), &mut sent, &mut held, &mut output);
+    replay_io::print_if_full(&mut writer, &text, n)?;
+    replay(
+        &mut writer,
+        &text[..n],
+        start(),
+        &mut sent,
+        &mut held,
+        &mut output,
+    )
 }
 
 // Functions for the reason of `replay_io::buffer`.
@@ -85,17 +94,19 @@ fn start() -> Ends {
 }
 
 // sent: the sender's store; held: the receiver's.
-fn replay(text: &[u8], first: Ends, sent: &mut [u8], held: &mut [u8], output: &mut [u8]) {
+fn replay(
+    writer: &mut impl Write,
+    text: &[u8],
+    first: Ends,
+    sent: &mut [u8],
+    held: &mut [u8],
+    output: &mut [u8],
+) -> io::Result<()> {
     let mut ends = first;
-    let mut at: usize = 0;
-    while at < text.len() {
-        let end = replay_io::line_end_unchecked(text, at);
-        ends = case(&text[at..end], ends, sent, held, output);
-        at = end;
-        if at < text.len() {
-            at += 1;
-        }
+    for line in Lines::new(text) {
+        ends = case(writer, line, ends, sent, held, output)?;
     }
+    Ok(())
 }
 
 fn idle_sender() -> Sender {
@@ -113,32 +124,41 @@ fn idle_receiver() -> Receiver {
     Receiver::StopAndWait(StopAndWaitReceiver::new())
 }
 
-fn case(line: &[u8], ends: Ends, sent: &mut [u8], held: &mut [u8], output: &mut [u8]) -> Ends {
+fn case(
+    writer: &mut impl Write,
+    line: &[u8],
+    ends: Ends,
+    sent: &mut [u8],
+    held: &mut [u8],
+    output: &mut [u8],
+) -> io::Result<Ends> {
     let f = replay_io::read_fields(line);
     if f.letter == b'#' {
-        return ends;
+        return Ok(ends);
     }
     let mut bytes = [0u8; 2048];
     let n = replay_io::read_bytes(line, f.bytes_at, &mut bytes);
-    replay_io::print_letter(f.letter);
-    let after = sized(f, &bytes[..n], ends, sent, held, output);
-    replay_io::print(b"\n");
-    after
+    replay_io::print_letter(writer, f.letter)?;
+    let after = sized(writer, f, &bytes[..n], ends, sent, held, output)?;
+    replay_io::print(writer, b"\n")?;
+    Ok(after)
 }
 
 // The call on as much of the memory as the ends have, or are to have.
 fn sized(
+    writer: &mut impl Write,
     f: Fields,
     bytes: &[u8],
     ends: Ends,
     sent: &mut [u8],
     held: &mut [u8],
     output: &mut [u8],
-) -> Ends {
+) -> io::Result<Ends> {
     let a = replay_io::min(length_for(f, 3, ends.sent), sent.len());
     let b = replay_io::min(length_for(f, 4, ends.held), held.len());
     let c = replay_io::min(length_for(f, 5, ends.output), output.len());
     call(
+        writer,
         f,
         bytes,
         ends,
@@ -157,26 +177,27 @@ fn length_for(f: Fields, i: usize, before: usize) -> usize {
 }
 
 fn call(
+    writer: &mut impl Write,
     f: Fields,
     bytes: &[u8],
     ends: Ends,
     sent: &mut [u8],
     held: &mut [u8],
     output: &mut [u8],
-) -> Ends {
+) -> io::Result<Ends> {
     if f.letter == b'n' {
-        return new_ends(f, ends, sent, held, output);
+        return new_ends(writer, f, ends, sent, held, output);
     }
     if is_receiver_call(f) {
         let before = ends.receiver;
-        return with_receiver(ends, receiver_call(f, bytes, before, held, output));
+        return Ok(with_receiver(ends, receiver_call(writer, f, bytes, before, held, output)?));
     }
     if is_read(f) {
-        print_ends(f, ends, sent, held);
-        return ends;
+        print_ends(writer, f, ends, sent, held)?;
+        return Ok(ends);
     }
     let before = ends.sender;
-    with_sender(ends, sender_call(f, bytes, before, sent))
+    Ok(with_sender(ends, sender_call(writer, f, bytes, before, sent)?))
 }
 
 fn is_receiver_call(f: Fields) -> bool {
@@ -190,24 +211,25 @@ fn is_receiver_call(f: Fields) -> bool {
 }
 
 fn receiver_call(
+    writer: &mut impl Write,
     f: Fields,
     bytes: &[u8],
     r: Receiver,
     held: &mut [u8],
     output: &mut [u8],
-) -> Receiver {
+) -> io::Result<Receiver> {
     if replay_io::is(f, b'p', 1) {
-        return packet_handed(f, bytes, r, held, output);
+        return packet_handed(writer, f, bytes, r, held, output);
     }
     if replay_io::is(f, b'j', 5) {
-        return set_receiver(f, r);
+        return Ok(set_receiver(f, r));
     }
     if replay_io::is(f, b'l', 2) {
-        set_byte(f, held);
-        return r;
+        set_byte(writer, f, held)?;
+        return Ok(r);
     }
-    replay_io::print_bad_line();
-    r
+    replay_io::print_bad_line(writer)?;
+    Ok(r)
 }
 
 fn with_receiver(ends: Ends, r: Receiver) -> Ends {
@@ -232,12 +254,19 @@ fn with_sender(ends: Ends, s: Sender) -> Ends {
     }
 }
 
-fn new_ends(f: Fields, before: Ends, sent: &mut [u8], held: &mut [u8], output: &mut [u8]) -> Ends {
+fn new_ends(
+    writer: &mut impl Write,
+    f: Fields,
+    before: Ends,
+    sent: &mut [u8],
+    held: &mut [u8],
+    output: &mut [u8],
+) -> io::Result<Ends> {
     if are_lengths(f, sent.len(), held.len(), output.len()) {
-        return made_ends(f, sent, held, output);
+        return made_ends(writer, f, sent, held, output);
     }
-    replay_io::print_bad_line();
-    before
+    replay_io::print_bad_line(writer)?;
+    Ok(before)
 }
 
 fn are_lengths(f: Fields, sent: usize, held: usize, output: usize) -> bool {
@@ -254,138 +283,192 @@ fn are_lengths(f: Fields, sent: usize, held: usize, output: usize) -> bool {
     false
 }
 
-fn made_ends(f: Fields, sent: &mut [u8], held: &mut [u8], output: &mut [u8]) -> Ends {
+fn made_ends(
+    writer: &mut impl Write,
+    f: Fields,
+    sent: &mut [u8],
+    held: &mut [u8],
+    output: &mut [u8],
+) -> io::Result<Ends> {
     let v = f.values;
     replay_io::fill(sent, 0xa5);
     replay_io::fill(held, 0xa5);
     replay_io::fill(output, 0xa5);
-    let s = new_sender(v[0], v[1] as usize, replay_io::low(v[2]), sent);
-    let r = new_receiver(v[0], v[1] as usize, held);
-    Ends {
+    let s = new_sender(writer, v[0], v[1] as usize, replay_io::low(v[2]), sent)?;
+    let r = new_receiver(writer, v[0], v[1] as usize, held)?;
+    Ok(Ends {
         sender: s,
         receiver: r,
         sent: sent.len(),
         held: held.len(),
         output: output.len(),
-    }
+    })
 }
 
-fn new_sender(protocol: u64, window: usize, retries: u32, store: &mut [u8]) -> Sender {
+fn new_sender(
+    writer: &mut impl Write,
+    protocol: u64,
+    window: usize,
+    retries: u32,
+    store: &mut [u8],
+) -> io::Result<Sender> {
     if protocol == 0 {
         return match StopAndWaitSender::new(retries, store) {
-            StopAndWaitSenderAnswer::Sender(s) => made_sender(Sender::StopAndWait(s)),
-            StopAndWaitSenderAnswer::Refused(r) => refused_sender(r),
+            StopAndWaitSenderAnswer::Sender(s) => made_sender(writer, Sender::StopAndWait(s)),
+            StopAndWaitSenderAnswer::Refused(r) => refused_sender(writer, r),
         };
     }
     if protocol == 1 {
         return match GoBackNSender::new(window, store) {
-            GoBackNSenderAnswer::Sender(s) => made_sender(Sender::GoBackN(s)),
-            GoBackNSenderAnswer::Refused(r) => refused_sender(r),
+            GoBackNSenderAnswer::Sender(s) => made_sender(writer, Sender::GoBackN(s)),
+            GoBackNSenderAnswer::Refused(r) => refused_sender(writer, r),
         };
     }
     match SelectiveRepeatSender::new(window, store) {
-        SelectiveRepeatSenderAnswer::Sender(s) => made_sender(Sender::SelectiveRepeat(s)),
-        SelectiveRepeatSenderAnswer::Refused(r) => refused_sender(r),
+        SelectiveRepeatSenderAnswer::Sender(s) => made_sender(writer, Sender::SelectiveRepeat(s)),
+        SelectiveRepeatSenderAnswer::Refused(r) => refused_sender(writer, r),
     }
 }
 
-fn made_sender(s: Sender) -> Sender {
-    replay_io::print(b" made");
-    s
+fn made_sender(writer: &mut impl Write, s: Sender) -> io::Result<Sender> {
+    replay_io::print(writer, b" made")?;
+    Ok(s)
 }
 
-fn refused_sender(r: Refusal) -> Sender {
-    replay_io::print_refusal(r);
-    idle_sender()
+fn refused_sender(writer: &mut impl Write, r: Refusal) -> io::Result<Sender> {
+    replay_io::print_refusal(writer, r)?;
+    Ok(idle_sender())
 }
 
-fn new_receiver(protocol: u64, window: usize, store: &mut [u8]) -> Receiver {
+fn new_receiver(
+    writer: &mut impl Write,
+    protocol: u64,
+    window: usize,
+    store: &mut [u8],
+) -> io::Result<Receiver> {
     if protocol == 0 {
-        return made_receiver(idle_receiver());
+        return made_receiver(writer, idle_receiver());
     }
     if protocol == 1 {
-        return made_receiver(Receiver::GoBackN(GoBackNReceiver::new()));
+        return made_receiver(writer, Receiver::GoBackN(GoBackNReceiver::new()));
     }
     match SelectiveRepeatReceiver::new(window, store) {
-        SelectiveRepeatReceiverAnswer::Receiver(r) => made_receiver(Receiver::SelectiveRepeat(r)),
-        SelectiveRepeatReceiverAnswer::Refused(r) => refused_receiver(r),
+        SelectiveRepeatReceiverAnswer::Receiver(r) => made_receiver(
+            writer,
+            Receiver::SelectiveRepeat(r),
+        ),
+        SelectiveRepeatReceiverAnswer::Refused(r) => refused_receiver(writer, r),
     }
 }
 
-fn made_receiver(r: Receiver) -> Receiver {
-    replay_io::print(b" made");
-    r
+fn made_receiver(writer: &mut impl Write, r: Receiver) -> io::Result<Receiver> {
+    replay_io::print(writer, b" made")?;
+    Ok(r)
 }
 
-fn refused_receiver(r: Refusal) -> Receiver {
-    replay_io::print_refusal(r);
-    idle_receiver()
+fn refused_receiver(writer: &mut impl Write, r: Refusal) -> io::Result<Receiver> {
+    replay_io::print_refusal(writer, r)?;
+    Ok(idle_receiver())
 }
 
-fn sender_call(f: Fields, bytes: &[u8], s: Sender, store: &mut [u8]) -> Sender {
+fn sender_call(
+    writer: &mut impl Write,
+    f: Fields,
+    bytes: &[u8],
+    s: Sender,
+    store: &mut [u8],
+) -> io::Result<Sender> {
     let v = f.values;
     if replay_io::is(f, b's', 1) {
-        return printed(chunk_sent(v[0] as usize, bytes, s, store));
+        let after = chunk_sent(writer, v[0] as usize, bytes, s, store)?;
+        return printed(writer, after);
     }
     if replay_io::is(f, b'o', 2) {
-        return printed(timed_out(replay_io::low(v[0]), v[1] as usize, s, store));
+        let after = timed_out(writer, replay_io::low(v[0]), v[1] as usize, s, store)?;
+        return printed(writer, after);
     }
     if replay_io::is(f, b'a', 0) {
-        return printed(handle_ack(s, store, bytes));
+        let after = handle_ack(writer, s, store, bytes)?;
+        return printed(writer, after);
     }
     if replay_io::is(f, b'i', 4) {
-        return set_sender(f, s);
+        return Ok(set_sender(f, s));
     }
     if replay_io::is(f, b'k', 2) {
-        set_byte(f, store);
-        return s;
+        set_byte(writer, f, store)?;
+        return Ok(s);
     }
-    replay_io::print_bad_line();
-    s
+    replay_io::print_bad_line(writer)?;
+    Ok(s)
 }
 
-fn chunk_sent(room: usize, payload: &[u8], s: Sender, store: &mut [u8]) -> Sender {
+fn chunk_sent(
+    writer: &mut impl Write,
+    room: usize,
+    payload: &[u8],
+    s: Sender,
+    store: &mut [u8],
+) -> io::Result<Sender> {
     let mut out = [0xa5u8; 2048];
-    send_within(room, payload, s, store, &mut out)
+    send_within(writer, room, payload, s, store, &mut out)
 }
 
-fn send_within(room: usize, payload: &[u8], s: Sender, store: &mut [u8], out: &mut [u8]) -> Sender {
+fn send_within(
+    writer: &mut impl Write,
+    room: usize,
+    payload: &[u8],
+    s: Sender,
+    store: &mut [u8],
+    out: &mut [u8],
+) -> io::Result<Sender> {
     if out.len() < room {
-        replay_io::print_bad_line();
-        return s;
+        replay_io::print_bad_line(writer)?;
+        return Ok(s);
     }
-    send_chunk(s, store, payload, &mut out[0..room])
+    send_chunk(writer, s, store, payload, &mut out[0..room])
 }
 
-fn send_chunk(sender: Sender, store: &mut [u8], payload: &[u8], out: &mut [u8]) -> Sender {
+fn send_chunk(
+    writer: &mut impl Write,
+    sender: Sender,
+    store: &mut [u8],
+    payload: &[u8],
+    out: &mut [u8],
+) -> io::Result<Sender> {
     match sender {
         Sender::StopAndWait(s) => {
             let done = s.send_chunk(store, payload, out);
             let answer = done.answer;
-            print_sent(answer, out);
+            print_sent(writer, answer, out)?;
             let after = done.sender;
-            Sender::StopAndWait(after)
+            Ok(Sender::StopAndWait(after))
         }
         Sender::GoBackN(s) => {
             let done = s.send_chunk(store, payload, out);
             let answer = done.answer;
-            print_sent(answer, out);
+            print_sent(writer, answer, out)?;
             let after = done.sender;
-            Sender::GoBackN(after)
+            Ok(Sender::GoBackN(after))
         }
         Sender::SelectiveRepeat(s) => {
             let done = s.send_chunk(store, payload, out);
             let answer = done.answer;
-            print_sent(answer, out);
+            print_sent(writer, answer, out)?;
             let after = done.sender;
-            Sender::SelectiveRepeat(after)
+            Ok(Sender::SelectiveRepeat(after))
         }
     }
 }
 
-fn timed_out(n: u32, room: usize, s: Sender, store: &mut [u8]) -> Sender {
+fn timed_out(
+    writer: &mut impl Write,
+    n: u32,
+    room: usize,
+    s: Sender,
+    store: &mut [u8],
+) -> io::Result<Sender> {
     let mut out = marked();
-    timeout_within(n, room, s, store, &mut out)
+    timeout_within(writer, n, room, s, store, &mut out)
 }
 
 // A function for the reason of `replay_io::buffer`.
@@ -393,134 +476,156 @@ fn marked() -> [u8; 46080] {
     [0xa5u8; 46080]
 }
 
-fn timeout_within(n: u32, room: usize, s: Sender, store: &mut [u8], out: &mut [u8]) -> Sender {
+fn timeout_within(
+    writer: &mut impl Write,
+    n: u32,
+    room: usize,
+    s: Sender,
+    store: &mut [u8],
+    out: &mut [u8],
+) -> io::Result<Sender> {
     if out.len() < room {
-        replay_io::print_bad_line();
-        return s;
+        replay_io::print_bad_line(writer)?;
+        return Ok(s);
     }
-    handle_timeout(s, store, n, &mut out[0..room])
+    handle_timeout(writer, s, store, n, &mut out[0..room])
 }
 
-fn handle_timeout(sender: Sender, store: &mut [u8], n: u32, out: &mut [u8]) -> Sender {
+fn handle_timeout(
+    writer: &mut impl Write,
+    sender: Sender,
+    store: &mut [u8],
+    n: u32,
+    out: &mut [u8],
+) -> io::Result<Sender> {
     match sender {
         Sender::StopAndWait(s) => {
             let done = s.handle_timeout(store, out);
             let answer = done.answer;
-            print_resent(answer, out);
+            print_resent(writer, answer, out)?;
             let after = done.sender;
-            Sender::StopAndWait(after)
+            Ok(Sender::StopAndWait(after))
         }
         Sender::GoBackN(s) => {
             let done = s.handle_timeout(store, out);
             let answer = done.answer;
-            print_resent(answer, out);
+            print_resent(writer, answer, out)?;
             let after = done.sender;
-            Sender::GoBackN(after)
+            Ok(Sender::GoBackN(after))
         }
         Sender::SelectiveRepeat(s) => {
             let done = s.handle_timeout(store, n, out);
             let answer = done.answer;
-            print_resent(answer, out);
+            print_resent(writer, answer, out)?;
             let after = done.sender;
-            Sender::SelectiveRepeat(after)
+            Ok(Sender::SelectiveRepeat(after))
         }
     }
 }
 
-fn handle_ack(sender: Sender, store: &mut [u8], raw: &[u8]) -> Sender {
+fn handle_ack(
+    writer: &mut impl Write,
+    sender: Sender,
+    store: &mut [u8],
+    raw: &[u8],
+) -> io::Result<Sender> {
     match sender {
         Sender::StopAndWait(s) => {
             let done = s.handle_ack(store, raw);
             let answer = done.answer;
-            print_acknowledged(answer);
+            print_acknowledged(writer, answer)?;
             let after = done.sender;
-            Sender::StopAndWait(after)
+            Ok(Sender::StopAndWait(after))
         }
         Sender::GoBackN(s) => {
             let done = s.handle_ack(store, raw);
             let answer = done.answer;
-            print_acknowledged(answer);
+            print_acknowledged(writer, answer)?;
             let after = done.sender;
-            Sender::GoBackN(after)
+            Ok(Sender::GoBackN(after))
         }
         Sender::SelectiveRepeat(s) => {
             let done = s.handle_ack(store, raw);
             let answer = done.answer;
-            print_acknowledged(answer);
+            print_acknowledged(writer, answer)?;
             let after = done.sender;
-            Sender::SelectiveRepeat(after)
+            Ok(Sender::SelectiveRepeat(after))
         }
     }
 }
 
 fn packet_handed(
+    writer: &mut impl Write,
     f: Fields,
     raw: &[u8],
     r: Receiver,
     held: &mut [u8],
     output: &mut [u8],
-) -> Receiver {
+) -> io::Result<Receiver> {
     let v = f.values;
     let mut ack = [0xa5u8; 64];
-    packet_within(v[0] as usize, raw, r, held, output, &mut ack)
+    packet_within(writer, v[0] as usize, raw, r, held, output, &mut ack)
 }
 
 fn packet_within(
+    writer: &mut impl Write,
     room: usize,
     raw: &[u8],
     r: Receiver,
     held: &mut [u8],
     output: &mut [u8],
     ack: &mut [u8],
-) -> Receiver {
+) -> io::Result<Receiver> {
     if ack.len() < room {
-        replay_io::print_bad_line();
-        return r;
+        replay_io::print_bad_line(writer)?;
+        return Ok(r);
     }
-    let after = handle_packet(r, held, raw, output, &mut ack[0..room]);
-    print_receiver(r, after, output);
-    after
+    let after = handle_packet(writer, r, held, raw, output, &mut ack[0..room])?;
+    print_receiver(writer, r, after, output)?;
+    Ok(after)
 }
 
 fn handle_packet(
+    writer: &mut impl Write,
     receiver: Receiver,
     store: &mut [u8],
     raw: &[u8],
     output: &mut [u8],
     ack: &mut [u8],
-) -> Receiver {
+) -> io::Result<Receiver> {
     match receiver {
         Receiver::StopAndWait(r) => {
             let done = r.handle_packet(raw, output, ack);
             let answer = done.answer;
-            print_received(answer, ack);
+            print_received(writer, answer, ack)?;
             let after = done.receiver;
-            Receiver::StopAndWait(after)
+            Ok(Receiver::StopAndWait(after))
         }
         Receiver::GoBackN(r) => {
             let done = r.handle_packet(raw, output, ack);
             let answer = done.answer;
-            print_received(answer, ack);
+            print_received(writer, answer, ack)?;
             let after = done.receiver;
-            Receiver::GoBackN(after)
+            Ok(Receiver::GoBackN(after))
         }
         Receiver::SelectiveRepeat(r) => {
             let done = r.handle_packet(store, raw, output, ack);
             let answer = done.answer;
-            print_received(answer, ack);
+            print_received(writer, answer, ack)?;
             let after = done.receiver;
-            Receiver::SelectiveRepeat(after)
+            Ok(Receiver::SelectiveRepeat(after))
         }
     }
 }
 
-fn set_byte(f: Fields, store: &mut [u8]) {
+fn set_byte(writer: &mut impl Write, f: Fields, store: &mut [u8]) -> io::Result<()> {
     let v = f.values;
     let at = v[0] as usize;
     if at < store.len() {
         store[at] = (v[1] % 256) as u8;
+        Ok(())
     } else {
-        replay_io::print_bad_line();
+        replay_io::print_bad_line(writer)
     }
 }
 
@@ -590,48 +695,48 @@ fn set_go_back_n(f: Fields, r: GoBackNReceiver) -> GoBackNReceiver {
     t
 }
 
-fn print_sent(a: SendAnswer, out: &[u8]) {
+fn print_sent(writer: &mut impl Write, a: SendAnswer, out: &[u8]) -> io::Result<()> {
     match a {
-        SendAnswer::Sent(n) => replay_io::print_number(n as u64),
-        SendAnswer::WindowFull => replay_io::print(b" full"),
-        SendAnswer::Refused(r) => replay_io::print_refusal(r),
+        SendAnswer::Sent(n) => replay_io::print_number(writer, n as u64)?,
+        SendAnswer::WindowFull => replay_io::print(writer, b" full")?,
+        SendAnswer::Refused(r) => replay_io::print_refusal(writer, r)?,
     }
-    replay_io::print_bytes(out);
+    replay_io::print_bytes(writer, out)
 }
 
-fn print_resent(a: TimeoutAnswer, out: &[u8]) {
+fn print_resent(writer: &mut impl Write, a: TimeoutAnswer, out: &[u8]) -> io::Result<()> {
     match a {
-        TimeoutAnswer::Resent(n) => replay_io::print_number(n as u64),
-        TimeoutAnswer::Nothing => replay_io::print(b" none"),
-        TimeoutAnswer::Refused(r) => replay_io::print_refusal(r),
+        TimeoutAnswer::Resent(n) => replay_io::print_number(writer, n as u64)?,
+        TimeoutAnswer::Nothing => replay_io::print(writer, b" none")?,
+        TimeoutAnswer::Refused(r) => replay_io::print_refusal(writer, r)?,
     }
-    replay_io::print_bytes(out);
+    replay_io::print_bytes(writer, out)
 }
 
-fn print_received(a: ReceiveAnswer, ack: &[u8]) {
+fn print_received(writer: &mut impl Write, a: ReceiveAnswer, ack: &[u8]) -> io::Result<()> {
     match a {
-        ReceiveAnswer::Ack(n) => replay_io::print_number(n as u64),
-        ReceiveAnswer::Silent => replay_io::print(b" none"),
-        ReceiveAnswer::Refused(r) => replay_io::print_refusal(r),
+        ReceiveAnswer::Ack(n) => replay_io::print_number(writer, n as u64)?,
+        ReceiveAnswer::Silent => replay_io::print(writer, b" none")?,
+        ReceiveAnswer::Refused(r) => replay_io::print_refusal(writer, r)?,
     }
-    replay_io::print_bytes(ack);
+    replay_io::print_bytes(writer, ack)
 }
 
-fn print_acknowledged(a: AckAnswer) {
+fn print_acknowledged(writer: &mut impl Write, a: AckAnswer) -> io::Result<()> {
     match a {
-        AckAnswer::Accepted => replay_io::print(b" accepted"),
-        AckAnswer::NotAccepted => replay_io::print(b" ignored"),
-        AckAnswer::Refused(r) => replay_io::print_refusal(r),
+        AckAnswer::Accepted => replay_io::print(writer, b" accepted"),
+        AckAnswer::NotAccepted => replay_io::print(writer, b" ignored"),
+        AckAnswer::Refused(r) => replay_io::print_refusal(writer, r),
     }
 }
 
-fn printed(sender: Sender) -> Sender {
+fn printed(writer: &mut impl Write, sender: Sender) -> io::Result<Sender> {
     match sender {
-        Sender::StopAndWait(s) => print_window(window_of(s), s.current_retries),
-        Sender::GoBackN(s) => print_window(s.window, 0),
-        Sender::SelectiveRepeat(s) => print_window(s.window, 0),
+        Sender::StopAndWait(s) => print_window(writer, window_of(s), s.current_retries)?,
+        Sender::GoBackN(s) => print_window(writer, s.window, 0)?,
+        Sender::SelectiveRepeat(s) => print_window(writer, s.window, 0)?,
     }
-    sender
+    Ok(sender)
 }
 
 fn window_of(s: StopAndWaitSender) -> SendWindow {
@@ -649,40 +754,52 @@ fn window_of(s: StopAndWaitSender) -> SendWindow {
     }
 }
 
-fn print_window(w: SendWindow, retries: u32) {
-    replay_io::print_number(w.send_base as u64);
-    replay_io::print_number(w.next_seq_num as u64);
-    replay_io::print_number(w.total_sent);
-    replay_io::print_number(w.retransmissions);
-    replay_io::print_number(retries as u64);
+fn print_window(writer: &mut impl Write, w: SendWindow, retries: u32) -> io::Result<()> {
+    replay_io::print_number(writer, w.send_base as u64)?;
+    replay_io::print_number(writer, w.next_seq_num as u64)?;
+    replay_io::print_number(writer, w.total_sent)?;
+    replay_io::print_number(writer, w.retransmissions)?;
+    replay_io::print_number(writer, retries as u64)
 }
 
-fn print_receiver(before: Receiver, receiver: Receiver, output: &[u8]) {
+fn print_receiver(
+    writer: &mut impl Write,
+    before: Receiver,
+    receiver: Receiver,
+    output: &[u8],
+) -> io::Result<()> {
     let from = filled_of(before);
     match receiver {
         Receiver::StopAndWait(r) => {
-            print_marks(r.expected_seq, r.filled);
-            print_counts(r.total_received, r.duplicates_count, r.corrupted_count);
+            print_marks(writer, r.expected_seq, r.filled)?;
+            print_counts(
+                writer,
+                r.total_received,
+                r.duplicates_count,
+                r.corrupted_count,
+            )?;
         }
         Receiver::GoBackN(r) => {
-            print_marks(r.expected_seq, r.filled);
+            print_marks(writer, r.expected_seq, r.filled)?;
             print_counts(
+                writer,
                 r.total_received,
                 r.discarded_out_of_order,
                 r.duplicate_acks_sent,
-            );
+            )?;
         }
         Receiver::SelectiveRepeat(r) => {
-            print_marks(r.recv_base, r.filled);
+            print_marks(writer, r.recv_base, r.filled)?;
             print_counts(
+                writer,
                 r.total_received,
                 r.buffered_out_of_order,
                 r.duplicates_count,
-            );
+            )?;
         }
     }
-    replay_io::print_bytes(replay_io::part(output, from, filled_of(receiver)));
-    replay_io::print_crc32(output);
+    replay_io::print_bytes(writer, replay_io::part(output, from, filled_of(receiver)))?;
+    replay_io::print_crc32(writer, output)
 }
 
 fn filled_of(receiver: Receiver) -> usize {
@@ -693,15 +810,15 @@ fn filled_of(receiver: Receiver) -> usize {
     }
 }
 
-fn print_marks(base: u32, filled: usize) {
-    replay_io::print_number(base as u64);
-    replay_io::print_number(filled as u64);
+fn print_marks(writer: &mut impl Write, base: u32, filled: usize) -> io::Result<()> {
+    replay_io::print_number(writer, base as u64)?;
+    replay_io::print_number(writer, filled as u64)
 }
 
-fn print_counts(first: u64, second: u64, third: u64) {
-    replay_io::print_number(first);
-    replay_io::print_number(second);
-    replay_io::print_number(third);
+fn print_counts(writer: &mut impl Write, first: u64, second: u64, third: u64) -> io::Result<()> {
+    replay_io::print_number(writer, first)?;
+    replay_io::print_number(writer, second)?;
+    replay_io::print_number(writer, third)
 }
 
 fn is_read(f: Fields) -> bool {
@@ -711,80 +828,84 @@ fn is_read(f: Fields) -> bool {
     replay_io::is(f, b'd', 0)
 }
 
-fn print_ends(f: Fields, ends: Ends, sent: &[u8], held: &[u8]) {
+fn print_ends(
+    writer: &mut impl Write,
+    f: Fields,
+    ends: Ends,
+    sent: &[u8],
+    held: &[u8],
+) -> io::Result<()> {
     if f.letter == b'd' {
-        print_slots(sent);
-        replay_io::print_crc32(sent);
-        print_slots(held);
-        replay_io::print_crc32(held);
-        return;
+        print_slots(writer, sent)?;
+        replay_io::print_crc32(writer, sent)?;
+        print_slots(writer, held)?;
+        return replay_io::print_crc32(writer, held);
     }
     let s = ends.sender;
     let r = ends.receiver;
-    print_outstanding(s, sent);
-    print_buffered(r, held);
+    print_outstanding(writer, s, sent)?;
+    print_buffered(writer, r, held)
 }
 
-fn print_outstanding(sender: Sender, store: &[u8]) {
+fn print_outstanding(writer: &mut impl Write, sender: Sender, store: &[u8]) -> io::Result<()> {
     match sender {
         Sender::StopAndWait(s) => {
-            print_test(s.can_send());
-            print_test(s.is_waiting_for_ack());
+            print_test(writer, s.can_send())?;
+            print_test(writer, s.is_waiting_for_ack())
         }
         Sender::GoBackN(s) => {
-            print_test(s.can_send());
-            print_count(s.in_flight_count());
-            print_test(s.has_unacked_packets());
+            print_test(writer, s.can_send())?;
+            print_count(writer, s.in_flight_count())?;
+            print_test(writer, s.has_unacked_packets())
         }
         Sender::SelectiveRepeat(s) => {
-            print_test(s.can_send());
-            print_count(s.in_flight_count(store));
+            print_test(writer, s.can_send())?;
+            print_count(writer, s.in_flight_count(store))
         }
     }
 }
 
-fn print_buffered(receiver: Receiver, store: &[u8]) {
+fn print_buffered(writer: &mut impl Write, receiver: Receiver, store: &[u8]) -> io::Result<()> {
     match receiver {
-        Receiver::StopAndWait(_) => {}
-        Receiver::GoBackN(_) => {}
-        Receiver::SelectiveRepeat(r) => print_count(r.buffered_count(store)),
+        Receiver::StopAndWait(_) => { Ok(()) }
+        Receiver::GoBackN(_) => { Ok(()) }
+        Receiver::SelectiveRepeat(r) => print_count(writer, r.buffered_count(store)),
     }
 }
 
-fn print_test(a: TestAnswer) {
+fn print_test(writer: &mut impl Write, a: TestAnswer) -> io::Result<()> {
     match a {
-        TestAnswer::Is(b) => replay_io::print_test(b),
-        TestAnswer::Refused(r) => replay_io::print_refusal(r),
+        TestAnswer::Is(b) => replay_io::print_test(writer, b),
+        TestAnswer::Refused(r) => replay_io::print_refusal(writer, r),
     }
 }
 
-fn print_count(a: CountAnswer) {
+fn print_count(writer: &mut impl Write, a: CountAnswer) -> io::Result<()> {
     match a {
-        CountAnswer::Count(n) => replay_io::print_number(n as u64),
-        CountAnswer::Refused(r) => replay_io::print_refusal(r),
+        CountAnswer::Count(n) => replay_io::print_number(writer, n as u64),
+        CountAnswer::Refused(r) => replay_io::print_refusal(writer, r),
     }
 }
 
-fn print_slots(store: &[u8]) {
+fn print_slots(writer: &mut impl Write, store: &[u8]) -> io::Result<()> {
     let slots = store.len() / bounds::SLOT_SIZE;
-    let mut i: usize = 0;
-    while i < slots {
-        print_slot(replay_io::part(
-            store,
-            i * bounds::SLOT_SIZE,
-            i * bounds::SLOT_SIZE + bounds::SLOT_SIZE,
-        ));
-        i += 1;
+    for i in 0..slots {
+        let from = i * bounds::SLOT_SIZE;
+        print_slot(
+            writer,
+            replay_io::part(store, from, from + bounds::SLOT_SIZE),
+        )?;
     }
+    Ok(())
 }
 
 // Length, mark and flags, and the payload where the length is in bounds.
-fn print_slot(slot: &[u8]) {
+fn print_slot(writer: &mut impl Write, slot: &[u8]) -> io::Result<()> {
     let n = slot_length(slot);
     if n <= bounds::MAX_PAYLOAD_SIZE {
-        replay_io::print_bytes(replay_io::prefix(slot, 4 + n));
+        replay_io::print_bytes(writer, replay_io::prefix(slot, 4 + n))
     } else {
-        replay_io::print_bytes(replay_io::prefix(slot, 4));
+        replay_io::print_bytes(writer, replay_io::prefix(slot, 4))
     }
 }
 

@@ -17,13 +17,14 @@
 ghost use Rattle.std.specs.Prelude.{◌≡◌, length};
 
 use channel::{Channel, ChannelAnswer, ChannelConfig, ChannelStats, ProcessAnswer, Rolls};
-use libc::STDIN_FILENO;
 use refusal::{CountAnswer, DoneAnswer, TestAnswer};
-use replay_io::Fields;
+use replay_io::{Fields, Lines};
 use schedule::{
     ChannelScheduler, DeadlineAnswer, Deliveries, OwnedSchedule, PopResult, ReadyAnswer,
     ScheduleResult, Scheduled,
 };
+use std::io;
+use std::io::Write;
 
 // records, places: how many of them the schedule has.
 #[derive(Clone, Copy)]
@@ -34,13 +35,14 @@ struct State {
     places: usize,
 }
 
-fn main() {
+fn main(rt: HostRuntime) -> io::Result<()> {
+    let mut writer = rt.stdout();
     let mut text = replay_io::buffer();
-    let n = io::read_full(STDIN_FILENO, &mut text);
+    let n = replay_io::read_full(&mut rt.stdin(), &mut text)?;
     let mut records = [[0u64; 4]; 320];
     let mut places = no_places();
-    replay_io::print_if_full(&text, n);
-    replay(&text[..n], start(), &mut records, &mut places);
+    replay_io::print_if_full(&mut writer, &text, n)?;
+    replay(&mut writer, &text[..n], start(), &mut records, &mut places)
 }
 
 // A function for the reason of `replay_io::buffer`.
@@ -60,17 +62,18 @@ fn start() -> State {
     }
 }
 
-fn replay(text: &[u8], first: State, records: &mut [[u64; 4]], places: &mut [u8]) {
+fn replay(
+    writer: &mut impl Write,
+    text: &[u8],
+    first: State,
+    records: &mut [[u64; 4]],
+    places: &mut [u8],
+) -> io::Result<()> {
     let mut state = first;
-    let mut at: usize = 0;
-    while at < text.len() {
-        let end = replay_io::line_end_unchecked(text, at);
-        state = case(&text[at..end], state, records, places);
-        at = end;
-        if at < text.len() {
-            at += 1;
-        }
+    for line in Lines::new(text) {
+        state = case(writer, line, state, records, places)?;
     }
+    Ok(())
 }
 
 fn idle() -> Channel {
@@ -95,33 +98,41 @@ fn idle() -> Channel {
     }
 }
 
-fn case(line: &[u8], state: State, records: &mut [[u64; 4]], places: &mut [u8]) -> State {
+fn case(
+    writer: &mut impl Write,
+    line: &[u8],
+    state: State,
+    records: &mut [[u64; 4]],
+    places: &mut [u8],
+) -> io::Result<State> {
     let f = replay_io::read_fields(line);
     if f.letter == b'#' {
-        return state;
+        return Ok(state);
     }
     let mut bytes = [0u8; 2048];
     let n = replay_io::read_bytes(line, f.bytes_at, &mut bytes);
-    replay_io::print_letter(f.letter);
-    let after = sized(f, &bytes[..n], state, records, places);
-    replay_io::print(b"\n");
-    after
+    replay_io::print_letter(writer, f.letter)?;
+    let after = sized(writer, f, &bytes[..n], state, records, places)?;
+    replay_io::print(writer, b"\n")?;
+    Ok(after)
 }
 
 // The call on as much of the memory as the schedule has, or is to have.
 fn sized(
+    writer: &mut impl Write,
     f: Fields,
     packet: &[u8],
     state: State,
     records: &mut [[u64; 4]],
     places: &mut [u8],
-) -> State {
+) -> io::Result<State> {
     let nr = replay_io::min(length_for(f, 7, state.records), records.len());
     let np = replay_io::min(
         length_for(f, 8, state.places),
         places.len() / bounds::PLACE_SIZE,
     );
     call(
+        writer,
         f,
         packet,
         state,
@@ -139,38 +150,45 @@ fn length_for(f: Fields, i: usize, before: usize) -> usize {
 }
 
 fn call(
+    writer: &mut impl Write,
     f: Fields,
     packet: &[u8],
     state: State,
     records: &mut [[u64; 4]],
     places: &mut [u8],
-) -> State {
+) -> io::Result<State> {
     let v = f.values;
     if f.letter == b'n' {
-        return new_case(f, state, records, places);
+        return new_case(writer, f, state, records, places);
     }
     if replay_io::is(f, b'p', 10) {
-        return process_case(f, packet, state, records, places);
+        return process_case(writer, f, packet, state, records, places);
     }
     if replay_io::is(f, b's', 4) {
         let deliveries = deliveries_of(v[1], v[2], v[3]);
-        return schedule_case(v[0], packet, deliveries, state, records, places);
+        return schedule_case(writer, v[0], packet, deliveries, state, records, places);
     }
     if replay_io::is(f, b't', 2) {
-        return pop_case(v[0], v[1] as usize, state, records, places);
+        return pop_case(writer, v[0], v[1] as usize, state, records, places);
     }
     let s = state.scheduler;
-    read_case(f, s, records, places);
-    state
+    read_case(writer, f, s, records, places)?;
+    Ok(state)
 }
 
-fn new_case(f: Fields, state: State, records: &mut [[u64; 4]], places: &mut [u8]) -> State {
+fn new_case(
+    writer: &mut impl Write,
+    f: Fields,
+    state: State,
+    records: &mut [[u64; 4]],
+    places: &mut [u8],
+) -> io::Result<State> {
     if are_lengths(f, records.len(), places.len() / bounds::PLACE_SIZE) {
         let before = state.channel;
-        return made(f, before, records, places);
+        return made(writer, f, before, records, places);
     }
-    replay_io::print_bad_line();
-    state
+    replay_io::print_bad_line(writer)?;
+    Ok(state)
 }
 
 fn are_lengths(f: Fields, records: usize, places: usize) -> bool {
@@ -183,16 +201,22 @@ fn are_lengths(f: Fields, records: usize, places: usize) -> bool {
     false
 }
 
-fn made(f: Fields, before: Channel, records: &mut [[u64; 4]], places: &mut [u8]) -> State {
+fn made(
+    writer: &mut impl Write,
+    f: Fields,
+    before: Channel,
+    records: &mut [[u64; 4]],
+    places: &mut [u8],
+) -> io::Result<State> {
     let v = f.values;
     fill_records(records);
     replay_io::fill(places, 5);
-    State {
-        channel: channel_or(Channel::new(config_of(f)), before),
+    Ok(State {
+        channel: channel_or(writer, Channel::new(config_of(f)), before)?,
         scheduler: ChannelScheduler::new(records, places),
         records: v[7] as usize,
         places: v[8] as usize,
-    }
+    })
 }
 
 fn config_of(f: Fields) -> ChannelConfig {
@@ -209,22 +233,20 @@ fn config_of(f: Fields) -> ChannelConfig {
 }
 
 fn fill_records(records: &mut [[u64; 4]]) {
-    let mut i: usize = 0;
-    while i < records.len() {
-        records[i] = [5, 5, 5, 5];
-        i += 1;
+    for record in records.iter_mut() {
+        *record = [5, 5, 5, 5];
     }
 }
 
-fn channel_or(a: ChannelAnswer, before: Channel) -> Channel {
+fn channel_or(writer: &mut impl Write, a: ChannelAnswer, before: Channel) -> io::Result<Channel> {
     match a {
         ChannelAnswer::Made(c) => {
-            replay_io::print(b" made");
-            c
+            replay_io::print(writer, b" made")?;
+            Ok(c)
         }
         ChannelAnswer::Refused(r) => {
-            replay_io::print_refusal(r);
-            before
+            replay_io::print_refusal(writer, r)?;
+            Ok(before)
         }
     }
 }
@@ -243,15 +265,17 @@ fn rolls_of(v: [u64; 12]) -> Rolls {
 }
 
 fn process_case(
+    writer: &mut impl Write,
     f: Fields,
     packet: &[u8],
     state: State,
     records: &mut [[u64; 4]],
     places: &mut [u8],
-) -> State {
+) -> io::Result<State> {
     let v = f.values;
     let mut out = [0xa5u8; 2048];
     process_within(
+        writer,
         v[0],
         v[1] as usize,
         rolls_of(v),
@@ -264,6 +288,7 @@ fn process_case(
 }
 
 fn process_within(
+    writer: &mut impl Write,
     now: u64,
     room: usize,
     rolls: Rolls,
@@ -272,12 +297,13 @@ fn process_within(
     records: &mut [[u64; 4]],
     places: &mut [u8],
     out: &mut [u8],
-) -> State {
+) -> io::Result<State> {
     if out.len() < room {
-        replay_io::print_bad_line();
-        return state;
+        replay_io::print_bad_line(writer)?;
+        return Ok(state);
     }
     process_to(
+        writer,
         now,
         rolls,
         packet,
@@ -289,6 +315,7 @@ fn process_within(
 }
 
 fn process_to(
+    writer: &mut impl Write,
     now: u64,
     rolls: Rolls,
     packet: &[u8],
@@ -296,15 +323,15 @@ fn process_to(
     records: &mut [[u64; 4]],
     places: &mut [u8],
     out: &mut [u8],
-) -> State {
+) -> io::Result<State> {
     let before = state.channel;
     let done = before.process(packet, rolls, out);
     let answer = done.answer;
     let after = done.channel;
     let stats = after.stats;
-    let deliveries = print_process(answer);
-    replay_io::print_bytes(out);
-    print_stats(stats);
+    let deliveries = print_process(writer, answer)?;
+    replay_io::print_bytes(writer, out)?;
+    print_stats(writer, stats)?;
     let s = state.scheduler;
     let next = State {
         channel: after,
@@ -313,76 +340,80 @@ fn process_to(
         places: state.places,
     };
     let carried = replay_io::prefix(out, packet.len());
-    schedule_case(now, carried, deliveries, next, records, places)
+    schedule_case(writer, now, carried, deliveries, next, records, places)
 }
 
 fn schedule_case(
+    writer: &mut impl Write,
     now: u64,
     packet: &[u8],
     deliveries: Deliveries,
     state: State,
     records: &mut [[u64; 4]],
     places: &mut [u8],
-) -> State {
+) -> io::Result<State> {
     let s = state.scheduler;
     let done = schedule_at(s, records, places, now, packet, deliveries);
     let answer = done.answer;
-    print_done(answer);
+    print_done(writer, answer)?;
     let s = done.scheduler;
-    with_scheduler(state, s)
+    with_scheduler(writer, state, s)
 }
 
-fn with_scheduler(state: State, s: ChannelScheduler) -> State {
+fn with_scheduler(writer: &mut impl Write, state: State, s: ChannelScheduler) -> io::Result<State> {
     let c = state.channel;
-    replay_io::print_number(s.count as u64);
-    State {
+    replay_io::print_number(writer, s.count as u64)?;
+    Ok(State {
         channel: c,
         scheduler: s,
         records: state.records,
         places: state.places,
-    }
+    })
 }
 
 fn pop_case(
+    writer: &mut impl Write,
     now: u64,
     room: usize,
     state: State,
     records: &mut [[u64; 4]],
     places: &mut [u8],
-) -> State {
+) -> io::Result<State> {
     let mut out = [0xa5u8; 2048];
-    pop_within(now, room, state, records, places, &mut out)
+    pop_within(writer, now, room, state, records, places, &mut out)
 }
 
 fn pop_within(
+    writer: &mut impl Write,
     now: u64,
     room: usize,
     state: State,
     records: &mut [[u64; 4]],
     places: &mut [u8],
     out: &mut [u8],
-) -> State {
+) -> io::Result<State> {
     if out.len() < room {
-        replay_io::print_bad_line();
-        return state;
+        replay_io::print_bad_line(writer)?;
+        return Ok(state);
     }
-    pop_to(now, state, records, places, &mut out[0..room])
+    pop_to(writer, now, state, records, places, &mut out[0..room])
 }
 
 fn pop_to(
+    writer: &mut impl Write,
     now: u64,
     state: State,
     records: &mut [[u64; 4]],
     places: &mut [u8],
     out: &mut [u8],
-) -> State {
+) -> io::Result<State> {
     let s = state.scheduler;
     let done = pop_ready_at(s, records, places, now, out);
     let answer = done.answer;
-    print_ready(answer);
-    replay_io::print_bytes(out);
+    print_ready(writer, answer)?;
+    replay_io::print_bytes(writer, out)?;
     let s = done.scheduler;
-    with_scheduler(state, s)
+    with_scheduler(writer, state, s)
 }
 
 fn schedule_at(
@@ -432,10 +463,8 @@ fn unpacked(s: ChannelScheduler, records: &[[u64; 4]]) -> OwnedSchedule
     requires { length records.now ≡ 8 }
 {
     let mut rs = [Scheduled::unpacked([0, 0, 0, 0]); 8];
-    let mut i: usize = 0;
-    while i < 8 {
+    for i in 0..8 {
         rs[i] = Scheduled::unpacked(records[i]);
-        i += 1;
     }
     OwnedSchedule {
         records: rs,
@@ -447,30 +476,32 @@ fn pack(s: OwnedSchedule, records: &mut [[u64; 4]])
     requires { length records.old ≡ 8 }
 {
     let rs = s.records;
-    let mut i: usize = 0;
-    while i < 8 {
+    for i in 0..8 {
         let r = rs[i];
         records[i] = r.packed();
-        i += 1;
     }
 }
 
-fn read_case(f: Fields, s: ChannelScheduler, records: &[[u64; 4]], places: &[u8]) {
+fn read_case(
+    writer: &mut impl Write,
+    f: Fields,
+    s: ChannelScheduler,
+    records: &[[u64; 4]],
+    places: &[u8],
+) -> io::Result<()> {
     if replay_io::is(f, b'q', 0) {
-        print_deadline(s.next_deadline(records, places));
-        print_count(s.len(records, places));
-        print_test(s.is_empty(records, places));
-        print_count(s.room(records, places));
-        return;
+        print_deadline(writer, s.next_deadline(records, places))?;
+        print_count(writer, s.len(records, places))?;
+        print_test(writer, s.is_empty(records, places))?;
+        return print_count(writer, s.room(records, places));
     }
     if replay_io::is(f, b'd', 0) {
-        replay_io::print_number(s.count as u64);
-        replay_io::print_number(s.next_order);
-        print_records(records);
-        replay_io::print_crc32(places);
-        return;
+        replay_io::print_number(writer, s.count as u64)?;
+        replay_io::print_number(writer, s.next_order)?;
+        print_records(writer, records)?;
+        return replay_io::print_crc32(writer, places);
     }
-    replay_io::print_bad_line();
+    replay_io::print_bad_line(writer)
 }
 
 fn deliveries_of(copies: u64, first: u64, second: u64) -> Deliveries {
@@ -483,91 +514,90 @@ fn deliveries_of(copies: u64, first: u64, second: u64) -> Deliveries {
     Deliveries::Two(first, second)
 }
 
-fn print_process(a: ProcessAnswer) -> Deliveries {
+fn print_process(writer: &mut impl Write, a: ProcessAnswer) -> io::Result<Deliveries> {
     match a {
         ProcessAnswer::Delivered(d) => {
-            print_deliveries(d);
-            d
+            print_deliveries(writer, d)?;
+            Ok(d)
         }
         ProcessAnswer::Refused(r) => {
-            replay_io::print_refusal(r);
-            Deliveries::Lost
+            replay_io::print_refusal(writer, r)?;
+            Ok(Deliveries::Lost)
         }
     }
 }
 
-fn print_deliveries(d: Deliveries) {
+fn print_deliveries(writer: &mut impl Write, d: Deliveries) -> io::Result<()> {
     match d {
-        Deliveries::Lost => replay_io::print_number(0),
+        Deliveries::Lost => replay_io::print_number(writer, 0),
         Deliveries::One(first) => {
-            replay_io::print_number(1);
-            replay_io::print_number(first);
+            replay_io::print_number(writer, 1)?;
+            replay_io::print_number(writer, first)
         }
         Deliveries::Two(first, second) => {
-            replay_io::print_number(2);
-            replay_io::print_number(first);
-            replay_io::print_number(second);
+            replay_io::print_number(writer, 2)?;
+            replay_io::print_number(writer, first)?;
+            replay_io::print_number(writer, second)
         }
     }
 }
 
-fn print_stats(s: ChannelStats) {
-    replay_io::print_number(s.packets_seen);
-    replay_io::print_number(s.lost);
-    replay_io::print_number(s.corrupted);
-    replay_io::print_number(s.duplicated);
-    replay_io::print_number(s.reordered);
-    replay_io::print_number(s.copies_delivered);
+fn print_stats(writer: &mut impl Write, s: ChannelStats) -> io::Result<()> {
+    replay_io::print_number(writer, s.packets_seen)?;
+    replay_io::print_number(writer, s.lost)?;
+    replay_io::print_number(writer, s.corrupted)?;
+    replay_io::print_number(writer, s.duplicated)?;
+    replay_io::print_number(writer, s.reordered)?;
+    replay_io::print_number(writer, s.copies_delivered)
 }
 
-fn print_done(a: DoneAnswer) {
+fn print_done(writer: &mut impl Write, a: DoneAnswer) -> io::Result<()> {
     match a {
-        DoneAnswer::Done => replay_io::print(b" done"),
-        DoneAnswer::Refused(r) => replay_io::print_refusal(r),
+        DoneAnswer::Done => replay_io::print(writer, b" done"),
+        DoneAnswer::Refused(r) => replay_io::print_refusal(writer, r),
     }
 }
 
-fn print_ready(a: ReadyAnswer) {
+fn print_ready(writer: &mut impl Write, a: ReadyAnswer) -> io::Result<()> {
     match a {
-        ReadyAnswer::Packet(n) => replay_io::print_number(n as u64),
-        ReadyAnswer::Nothing => replay_io::print(b" none"),
-        ReadyAnswer::Refused(r) => replay_io::print_refusal(r),
+        ReadyAnswer::Packet(n) => replay_io::print_number(writer, n as u64),
+        ReadyAnswer::Nothing => replay_io::print(writer, b" none"),
+        ReadyAnswer::Refused(r) => replay_io::print_refusal(writer, r),
     }
 }
 
-fn print_deadline(a: DeadlineAnswer) {
+fn print_deadline(writer: &mut impl Write, a: DeadlineAnswer) -> io::Result<()> {
     match a {
-        DeadlineAnswer::At(x) => replay_io::print_number(x),
-        DeadlineAnswer::Nothing => replay_io::print(b" none"),
-        DeadlineAnswer::Refused(r) => replay_io::print_refusal(r),
+        DeadlineAnswer::At(x) => replay_io::print_number(writer, x),
+        DeadlineAnswer::Nothing => replay_io::print(writer, b" none"),
+        DeadlineAnswer::Refused(r) => replay_io::print_refusal(writer, r),
     }
 }
 
-fn print_count(a: CountAnswer) {
+fn print_count(writer: &mut impl Write, a: CountAnswer) -> io::Result<()> {
     match a {
-        CountAnswer::Count(n) => replay_io::print_number(n as u64),
-        CountAnswer::Refused(r) => replay_io::print_refusal(r),
+        CountAnswer::Count(n) => replay_io::print_number(writer, n as u64),
+        CountAnswer::Refused(r) => replay_io::print_refusal(writer, r),
     }
 }
 
-fn print_test(a: TestAnswer) {
+fn print_test(writer: &mut impl Write, a: TestAnswer) -> io::Result<()> {
     match a {
-        TestAnswer::Is(b) => replay_io::print_test(b),
-        TestAnswer::Refused(r) => replay_io::print_refusal(r),
+        TestAnswer::Is(b) => replay_io::print_test(writer, b),
+        TestAnswer::Refused(r) => replay_io::print_refusal(writer, r),
     }
 }
 
-fn print_records(records: &[[u64; 4]]) {
-    let mut i: usize = 0;
-    while i < records.len() {
-        print_record(records[i]);
-        i += 1;
+fn print_records(writer: &mut impl Write, records: &[[u64; 4]]) -> io::Result<()> {
+    for record in records {
+        print_record(writer, *record)?;
     }
+    Ok(())
 }
 
-fn print_record(r: [u64; 4]) {
-    replay_io::print_number(r[0]);
-    replay_io::print_number(r[1]);
-    replay_io::print_number(r[2]);
-    replay_io::print_number(r[3]);
+fn print_record(writer: &mut impl Write, r: [u64; 4]) -> io::Result<()> {
+    replay_io::print_number(writer, r[0])?;
+    replay_io::print_number(writer, r[1])?;
+    replay_io::print_number(writer, r[2])?;
+    replay_io::print_number(writer, r[3])
 }

@@ -5,117 +5,112 @@
 #![tactic(auto)]
 
 use events::Event;
-use libc::STDIN_FILENO;
 use linkrun_text::MAX_FILE;
-use replay_io::Fields;
+use replay_io::{Fields, Lines};
+use std::io;
+use std::io::Write;
 use step::End;
 use text::PlaceAnswer;
 use transfer::RunAnswer;
 
-fn main() {
+fn main(rt: HostRuntime) -> io::Result<()> {
+    let mut writer = rt.stdout();
     let mut text = replay_io::buffer();
-    let n = io::read_full(STDIN_FILENO, &mut text);
-    replay_io::print_if_full(&text, n);
-    replay(&text[..n]);
+    let n = replay_io::read_full(&mut rt.stdin(), &mut text)?;
+    replay_io::print_if_full(&mut writer, &text, n)?;
+    replay(&mut writer, &text[..n])
 }
 
-fn replay(text: &[u8]) {
-    let mut at: usize = 0;
-    while at < text.len() {
-        let end = replay_io::line_end_unchecked(text, at);
-        case(&text[at..end]);
-        at = end;
-        if at < text.len() {
-            at += 1;
-        }
+fn replay(writer: &mut impl Write, text: &[u8]) -> io::Result<()> {
+    for line in Lines::new(text) {
+        case(writer, line)?;
     }
+    Ok(())
 }
 
-fn case(line: &[u8]) {
+fn case(writer: &mut impl Write, line: &[u8]) -> io::Result<()> {
     let f = replay_io::read_fields(line);
     if f.letter == b'#' {
-        return;
+        return Ok(());
     }
     let mut bytes = [0u8; 2048];
     let n = replay_io::read_bytes(line, f.bytes_at, &mut bytes);
-    replay_io::print_letter(f.letter);
-    run(f, &bytes[..n]);
-    replay_io::print(b"\n");
+    replay_io::print_letter(writer, f.letter)?;
+    run(writer, f, &bytes[..n])?;
+    replay_io::print(writer, b"\n")
 }
 
-fn run(f: Fields, file: &[u8]) {
+fn run(writer: &mut impl Write, f: Fields, file: &[u8]) -> io::Result<()> {
     if replay_io::is(f, b'f', 0) {
-        print_text(file);
-        print_run(file);
-        return;
+        print_text(writer, file)?;
+        return print_run(writer, file);
     }
     if replay_io::is(f, b'p', 0) {
-        print_report(file);
-        return;
+        return print_report(writer, file);
     }
-    replay_io::print_bad_line();
+    replay_io::print_bad_line(writer)
 }
 
-fn print_text(file: &[u8]) {
+fn print_text(writer: &mut impl Write, file: &[u8]) -> io::Result<()> {
     let mut text = [0u8; 10240];
     match linkrun_text::write_linkrun(file, &mut text) {
-        PlaceAnswer::Next(end) => print_answer(&text[..end]),
-        PlaceAnswer::Refused(r) => replay_io::print_refusal(r),
+        PlaceAnswer::Next(end) => print_answer(writer, &text[..end]),
+        PlaceAnswer::Refused(r) => replay_io::print_refusal(writer, r),
     }
 }
 
-fn print_answer(text: &[u8]) {
-    replay_io::print_number(text.len() as u64);
-    replay_io::print_crc32(text);
+fn print_answer(writer: &mut impl Write, text: &[u8]) -> io::Result<()> {
+    replay_io::print_number(writer, text.len() as u64)?;
+    replay_io::print_crc32(writer, text)
 }
 
-fn print_run(file: &[u8]) {
+fn print_run(writer: &mut impl Write, file: &[u8]) -> io::Result<()> {
     if file.len() == 0 {
-        return;
+        return Ok(());
     }
     if MAX_FILE < file.len() {
-        return;
+        return Ok(());
     }
     let mut events = [[0u64; 7]; 256];
     match linkrun_text::run_file_unchecked(file, &mut events) {
         RunAnswer::Outcome(o) => {
             let end = o.end;
-            replay_io::print_test(o.completed);
-            print_end(end);
+            replay_io::print_test(writer, o.completed)?;
+            print_end(writer, end)
         }
-        RunAnswer::Refused(r) => replay_io::print_refusal(r),
+        RunAnswer::Refused(r) => replay_io::print_refusal(writer, r),
     }
 }
 
-fn print_report(file: &[u8]) {
+fn print_report(writer: &mut impl Write, file: &[u8]) -> io::Result<()> {
     let mut events = [[0u64; 7]; 256];
     match linkrun_text::run_file_unchecked(file, &mut events) {
         RunAnswer::Outcome(o) => {
             let driver = o.driver;
-            print_page(&events, driver.events);
+            print_page(writer, &events, driver.events)
         }
-        RunAnswer::Refused(r) => replay_io::print_refusal(r),
+        RunAnswer::Refused(r) => replay_io::print_refusal(writer, r),
     }
 }
 
-fn print_page(events: &[Event], count: usize) {
+fn print_page(writer: &mut impl Write, events: &[Event], count: usize) -> io::Result<()> {
     let mut page = [0u8; 20480];
     match report::write_report(events, count, &mut page) {
         PlaceAnswer::Next(end) => {
             let text = replay_io::prefix(&page, end);
-            print_answer(text);
-            replay_io::print(b"\n");
-            replay_io::print(text);
+            print_answer(writer, text)?;
+            replay_io::print(writer, b"\n")?;
+            replay_io::print(writer, text)
         }
-        PlaceAnswer::Refused(r) => replay_io::print_refusal(r),
+        PlaceAnswer::Refused(r) => replay_io::print_refusal(writer, r),
     }
 }
 
-fn print_end(end: End) {
+fn print_end(writer: &mut impl Write, end: End) -> io::Result<()> {
     match end {
-        End::Ended => replay_io::print(b" ended"),
-        End::RollsSpent => replay_io::print(b" rolls spent"),
-        End::EventsFull => replay_io::print(b" events full"),
-        End::ScheduleFull => replay_io::print(b" schedule full"),
+        End::Ended => replay_io::print(writer, b" ended"),
+        End::RollsSpent => replay_io::print(writer, b" rolls spent"),
+        End::EventsFull => replay_io::print(writer, b" events full"),
+        End::ScheduleFull => replay_io::print(writer, b" schedule full"),
     }
 }

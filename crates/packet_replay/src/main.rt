@@ -8,122 +8,124 @@
 // A packet is answered by number, kind, flags and checksum, a refusal by `refused`, its number and its values.
 #![tactic(auto)]
 
-use libc::STDIN_FILENO;
 use packet::{
     ChecksumAnswer, LengthAnswer, Packet, PacketAnswer, PacketType, PacketTypeAnswer,
     ValidityAnswer,
 };
-use replay_io::Fields;
+use replay_io::{Fields, Lines};
+use std::io;
+use std::io::Write;
 
-fn main() {
+fn main(rt: HostRuntime) -> io::Result<()> {
+    let mut writer = rt.stdout();
     let mut text = replay_io::buffer();
-    let n = io::read_full(STDIN_FILENO, &mut text);
-    replay_io::print_if_full(&text, n);
-    replay(&text[..n]);
+    let n = replay_io::read_full(&mut rt.stdin(), &mut text)?;
+    replay_io::print_if_full(&mut writer, &text, n)?;
+    replay(&mut writer, &text[..n])
 }
 
-fn replay(text: &[u8]) {
-    let mut at: usize = 0;
-    while at < text.len() {
-        let end = replay_io::line_end_unchecked(text, at);
-        case(&text[at..end]);
-        at = end;
-        if at < text.len() {
-            at += 1;
-        }
+fn replay(writer: &mut impl Write, text: &[u8]) -> io::Result<()> {
+    for line in Lines::new(text) {
+        case(writer, line)?;
     }
+    Ok(())
 }
 
-fn case(line: &[u8]) {
+fn case(writer: &mut impl Write, line: &[u8]) -> io::Result<()> {
     let f = replay_io::read_fields(line);
     if f.letter == b'#' {
-        return;
+        return Ok(());
     }
     let mut bytes = [0u8; 2048];
     let n = replay_io::read_bytes(line, f.bytes_at, &mut bytes);
-    replay_io::print_letter(f.letter);
-    run(f, &bytes[..n]);
-    replay_io::print(b"\n");
+    replay_io::print_letter(writer, f.letter)?;
+    run(writer, f, &bytes[..n])?;
+    replay_io::print(writer, b"\n")
 }
 
-fn run(f: Fields, bytes: &[u8]) {
+fn run(writer: &mut impl Write, f: Fields, bytes: &[u8]) -> io::Result<()> {
     if replay_io::is(f, b'r', 0) {
-        read_case(bytes);
-        return;
+        return read_case(writer, bytes);
     }
     if replay_io::is(f, b'c', 4) {
-        checksum_case(packet_of(f), bytes);
-        return;
+        return checksum_case(writer, packet_of(f), bytes);
     }
     if replay_io::is(f, b'w', 5) {
-        write_case(f, bytes);
-        return;
+        return write_case(writer, f, bytes);
     }
     if replay_io::is(f, b't', 1) {
-        type_case(f);
-        return;
+        return type_case(writer, f);
     }
     if replay_io::is(f, b'f', 4) {
-        flags_case(packet_of(f));
-        return;
+        return flags_case(writer, packet_of(f));
     }
-    replay_io::print_bad_line();
+    replay_io::print_bad_line(writer)
 }
 
-fn read_case(raw: &[u8]) {
-    print_packet_answer(Packet::from_bytes(raw));
-    print_validity(Packet::is_valid(raw));
-    replay_io::print_bytes(Packet::payload(raw));
+fn read_case(writer: &mut impl Write, raw: &[u8]) -> io::Result<()> {
+    print_packet_answer(writer, Packet::from_bytes(raw))?;
+    print_validity(writer, Packet::is_valid(raw))?;
+    replay_io::print_bytes(writer, Packet::payload(raw))
 }
 
-fn checksum_case(a: PacketAnswer, payload: &[u8]) {
+fn checksum_case(writer: &mut impl Write, a: PacketAnswer, payload: &[u8]) -> io::Result<()> {
     match a {
         PacketAnswer::Packet(p) => {
-            print_checksum(p.compute_checksum(payload));
-            print_packet_answer(p.compute_and_set_checksum(payload));
+            print_checksum(writer, p.compute_checksum(payload))?;
+            print_packet_answer(writer, p.compute_and_set_checksum(payload))
         }
-        PacketAnswer::Refused(r) => replay_io::print_refusal(r),
+        PacketAnswer::Refused(r) => replay_io::print_refusal(writer, r),
     }
 }
 
-fn write_case(f: Fields, payload: &[u8]) {
+fn write_case(writer: &mut impl Write, f: Fields, payload: &[u8]) -> io::Result<()> {
     let v = f.values;
     let mut out = [0xa5u8; 2048];
-    write_within(packet_of(f), v[4] as usize, payload, &mut out);
+    write_within(writer, packet_of(f), v[4] as usize, payload, &mut out)
 }
 
-fn write_within(a: PacketAnswer, room: usize, payload: &[u8], out: &mut [u8]) {
+fn write_within(
+    writer: &mut impl Write,
+    a: PacketAnswer,
+    room: usize,
+    payload: &[u8],
+    out: &mut [u8],
+) -> io::Result<()> {
     if out.len() < room {
-        replay_io::print_bad_line();
-        return;
+        return replay_io::print_bad_line(writer);
     }
     match a {
-        PacketAnswer::Packet(p) => write_packet(p, payload, &mut out[0..room]),
-        PacketAnswer::Refused(r) => replay_io::print_refusal(r),
+        PacketAnswer::Packet(p) => write_packet(writer, p, payload, &mut out[0..room]),
+        PacketAnswer::Refused(r) => replay_io::print_refusal(writer, r),
     }
 }
 
-fn write_packet(p: Packet, payload: &[u8], out: &mut [u8]) {
-    print_length(p.to_bytes(payload, out));
-    replay_io::print_bytes(out);
+fn write_packet(
+    writer: &mut impl Write,
+    p: Packet,
+    payload: &[u8],
+    out: &mut [u8],
+) -> io::Result<()> {
+    print_length(writer, p.to_bytes(payload, out))?;
+    replay_io::print_bytes(writer, out)
 }
 
-fn type_case(f: Fields) {
+fn type_case(writer: &mut impl Write, f: Fields) -> io::Result<()> {
     let v = f.values;
     match PacketType::try_from((v[0] % 256) as u8) {
-        PacketTypeAnswer::Type(t) => replay_io::print_number(t.to_byte() as u64),
-        PacketTypeAnswer::Refused(r) => replay_io::print_refusal(r),
+        PacketTypeAnswer::Type(t) => replay_io::print_number(writer, t.to_byte() as u64),
+        PacketTypeAnswer::Refused(r) => replay_io::print_refusal(writer, r),
     }
 }
 
-fn flags_case(a: PacketAnswer) {
+fn flags_case(writer: &mut impl Write, a: PacketAnswer) -> io::Result<()> {
     match a {
         PacketAnswer::Packet(p) => {
-            replay_io::print_test(p.is_retransmitted());
-            print_packet(p.set_retransmitted());
-            print_packet(new_packet(p));
+            replay_io::print_test(writer, p.is_retransmitted())?;
+            print_packet(writer, p.set_retransmitted())?;
+            print_packet(writer, new_packet(p))
         }
-        PacketAnswer::Refused(r) => replay_io::print_refusal(r),
+        PacketAnswer::Refused(r) => replay_io::print_refusal(writer, r),
     }
 }
 
@@ -151,39 +153,39 @@ fn packet_of(f: Fields) -> PacketAnswer {
     }
 }
 
-fn print_packet_answer(a: PacketAnswer) {
+fn print_packet_answer(writer: &mut impl Write, a: PacketAnswer) -> io::Result<()> {
     match a {
-        PacketAnswer::Packet(p) => print_packet(p),
-        PacketAnswer::Refused(r) => replay_io::print_refusal(r),
+        PacketAnswer::Packet(p) => print_packet(writer, p),
+        PacketAnswer::Refused(r) => replay_io::print_refusal(writer, r),
     }
 }
 
-fn print_packet(p: Packet) {
+fn print_packet(writer: &mut impl Write, p: Packet) -> io::Result<()> {
     let pkt_type = p.pkt_type;
-    replay_io::print_number(p.seq_num as u64);
-    replay_io::print_number(pkt_type.to_byte() as u64);
-    replay_io::print_number(p.flags as u64);
-    replay_io::print_number(p.checksum as u64);
+    replay_io::print_number(writer, p.seq_num as u64)?;
+    replay_io::print_number(writer, pkt_type.to_byte() as u64)?;
+    replay_io::print_number(writer, p.flags as u64)?;
+    replay_io::print_number(writer, p.checksum as u64)
 }
 
-fn print_validity(a: ValidityAnswer) {
+fn print_validity(writer: &mut impl Write, a: ValidityAnswer) -> io::Result<()> {
     match a {
-        ValidityAnswer::Valid => replay_io::print(b" valid"),
-        ValidityAnswer::Invalid => replay_io::print(b" invalid"),
-        ValidityAnswer::Refused(r) => replay_io::print_refusal(r),
+        ValidityAnswer::Valid => replay_io::print(writer, b" valid"),
+        ValidityAnswer::Invalid => replay_io::print(writer, b" invalid"),
+        ValidityAnswer::Refused(r) => replay_io::print_refusal(writer, r),
     }
 }
 
-fn print_checksum(a: ChecksumAnswer) {
+fn print_checksum(writer: &mut impl Write, a: ChecksumAnswer) -> io::Result<()> {
     match a {
-        ChecksumAnswer::Checksum(k) => replay_io::print_number(k as u64),
-        ChecksumAnswer::Refused(r) => replay_io::print_refusal(r),
+        ChecksumAnswer::Checksum(k) => replay_io::print_number(writer, k as u64),
+        ChecksumAnswer::Refused(r) => replay_io::print_refusal(writer, r),
     }
 }
 
-fn print_length(a: LengthAnswer) {
+fn print_length(writer: &mut impl Write, a: LengthAnswer) -> io::Result<()> {
     match a {
-        LengthAnswer::Length(n) => replay_io::print_number(n as u64),
-        LengthAnswer::Refused(r) => replay_io::print_refusal(r),
+        LengthAnswer::Length(n) => replay_io::print_number(writer, n as u64),
+        LengthAnswer::Refused(r) => replay_io::print_refusal(writer, r),
     }
 }

@@ -9,10 +9,13 @@
 #![tactic(auto)]
 
 ghost use Rattle.std.specs.Prelude.{◌≡◌, ◌≤◌, ◌<◌, length};
-ghost use Rattle.io.specs.Counts.{IsPrefixLen};
+ghost use Rattle.std.specs.Io.{ReadsAtMost};
+ghost use Rattle.std.specs.Iterator.{at_most};
+ghost use Rattle.replay_io.specs.Counts.{IsPrefixLen};
 
-use libc::STDOUT_FILENO;
 use refusal::Refusal;
+use std::io;
+use std::io::{Read, Write};
 
 // A line's letter, its numbers, and where its bytes start.
 #[derive(Clone, Copy)]
@@ -58,8 +61,8 @@ pub fn read_fields(line: &[u8]) -> Fields {
     let mut values = [0u64; 12];
     let mut next: usize = 2;
     let mut good = starts(line);
-    let mut k: usize = 0;
-    while k < 12 {
+    let mut count: usize = 0;
+    for k in 0..12 {
         if no_number(line, next) {
             break;
         }
@@ -67,12 +70,12 @@ pub fn read_fields(line: &[u8]) -> Fields {
         values[k] = x.value;
         next = x.next;
         good = both(good, x.good);
-        k += 1;
+        count = k + 1;
     }
     Fields {
         letter: byte(line, 0),
-        values: values,
-        count: k,
+        values,
+        count,
         bytes_at: next,
         good: both(good, ends(line, next)),
     }
@@ -113,10 +116,10 @@ fn read_number(line: &[u8], at: usize) -> Number {
         value: 0,
         good: byte(line, at) != b' ',
     };
-    let mut i = at;
-    while i < line.len() {
+    let mut next = at;
+    for i in at..line.len() {
         let b = line[i];
-        i += 1;
+        next = i + 1;
         if b == b' ' {
             break;
         }
@@ -124,7 +127,7 @@ fn read_number(line: &[u8], at: usize) -> Number {
     }
     Number {
         value: x.value,
-        next: i,
+        next,
         good: x.good,
     }
 }
@@ -172,12 +175,10 @@ fn hexadecimal(digits: &[u8]) -> bool {
     if 4096 < digits.len() {
         return false;
     }
-    let mut i: usize = 0;
-    while i < digits.len() {
-        if hex_digit(hex_value(digits[i])) != digits[i] {
+    for digit in digits {
+        if hex_digit(hex_value(*digit)) != *digit {
             return false;
         }
-        i += 1;
     }
     digits.len() % 2 == 0
 }
@@ -203,10 +204,8 @@ fn decode(digits: &[u8], out: &mut [u8]) -> usize
     ensures { IsPrefixLen result out.new }
 {
     let most = min(digits.len() / 2, out.len());
-    let mut i: usize = 0;
-    while i < most {
+    for i in 0..most {
         out[i] = hex_value(digits[2 * i]) * 16 + hex_value(digits[2 * i + 1]);
-        i += 1;
     }
     most
 }
@@ -216,11 +215,9 @@ fn encode(bytes: &[u8], out: &mut [u8]) -> usize
     ensures { IsPrefixLen result out.new }
 {
     let most = min(bytes.len(), out.len() / 2);
-    let mut i: usize = 0;
-    while i < most {
+    for i in 0..most {
         out[2 * i] = high_digit(bytes[i]);
         out[2 * i + 1] = low_digit(bytes[i]);
-        i += 1;
     }
     2 * most
 }
@@ -269,14 +266,42 @@ pub fn line_end_unchecked(text: &[u8], from: usize) -> usize
     requires { from < length text.now }
     ensures { (from ≤ result) × (result ≤ length text.now) }
 {
-    let mut i = from;
-    while i < text.len() {
+    for i in from..text.len() {
         if text[i] == b'\n' {
             return i;
         }
-        i += 1;
     }
-    i
+    text.len()
+}
+
+// The lines of a text, each without its end.
+#[derive(Drop)]
+pub struct Lines<'a>(&'a [u8]);
+
+impl<'a> Lines<'a> {
+    pub fn new(text: &'a [u8]) -> Lines<'a> {
+        Lines(text)
+    }
+}
+
+impl<'a> Iterator for Lines<'a> {
+    type Item = &'a [u8];
+
+    ghost remaining = { λ s. at_most (length s.0.now) };
+
+    fn next(&mut self) -> Option<&'a [u8]> {
+        let text = self.0;
+        if text.is_empty() {
+            return None;
+        }
+        let end = line_end_unchecked(text, 0);
+        self.0 = if end < text.len() {
+            &text[end + 1..]
+        } else {
+            &text[end..]
+        };
+        Some(&text[..end])
+    }
 }
 
 // The double that has these bits; NaN for each of its patterns.
@@ -308,20 +333,16 @@ pub fn part(bytes: &[u8], from: usize, to: usize) -> &[u8] {
 }
 
 pub fn fill(bytes: &mut [u8], b: u8) {
-    let mut i: usize = 0;
-    while i < bytes.len() {
-        bytes[i] = b;
-        i += 1;
+    for byte in bytes.iter_mut() {
+        *byte = b;
     }
 }
 
 // CRC-32 (IEEE 802.3, reflected): of "123456789" it is cbf43926.
 pub fn crc32(bytes: &[u8]) -> u32 {
     let mut crc: u32 = 0xFFFF_FFFF;
-    let mut i: usize = 0;
-    while i < bytes.len() {
-        crc = crc_byte(crc, bytes[i]);
-        i += 1;
+    for byte in bytes {
+        crc = crc_byte(crc, *byte);
     }
     !crc
 }
@@ -347,60 +368,74 @@ pub fn buffer() -> [u8; 524288] {
     [0u8; 524288]
 }
 
-// For an input of n bytes read into `text`: whether there may be more of it.
-pub fn print_if_full(text: &[u8], n: usize) {
-    if text.len() <= n {
-        print(b"input too long\n");
+// Reads until `text` is full or the input ends; answers how many bytes it has read.
+pub fn read_full(input: &mut impl Read, text: &mut [u8]) -> io::Result<usize>
+    ensures { ReadsAtMost result text.new }
+{
+    let mut done = 0;
+    while done < text.len() {
+        let n = input.read(&mut text[done..])?;
+        if n == 0 {
+            break;
+        }
+        done += n;
     }
+    Ok(done)
 }
 
-pub fn print_letter(letter: u8) {
-    let text = [letter];
-    print(&text);
+// For an input of n bytes read into `text`: whether there may be more of it.
+pub fn print_if_full(writer: &mut impl Write, text: &[u8], n: usize) -> io::Result<()> {
+    if text.len() <= n {
+        print(writer, b"input too long\n")?;
+    }
+    Ok(())
 }
 
-pub fn print_bad_line() {
-    print(b" bad line");
+pub fn print_letter(writer: &mut impl Write, letter: u8) -> io::Result<()> {
+    print(writer, &[letter])
 }
 
-pub fn print_refusal(r: Refusal) {
-    print(b" refused");
-    print_number(r.number() as u64);
+pub fn print_bad_line(writer: &mut impl Write) -> io::Result<()> {
+    print(writer, b" bad line")
+}
+
+pub fn print_refusal(writer: &mut impl Write, r: Refusal) -> io::Result<()> {
+    print(writer, b" refused")?;
+    print_number(writer, r.number() as u64)?;
     let values = r.values();
     if 0 < values.count {
-        print_number(values.first);
+        print_number(writer, values.first)?;
     }
     if 1 < values.count {
-        print_number(values.second);
+        print_number(writer, values.second)?;
     }
+    Ok(())
 }
 
-pub fn print_number(n: u64) {
-    print(b" ");
-    io::print_decimal(STDOUT_FILENO, n);
+pub fn print_number(writer: &mut impl Write, n: u64) -> io::Result<()> {
+    write!(writer, " {n}")
 }
 
-pub fn print_test(b: bool) {
-    print_number(b as u64);
+pub fn print_test(writer: &mut impl Write, b: bool) -> io::Result<()> {
+    print_number(writer, b as u64)
 }
 
-pub fn print_bytes(bytes: &[u8]) {
+pub fn print_bytes(writer: &mut impl Write, bytes: &[u8]) -> io::Result<()> {
     if 2048 < bytes.len() {
-        print_number(bytes.len() as u64);
-        print_crc32(bytes);
-        return;
+        print_number(writer, bytes.len() as u64)?;
+        return print_crc32(writer, bytes);
     }
     let mut text = [0u8; 4096];
     let n = encode(bytes, &mut text);
-    print(b" x");
-    print(&text[..n]);
+    print(writer, b" x")?;
+    print(writer, &text[..n])
 }
 
-pub fn print_crc32(bytes: &[u8]) {
-    print(b" crc32 ");
-    io::print_hex(STDOUT_FILENO, crc32(bytes) as u64, 8);
+pub fn print_crc32(writer: &mut impl Write, bytes: &[u8]) -> io::Result<()> {
+    let crc = crc32(bytes);
+    write!(writer, " crc32 {crc:08x}")
 }
 
-pub fn print(text: &[u8]) {
-    io::write_all(STDOUT_FILENO, text);
+pub fn print(writer: &mut impl Write, text: &[u8]) -> io::Result<()> {
+    writer.write_all(text)
 }

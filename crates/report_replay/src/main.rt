@@ -5,67 +5,80 @@
 #![tactic(auto)]
 
 use events::Event;
-use libc::STDIN_FILENO;
-use replay_io::Fields;
+use replay_io::{Fields, Lines};
+use std::io;
+use std::io::Write;
 use text::PlaceAnswer;
 
-fn main() {
+fn main(rt: HostRuntime) -> io::Result<()> {
+    let mut writer = rt.stdout();
     let mut text = [0u8; 131072];
-    let n = io::read_full(STDIN_FILENO, &mut text);
-    replay_io::print_if_full(&text, n);
-    replay(&text[..n]);
+    let n = replay_io::read_full(&mut rt.stdin(), &mut text)?;
+    replay_io::print_if_full(&mut writer, &text, n)?;
+    replay(&mut writer, &text[..n])
 }
 
-fn replay(text: &[u8]) {
+fn replay(writer: &mut impl Write, text: &[u8]) -> io::Result<()> {
     let mut rows = [[0u64; 7]; 64];
     let mut count: usize = 0;
-    let mut at: usize = 0;
-    while at < text.len() {
-        let end = replay_io::line_end_unchecked(text, at);
-        count = case(&text[at..end], &mut rows, count);
-        at = end;
-        if at < text.len() {
-            at += 1;
-        }
+    for line in Lines::new(text) {
+        count = case(writer, line, &mut rows, count)?;
     }
+    Ok(())
 }
 
-fn case(line: &[u8], rows: &mut [Event; 64], count: usize) -> usize {
+fn case(
+    writer: &mut impl Write,
+    line: &[u8],
+    rows: &mut [Event; 64],
+    count: usize,
+) -> io::Result<usize> {
     let f = replay_io::read_fields(line);
     if f.letter == b'#' {
-        return count;
+        return Ok(count);
     }
-    replay_io::print_letter(f.letter);
-    let next = run(f, rows, count);
-    replay_io::print(b"\n");
-    next
+    replay_io::print_letter(writer, f.letter)?;
+    let next = run(writer, f, rows, count)?;
+    replay_io::print(writer, b"\n")?;
+    Ok(next)
 }
 
 // Answers how many rows there are then.
-fn run(f: Fields, rows: &mut [Event; 64], count: usize) -> usize {
+fn run(
+    writer: &mut impl Write,
+    f: Fields,
+    rows: &mut [Event; 64],
+    count: usize,
+) -> io::Result<usize> {
     if replay_io::is(f, b'c', 0) {
-        return 0;
+        return Ok(0);
     }
     if replay_io::is(f, b'e', 7) {
-        return add(f, rows, count);
+        return add(writer, f, rows, count);
     }
     if replay_io::is(f, b'p', 2) {
         print_page(
+            writer,
             rows,
             count,
             replay_io::value(f, 0) as usize,
             replay_io::value(f, 1) as usize,
-        );
-        return count;
+        )?;
+        return Ok(count);
     }
-    replay_io::print_bad_line();
-    count
+    replay_io::print_bad_line(writer)?;
+    Ok(count)
 }
 
-fn add(f: Fields, rows: &mut [Event; 64], count: usize) -> usize {
+fn add(
+    writer: &mut impl Write,
+    f: Fields,
+    rows: &mut [Event; 64],
+    count: usize,
+) -> io::Result<usize> {
     if 64 <= count {
-        replay_io::print_bad_line();
-        return count;
+        replay_io::print_bad_line(writer)?;
+        return Ok(count);
     }
     rows[count] = [
         replay_io::value(f, 0),
@@ -76,28 +89,39 @@ fn add(f: Fields, rows: &mut [Event; 64], count: usize) -> usize {
         replay_io::value(f, 5),
         replay_io::value(f, 6),
     ];
-    replay_io::print_number((count + 1) as u64);
-    count + 1
+    replay_io::print_number(writer, (count + 1) as u64)?;
+    Ok(count + 1)
 }
 
-fn print_page(rows: &[Event], lent: usize, count: usize, size: usize) {
+fn print_page(
+    writer: &mut impl Write,
+    rows: &[Event],
+    lent: usize,
+    count: usize,
+    size: usize,
+) -> io::Result<()> {
     let mut out = [b'#'; 8192];
     let n = replay_io::min(size, 8192);
     let k = replay_io::min(lent, rows.len());
-    write_page(&rows[..k], count, &mut out[..n]);
+    write_page(writer, &rows[..k], count, &mut out[..n])
 }
 
-fn write_page(rows: &[Event], count: usize, out: &mut [u8]) {
+fn write_page(
+    writer: &mut impl Write,
+    rows: &[Event],
+    count: usize,
+    out: &mut [u8],
+) -> io::Result<()> {
     match report::write_report(rows, count, out) {
         PlaceAnswer::Next(end) => {
-            replay_io::print_number(end as u64);
-            replay_io::print_crc32(out);
-            replay_io::print(b"\n");
-            replay_io::print(replay_io::prefix(out, end));
+            replay_io::print_number(writer, end as u64)?;
+            replay_io::print_crc32(writer, out)?;
+            replay_io::print(writer, b"\n")?;
+            replay_io::print(writer, replay_io::prefix(out, end))
         }
         PlaceAnswer::Refused(r) => {
-            replay_io::print_refusal(r);
-            replay_io::print_crc32(out);
+            replay_io::print_refusal(writer, r)?;
+            replay_io::print_crc32(writer, out)
         }
     }
 }

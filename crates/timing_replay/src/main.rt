@@ -26,16 +26,17 @@
 // counts of samples, rejected ones, timeouts and backoffs, the most consecutive timeouts and the mean RTT in ms.
 #![tactic(auto)]
 
-use libc::STDIN_FILENO;
 use multi_timer::{
     CancelAnswer, EarliestAnswer, MultiTimer, MultiTimerAnswer, PopAnswer, StartAnswer,
 };
 use refusal::{DoneAnswer, TestAnswer};
-use replay_io::Fields;
+use replay_io::{Fields, Lines};
 use rto::{
     EstimatorAnswer, MaybeDuration, MeanAnswer, RtoAnswer, RtoConfig, RtoEstimator, RtoStats,
     UpdateAnswer,
 };
+use std::io;
+use std::io::Write;
 use timer::{Remaining, RetransmissionTimer, TimerAnswer, TimerResult};
 
 #[derive(Clone, Copy)]
@@ -46,13 +47,14 @@ struct State {
     room: usize,
 }
 
-fn main() {
+fn main(rt: HostRuntime) -> io::Result<()> {
+    let mut writer = rt.stdout();
     let mut text = replay_io::buffer();
-    let n = io::read_full(STDIN_FILENO, &mut text);
+    let n = replay_io::read_full(&mut rt.stdin(), &mut text)?;
     let mut keys = [0u32; 40];
     let mut deadlines = [0u64; 40];
-    replay_io::print_if_full(&text, n);
-    replay(&text[..n], start(), &mut keys, &mut deadlines);
+    replay_io::print_if_full(&mut writer, &text, n)?;
+    replay(&mut writer, &text[..n], start(), &mut keys, &mut deadlines)
 }
 
 fn start() -> State {
@@ -64,60 +66,73 @@ fn start() -> State {
     }
 }
 
-fn replay(text: &[u8], first: State, keys: &mut [u32], deadlines: &mut [u64]) {
+fn replay(
+    writer: &mut impl Write,
+    text: &[u8],
+    first: State,
+    keys: &mut [u32],
+    deadlines: &mut [u64],
+) -> io::Result<()> {
     let mut state = first;
-    let mut at: usize = 0;
-    while at < text.len() {
-        let end = replay_io::line_end_unchecked(text, at);
-        state = case(&text[at..end], state, keys, deadlines);
-        at = end;
-        if at < text.len() {
-            at += 1;
-        }
+    for line in Lines::new(text) {
+        state = case(writer, line, state, keys, deadlines)?;
     }
+    Ok(())
 }
 
-fn case(line: &[u8], state: State, keys: &mut [u32], deadlines: &mut [u64]) -> State {
+fn case(
+    writer: &mut impl Write,
+    line: &[u8],
+    state: State,
+    keys: &mut [u32],
+    deadlines: &mut [u64],
+) -> io::Result<State> {
     let f = replay_io::read_fields(line);
     if f.letter == b'#' {
-        return state;
+        return Ok(state);
     }
-    replay_io::print_letter(f.letter);
-    let after = call(f, state, keys, deadlines);
-    replay_io::print(b"\n");
-    after
+    replay_io::print_letter(writer, f.letter)?;
+    let after = call(writer, f, state, keys, deadlines)?;
+    replay_io::print(writer, b"\n")?;
+    Ok(after)
 }
 
-fn call(f: Fields, state: State, keys: &mut [u32], deadlines: &mut [u64]) -> State {
+fn call(
+    writer: &mut impl Write,
+    f: Fields,
+    state: State,
+    keys: &mut [u32],
+    deadlines: &mut [u64],
+) -> io::Result<State> {
     let e = state.estimator;
     let t = state.timer;
     let m = state.timers;
     let room = state.room;
     if is_estimator_call(f) {
-        return State {
-            estimator: estimator_call(f, e),
+        return Ok(State {
+            estimator: estimator_call(writer, f, e)?,
             timer: t,
             timers: m,
             room: room,
-        };
+        });
     }
     if is_timer_call(f) {
-        return State {
+        return Ok(State {
             estimator: e,
-            timer: timer_call(f, t),
+            timer: timer_call(writer, f, t)?,
             timers: m,
             room: room,
-        };
+        });
     }
     if replay_io::is(f, b'm', 1) {
-        return new_set(f, state, keys, deadlines);
+        return new_set(writer, f, state, keys, deadlines);
     }
-    State {
+    Ok(State {
         estimator: e,
         timer: t,
-        timers: set_within(f, room, m, keys, deadlines),
+        timers: set_within(writer, f, room, m, keys, deadlines)?,
         room: room,
-    }
+    })
 }
 
 fn is_estimator_call(f: Fields) -> bool {
@@ -136,19 +151,23 @@ fn is_estimator_call(f: Fields) -> bool {
     replay_io::is(f, b'l', 1)
 }
 
-fn estimator_call(f: Fields, e: RtoEstimator) -> RtoEstimator {
+fn estimator_call(writer: &mut impl Write, f: Fields, e: RtoEstimator) -> io::Result<RtoEstimator> {
     let v = f.values;
     let letter = f.letter;
     match letter {
-        b'e' => new_estimator(f, e),
-        b's' => sample_call(e, v[0], v[1] != 0),
-        b'o' => timeout_call(e),
-        b'b' => reset_call(e),
-        _ => limit_call(e, v[0]),
+        b'e' => new_estimator(writer, f, e),
+        b's' => sample_call(writer, e, v[0], v[1] != 0),
+        b'o' => timeout_call(writer, e),
+        b'b' => reset_call(writer, e),
+        _ => limit_call(writer, e, v[0]),
     }
 }
 
-fn new_estimator(f: Fields, before: RtoEstimator) -> RtoEstimator {
+fn new_estimator(
+    writer: &mut impl Write,
+    f: Fields,
+    before: RtoEstimator,
+) -> io::Result<RtoEstimator> {
     let v = f.values;
     let c = RtoConfig {
         initial_rto: v[0],
@@ -162,96 +181,101 @@ fn new_estimator(f: Fields, before: RtoEstimator) -> RtoEstimator {
     };
     match RtoEstimator::with_config(c) {
         EstimatorAnswer::Made(e) => {
-            print_estimator(e);
-            e
+            print_estimator(writer, e)?;
+            Ok(e)
         }
         EstimatorAnswer::Refused(r) => {
-            replay_io::print_refusal(r);
-            before
+            replay_io::print_refusal(writer, r)?;
+            Ok(before)
         }
     }
 }
 
-fn limit_call(e: RtoEstimator, limit: u64) -> RtoEstimator {
-    print_test(e.has_exceeded_retry_limit(replay_io::low(limit)));
-    e
+fn limit_call(writer: &mut impl Write, e: RtoEstimator, limit: u64) -> io::Result<RtoEstimator> {
+    print_test(writer, e.has_exceeded_retry_limit(replay_io::low(limit)))?;
+    Ok(e)
 }
 
-fn sample_call(e: RtoEstimator, x: u64, again: bool) -> RtoEstimator {
+fn sample_call(
+    writer: &mut impl Write,
+    e: RtoEstimator,
+    x: u64,
+    again: bool,
+) -> io::Result<RtoEstimator> {
     let c = e.update_rtt(x, again);
     let next = c.estimator;
     let a = c.answer;
     match a {
-        UpdateAnswer::Accepted(b) => replay_io::print_test(b),
-        UpdateAnswer::Refused(r) => replay_io::print_refusal(r),
+        UpdateAnswer::Accepted(b) => replay_io::print_test(writer, b)?,
+        UpdateAnswer::Refused(r) => replay_io::print_refusal(writer, r)?,
     }
-    print_estimator(next);
-    next
+    print_estimator(writer, next)?;
+    Ok(next)
 }
 
-fn timeout_call(e: RtoEstimator) -> RtoEstimator {
+fn timeout_call(writer: &mut impl Write, e: RtoEstimator) -> io::Result<RtoEstimator> {
     let c = e.on_timeout();
     let next = c.estimator;
     let a = c.answer;
     match a {
-        RtoAnswer::Rto(rto) => replay_io::print_number(rto),
-        RtoAnswer::Refused(r) => replay_io::print_refusal(r),
+        RtoAnswer::Rto(rto) => replay_io::print_number(writer, rto)?,
+        RtoAnswer::Refused(r) => replay_io::print_refusal(writer, r)?,
     }
-    print_estimator(next);
-    next
+    print_estimator(writer, next)?;
+    Ok(next)
 }
 
-fn reset_call(e: RtoEstimator) -> RtoEstimator {
+fn reset_call(writer: &mut impl Write, e: RtoEstimator) -> io::Result<RtoEstimator> {
     let c = e.reset_backoff();
     let next = c.estimator;
     let a = c.answer;
-    print_done(a);
-    print_estimator(next);
-    next
+    print_done(writer, a)?;
+    print_estimator(writer, next)?;
+    Ok(next)
 }
 
-fn print_estimator(e: RtoEstimator) {
+fn print_estimator(writer: &mut impl Write, e: RtoEstimator) -> io::Result<()> {
     let srtt = e.srtt;
     let rttvar = e.rttvar;
     let stats = e.stats;
-    replay_io::print_number(e.current_rto);
-    print_rtt(srtt);
-    print_rtt(rttvar);
-    replay_io::print_number(e.base_rto);
-    replay_io::print_test(e.in_backoff);
-    replay_io::print_number(wide(e.consecutive_timeouts));
-    print_stats(stats);
-    print_mean(e.mean_rtt_ms());
+    replay_io::print_number(writer, e.current_rto)?;
+    print_rtt(writer, srtt)?;
+    print_rtt(writer, rttvar)?;
+    replay_io::print_number(writer, e.base_rto)?;
+    replay_io::print_test(writer, e.in_backoff)?;
+    replay_io::print_number(writer, wide(e.consecutive_timeouts))?;
+    print_stats(writer, stats)?;
+    print_mean(writer, e.mean_rtt_ms())
 }
 
-fn print_stats(s: RtoStats) {
-    replay_io::print_number(s.sample_count);
-    replay_io::print_number(s.karn_rejected_count);
-    replay_io::print_number(s.timeout_count);
-    replay_io::print_number(s.backoff_count);
-    replay_io::print_number(wide(s.max_consecutive_timeouts));
+fn print_stats(writer: &mut impl Write, s: RtoStats) -> io::Result<()> {
+    replay_io::print_number(writer, s.sample_count)?;
+    replay_io::print_number(writer, s.karn_rejected_count)?;
+    replay_io::print_number(writer, s.timeout_count)?;
+    replay_io::print_number(writer, s.backoff_count)?;
+    replay_io::print_number(writer, wide(s.max_consecutive_timeouts))
 }
 
-fn print_mean(a: MeanAnswer) {
+fn print_mean(writer: &mut impl Write, a: MeanAnswer) -> io::Result<()> {
     match a {
-        MeanAnswer::Millis(x) => print_bits(x),
-        MeanAnswer::Refused(r) => replay_io::print_refusal(r),
+        MeanAnswer::Millis(x) => print_bits(writer, x),
+        MeanAnswer::Refused(r) => replay_io::print_refusal(writer, r),
     }
 }
 
 // The bits of a number from 0 on.
-fn print_bits(x: f64) {
+fn print_bits(writer: &mut impl Write, x: f64) -> io::Result<()> {
     if x >= 0.0 {
-        replay_io::print_number(f64::to_bits(x));
+        replay_io::print_number(writer, f64::to_bits(x))
     } else {
-        print_none();
+        print_none(writer)
     }
 }
 
-fn print_rtt(r: MaybeDuration) {
+fn print_rtt(writer: &mut impl Write, r: MaybeDuration) -> io::Result<()> {
     match r {
-        MaybeDuration::Unset => print_none(),
-        MaybeDuration::Set(x) => replay_io::print_number(x),
+        MaybeDuration::Unset => print_none(writer),
+        MaybeDuration::Set(x) => replay_io::print_number(writer, x),
     }
 }
 
@@ -271,80 +295,103 @@ fn is_timer_call(f: Fields) -> bool {
     replay_io::is(f, b'w', 2)
 }
 
-fn timer_call(f: Fields, t: RetransmissionTimer) -> RetransmissionTimer {
+fn timer_call(
+    writer: &mut impl Write,
+    f: Fields,
+    t: RetransmissionTimer,
+) -> io::Result<RetransmissionTimer> {
     let v = f.values;
     let letter = f.letter;
     match letter {
-        b'n' => RetransmissionTimer::new(),
-        b't' => print_change(t.started_lent(v[0], v[1])),
-        b'u' => print_change(t.cancelled_lent()),
-        b'v' => print_timer(t, v[0]),
-        _ => print_timer_for(t, v[0], v[1]),
+        b'n' => Ok(RetransmissionTimer::new()),
+        b't' => print_change(writer, t.started_lent(v[0], v[1])),
+        b'u' => print_change(writer, t.cancelled_lent()),
+        b'v' => print_timer(writer, t, v[0]),
+        _ => print_timer_for(writer, t, v[0], v[1]),
     }
 }
 
-fn print_timer(t: RetransmissionTimer, now: u64) -> RetransmissionTimer {
-    print_test(t.is_active());
-    print_test(t.is_expired_at(now));
-    print_remaining(t.remaining_at(now));
-    t
+fn print_timer(
+    writer: &mut impl Write,
+    t: RetransmissionTimer,
+    now: u64,
+) -> io::Result<RetransmissionTimer> {
+    print_test(writer, t.is_active())?;
+    print_test(writer, t.is_expired_at(now))?;
+    print_remaining(writer, t.remaining_at(now))?;
+    Ok(t)
 }
 
-fn print_timer_for(t: RetransmissionTimer, generation: u64, now: u64) -> RetransmissionTimer {
-    print_test(t.is_expired_for_at(generation, now));
-    t
+fn print_timer_for(
+    writer: &mut impl Write,
+    t: RetransmissionTimer,
+    generation: u64,
+    now: u64,
+) -> io::Result<RetransmissionTimer> {
+    print_test(writer, t.is_expired_for_at(generation, now))?;
+    Ok(t)
 }
 
-fn print_change(c: TimerResult) -> RetransmissionTimer {
+fn print_change(writer: &mut impl Write, c: TimerResult) -> io::Result<RetransmissionTimer> {
     let t = c.timer;
     let a = c.answer;
     match a {
-        TimerAnswer::Id(g) => replay_io::print_number(g),
-        TimerAnswer::Refused(r) => replay_io::print_refusal(r),
+        TimerAnswer::Id(g) => replay_io::print_number(writer, g)?,
+        TimerAnswer::Refused(r) => replay_io::print_refusal(writer, r)?,
     }
-    t
+    Ok(t)
 }
 
-fn print_remaining(a: Remaining) {
+fn print_remaining(writer: &mut impl Write, a: Remaining) -> io::Result<()> {
     match a {
-        Remaining::Inactive => print_none(),
-        Remaining::For(d) => replay_io::print_number(d),
-        Remaining::Refused(r) => replay_io::print_refusal(r),
+        Remaining::Inactive => print_none(writer),
+        Remaining::For(d) => replay_io::print_number(writer, d),
+        Remaining::Refused(r) => replay_io::print_refusal(writer, r),
     }
 }
 
-fn new_set(f: Fields, state: State, keys: &mut [u32], deadlines: &mut [u64]) -> State {
+fn new_set(
+    writer: &mut impl Write,
+    f: Fields,
+    state: State,
+    keys: &mut [u32],
+    deadlines: &mut [u64],
+) -> io::Result<State> {
     let v = f.values;
     let n = v[0] as usize;
     if keys.len() < n {
-        replay_io::print_bad_line();
-        return state;
+        replay_io::print_bad_line(writer)?;
+        return Ok(state);
     }
     if deadlines.len() < n {
-        replay_io::print_bad_line();
-        return state;
+        replay_io::print_bad_line(writer)?;
+        return Ok(state);
     }
     let e = state.estimator;
     let t = state.timer;
-    State {
+    Ok(State {
         estimator: e,
         timer: t,
-        timers: new_set_within(&mut keys[0..n], &mut deadlines[0..n]),
+        timers: new_set_within(writer, &mut keys[0..n], &mut deadlines[0..n])?,
         room: n,
-    }
+    })
 }
 
-fn new_set_within(keys: &mut [u32], deadlines: &mut [u64]) -> MultiTimer {
+fn new_set_within(
+    writer: &mut impl Write,
+    keys: &mut [u32],
+    deadlines: &mut [u64],
+) -> io::Result<MultiTimer> {
     fill_keys(keys, 1);
     fill_deadlines(deadlines, 1);
     match multi_timer::new_timers(keys, deadlines) {
         MultiTimerAnswer::Made(t) => {
-            replay_io::print(b" made");
-            t
+            replay_io::print(writer, b" made")?;
+            Ok(t)
         }
         MultiTimerAnswer::Refused(r) => {
-            replay_io::print_refusal(r);
-            no_timers()
+            replay_io::print_refusal(writer, r)?;
+            Ok(no_timers())
         }
     }
 }
@@ -357,193 +404,213 @@ fn no_timers() -> MultiTimer {
 }
 
 fn fill_keys(keys: &mut [u32], x: u32) {
-    let mut i: usize = 0;
-    while i < keys.len() {
-        keys[i] = x;
-        i += 1;
+    for key in keys.iter_mut() {
+        *key = x;
     }
 }
 
 fn fill_deadlines(deadlines: &mut [u64], x: u64) {
-    let mut i: usize = 0;
-    while i < deadlines.len() {
-        deadlines[i] = x;
-        i += 1;
+    for deadline in deadlines.iter_mut() {
+        *deadline = x;
     }
 }
 
 fn set_within(
+    writer: &mut impl Write,
     f: Fields,
     room: usize,
     t: MultiTimer,
     keys: &mut [u32],
     deadlines: &mut [u64],
-) -> MultiTimer {
+) -> io::Result<MultiTimer> {
     let a = replay_io::min(room, keys.len());
     let b = replay_io::min(room, deadlines.len());
-    set_call(f, t, &mut keys[0..a], &mut deadlines[0..b])
+    set_call(writer, f, t, &mut keys[0..a], &mut deadlines[0..b])
 }
 
-fn set_call(f: Fields, t: MultiTimer, keys: &mut [u32], deadlines: &mut [u64]) -> MultiTimer {
+fn set_call(
+    writer: &mut impl Write,
+    f: Fields,
+    t: MultiTimer,
+    keys: &mut [u32],
+    deadlines: &mut [u64],
+) -> io::Result<MultiTimer> {
     let v = f.values;
     if replay_io::is(f, b'k', 3) {
-        return start_call(t, keys, deadlines, replay_io::low(v[0]), v[1], v[2]);
+        return start_call(writer, t, keys, deadlines, replay_io::low(v[0]), v[1], v[2]);
     }
     if replay_io::is(f, b'c', 1) {
-        return cancel_call(t, keys, deadlines, replay_io::low(v[0]));
+        return cancel_call(writer, t, keys, deadlines, replay_io::low(v[0]));
     }
     if replay_io::is(f, b'p', 2) {
-        return pop_call(t, keys, deadlines, v[0], v[1] as usize);
+        return pop_call(writer, t, keys, deadlines, v[0], v[1] as usize);
     }
     if replay_io::is(f, b'z', 0) {
-        return clear_call(t, keys, deadlines);
+        return clear_call(writer, t, keys, deadlines);
     }
-    read_call(f, t, keys, deadlines);
-    t
+    read_call(writer, f, t, keys, deadlines)?;
+    Ok(t)
 }
 
-fn read_call(f: Fields, t: MultiTimer, keys: &[u32], deadlines: &[u64]) {
+fn read_call(
+    writer: &mut impl Write,
+    f: Fields,
+    t: MultiTimer,
+    keys: &[u32],
+    deadlines: &[u64],
+) -> io::Result<()> {
     let v = f.values;
     if replay_io::is(f, b'x', 2) {
-        print_test(t.is_expired_at(keys, deadlines, replay_io::low(v[0]), v[1]));
-        return;
+        return print_test(
+            writer,
+            t.is_expired_at(keys, deadlines, replay_io::low(v[0]), v[1]),
+        );
     }
     if replay_io::is(f, b'q', 0) {
-        print_earliest(t.earliest_deadline(keys, deadlines));
-        return;
+        return print_earliest(writer, t.earliest_deadline(keys, deadlines));
     }
     if replay_io::is(f, b'd', 0) {
-        replay_io::print_number(t.len() as u64);
-        print_keys(keys);
-        print_deadlines(deadlines);
-        return;
+        replay_io::print_number(writer, t.len() as u64)?;
+        print_keys(writer, keys)?;
+        return print_deadlines(writer, deadlines);
     }
-    duration_call(f);
+    duration_call(writer, f)
 }
 
 fn start_call(
+    writer: &mut impl Write,
     t: MultiTimer,
     keys: &mut [u32],
     deadlines: &mut [u64],
     key: u32,
     now: u64,
     duration: u64,
-) -> MultiTimer {
+) -> io::Result<MultiTimer> {
     let c = t.start_timer_at(keys, deadlines, key, now, duration);
     let next = c.timers;
     let a = c.answer;
     match a {
-        StartAnswer::Id(g) => replay_io::print_number(g),
-        StartAnswer::Refused(r) => replay_io::print_refusal(r),
+        StartAnswer::Id(g) => replay_io::print_number(writer, g)?,
+        StartAnswer::Refused(r) => replay_io::print_refusal(writer, r)?,
     }
-    next
+    Ok(next)
 }
 
-fn cancel_call(t: MultiTimer, keys: &mut [u32], deadlines: &mut [u64], key: u32) -> MultiTimer {
+fn cancel_call(
+    writer: &mut impl Write,
+    t: MultiTimer,
+    keys: &mut [u32],
+    deadlines: &mut [u64],
+    key: u32,
+) -> io::Result<MultiTimer> {
     let c = t.cancel_timer(keys, deadlines, key);
     let next = c.timers;
     let a = c.answer;
     match a {
-        CancelAnswer::Existed(x) => replay_io::print_test(x),
-        CancelAnswer::Refused(r) => replay_io::print_refusal(r),
+        CancelAnswer::Existed(x) => replay_io::print_test(writer, x)?,
+        CancelAnswer::Refused(r) => replay_io::print_refusal(writer, r)?,
     }
-    next
+    Ok(next)
 }
 
 fn pop_call(
+    writer: &mut impl Write,
     t: MultiTimer,
     keys: &mut [u32],
     deadlines: &mut [u64],
     now: u64,
     room: usize,
-) -> MultiTimer {
+) -> io::Result<MultiTimer> {
     let mut out = [7u32; 40];
-    pop_within(t, keys, deadlines, now, room, &mut out)
+    pop_within(writer, t, keys, deadlines, now, room, &mut out)
 }
 
 fn pop_within(
+    writer: &mut impl Write,
     t: MultiTimer,
     keys: &mut [u32],
     deadlines: &mut [u64],
     now: u64,
     room: usize,
     out: &mut [u32],
-) -> MultiTimer {
+) -> io::Result<MultiTimer> {
     if out.len() < room {
-        replay_io::print_bad_line();
-        return t;
+        replay_io::print_bad_line(writer)?;
+        return Ok(t);
     }
-    pop_to(t, keys, deadlines, now, &mut out[0..room])
+    pop_to(writer, t, keys, deadlines, now, &mut out[0..room])
 }
 
 fn pop_to(
+    writer: &mut impl Write,
     t: MultiTimer,
     keys: &mut [u32],
     deadlines: &mut [u64],
     now: u64,
     out: &mut [u32],
-) -> MultiTimer {
+) -> io::Result<MultiTimer> {
     let c = t.pop_expired_at(keys, deadlines, now, out);
     let next = c.timers;
     let a = c.answer;
     match a {
-        PopAnswer::Keys(n) => replay_io::print_number(n as u64),
-        PopAnswer::Refused(r) => replay_io::print_refusal(r),
+        PopAnswer::Keys(n) => replay_io::print_number(writer, n as u64)?,
+        PopAnswer::Refused(r) => replay_io::print_refusal(writer, r)?,
     }
-    print_keys(out);
-    next
+    print_keys(writer, out)?;
+    Ok(next)
 }
 
-fn clear_call(t: MultiTimer, keys: &mut [u32], deadlines: &mut [u64]) -> MultiTimer {
+fn clear_call(
+    writer: &mut impl Write,
+    t: MultiTimer,
+    keys: &mut [u32],
+    deadlines: &mut [u64],
+) -> io::Result<MultiTimer> {
     let c = t.clear(keys, deadlines);
     let next = c.timers;
     let a = c.answer;
-    print_done(a);
-    replay_io::print_number(next.len() as u64);
-    next
+    print_done(writer, a)?;
+    replay_io::print_number(writer, next.len() as u64)?;
+    Ok(next)
 }
 
-fn print_earliest(a: EarliestAnswer) {
+fn print_earliest(writer: &mut impl Write, a: EarliestAnswer) -> io::Result<()> {
     match a {
-        EarliestAnswer::Nothing => print_none(),
-        EarliestAnswer::At(x) => replay_io::print_number(x),
-        EarliestAnswer::Refused(r) => replay_io::print_refusal(r),
+        EarliestAnswer::Nothing => print_none(writer),
+        EarliestAnswer::At(x) => replay_io::print_number(writer, x),
+        EarliestAnswer::Refused(r) => replay_io::print_refusal(writer, r),
     }
 }
 
-fn print_keys(keys: &[u32]) {
-    let mut i: usize = 0;
-    while i < keys.len() {
-        replay_io::print_number(wide(keys[i]));
-        i += 1;
+fn print_keys(writer: &mut impl Write, keys: &[u32]) -> io::Result<()> {
+    for key in keys {
+        replay_io::print_number(writer, wide(*key))?;
     }
+    Ok(())
 }
 
-fn print_deadlines(deadlines: &[u64]) {
-    let mut i: usize = 0;
-    while i < deadlines.len() {
-        replay_io::print_number(deadlines[i]);
-        i += 1;
+fn print_deadlines(writer: &mut impl Write, deadlines: &[u64]) -> io::Result<()> {
+    for deadline in deadlines {
+        replay_io::print_number(writer, *deadline)?;
     }
+    Ok(())
 }
 
-fn duration_call(f: Fields) {
+fn duration_call(writer: &mut impl Write, f: Fields) -> io::Result<()> {
     let v = f.values;
     if replay_io::is(f, b'f', 1) {
-        print_bits(duration::as_secs_f64(v[0]));
-        return;
+        return print_bits(writer, duration::as_secs_f64(v[0]));
     }
     if replay_io::is(f, b'g', 1) {
-        print_nanos(duration::from_secs_f64(replay_io::real(v[0])));
-        return;
+        return print_nanos(writer, duration::from_secs_f64(replay_io::real(v[0])));
     }
-    replay_io::print_bad_line();
+    replay_io::print_bad_line(writer)
 }
 
-fn print_nanos(a: duration::FromSecs) {
+fn print_nanos(writer: &mut impl Write, a: duration::FromSecs) -> io::Result<()> {
     match a {
-        duration::FromSecs::Nanos(n) => replay_io::print_number(n),
-        duration::FromSecs::OutOfRange => print_none(),
+        duration::FromSecs::Nanos(n) => replay_io::print_number(writer, n),
+        duration::FromSecs::OutOfRange => print_none(writer),
     }
 }
 
@@ -551,20 +618,20 @@ fn wide(x: u32) -> u64 {
     x as u64
 }
 
-fn print_test(a: TestAnswer) {
+fn print_test(writer: &mut impl Write, a: TestAnswer) -> io::Result<()> {
     match a {
-        TestAnswer::Is(b) => replay_io::print_test(b),
-        TestAnswer::Refused(r) => replay_io::print_refusal(r),
+        TestAnswer::Is(b) => replay_io::print_test(writer, b),
+        TestAnswer::Refused(r) => replay_io::print_refusal(writer, r),
     }
 }
 
-fn print_done(a: DoneAnswer) {
+fn print_done(writer: &mut impl Write, a: DoneAnswer) -> io::Result<()> {
     match a {
-        DoneAnswer::Done => replay_io::print(b" done"),
-        DoneAnswer::Refused(r) => replay_io::print_refusal(r),
+        DoneAnswer::Done => replay_io::print(writer, b" done"),
+        DoneAnswer::Refused(r) => replay_io::print_refusal(writer, r),
     }
 }
 
-fn print_none() {
-    replay_io::print(b" none");
+fn print_none(writer: &mut impl Write) -> io::Result<()> {
+    replay_io::print(writer, b" none")
 }

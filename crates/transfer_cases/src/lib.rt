@@ -24,6 +24,8 @@ use protocol::ProtocolType;
 use replay_io::Fields;
 use rto::RtoConfig;
 use setup::{ClockChoice, TransferConfig};
+use std::io;
+use std::io::Write;
 
 mod making;
 mod printing;
@@ -97,37 +99,43 @@ pub fn start() -> Setup {
 }
 
 // A line that sets a part of the setup.
-pub fn setup_case(f: Fields, line: &[u8], setup: Setup, file: &mut [u8]) -> Setup {
+pub fn setup_case(
+    writer: &mut impl Write,
+    f: Fields,
+    line: &[u8],
+    setup: Setup,
+    file: &mut [u8],
+) -> io::Result<Setup> {
     if f.letter == b'f' {
-        return with_file(setup, file_case(f, line, setup.file, file));
+        return Ok(with_file(setup, file_case(writer, f, line, setup.file, file)?));
     }
     if is_rolls(f.letter) {
-        return rolls_case(f, setup);
+        return rolls_case(writer, f, setup);
     }
-    numbers_case(f, setup)
+    numbers_case(writer, f, setup)
 }
 
-fn numbers_case(f: Fields, setup: Setup) -> Setup {
+fn numbers_case(writer: &mut impl Write, f: Fields, setup: Setup) -> io::Result<Setup> {
     let v = f.values;
     let mut next = setup;
     if is_run(f) {
         next.run = v;
-        return next;
+        return Ok(next);
     }
     if replay_io::is(f, b'c', 7) {
         next.channel = v;
-        return next;
+        return Ok(next);
     }
     if replay_io::is(f, b't', 8) {
         next.rto = v;
-        return next;
+        return Ok(next);
     }
     if is_sizes(f) {
         next.sizes = v;
-        return next;
+        return Ok(next);
     }
-    replay_io::print_bad_line();
-    next
+    replay_io::print_bad_line(writer)?;
+    Ok(next)
 }
 
 fn is_run(f: Fields) -> bool {
@@ -155,29 +163,42 @@ fn with_file(setup: Setup, n: usize) -> Setup {
 }
 
 // The file's new length; the one before where the line is bad.
-fn file_case(f: Fields, line: &[u8], before: usize, file: &mut [u8]) -> usize {
+fn file_case(
+    writer: &mut impl Write,
+    f: Fields,
+    line: &[u8],
+    before: usize,
+    file: &mut [u8],
+) -> io::Result<usize> {
     if replay_io::is(f, b'f', 0) {
-        return replay_io::read_bytes(line, f.bytes_at, file);
+        return Ok(replay_io::read_bytes(line, f.bytes_at, file));
     }
     if replay_io::is(f, b'f', 2) {
         return file_made(
+            writer,
             replay_io::value(f, 0) as usize,
             replay_io::value(f, 1),
             before,
             file,
         );
     }
-    replay_io::print_bad_line();
-    before
+    replay_io::print_bad_line(writer)?;
+    Ok(before)
 }
 
-fn file_made(n: usize, seed: u64, before: usize, file: &mut [u8]) -> usize {
+fn file_made(
+    writer: &mut impl Write,
+    n: usize,
+    seed: u64,
+    before: usize,
+    file: &mut [u8],
+) -> io::Result<usize> {
     if file.len() < n {
-        replay_io::print_bad_line();
-        return before;
+        replay_io::print_bad_line(writer)?;
+        return Ok(before);
     }
     making::fill_bytes(&mut file[0..n], seed);
-    n
+    Ok(n)
 }
 
 fn is_rolls(letter: u8) -> bool {
@@ -187,60 +208,60 @@ fn is_rolls(letter: u8) -> bool {
     letter < b'k'
 }
 
-fn rolls_case(f: Fields, setup: Setup) -> Setup {
+fn rolls_case(writer: &mut impl Write, f: Fields, setup: Setup) -> io::Result<Setup> {
     let forward = setup.forward;
     let reverse = setup.reverse;
     let letter = f.letter;
     let mut next = setup;
     match letter {
         b'g' => {
-            let d = new_draws(f, forward);
+            let d = new_draws(writer, f, forward)?;
             next.forward = d;
-            next
+            Ok(next)
         }
         b'h' => {
-            let d = new_draws(f, reverse);
+            let d = new_draws(writer, f, reverse)?;
             next.reverse = d;
-            next
+            Ok(next)
         }
         b'i' => {
-            let d = with_literals(f, forward);
+            let d = with_literals(writer, f, forward)?;
             next.forward = d;
-            next
+            Ok(next)
         }
         _ => {
-            let d = with_literals(f, reverse);
+            let d = with_literals(writer, f, reverse)?;
             next.reverse = d;
-            next
+            Ok(next)
         }
     }
 }
 
-fn new_draws(f: Fields, before: Draws) -> Draws {
+fn new_draws(writer: &mut impl Write, f: Fields, before: Draws) -> io::Result<Draws> {
     let v = f.values;
     if f.good {
         if f.count == 3 {
             if v[0] <= ROLLS as u64 {
-                return making::draws_of(v[0] as usize, v[1], v[2]);
+                return Ok(making::draws_of(v[0] as usize, v[1], v[2]));
             }
         }
     }
-    replay_io::print_bad_line();
-    before
+    replay_io::print_bad_line(writer)?;
+    Ok(before)
 }
 
-fn with_literals(f: Fields, before: Draws) -> Draws {
+fn with_literals(writer: &mut impl Write, f: Fields, before: Draws) -> io::Result<Draws> {
     let v = f.values;
     if f.good {
         if 1 < f.count {
             let mut d = before;
             d.literal = v;
             d.literals = f.count;
-            return d;
+            return Ok(d);
         }
     }
-    replay_io::print_bad_line();
-    before
+    replay_io::print_bad_line(writer)?;
+    Ok(before)
 }
 
 pub fn config_of(setup: Setup) -> TransferConfig {

@@ -43,12 +43,10 @@ fn capacity(i: usize) -> usize {
 }
 
 pub fn sizes_fit(v: [u64; 12]) -> bool {
-    let mut i: usize = 0;
-    while i < 11 {
+    for i in 0..11 {
         if (capacity(i) as u64) < v[i] {
             return false;
         }
-        i += 1;
     }
     true
 }
@@ -96,19 +94,16 @@ pub fn fill_rolls(rolls: &mut [f64], d: Draws) {
 
 fn make_rolls(rolls: &mut [f64], kind: u64, seed: u64) {
     let mut x = started(seed);
-    let mut i: usize = 0;
-    while i < rolls.len() {
+    for roll in rolls.iter_mut() {
         x = shifted(x);
-        rolls[i] = roll_of(kind, seed, x);
-        i += 1;
+        *roll = roll_of(kind, seed, x);
     }
 }
 
 // The rolls from the first number on, as many as are given and have a place.
 fn put_literals(rolls: &mut [f64], literal: [u64; 12], literals: usize) {
     let mut at = literal[0] as usize;
-    let mut i: usize = 1;
-    while i < 12 {
+    for i in 1..12 {
         if literals <= i {
             return;
         }
@@ -117,16 +112,13 @@ fn put_literals(rolls: &mut [f64], literal: [u64; 12], literals: usize) {
         }
         rolls[at] = replay_io::real(literal[i]);
         at += 1;
-        i += 1;
     }
 }
 
 pub fn fill_bytes(bytes: &mut [u8], seed: u64) {
     let mut x = started(seed);
-    let mut i: usize = 0;
-    while i < bytes.len() {
+    for byte in bytes.iter_mut() {
         x = shifted(x);
-        bytes[i] = (x % 256) as u8;
-        i += 1;
+        *byte = (x % 256) as u8;
     }
 }

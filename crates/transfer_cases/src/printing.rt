@@ -1,23 +1,24 @@
 // The answer of a run, and the lent slices.
 use channel::ChannelStats;
 use go_back_n::GoBackNReceiver;
-use libc::STDOUT_FILENO;
 use rto::{MaybeDuration, RtoConfig, RtoEstimator, RtoStats};
 use selective_repeat::SelectiveRepeatReceiver;
 use session::{Receiver, ReceiverState, Sender, SenderState};
+use std::io;
+use std::io::Write;
 use step::End;
 use stop_and_wait::{StopAndWaitReceiver, StopAndWaitSender};
 use transfer::{DriverCounts, Outcome, RunAnswer};
 use window::SendWindow;
 
-pub fn print_answer(a: RunAnswer) {
+pub fn print_answer(writer: &mut impl Write, a: RunAnswer) -> io::Result<()> {
     match a {
-        RunAnswer::Outcome(o) => print_outcome(o),
-        RunAnswer::Refused(r) => replay_io::print_refusal(r),
+        RunAnswer::Outcome(o) => print_outcome(writer, o),
+        RunAnswer::Refused(r) => replay_io::print_refusal(writer, r),
     }
 }
 
-fn print_outcome(o: Outcome) {
+fn print_outcome(writer: &mut impl Write, o: Outcome) -> io::Result<()> {
     let end = o.end;
     let sender = o.sender;
     let receiver = o.receiver;
@@ -25,23 +26,23 @@ fn print_outcome(o: Outcome) {
     let estimator = o.estimator;
     let forward = o.forward;
     let reverse = o.reverse;
-    print_end(end);
-    replay_io::print_test(o.completed);
-    replay_io::print_number(o.finished_at);
-    print_sender(sender);
-    print_receiver(receiver);
-    print_driver(driver);
-    print_estimator(estimator);
-    print_channel(forward);
-    print_channel(reverse);
+    print_end(writer, end)?;
+    replay_io::print_test(writer, o.completed)?;
+    replay_io::print_number(writer, o.finished_at)?;
+    print_sender(writer, sender)?;
+    print_receiver(writer, receiver)?;
+    print_driver(writer, driver)?;
+    print_estimator(writer, estimator)?;
+    print_channel(writer, forward)?;
+    print_channel(writer, reverse)
 }
 
-fn print_end(end: End) {
+fn print_end(writer: &mut impl Write, end: End) -> io::Result<()> {
     match end {
-        End::Ended => replay_io::print(b" ended"),
-        End::RollsSpent => replay_io::print(b" rolls spent"),
-        End::EventsFull => replay_io::print(b" events full"),
-        End::ScheduleFull => replay_io::print(b" schedule full"),
+        End::Ended => replay_io::print(writer, b" ended"),
+        End::RollsSpent => replay_io::print(writer, b" rolls spent"),
+        End::EventsFull => replay_io::print(writer, b" events full"),
+        End::ScheduleFull => replay_io::print(writer, b" schedule full"),
     }
 }
 
@@ -49,152 +50,155 @@ fn wide(n: u32) -> u64 {
     n as u64
 }
 
-fn print_sender(sender: Sender) {
+fn print_sender(writer: &mut impl Write, sender: Sender) -> io::Result<()> {
     let state = sender.state;
-    replay_io::print(b"\ns");
+    replay_io::print(writer, b"\ns")?;
     match state {
-        SenderState::StopAndWait(s) => print_stop_and_wait_sender(s),
+        SenderState::StopAndWait(s) => print_stop_and_wait_sender(writer, s),
         SenderState::GoBackN(s) => {
             let window = s.window;
-            print_window(window);
+            print_window(writer, window)
         }
         SenderState::SelectiveRepeat(s) => {
             let window = s.window;
-            print_window(window);
+            print_window(writer, window)
         }
     }
 }
 
-fn print_stop_and_wait_sender(s: StopAndWaitSender) {
-    replay_io::print_number(wide(s.current_seq));
-    replay_io::print_test(s.in_flight);
-    replay_io::print_number(wide(s.max_retries));
-    replay_io::print_number(wide(s.current_retries));
-    replay_io::print_number(s.total_sent);
-    replay_io::print_number(s.retransmissions);
+fn print_stop_and_wait_sender(writer: &mut impl Write, s: StopAndWaitSender) -> io::Result<()> {
+    replay_io::print_number(writer, wide(s.current_seq))?;
+    replay_io::print_test(writer, s.in_flight)?;
+    replay_io::print_number(writer, wide(s.max_retries))?;
+    replay_io::print_number(writer, wide(s.current_retries))?;
+    replay_io::print_number(writer, s.total_sent)?;
+    replay_io::print_number(writer, s.retransmissions)
 }
 
-fn print_window(w: SendWindow) {
-    replay_io::print_number(w.window_size as u64);
-    replay_io::print_number(wide(w.send_base));
-    replay_io::print_number(wide(w.next_seq_num));
-    replay_io::print_number(w.total_sent);
-    replay_io::print_number(w.retransmissions);
+fn print_window(writer: &mut impl Write, w: SendWindow) -> io::Result<()> {
+    replay_io::print_number(writer, w.window_size as u64)?;
+    replay_io::print_number(writer, wide(w.send_base))?;
+    replay_io::print_number(writer, wide(w.next_seq_num))?;
+    replay_io::print_number(writer, w.total_sent)?;
+    replay_io::print_number(writer, w.retransmissions)
 }
 
-fn print_receiver(receiver: Receiver) {
+fn print_receiver(writer: &mut impl Write, receiver: Receiver) -> io::Result<()> {
     let state = receiver.state;
-    replay_io::print(b"\nv");
+    replay_io::print(writer, b"\nv")?;
     match state {
-        ReceiverState::StopAndWait(r) => print_stop_and_wait_receiver(r),
-        ReceiverState::GoBackN(r) => print_go_back_n_receiver(r),
-        ReceiverState::SelectiveRepeat(r) => print_selective_repeat_receiver(r),
+        ReceiverState::StopAndWait(r) => print_stop_and_wait_receiver(writer, r),
+        ReceiverState::GoBackN(r) => print_go_back_n_receiver(writer, r),
+        ReceiverState::SelectiveRepeat(r) => print_selective_repeat_receiver(writer, r),
     }
 }
 
-fn print_stop_and_wait_receiver(r: StopAndWaitReceiver) {
-    replay_io::print_number(wide(r.expected_seq));
-    replay_io::print_number(r.filled as u64);
-    replay_io::print_number(r.total_received);
-    replay_io::print_number(r.duplicates_count);
-    replay_io::print_number(r.corrupted_count);
+fn print_stop_and_wait_receiver(writer: &mut impl Write, r: StopAndWaitReceiver) -> io::Result<()> {
+    replay_io::print_number(writer, wide(r.expected_seq))?;
+    replay_io::print_number(writer, r.filled as u64)?;
+    replay_io::print_number(writer, r.total_received)?;
+    replay_io::print_number(writer, r.duplicates_count)?;
+    replay_io::print_number(writer, r.corrupted_count)
 }
 
-fn print_go_back_n_receiver(r: GoBackNReceiver) {
-    replay_io::print_number(wide(r.expected_seq));
-    replay_io::print_number(r.filled as u64);
-    replay_io::print_number(r.total_received);
-    replay_io::print_number(r.discarded_out_of_order);
-    replay_io::print_number(r.duplicate_acks_sent);
+fn print_go_back_n_receiver(writer: &mut impl Write, r: GoBackNReceiver) -> io::Result<()> {
+    replay_io::print_number(writer, wide(r.expected_seq))?;
+    replay_io::print_number(writer, r.filled as u64)?;
+    replay_io::print_number(writer, r.total_received)?;
+    replay_io::print_number(writer, r.discarded_out_of_order)?;
+    replay_io::print_number(writer, r.duplicate_acks_sent)
 }
 
-fn print_selective_repeat_receiver(r: SelectiveRepeatReceiver) {
-    replay_io::print_number(r.window_size as u64);
-    replay_io::print_number(wide(r.recv_base));
-    replay_io::print_number(r.filled as u64);
-    replay_io::print_number(r.total_received);
-    replay_io::print_number(r.buffered_out_of_order);
-    replay_io::print_number(r.duplicates_count);
+fn print_selective_repeat_receiver(
+    writer: &mut impl Write,
+    r: SelectiveRepeatReceiver,
+) -> io::Result<()> {
+    replay_io::print_number(writer, r.window_size as u64)?;
+    replay_io::print_number(writer, wide(r.recv_base))?;
+    replay_io::print_number(writer, r.filled as u64)?;
+    replay_io::print_number(writer, r.total_received)?;
+    replay_io::print_number(writer, r.buffered_out_of_order)?;
+    replay_io::print_number(writer, r.duplicates_count)
 }
 
-fn print_driver(d: DriverCounts) {
-    replay_io::print(b"\nd");
-    replay_io::print_number(d.retx_submitted);
-    replay_io::print_number(d.premature);
-    replay_io::print_number(d.data_received);
-    replay_io::print_number(d.ack_sent);
-    replay_io::print_number(d.ack_received);
-    replay_io::print_number(d.duplicate_data);
-    replay_io::print_number(d.duplicate_acks);
-    replay_io::print_number(d.events as u64);
+fn print_driver(writer: &mut impl Write, d: DriverCounts) -> io::Result<()> {
+    replay_io::print(writer, b"\nd")?;
+    replay_io::print_number(writer, d.retx_submitted)?;
+    replay_io::print_number(writer, d.premature)?;
+    replay_io::print_number(writer, d.data_received)?;
+    replay_io::print_number(writer, d.ack_sent)?;
+    replay_io::print_number(writer, d.ack_received)?;
+    replay_io::print_number(writer, d.duplicate_data)?;
+    replay_io::print_number(writer, d.duplicate_acks)?;
+    replay_io::print_number(writer, d.events as u64)
 }
 
-fn print_estimator(e: RtoEstimator) {
+fn print_estimator(writer: &mut impl Write, e: RtoEstimator) -> io::Result<()> {
     let config = e.config;
     let srtt = e.srtt;
     let rttvar = e.rttvar;
     let stats = e.stats;
-    replay_io::print(b"\nt");
-    print_config(config);
-    print_duration(srtt);
-    print_duration(rttvar);
-    replay_io::print_number(e.current_rto);
-    replay_io::print_number(e.base_rto);
-    replay_io::print_test(e.in_backoff);
-    replay_io::print_number(wide(e.consecutive_timeouts));
-    print_stats(stats);
+    replay_io::print(writer, b"\nt")?;
+    print_config(writer, config)?;
+    print_duration(writer, srtt)?;
+    print_duration(writer, rttvar)?;
+    replay_io::print_number(writer, e.current_rto)?;
+    replay_io::print_number(writer, e.base_rto)?;
+    replay_io::print_test(writer, e.in_backoff)?;
+    replay_io::print_number(writer, wide(e.consecutive_timeouts))?;
+    print_stats(writer, stats)
 }
 
-fn print_config(c: RtoConfig) {
-    replay_io::print_number(c.initial_rto);
-    replay_io::print_number(c.min_rto);
-    replay_io::print_number(c.max_rto);
-    replay_io::print_number(c.granularity);
-    print_real(c.alpha);
-    print_real(c.beta);
-    print_real(c.k);
-    print_real(c.rto_multiplier);
+fn print_config(writer: &mut impl Write, c: RtoConfig) -> io::Result<()> {
+    replay_io::print_number(writer, c.initial_rto)?;
+    replay_io::print_number(writer, c.min_rto)?;
+    replay_io::print_number(writer, c.max_rto)?;
+    replay_io::print_number(writer, c.granularity)?;
+    print_real(writer, c.alpha)?;
+    print_real(writer, c.beta)?;
+    print_real(writer, c.k)?;
+    print_real(writer, c.rto_multiplier)
 }
 
-fn print_stats(s: RtoStats) {
+fn print_stats(writer: &mut impl Write, s: RtoStats) -> io::Result<()> {
     let min_rtt = s.min_rtt;
     let max_rtt = s.max_rtt;
     let latest_rtt = s.latest_rtt;
-    replay_io::print_number(s.sample_count);
-    replay_io::print_number(s.karn_rejected_count);
-    replay_io::print_number(s.timeout_count);
-    replay_io::print_number(s.backoff_count);
-    print_duration(min_rtt);
-    print_duration(max_rtt);
-    print_real(s.sum_rtt_millis);
-    print_duration(latest_rtt);
-    replay_io::print_number(wide(s.max_consecutive_timeouts));
+    replay_io::print_number(writer, s.sample_count)?;
+    replay_io::print_number(writer, s.karn_rejected_count)?;
+    replay_io::print_number(writer, s.timeout_count)?;
+    replay_io::print_number(writer, s.backoff_count)?;
+    print_duration(writer, min_rtt)?;
+    print_duration(writer, max_rtt)?;
+    print_real(writer, s.sum_rtt_millis)?;
+    print_duration(writer, latest_rtt)?;
+    replay_io::print_number(writer, wide(s.max_consecutive_timeouts))
 }
 
-fn print_duration(d: MaybeDuration) {
+fn print_duration(writer: &mut impl Write, d: MaybeDuration) -> io::Result<()> {
     match d {
-        MaybeDuration::Unset => replay_io::print(b" none"),
-        MaybeDuration::Set(x) => replay_io::print_number(x),
+        MaybeDuration::Unset => replay_io::print(writer, b" none"),
+        MaybeDuration::Set(x) => replay_io::print_number(writer, x),
     }
 }
 
 // The bits of a number from 0 on.
-fn print_real(x: f64) {
+fn print_real(writer: &mut impl Write, x: f64) -> io::Result<()> {
     if x >= 0.0 {
-        replay_io::print_number(f64::to_bits(x));
+        replay_io::print_number(writer, f64::to_bits(x))
     } else {
-        replay_io::print(b" none");
+        replay_io::print(writer, b" none")
     }
 }
 
-fn print_channel(s: ChannelStats) {
-    replay_io::print(b"\nc");
-    replay_io::print_number(s.packets_seen);
-    replay_io::print_number(s.lost);
-    replay_io::print_number(s.corrupted);
-    replay_io::print_number(s.duplicated);
-    replay_io::print_number(s.reordered);
-    replay_io::print_number(s.copies_delivered);
+fn print_channel(writer: &mut impl Write, s: ChannelStats) -> io::Result<()> {
+    replay_io::print(writer, b"\nc")?;
+    replay_io::print_number(writer, s.packets_seen)?;
+    replay_io::print_number(writer, s.lost)?;
+    replay_io::print_number(writer, s.corrupted)?;
+    replay_io::print_number(writer, s.duplicated)?;
+    replay_io::print_number(writer, s.reordered)?;
+    replay_io::print_number(writer, s.copies_delivered)
 }
 
 // What stands in a row: a number, how often so far, and whether it is an octet.
@@ -206,26 +210,26 @@ struct Repeat {
 }
 
 // The start of a line.
-fn begun(octet: bool) -> Repeat {
-    replay_io::print(b"\nl");
-    Repeat {
+fn begun(writer: &mut impl Write, octet: bool) -> io::Result<Repeat> {
+    replay_io::print(writer, b"\nl")?;
+    Ok(Repeat {
         value: 0,
         count: 0,
         octet,
-    }
+    })
 }
 
 // With n after it; prints what stood before another number.
-fn followed(r: Repeat, n: u64) -> Repeat {
+fn followed(writer: &mut impl Write, r: Repeat, n: u64) -> io::Result<Repeat> {
     if r.value == n {
-        return repeated(r);
+        return Ok(repeated(r));
     }
-    print_repeat(r);
-    Repeat {
+    print_repeat(writer, r)?;
+    Ok(Repeat {
         value: n,
         count: 1,
         octet: r.octet,
-    }
+    })
 }
 
 fn repeated(r: Repeat) -> Repeat {
@@ -234,94 +238,78 @@ fn repeated(r: Repeat) -> Repeat {
     next
 }
 
-fn print_repeat(r: Repeat) {
+fn print_repeat(writer: &mut impl Write, r: Repeat) -> io::Result<()> {
     if r.count == 0 {
-        return;
+        return Ok(());
     }
-    replay_io::print(b" ");
-    print_value(r.value, r.octet);
+    replay_io::print(writer, b" ")?;
+    print_value(writer, r.value, r.octet)?;
     if 1 < r.count {
-        replay_io::print(b"*");
-        io::print_decimal(STDOUT_FILENO, r.count);
+        let count = r.count;
+        write!(writer, "*{count}")?;
     }
+    Ok(())
 }
 
-fn print_value(value: u64, octet: bool) {
+fn print_value(writer: &mut impl Write, value: u64, octet: bool) -> io::Result<()> {
     if octet {
-        io::print_hex(STDOUT_FILENO, value, 2);
+        write!(writer, "{value:02x}")
     } else {
-        io::print_decimal(STDOUT_FILENO, value);
+        write!(writer, "{value}")
     }
 }
 
-fn print_octets(octets: &[u8]) {
-    let mut r = begun(true);
-    let mut i: usize = 0;
-    while i < octets.len() {
-        r = followed(r, octet_value(octets[i]));
-        i += 1;
+fn print_octets(writer: &mut impl Write, octets: &[u8]) -> io::Result<()> {
+    let mut r = begun(writer, true)?;
+    for octet in octets {
+        r = followed(writer, r, *octet as u64)?;
     }
-    print_repeat(r);
+    print_repeat(writer, r)
 }
 
-fn octet_value(b: u8) -> u64 {
-    b as u64
-}
-
-fn print_numbers(numbers: &[u64]) {
-    let mut r = begun(false);
-    let mut i: usize = 0;
-    while i < numbers.len() {
-        r = followed(r, numbers[i]);
-        i += 1;
+fn print_numbers(writer: &mut impl Write, numbers: &[u64]) -> io::Result<()> {
+    let mut r = begun(writer, false)?;
+    for number in numbers {
+        r = followed(writer, r, *number)?;
     }
-    print_repeat(r);
+    print_repeat(writer, r)
 }
 
-fn print_keys(keys: &[u32]) {
-    let mut r = begun(false);
-    let mut i: usize = 0;
-    while i < keys.len() {
-        r = followed(r, wide(keys[i]));
-        i += 1;
+fn print_keys(writer: &mut impl Write, keys: &[u32]) -> io::Result<()> {
+    let mut r = begun(writer, false)?;
+    for key in keys {
+        r = followed(writer, r, wide(*key))?;
     }
-    print_repeat(r);
+    print_repeat(writer, r)
 }
 
-fn print_sevens(rows: &[[u64; 7]]) {
-    let mut r = begun(false);
-    let mut i: usize = 0;
-    while i < rows.len() {
-        r = followed_by_seven(r, rows[i]);
-        i += 1;
+fn print_sevens(writer: &mut impl Write, rows: &[[u64; 7]]) -> io::Result<()> {
+    let mut r = begun(writer, false)?;
+    for row in rows {
+        r = followed_by_all(writer, r, row)?;
     }
-    print_repeat(r);
+    print_repeat(writer, r)
 }
 
-fn followed_by_seven(r: Repeat, row: [u64; 7]) -> Repeat {
-    let first = followed_by_four(r, [row[0], row[1], row[2], row[3]]);
-    followed(followed(followed(first, row[4]), row[5]), row[6])
-}
-
-fn print_fours(rows: &[[u64; 4]]) {
-    let mut r = begun(false);
-    let mut i: usize = 0;
-    while i < rows.len() {
-        r = followed_by_four(r, rows[i]);
-        i += 1;
+fn print_fours(writer: &mut impl Write, rows: &[[u64; 4]]) -> io::Result<()> {
+    let mut r = begun(writer, false)?;
+    for row in rows {
+        r = followed_by_all(writer, r, row)?;
     }
-    print_repeat(r);
+    print_repeat(writer, r)
 }
 
-fn followed_by_four(r: Repeat, row: [u64; 4]) -> Repeat {
-    followed(
-        followed(followed(followed(r, row[0]), row[1]), row[2]),
-        row[3],
-    )
+fn followed_by_all(writer: &mut impl Write, r: Repeat, row: &[u64]) -> io::Result<Repeat> {
+    let mut next = r;
+    for number in row {
+        next = followed(writer, next, *number)?;
+    }
+    Ok(next)
 }
 
 // The lent slices, a line each: octets in hexadecimal, numbers in decimal, *N after one that stands N times in a row.
 pub fn print_lent(
+    writer: &mut impl Write,
     sender_store: &[u8],
     receiver_store: &[u8],
     output: &[u8],
@@ -333,16 +321,16 @@ pub fn print_lent(
     reverse_places: &[u8],
     keys: &[u32],
     deadlines: &[u64],
-) {
-    print_octets(sender_store);
-    print_octets(receiver_store);
-    print_octets(output);
-    print_sevens(notes);
-    print_sevens(events);
-    print_fours(forward_records);
-    print_octets(forward_places);
-    print_fours(reverse_records);
-    print_octets(reverse_places);
-    print_keys(keys);
-    print_numbers(deadlines);
+) -> io::Result<()> {
+    print_octets(writer, sender_store)?;
+    print_octets(writer, receiver_store)?;
+    print_octets(writer, output)?;
+    print_sevens(writer, notes)?;
+    print_sevens(writer, events)?;
+    print_fours(writer, forward_records)?;
+    print_octets(writer, forward_places)?;
+    print_fours(writer, reverse_records)?;
+    print_octets(writer, reverse_places)?;
+    print_keys(writer, keys)?;
+    print_numbers(writer, deadlines)
 }

@@ -2,52 +2,55 @@
 // document 01 gave it (file `stdout`). transfer_cases has the form of lines and answers.
 #![tactic(auto)]
 
-use libc::STDIN_FILENO;
-use replay_io::Fields;
+use replay_io::{Fields, Lines};
+use std::io;
+use std::io::Write;
 use transfer_cases::Setup;
 
-fn main() {
+fn main(rt: HostRuntime) -> io::Result<()> {
+    let mut writer = rt.stdout();
     let mut text = replay_io::buffer();
     let mut file = transfer_cases::no_file();
-    let n = io::read_full(STDIN_FILENO, &mut text);
-    replay_io::print_if_full(&text, n);
-    replay(&text[..n], transfer_cases::start(), &mut file);
+    let n = replay_io::read_full(&mut rt.stdin(), &mut text)?;
+    replay_io::print_if_full(&mut writer, &text, n)?;
+    replay(&mut writer, &text[..n], transfer_cases::start(), &mut file)
 }
 
-fn replay(text: &[u8], first: Setup, file: &mut [u8]) {
+fn replay(writer: &mut impl Write, text: &[u8], first: Setup, file: &mut [u8]) -> io::Result<()> {
     let mut setup = first;
-    let mut at: usize = 0;
-    while at < text.len() {
-        let end = replay_io::line_end_unchecked(text, at);
-        setup = case(&text[at..end], setup, file);
-        at = end;
-        if at < text.len() {
-            at += 1;
-        }
+    for line in Lines::new(text) {
+        setup = case(writer, line, setup, file)?;
     }
+    Ok(())
 }
 
-fn case(line: &[u8], setup: Setup, file: &mut [u8]) -> Setup {
+fn case(writer: &mut impl Write, line: &[u8], setup: Setup, file: &mut [u8]) -> io::Result<Setup> {
     let f = replay_io::read_fields(line);
     if f.letter == b'#' {
-        return setup;
+        return Ok(setup);
     }
-    replay_io::print_letter(f.letter);
-    let after = call(f, line, setup, file);
-    replay_io::print(b"\n");
-    after
+    replay_io::print_letter(writer, f.letter)?;
+    let after = call(writer, f, line, setup, file)?;
+    replay_io::print(writer, b"\n")?;
+    Ok(after)
 }
 
-fn call(f: Fields, line: &[u8], setup: Setup, file: &mut [u8]) -> Setup {
+fn call(
+    writer: &mut impl Write,
+    f: Fields,
+    line: &[u8],
+    setup: Setup,
+    file: &mut [u8],
+) -> io::Result<Setup> {
     if replay_io::is(f, b'r', 0) {
-        run_case(setup, replay_io::prefix(file, setup.file));
-        return setup;
+        run_case(writer, setup, replay_io::prefix(file, setup.file))?;
+        return Ok(setup);
     }
-    transfer_cases::setup_case(f, line, setup, file)
+    transfer_cases::setup_case(writer, f, line, setup, file)
 }
 
 // A run on new memory: as much of each array as the setup lends.
-fn run_case(setup: Setup, file: &[u8]) {
+fn run_case(writer: &mut impl Write, setup: Setup, file: &[u8]) -> io::Result<()> {
     let forward = setup.forward;
     let reverse = setup.reverse;
     let mut forward_rolls = transfer_cases::no_rolls();
@@ -55,14 +58,21 @@ fn run_case(setup: Setup, file: &[u8]) {
     let nf = replay_io::min(forward.count, transfer_cases::ROLLS);
     let nr = replay_io::min(reverse.count, transfer_cases::ROLLS);
     run_on_rolls(
+        writer,
         setup,
         file,
         &mut forward_rolls[0..nf],
         &mut reverse_rolls[0..nr],
-    );
+    )
 }
 
-fn run_on_rolls(setup: Setup, file: &[u8], forward_rolls: &mut [f64], reverse_rolls: &mut [f64]) {
+fn run_on_rolls(
+    writer: &mut impl Write,
+    setup: Setup,
+    file: &[u8],
+    forward_rolls: &mut [f64],
+    reverse_rolls: &mut [f64],
+) -> io::Result<()> {
     let v = setup.sizes;
     let forward = setup.forward;
     let reverse = setup.reverse;
@@ -75,6 +85,7 @@ fn run_on_rolls(setup: Setup, file: &[u8], forward_rolls: &mut [f64], reverse_ro
     let nr = replay_io::min(v[1] as usize, transfer_cases::STORE);
     let no = replay_io::min(v[2] as usize, transfer_cases::OUTPUT);
     run_on_stores(
+        writer,
         setup,
         file,
         forward_rolls,
@@ -82,10 +93,11 @@ fn run_on_rolls(setup: Setup, file: &[u8], forward_rolls: &mut [f64], reverse_ro
         &mut sender_store[0..ns],
         &mut receiver_store[0..nr],
         &mut output[0..no],
-    );
+    )
 }
 
 fn run_on_stores(
+    writer: &mut impl Write,
     setup: Setup,
     file: &[u8],
     forward_rolls: &[f64],
@@ -93,13 +105,14 @@ fn run_on_stores(
     sender_store: &mut [u8],
     receiver_store: &mut [u8],
     output: &mut [u8],
-) {
+) -> io::Result<()> {
     let v = setup.sizes;
     let mut notes = [[5u64; 7]; transfer_cases::NOTES];
     let mut events = [[5u64; 7]; transfer_cases::EVENTS];
     let nn = replay_io::min(v[3] as usize, transfer_cases::NOTES);
     let ne = replay_io::min(v[4] as usize, transfer_cases::EVENTS);
     run_on_rows(
+        writer,
         setup,
         file,
         forward_rolls,
@@ -109,10 +122,11 @@ fn run_on_stores(
         output,
         &mut notes[0..nn],
         &mut events[0..ne],
-    );
+    )
 }
 
 fn run_on_rows(
+    writer: &mut impl Write,
     setup: Setup,
     file: &[u8],
     forward_rolls: &[f64],
@@ -122,12 +136,13 @@ fn run_on_rows(
     output: &mut [u8],
     notes: &mut [[u64; 7]],
     events: &mut [[u64; 7]],
-) {
+) -> io::Result<()> {
     let mut forward_records = [[5u64; 4]; transfer_cases::RECORDS];
     let mut forward_places = transfer_cases::marked_places();
     let mut reverse_records = [[5u64; 4]; transfer_cases::RECORDS];
     let mut reverse_places = transfer_cases::marked_places();
     run_on_lines(
+        writer,
         setup,
         file,
         forward_rolls,
@@ -141,10 +156,11 @@ fn run_on_rows(
         &mut forward_places,
         &mut reverse_records,
         &mut reverse_places,
-    );
+    )
 }
 
 fn run_on_lines(
+    writer: &mut impl Write,
     setup: Setup,
     file: &[u8],
     forward_rolls: &[f64],
@@ -158,13 +174,14 @@ fn run_on_lines(
     forward_places: &mut [u8],
     reverse_records: &mut [[u64; 4]],
     reverse_places: &mut [u8],
-) {
+) -> io::Result<()> {
     let v = setup.sizes;
     let n0 = replay_io::min(v[5] as usize, forward_records.len());
     let n1 = replay_io::min(v[6] as usize, forward_places.len());
     let n2 = replay_io::min(v[7] as usize, reverse_records.len());
     let n3 = replay_io::min(v[8] as usize, reverse_places.len());
     run_on_sized(
+        writer,
         setup,
         file,
         forward_rolls,
@@ -178,10 +195,11 @@ fn run_on_lines(
         &mut forward_places[0..n1],
         &mut reverse_records[0..n2],
         &mut reverse_places[0..n3],
-    );
+    )
 }
 
 fn run_on_sized(
+    writer: &mut impl Write,
     setup: Setup,
     file: &[u8],
     forward_rolls: &[f64],
@@ -195,13 +213,14 @@ fn run_on_sized(
     forward_places: &mut [u8],
     reverse_records: &mut [[u64; 4]],
     reverse_places: &mut [u8],
-) {
+) -> io::Result<()> {
     let v = setup.sizes;
     let mut keys = [5u32; transfer_cases::TIMERS];
     let mut deadlines = [5u64; transfer_cases::TIMERS];
     let nk = replay_io::min(v[9] as usize, transfer_cases::TIMERS);
     let nd = replay_io::min(v[10] as usize, transfer_cases::TIMERS);
     run_on_all(
+        writer,
         setup,
         file,
         forward_rolls,
@@ -217,10 +236,11 @@ fn run_on_sized(
         reverse_places,
         &mut keys[0..nk],
         &mut deadlines[0..nd],
-    );
+    )
 }
 
 fn run_on_all(
+    writer: &mut impl Write,
     setup: Setup,
     file: &[u8],
     forward_rolls: &[f64],
@@ -236,7 +256,7 @@ fn run_on_all(
     reverse_places: &mut [u8],
     keys: &mut [u32],
     deadlines: &mut [u64],
-) {
+) -> io::Result<()> {
     let answer = transfer::run_transfer(
         transfer_cases::config_of(setup),
         file,
@@ -254,8 +274,9 @@ fn run_on_all(
         keys,
         deadlines,
     );
-    transfer_cases::print_answer(answer);
+    transfer_cases::print_answer(writer, answer)?;
     transfer_cases::print_lent(
+        writer,
         sender_store,
         receiver_store,
         output,
@@ -267,5 +288,5 @@ fn run_on_all(
         reverse_places,
         keys,
         deadlines,
-    );
+    )
 }

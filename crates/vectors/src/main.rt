@@ -4,38 +4,56 @@
 
 use channel::{Channel, ChannelConfig, ChannelStats, ProcessAnswer, Rolls};
 use go_back_n::GoBackNReceiver;
-use libc::STDOUT_FILENO;
 use packet::{ChecksumAnswer, Packet, PacketAnswer, ValidityAnswer};
 use receiver::ReceiveAnswer;
 use refusal::Refusal;
 use rto::{EstimatorAnswer, RtoAnswer, RtoConfig, RtoEstimator};
 use schedule::Deliveries;
 use selective_repeat::SelectiveRepeatReceiver;
+use std::io;
+use std::io::Write;
 use stop_and_wait::StopAndWaitReceiver;
 
-fn main() {
-    rfc1071_example();
-    print_checksum(b"K1", Packet::new_data(0), b"");
-    print_checksum(b"K2", Packet::new_data(0), b"A");
-    print_checksum(b"K3", Packet::new_data(0xFFFF_FFFF), b"");
-    print_reading(b"K4", b"\x00\x00\x00\x00\x01\x00\x00\x00\xFE\xFF\xFF\xFD");
-    print_reading(b"K4", b"\x00\x00\x00\x00\x01\x00\x00\x02\xFE\xFF\xFF\xFD");
-    print_reading(b"K5", b"\x00\x00\x00\x00\x01\x00\x00\x00\x00");
-    print_reading(b"K5", b"\x00\x00\x00\x00\x04\x00\xFF\xFF\x00\x00");
-    print_reading(b"K6", b"\x00\x00\x00\x00\x01\x00\x00\x01\x00\x00");
-    jitter();
-    first_sample(1000000);
-    first_sample(1000000000);
-    timeout();
-    selective_repeat(b"S1", 0, 3);
-    selective_repeat(b"S1", 0, 4);
-    selective_repeat(b"S2", 6, 2);
-    selective_repeat(b"S2", 6, 1);
-    go_back_n();
-    stop_and_wait();
+fn main(rt: HostRuntime) -> io::Result<()> {
+    let mut writer = rt.stdout();
+    rfc1071_example(&mut writer)?;
+    checksums(&mut writer)?;
+    readings(&mut writer)?;
+    jitter(&mut writer)?;
+    first_sample(&mut writer, 1000000)?;
+    first_sample(&mut writer, 1000000000)?;
+    timeout(&mut writer)?;
+    selective_repeat(&mut writer, b"S1", 0, 3)?;
+    selective_repeat(&mut writer, b"S1", 0, 4)?;
+    selective_repeat(&mut writer, b"S2", 6, 2)?;
+    selective_repeat(&mut writer, b"S2", 6, 1)?;
+    go_back_n(&mut writer)?;
+    stop_and_wait(&mut writer)
 }
 
-fn jitter() {
+fn checksums(writer: &mut impl Write) -> io::Result<()> {
+    print_checksum(writer, b"K1", Packet::new_data(0), b"")?;
+    print_checksum(writer, b"K2", Packet::new_data(0), b"A")?;
+    print_checksum(writer, b"K3", Packet::new_data(0xFFFF_FFFF), b"")
+}
+
+fn readings(writer: &mut impl Write) -> io::Result<()> {
+    print_reading(
+        writer,
+        b"K4",
+        b"\x00\x00\x00\x00\x01\x00\x00\x00\xFE\xFF\xFF\xFD",
+    )?;
+    print_reading(
+        writer,
+        b"K4",
+        b"\x00\x00\x00\x00\x01\x00\x00\x02\xFE\xFF\xFF\xFD",
+    )?;
+    print_reading(writer, b"K5", b"\x00\x00\x00\x00\x01\x00\x00\x00\x00")?;
+    print_reading(writer, b"K5", b"\x00\x00\x00\x00\x04\x00\xFF\xFF\x00\x00")?;
+    print_reading(writer, b"K6", b"\x00\x00\x00\x00\x01\x00\x00\x01\x00\x00")
+}
+
+fn jitter(writer: &mut impl Write) -> io::Result<()> {
     let mut out = [0u8; 1];
     let channel = Channel {
         config: ChannelConfig {
@@ -68,21 +86,21 @@ fn jitter() {
     };
     let done = channel.process(b"A", rolls, &mut out);
     let answer = done.answer;
-    print(b"J1");
+    print(writer, b"J1")?;
     match answer {
-        ProcessAnswer::Delivered(d) => print_deliveries(d),
-        ProcessAnswer::Refused(r) => print_refusal(r),
+        ProcessAnswer::Delivered(d) => print_deliveries(writer, d)?,
+        ProcessAnswer::Refused(r) => print_refusal(writer, r)?,
     }
-    print_line_end();
+    print_line_end(writer)
 }
 
-fn print_deliveries(d: Deliveries) {
+fn print_deliveries(writer: &mut impl Write, d: Deliveries) -> io::Result<()> {
     match d {
-        Deliveries::Lost => print(b"\t-"),
-        Deliveries::One(delay) => print_number(delay),
+        Deliveries::Lost => print(writer, b"\t-"),
+        Deliveries::One(delay) => print_number(writer, delay),
         Deliveries::Two(first, second) => {
-            print_number(first);
-            print_number(second);
+            print_number(writer, first)?;
+            print_number(writer, second)
         }
     }
 }
@@ -101,40 +119,45 @@ fn estimator(initial: u64, min: u64, max: u64) -> EstimatorAnswer {
     })
 }
 
-fn first_sample(min: u64) {
-    print(b"R1");
+fn first_sample(writer: &mut impl Write, min: u64) -> io::Result<()> {
+    print(writer, b"R1")?;
     match estimator(1000000000, min, 60000000000) {
         EstimatorAnswer::Made(e) => {
             let done = e.update_rtt(100000000, false);
             let after = done.estimator;
-            print_number(after.current_rto / 1000000);
+            print_number(writer, after.current_rto / 1000000)?;
         }
-        EstimatorAnswer::Refused(r) => print_refusal(r),
+        EstimatorAnswer::Refused(r) => print_refusal(writer, r)?,
     }
-    print_line_end();
+    print_line_end(writer)
 }
 
-fn timeout() {
-    print(b"R2");
+fn timeout(writer: &mut impl Write) -> io::Result<()> {
+    print(writer, b"R2")?;
     match estimator(300000000, 1000000, 500000000) {
         EstimatorAnswer::Made(e) => {
             let done = e.on_timeout();
             let answer = done.answer;
-            print_rto(answer);
+            print_rto(writer, answer)?;
         }
-        EstimatorAnswer::Refused(r) => print_refusal(r),
+        EstimatorAnswer::Refused(r) => print_refusal(writer, r)?,
     }
-    print_line_end();
+    print_line_end(writer)
 }
 
-fn print_rto(a: RtoAnswer) {
+fn print_rto(writer: &mut impl Write, a: RtoAnswer) -> io::Result<()> {
     match a {
-        RtoAnswer::Rto(rto) => print_number(rto / 1000000),
-        RtoAnswer::Refused(r) => print_refusal(r),
+        RtoAnswer::Rto(rto) => print_number(writer, rto / 1000000),
+        RtoAnswer::Refused(r) => print_refusal(writer, r),
     }
 }
 
-fn selective_repeat(name: &[u8], base: u32, seq_num: u32) {
+fn selective_repeat(
+    writer: &mut impl Write,
+    name: &[u8],
+    base: u32,
+    seq_num: u32,
+) -> io::Result<()> {
     let mut store = [0u8; 5616];
     let mut raw = [0u8; 11];
     let mut output = [0u8; 1];
@@ -150,27 +173,27 @@ fn selective_repeat(name: &[u8], base: u32, seq_num: u32) {
     };
     let done = receiver.handle_packet(&mut store, &raw, &mut output, &mut ack);
     let answer = done.answer;
-    print_received(name, answer, &ack);
+    print_received(writer, name, answer, &ack)
 }
 
-fn go_back_n() {
+fn go_back_n(writer: &mut impl Write) -> io::Result<()> {
     let mut raw = [0u8; 11];
     let mut output = [0u8; 1];
     let mut ack = [0u8; 10];
     write_data(1, &mut raw);
     let done = GoBackNReceiver::new().handle_packet(&raw, &mut output, &mut ack);
     let answer = done.answer;
-    print_received(b"S3", answer, &ack);
+    print_received(writer, b"S3", answer, &ack)
 }
 
-fn stop_and_wait() {
+fn stop_and_wait(writer: &mut impl Write) -> io::Result<()> {
     let mut raw = [0u8; 11];
     let mut output = [0u8; 1];
     let mut ack = [0u8; 10];
     write_data(1, &mut raw);
     let done = StopAndWaitReceiver::new().handle_packet(&raw, &mut output, &mut ack);
     let answer = done.answer;
-    print_received(b"S3", answer, &ack);
+    print_received(writer, b"S3", answer, &ack)
 }
 
 // Data with one byte.
@@ -180,112 +203,124 @@ fn write_data(seq_num: u32, out: &mut [u8]) {
     }
 }
 
-fn print_received(name: &[u8], answer: ReceiveAnswer, ack: &[u8]) {
-    print(name);
+fn print_received(
+    writer: &mut impl Write,
+    name: &[u8],
+    answer: ReceiveAnswer,
+    ack: &[u8],
+) -> io::Result<()> {
+    print(writer, name)?;
     match answer {
-        ReceiveAnswer::Ack(n) => print_number(n as u64),
-        ReceiveAnswer::Silent => print(b"\t-"),
-        ReceiveAnswer::Refused(r) => print_refusal(r),
+        ReceiveAnswer::Ack(n) => print_number(writer, n as u64)?,
+        ReceiveAnswer::Silent => print(writer, b"\t-")?,
+        ReceiveAnswer::Refused(r) => print_refusal(writer, r)?,
     }
-    print_bytes(ack);
-    print_line_end();
+    print_bytes(writer, ack)?;
+    print_line_end(writer)
 }
 
 // The sum of section 3's octets, and its complement as a checksum: of a packet with these words as number and
 // payload, and one word more, the complement of kind and length together, so that these add nothing.
-fn rfc1071_example() {
-    print(b"RFC 1071");
-    print_word(checksum::ones_sum_unchecked(0, b"\x00\x01\xF2\x03\xF4\xF5\xF6\xF7"));
-    print_computed(Packet::new_data(0x0001_F203), b"\xF4\xF5\xF6\xF7\xFE\xF9");
-    print_line_end();
+fn rfc1071_example(writer: &mut impl Write) -> io::Result<()> {
+    print(writer, b"RFC 1071")?;
+    print_word(
+        writer,
+        checksum::ones_sum_unchecked(0, b"\x00\x01\xF2\x03\xF4\xF5\xF6\xF7"),
+    )?;
+    print_computed(
+        writer,
+        Packet::new_data(0x0001_F203),
+        b"\xF4\xF5\xF6\xF7\xFE\xF9",
+    )?;
+    print_line_end(writer)
 }
 
-fn print_checksum(name: &[u8], packet: Packet, payload: &[u8]) {
-    print(name);
-    print_computed(packet, payload);
-    print_line_end();
+fn print_checksum(
+    writer: &mut impl Write,
+    name: &[u8],
+    packet: Packet,
+    payload: &[u8],
+) -> io::Result<()> {
+    print(writer, name)?;
+    print_computed(writer, packet, payload)?;
+    print_line_end(writer)
 }
 
-fn print_computed(packet: Packet, payload: &[u8]) {
+fn print_computed(writer: &mut impl Write, packet: Packet, payload: &[u8]) -> io::Result<()> {
     match packet.compute_checksum(payload) {
-        ChecksumAnswer::Checksum(k) => print_word(k),
-        ChecksumAnswer::Refused(r) => print_refusal(r),
+        ChecksumAnswer::Checksum(k) => print_word(writer, k),
+        ChecksumAnswer::Refused(r) => print_refusal(writer, r),
     }
 }
 
-fn print_reading(name: &[u8], raw: &[u8]) {
-    print(name);
+fn print_reading(writer: &mut impl Write, name: &[u8], raw: &[u8]) -> io::Result<()> {
+    print(writer, name)?;
     match Packet::from_bytes(raw) {
         PacketAnswer::Packet(p) => {
-            print_number(p.seq_num as u64);
-            print_validity(raw);
-            print_bytes(Packet::payload(raw));
+            print_number(writer, p.seq_num as u64)?;
+            print_validity(writer, raw)?;
+            print_bytes(writer, Packet::payload(raw))?;
         }
-        PacketAnswer::Refused(r) => print_refusal(r),
+        PacketAnswer::Refused(r) => print_refusal(writer, r)?,
     }
-    print_line_end();
+    print_line_end(writer)
 }
 
-fn print_validity(raw: &[u8]) {
+fn print_validity(writer: &mut impl Write, raw: &[u8]) -> io::Result<()> {
     match Packet::is_valid(raw) {
-        ValidityAnswer::Valid => print(b"\tvalid"),
-        ValidityAnswer::Invalid => print(b"\tinvalid"),
-        ValidityAnswer::Refused(r) => print_refusal(r),
+        ValidityAnswer::Valid => print(writer, b"\tvalid"),
+        ValidityAnswer::Invalid => print(writer, b"\tinvalid"),
+        ValidityAnswer::Refused(r) => print_refusal(writer, r),
     }
 }
 
 // The number, the word and the values.
-fn print_refusal(r: Refusal) {
-    print_number(r.number() as u64);
+fn print_refusal(writer: &mut impl Write, r: Refusal) -> io::Result<()> {
+    print_number(writer, r.number() as u64)?;
     let word = r.word();
     let bytes = word.bytes;
-    print(b"\t");
-    print_first(&bytes, word.len);
+    print(writer, b"\t")?;
+    print_first(writer, &bytes, word.len)?;
     let values = r.values();
     if 0 < values.count {
-        print_number(values.first);
+        print_number(writer, values.first)?;
     }
     if 1 < values.count {
-        print_number(values.second);
+        print_number(writer, values.second)?;
     }
+    Ok(())
 }
 
-fn print_bytes(bytes: &[u8]) {
-    print(b"\t");
+fn print_bytes(writer: &mut impl Write, bytes: &[u8]) -> io::Result<()> {
+    print(writer, b"\t")?;
     if bytes.len() == 0 {
-        print(b"-");
+        print(writer, b"-")?;
     }
-    let mut i: usize = 0;
-    while i < bytes.len() {
-        io::print_hex(STDOUT_FILENO, wide(bytes[i]), 2);
-        i += 1;
+    for byte in bytes {
+        write!(writer, "{:02x}", *byte)?;
     }
+    Ok(())
 }
 
-fn wide(byte: u8) -> u64 {
-    byte as u64
-}
-
-fn print_first(text: &[u8], n: usize) {
+fn print_first(writer: &mut impl Write, text: &[u8], n: usize) -> io::Result<()> {
     if n <= text.len() {
-        print(&text[..n]);
+        print(writer, &text[..n])?;
     }
+    Ok(())
 }
 
-fn print_number(n: u64) {
-    print(b"\t");
-    io::print_decimal(STDOUT_FILENO, n);
+fn print_number(writer: &mut impl Write, n: u64) -> io::Result<()> {
+    write!(writer, "\t{n}")
 }
 
-fn print_word(n: u16) {
-    print(b"\t");
-    io::print_hex(STDOUT_FILENO, n as u64, 4);
+fn print_word(writer: &mut impl Write, n: u16) -> io::Result<()> {
+    write!(writer, "\t{n:04x}")
 }
 
-fn print_line_end() {
-    print(b"\n");
+fn print_line_end(writer: &mut impl Write) -> io::Result<()> {
+    print(writer, b"\n")
 }
 
-fn print(text: &[u8]) {
-    io::write_all(STDOUT_FILENO, text);
+fn print(writer: &mut impl Write, text: &[u8]) -> io::Result<()> {
+    writer.write_all(text)
 }
