@@ -20,4 +20,4 @@ returns c = let a = c.args in
     let r = c.run_file_unchecked-answer in
     let n = c.events_written-count in
     let h = rows_hold r.ensures n.ensures in
-    text_events a.out.now a.file.now r.new.1.0 n.result (omega arith) h.1 (h.0 ∙ some_bytes a.file.now (λ e. omega arith)) c.write_events-2.ensures
+    text_events a.out.now a.file.now r.new.events n.result (omega arith) h.1 (h.0 ∙ some_bytes a.file.now (λ e. omega arith)) c.write_events-2.ensures
