@@ -1,4 +1,3 @@
-use Rattle.setup.proofs.Checks.{times_4}
 use borrow.Author.Tests.{eq-eqb, ne_eqb}
 use Rattle.setup.proofs.edition_times.Goals as goal
 
@@ -7,9 +6,3 @@ returns-then-c-ne1000000000 c = simp (ne_eqb _ _ c.if-c-ne1000000000.true)
 
 pub returns-then-c-ne1000000000-2 : goal.returns-then-c-ne1000000000-2
 returns-then-c-ne1000000000-2 c = simp (eq-eqb _ _ c.if-c-ne1000000000.false, ne_eqb _ _ c.if-c-ne1000000000-2.true)
-
-pub returns-then-c-ne60000000000 : goal.returns-then-c-ne60000000000
-returns-then-c-ne60000000000 c = simp (eq-eqb _ _ c.if-c-ne1000000000.false, eq-eqb _ _ c.if-c-ne1000000000-2.false, ne_eqb _ _ c.if-c-ne60000000000.true)
-
-pub returns : goal.returns
-returns c = times_4 c.args.c c.if-c-ne1000000000.false c.if-c-ne1000000000-2.false c.if-c-ne60000000000.false
