@@ -1,12 +1,12 @@
 #!/bin/bash
 # The example: a file over UDP on loopback, two processes, by each protocol, with loss, duplication, reordering and flips.
 # The file and what the line does come from the seed; the bytes are compared.
-# usage: bash examples/run.sh [BYTES [SEED [THOUSANDTHS]]]      after `rt lib` in crates/pindrelo
+# usage: bash examples/run.sh [BYTES [SEED [THOUSANDTHS]]]      after `bash tools/archive.sh pindrelo`
 set -u
 cd "$(dirname "$0")/.." || exit 2
 bytes=${1:-100000} seed=${2:-1} rate=${3:-30}
 library=crates/pindrelo/out/libpindrelo.a
-[ -f "$library" ] || { echo "run.sh: no $library: rt lib in crates/pindrelo" >&2; exit 2; }
+[ -f "$library" ] || { echo "run.sh: no $library: bash tools/archive.sh pindrelo" >&2; exit 2; }
 d=$(mktemp -d) || exit 2
 trap 'rm -rf "$d"' EXIT
 cc -std=c11 -O2 -Wall -Wextra -Werror -Iinclude examples/pagelink.c "$library" -o "$d/pagelink" || exit 2

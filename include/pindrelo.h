@@ -1,4 +1,4 @@
-/* pindrelo.h: reliable transfer of files over a lossy datagram line. Link libpindrelo.a (`rt lib` in crates/pindrelo).
+/* pindrelo.h: reliable transfer of files over a lossy datagram line. Link libpindrelo.a (`bash tools/archive.sh pindrelo`).
  *
  * The host owns sockets, encryption and the clock. It hands over datagrams as they come, in memory that it lends
  * for the length of a call. The library allocates nothing, keeps no state of its own, starts no thread, makes no
