@@ -1,15 +1,12 @@
-use Rattle.std.proofs.Common.{◌-◌, arith}
+use Rattle.std.proofs.Common.{arith}
 use Rattle.octets.proofs.Fold.{fold_start, fold_more, fold_end}
 use Rattle.octets.proofs.fold_bytes.Goals as goal
 
-pub loop-i-init : goal.loop-i-init
-loop-i-init c = (omega arith, omega arith, fold_start _)
+pub loop-b-init : goal.loop-b-init
+loop-b-init c = (omega arith, fold_start _)
 
-pub overflow_cast-bytes : goal.overflow_cast-bytes
-overflow_cast-bytes c = omega (arith, c.type_inv.bytes c.loop-i.i)
-
-pub loop-i-preserved : goal.loop-i-preserved
-loop-i-preserved c = let m = fold_more _ _ _ c.loop-i-test.true c.loop-i.invariant.2 c.wrapping_add_u16-sum.ensures.value in (omega arith, m.0, m.1)
+pub loop-b-preserved : goal.loop-b-preserved
+loop-b-preserved c = fold_more _ _ _ c.loop-b-test.true c.loop-b.invariant.1 (rw c.from-sum.ensures)
 
 pub returns : goal.returns
-returns c = fold_end _ _ _ c.loop-i-test.false c.loop-i.invariant.1 c.loop-i.invariant.2
+returns c = fold_end _ _ _ c.loop-b-test.false c.loop-b.invariant.0 c.loop-b.invariant.1
