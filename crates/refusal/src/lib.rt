@@ -157,11 +157,7 @@ fn padded(letters: &[u8]) -> Word
     ensures { result ≡ word_of letters.now }
 {
     let mut bytes = [0u8; 16];
-    let mut i: usize = 0;
-    while i < letters.len() {
-        bytes[i] = letters[i];
-        i += 1;
-    }
+    bytes[..letters.len()].copy_from_slice(letters);
     Word {
         len: letters.len(),
         bytes,
