@@ -3,9 +3,13 @@ use Prim.Native.Nat.{ℕ, zero, suc, ◌+◌, ◌-◌, ◌*◌, ◌/◌, ◌≤�
 use mathlib.Core.Path.{◌≡◌, refl, sym, ap, ◌∙◌}
 use mathlib.Core.List.{List, [], ◌∷◌, ◌++◌, flatten}
 use native.Mathlib.Omega.{arith}
-use native.Mathlib.Nat.{zero-mul, le_trans, mul-le-mul_right, div-eq_of_lt, div-eq-sub-div, div-mul-le_self}
+use native.Mathlib.Nat.{zero-mul, le_trans, mul-le-mul_right, div-eq_of_lt, div-eq_of_lt-le, div-eq-sub-div, div-mul-le_self}
+use Rattle.std.proofs.Common.{min, max}
+use Rattle.std.proofs.lemmas.Grind.{div_ceil_times}
+use Rattle.std.proofs.lemmas.List.{take_min}
+use Rattle.std.specs.Int.{div_ceil}
 use lib.ListN.{length, get_or, take, drop, take-append-drop, length-drop, length-take}
-use lib.Seq.{drop-drop, drop-nil, take-nil, take_all}
+use lib.Seq.{drop-drop, drop-nil, take-nil}
 use Rattle.octets.specs.Octets.{Octets}
 use Rattle.octets.proofs.Laws.{below_take, below_drop}
 use Rattle.chunks.specs.Chunks.{pieces, chunks_of}
@@ -115,20 +119,35 @@ count_full c [] p e = absurd (e refl)
 count_full c (x ∷ file) p e =
     ap (λ (n : ℕ). n / c + 1) (one_less (length file)) ∙ sym (chunks_count c x file p)
 
--- the start of the rest, if it is shorter than a chunk, and of a whole chunk
-pub rest_is : (c k : ℕ) (file : List ℕ) → 0 < c → k < length (chunks_of c file) → length file - k * c < c
-    → take (length file - k * c) (drop (k * c) file) ≡ get_or (chunks_of c file) k []
-rest_is c k file p l short =
-    let n = length-drop (k * c) file in
-    take_all (length file - k * c) (drop (k * c) file) (omega (arith, n))
-    ∙ sym (chunks_at c k file p l ∙ take_all c (drop (k * c) file) (omega (arith, n, short)))
+div_ceil_suc : (n c q : ℕ) → 0 < c → suc n ≤ q * c → q * c < suc n + c → q ≡ n / c + 1
+div_ceil_suc n c zero p h k = absurd (omega (arith, zero-mul c))
+div_ceil_suc n c (suc q) p h k =
+    let e = suc_times q c in
+    let d : n / c ≡ q = div-eq_of_lt-le {k = q} c {m = n} (omega arith) (omega arith) in
+    omega arith
 
-pub whole_is : (c k : ℕ) (file : List ℕ) → 0 < c → k < length (chunks_of c file)
-    → take ((k * c + c) - k * c) (drop (k * c) file) ≡ get_or (chunks_of c file) k []
-whole_is c k file p l = ap (λ (n : ℕ). take n (drop (k * c) file)) (back (k * c) c) ∙ sym (chunks_at c k file p l)
+-- the two in one: the length divided, rounded up, and at least 1
+pub count_is : (c : ℕ) (file : List ℕ) → 0 < c
+    → max (div_ceil (length file) c) 1 ≡ length (chunks_of c file)
+unfolding chunks_of
+count_is c [] p = let b = div_ceil_times 0 c p in zero_ceil _ _ p b.1
   where
-    back : (a c : ℕ) → (a + c) - a ≡ c
-    back a c = omega arith
+    zero_ceil : (q c : ℕ) → 0 < c → q * c < 0 + c → max q 1 ≡ 1
+    zero_ceil zero c p h = refl
+    zero_ceil (suc q) c p h = absurd (omega (arith, suc_times q c))
+count_is c (x ∷ file) p =
+    let b = div_ceil_times (length (x ∷ file)) c p in
+    let e = div_ceil_suc (length file) c (div_ceil (length (x ∷ file)) c) p b.0 b.1 in
+    let n = pieces_count (length (x ∷ file)) c x file p (omega arith) in
+    omega arith
+
+-- from its start to its end, or to the file's
+pub chunk_is : (c k : ℕ) (file : List ℕ) → 0 < c → k < length (chunks_of c file)
+    → take (min (k * c + c) (length file) - k * c) (drop (k * c) file) ≡ get_or (chunks_of c file) k []
+chunk_is c k file p l =
+    let d = length-drop (k * c) file in
+    let e : min (k * c + c) (length file) - k * c ≡ min c (length (drop (k * c) file)) = omega arith in
+    ap (λ (n : ℕ). take n (drop (k * c) file)) e ∙ take_min c (drop (k * c) file) ∙ sym (chunks_at c k file p l)
 
 -- no chunk is longer than its size
 pub chunk_length : (c k : ℕ) (file : List ℕ) → 0 < c → k < length (chunks_of c file)

@@ -10,10 +10,7 @@ pub fn chunk_count_unchecked(file: &[u8], chunk_size: usize) -> usize
     requires { 0 < chunk_size }
     ensures { result ≡ length (chunks_of chunk_size file.now) }
 {
-    if file.len() == 0 {
-        return 1;
-    }
-    (file.len() - 1) / chunk_size + 1
+    file.len().div_ceil(chunk_size).max(1)
 }
 
 // The chunk of a number.
@@ -23,9 +20,6 @@ pub fn chunk_unchecked(file: &[u8], chunk_size: usize, seq_num: u32) -> &[u8]
     ensures { result.now ≡ get_or (chunks_of chunk_size file.now) seq_num [] }
 {
     let start = seq_num as usize * chunk_size;
-    if file.len() - start < chunk_size {
-        return &file[start..];
-    }
-    let end = start + chunk_size;
+    let end = (start + chunk_size).min(file.len());
     &file[start..end]
 }
