@@ -1,5 +1,5 @@
 -- k / 2 ^ 53, for k below 2 ^ 53, is a roll in [0, 1): the product with 2 ^ -53 is exact.
-use Rattle.std.proofs.Common.{◌≡◌, ℕ, ◌*◌, ◌/◌, ◌^◌, ◌<◌, true, false, T, pos, negsuc, sym, refl, ap, ◌∙◌, subst, true≢false, zero-le, le_trans, le_of_eq, lt_of_lt_of_le, lt_of_le_of_lt, le_of_lt, mul_assoc, mul_comm, lt_of_mul-lt-mul_right, mul-lt-mul_of_pos_right, mul-pos, zero-mul, mul-one, mul_right_comm, arith, lit≤, lt→ltb, pow_pos}
+use Rattle.std.proofs.Common.{◌≡◌, ℕ, ◌*◌, ◌^◌, ◌<◌, true, false, T, pos, negsuc, sym, refl, ap, ◌∙◌, subst, true≢false, zero-le, le_trans, le_of_eq, lt_of_lt_of_le, lt_of_le_of_lt, le_of_lt, mul_assoc, mul_comm, lt_of_mul-lt-mul_right, mul-lt-mul_of_pos_right, mul-pos, zero-mul, mul-one, mul_right_comm, arith, lit≤, lt→ltb, pow_pos}
 use lib.Ieee.{Float, nan, inf, fin, binary64, up, down, round, mul, of_int, le, lt}
 use lib.Ieee.Fits.{down_pos, and_i}
 use lib.Ieee.Exact.{HasValue, round_exact}

@@ -1,6 +1,6 @@
 -- Binary64 in units of its smallest value, 2 ^ -1074: a float that is not negative is a natural number of units, and an operation's result is the exact number of units,
 -- a fraction n / d, to one part in 2 ^ 53 and half a unit (`Rounded`).
-use Rattle.std.proofs.Common.{◌≡◌, ℕ, zero, suc, ◌+◌, ◌-◌, ◌*◌, ◌/◌, ◌%◌, ◌^◌, ◌<◌, ◌≤◌, Bool, true, false, cond, not, ◌&&◌, T, eqb, ltb, leb, ◌⊎◌, ℤ, pos, negsuc, sym, refl, ap, ◌∙◌, subst, ap₂, inl, inr, true≢false, zero-le, le_trans, le_of_eq, le_refl, lt_of_lt_of_le, le_of_suc-le-suc, lt_of_le_of_lt, add-zero, lt_irrefl, mul-le-mul_right, zero-lt-suc, mul_assoc, mul_comm, eq-zero-or-pos, lt_of_mul-lt-mul_right, mul-pos, one-mul, lt_of_not-le, mul-zero, zero-mul, mul-one, mul_right_comm, not-le_of_lt, le_of_mul-le-mul_right, sub-le, arith, lit<, eqb→eq, ltb→lt, leb→le, nltb→le, pow_pos, pow_mono, pow-add}
+use Rattle.std.proofs.Common.{◌≡◌, ℕ, zero, suc, ◌+◌, ◌-◌, ◌*◌, ◌%◌, ◌^◌, ◌<◌, ◌≤◌, Bool, true, false, cond, not, ◌&&◌, T, eqb, ltb, leb, ◌⊎◌, ℤ, pos, negsuc, sym, refl, ap, ◌∙◌, subst, ap₂, inl, inr, true≢false, zero-le, le_trans, le_of_eq, le_refl, lt_of_lt_of_le, le_of_suc-le-suc, lt_of_le_of_lt, add-zero, lt_irrefl, mul-le-mul_right, zero-lt-suc, mul_assoc, mul_comm, eq-zero-or-pos, lt_of_mul-lt-mul_right, mul-pos, one-mul, lt_of_not-le, mul-zero, zero-mul, mul-one, mul_right_comm, not-le_of_lt, le_of_mul-le-mul_right, sub-le, arith, lit<, eqb→eq, ltb→lt, leb→le, nltb→le, pow_pos, pow_mono, pow-add}
 use native.Mathlib.Nat.{mul-sub}
 use mathlib.Core.Bool.{false≢true}
 use lib.Pow.{pow-lt}

@@ -8,20 +8,14 @@ ghost use Rattle.float.specs.Roll.{roll_in_bounds, chance_in_bounds, scaled, rol
 pub fn roll_in_bounds(x: f64) -> bool
     ensures { result ≡ roll_in_bounds x }
 {
-    if x >= 0.0 {
-        return x < 1.0;
-    }
-    false
+    x >= 0.0 && x < 1.0
 }
 
 // 0 <= x <= 1; -0.0 is in bounds, a NaN is not.
 pub fn chance_in_bounds(x: f64) -> bool
     ensures { result ≡ chance_in_bounds x }
 {
-    if x >= 0.0 {
-        return x <= 1.0;
-    }
-    false
+    x >= 0.0 && x <= 1.0
 }
 
 // The whole part of roll * n as a double.
