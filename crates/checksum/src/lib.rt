@@ -42,8 +42,7 @@ fn swapped_sum(s: &[u8]) -> u64
     let mut c: u64 = 0;
     let mut d: u64 = 0;
     let blocks = s.len() / 16;
-    let mut n: usize = 0;
-    while n < blocks {
+    for n in 0..blocks {
         let i = n * 16;
         let j = i + 4;
         let k = j + 4;
@@ -52,7 +51,6 @@ fn swapped_sum(s: &[u8]) -> u64
         b += four_octets(s, j);
         c += four_octets(s, k);
         d += four_octets(s, l);
-        n += 1;
     }
     a + b + c + d + last_octets(s, blocks * 16)
 }
@@ -84,5 +82,5 @@ fn last_octets(s: &[u8], from: usize) -> u64
 fn little_endian(a: u8, b: u8, c: u8, d: u8) -> u64
     ensures { (result ≡ a + b * 256 + c * 65536 + d * 16777216) × (result < 4294967296) }
 {
-    (a as u64) + (b as u64) * 256 + (c as u64) * 65536 + (d as u64) * 16777216
+    u64::from(u32::from_le_bytes([a, b, c, d]))
 }
