@@ -1,7 +1,7 @@
 // What the driver notes of each segment: the reference's `SegMeta` in lent rows, one for each chunk.
 #![tactic(auto)]
 
-ghost use Rattle.std.specs.Prelude.{◌≡◌, [], ◌-◌, ◌≤◌, ◌<◌, min, length, get_or, set};
+ghost use Rattle.std.specs.Prelude.{◌≡◌, [], ◌≤◌, ◌<◌, length, get_or, set};
 ghost use Rattle.bounds.specs.Bounds.{max_duration};
 ghost use Rattle.notes.specs.Notes.{seg_metas, new_notes, sent, sent_again, set_dropped, mark_ack_scheduled, marked_row};
 ghost use Rattle.notes.specs.Notes.{marked_below, marked_to, AllMarked, ScheduledBelow, is_premature, rto_at_send};
@@ -116,7 +116,7 @@ impl Notes {
     {
         let at = seq as usize;
         if cumulative {
-            let end = min(at + 1, self.count);
+            let end = (at + 1).min(self.count);
             return self.mark_to(rows, end);
         }
         if self.count <= at {
@@ -197,7 +197,7 @@ impl Notes {
         }
         rows[at] = with_rtt_sampled(note);
         Sample::Rtt(
-            since(now, note[ORIGINAL_SEND_AT]),
+            now.saturating_sub(note[ORIGINAL_SEND_AT]),
             note[EVER_RETRANSMITTED] == 1,
         )
     }
@@ -272,22 +272,7 @@ fn mark_rows(rows: &mut [Note], from: usize, end: usize)
     requires { (from ≤ end) × (end ≤ length rows.old) × AllMarked from rows.old }
     ensures { rows.new ≡ marked_below end rows.old }
 {
-    let mut i = from;
-    while i < end {
+    for i in from..end {
         mark(rows, i);
-        i += 1;
     }
-}
-
-fn min(a: usize, b: usize) -> usize
-    ensures { result ≡ min a b }
-{
-    if a < b { a } else { b }
-}
-
-// The time from `then` to `now`; 0 if it is not past.
-fn since(now: u64, then: u64) -> u64
-    ensures { result ≡ now - then }
-{
-    if now < then { 0 } else { now - then }
 }

@@ -12,4 +12,4 @@ returns-then-note-eq1 c = rw (lt-ltb _ _ c.if-self-at.false, eq-eqb _ _ c.if-not
 
 pub returns : goal.returns
 unfolding take_sample
-returns c = rw (lt-ltb _ _ c.if-self-at.false, ne_eqb _ _ c.if-note-eq1.false, c.with_rtt_sampled.ensures, c.since.ensures)
+returns c = rw (lt-ltb _ _ c.if-self-at.false, ne_eqb _ _ c.if-note-eq1.false, c.with_rtt_sampled.ensures, c.saturating_sub.ensures)
