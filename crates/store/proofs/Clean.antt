@@ -7,7 +7,7 @@ use mathlib.Core.Logic.{◌⊎◌, inl, inr}
 use native.Mathlib.Omega.{arith}
 use native.Mathlib.Decide.{dec_lt}
 use lib.Dec.{eqb}
-use lib.ListN.{length, get_or, set, take, drop, replicate, length-append, length-replicate}
+use lib.ListN.{length, set, take, replicate, length-append, length-replicate}
 use lib.Seq.{get_or-set_other, drop_at, drop-append-le, take-append-le, drop-set-lt}
 use borrow.Author.Tests.{eqb-true, eqb-false}
 use Rattle.store.specs.Slot.{head_bytes, slot_at, slot_length, slot_bytes, put_slot}

@@ -1,7 +1,7 @@
 // The lent store of a protocol end: slots of 1,404 bytes, end to end.
 #![tactic(auto)]
 
-ghost use Rattle.std.specs.Prelude.{◌≡◌, ◌+◌, ◌-◌, ◌*◌, ◌%◌, ◌≤◌, ◌<◌, min, length, replicate, drop, true, cond, ◌++◌};
+ghost use Rattle.std.specs.Prelude.{◌≡◌, ◌+◌, ◌-◌, ◌*◌, ◌%◌, ◌≤◌, ◌<◌, length, replicate, drop, true, cond, ◌++◌};
 ghost use Rattle.bounds.specs.Bounds.{max_payload, seq_num_limit, slot_size};
 ghost use Rattle.store.specs.Sound.{sender_slots_broken, receiver_slots_broken};
 ghost use Rattle.store.specs.Scans.{slot_outside, slots_outside, part_broken};
@@ -109,7 +109,7 @@ pub fn sender_slots_broken_unchecked(
 {
     let first = base as usize % window;
     let acknowledged = mark_unchecked(store, first) == 2;
-    let behind = count - min(count, window - first);
+    let behind = count.saturating_sub(window - first);
     let to_the_end = sender_part_broken_unchecked(selective, store, first, window, count);
     let from_the_start = sender_part_broken_unchecked(selective, store, 0, first, behind);
     acknowledged | to_the_end | from_the_start
@@ -138,16 +138,14 @@ pub fn marked_run_unchecked(
     requires { (0 < window) × (window * slot_size ≤ length store.now) × (count ≤ seq_num_limit) }
     ensures { result ≡ marked_run mark store.now window first count }
 {
-    let mut k: usize = 0;
     let mut slot = first as usize % window;
-    while k < count {
+    for k in 0..count {
         if mark_unchecked(store, slot) != mark {
             return k;
         }
         slot = next_slot_unchecked(slot, window);
-        k += 1;
     }
-    k
+    count
 }
 
 // How many of count numbers from first on have this mark.
@@ -161,15 +159,13 @@ pub fn marked_count_unchecked(
     requires { (0 < window) × (window * slot_size ≤ length store.now) × (count ≤ seq_num_limit) }
     ensures { result ≡ marked_count mark store.now window first count }
 {
-    let mut k: usize = 0;
     let mut total: usize = 0;
     let mut slot = first as usize % window;
-    while k < count {
+    for _ in 0..count {
         if mark_unchecked(store, slot) == mark {
             total += 1;
         }
         slot = next_slot_unchecked(slot, window);
-        k += 1;
     }
     total
 }
@@ -180,13 +176,11 @@ pub fn payloads_length_unchecked(store: &[u8], window: usize, first: u32, count:
     ensures value { result ≡ length (payloads_from store.now window first count) }
     ensures upper_bound { result ≤ count * max_payload }
 {
-    let mut k: usize = 0;
     let mut total: usize = 0;
     let mut slot = first as usize % window;
-    while k < count {
+    for _ in 0..count {
         total += length_unchecked(store, slot) as usize;
         slot = next_slot_unchecked(slot, window);
-        k += 1;
     }
     total
 }
@@ -207,30 +201,25 @@ pub fn copy_payloads_unchecked(
     ensures buffer_after { buffer.new
         ≡ written_at buffer.old place (payloads_from store.now window first count) }
 {
-    let mut k: usize = 0;
     let mut start = place;
     let mut slot = first as usize % window;
-    while k < count {
+    for _ in 0..count {
         let payload = payload_unchecked(store, slot);
         let end = start + payload.len();
         octets::copy_unchecked(payload, &mut buffer[start..end]);
         start = end;
         slot = next_slot_unchecked(slot, window);
-        k += 1;
     }
     start
 }
 
-// The slot of the next number.
+// The slot of the next number. A comparison in place of `%`, whose division would slow the loops.
 fn next_slot_unchecked(slot: usize, window: usize) -> usize
     requires { slot < window }
     ensures { result ≡ (slot + 1) % window }
 {
     let next = slot + 1;
-    if next == window {
-        return 0;
-    }
-    next
+    if next == window { 0 } else { next }
 }
 
 // Whether of the slots before `to` from `from` on the first count, outstanding, or the others, empty, break line 9;
@@ -245,7 +234,7 @@ fn sender_part_broken_unchecked(
     requires { (from ≤ to) × (to * slot_size ≤ length store.now) }
     ensures { result ≡ part_broken selective store.now from (to - from) count }
 {
-    let middle = from + min(count, to - from);
+    let middle = from + count.min(to - from);
     let high = highest_mark(selective);
     let outstanding = slots_outside_unchecked(store, from, middle, 1, high);
     let others = slots_outside_unchecked(store, middle, to, 0, 0);
@@ -256,10 +245,7 @@ fn sender_part_broken_unchecked(
 fn highest_mark(selective: bool) -> u8
     ensures { result ≡ cond selective 2 1 }
 {
-    if selective {
-        return 2;
-    }
-    1
+    if selective { 2 } else { 1 }
 }
 
 // Whether one of the slots before `to` from `from` on has a length out of bounds, or a mark below low or above high. No
@@ -269,10 +255,8 @@ fn slots_outside_unchecked(store: &[u8], from: usize, to: usize, low: u8, high: 
     ensures { result ≡ slots_outside low high store.now from (to - from) }
 {
     let mut outside = false;
-    let mut slot = from;
-    while slot < to {
-        outside = slot_outside_unchecked(store, slot, low, high) | outside;
-        slot += 1;
+    for slot in from..to {
+        outside |= slot_outside_unchecked(store, slot, low, high);
     }
     outside
 }
@@ -284,15 +268,6 @@ fn slot_outside_unchecked(store: &[u8], slot: usize, low: u8, high: u8) -> bool
     let length = length_unchecked(store, slot);
     let mark = mark_unchecked(store, slot);
     (bounds::MAX_PAYLOAD_SIZE < length as usize) | (mark < low) | (high < mark)
-}
-
-fn min(a: usize, b: usize) -> usize
-    ensures { result ≡ min a b }
-{
-    if a < b {
-        return a;
-    }
-    b
 }
 
 // How many bytes of a slot may be other than 0.
@@ -326,8 +301,6 @@ fn write_head(slot: &mut [u8], n: u16, mark: u8, flags: u8)
     requires { 4 ≤ length slot.old }
     ensures { slot.new ≡ head_bytes n mark flags ++ drop 4 slot.old }
 {
-    slot[0] = (n >> 8) as u8;
-    slot[1] = (n % 256) as u8;
-    slot[2] = mark;
-    slot[3] = flags;
+    let [high, low] = n.to_be_bytes();
+    slot[..4].copy_from_slice(&[high, low, mark, flags]);
 }

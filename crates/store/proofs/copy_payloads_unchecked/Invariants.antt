@@ -1,11 +1,8 @@
-use Prim.Native.Nat.{◌+◌, ◌-◌, ◌≤◌, ◌%◌}
+use Prim.Native.Nat.{◌+◌, ◌-◌, ◌%◌}
 use mathlib.Core.Path.{◌≡◌}
 use lib.ListN.{length}
 use Rattle.store.specs.Numbers.{payloads_from, written_at}
 use Rattle.store.proofs.copy_payloads_unchecked.Given as goal
 
-abbrev pub invariant-loop-k : goal.invariant-loop-k
-invariant-loop-k l = (l.k ≤ l.count) × (length l.buffer ≡ length l.initial.buffer) × (l.start + length (payloads_from l.store l.window (l.first + l.k) (l.count - l.k)) ≡ l.place + length (payloads_from l.store l.window l.first l.count)) × (written_at l.buffer l.start (payloads_from l.store l.window (l.first + l.k) (l.count - l.k)) ≡ written_at l.initial.buffer l.place (payloads_from l.store l.window l.first l.count)) × (l.slot ≡ (l.first + l.k) % l.window)
-
-abbrev pub decreases-loop-k : goal.decreases-loop-k
-decreases-loop-k l = l.count - l.k
+abbrev pub invariant-loop : goal.invariant-loop
+invariant-loop l = (length l.buffer ≡ length l.initial.buffer) × (l.start + length (payloads_from l.store l.window (l.first + l.counter) (l.count - l.counter)) ≡ l.place + length (payloads_from l.store l.window l.first l.count)) × (written_at l.buffer l.start (payloads_from l.store l.window (l.first + l.counter) (l.count - l.counter)) ≡ written_at l.initial.buffer l.place (payloads_from l.store l.window l.first l.count)) × (l.slot ≡ (l.first + l.counter) % l.window)

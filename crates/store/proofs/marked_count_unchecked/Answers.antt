@@ -1,4 +1,4 @@
-use Prim.Native.Nat.{◌+◌, ◌-◌, ℕ, ◌%◌}
+use Prim.Native.Nat.{◌+◌, ℕ, ◌%◌}
 use mathlib.Core.Path.{◌≡◌, sym, ap, ◌∙◌}
 use mathlib.Core.Bool.{Bool, cond}
 use native.Mathlib.Omega.{arith}
@@ -14,29 +14,29 @@ use Rattle.store.proofs.marked_count_unchecked.Goals.{then-mark_unchecked-mark, 
 pub nonzero_rem-slot : goal.nonzero_rem-slot
 nonzero_rem-slot c = omega (arith, c.requires.0)
 
-pub loop-k-init : goal.loop-k-init
-loop-k-init c = (omega arith, rw (add-zero, sub-zero, zero-add), ap (λ (n : ℕ). n % c.args.window) (omega arith))
+pub loop-init : goal.loop-init
+loop-init c = (rw (add-zero, sub-zero, zero-add), ap (λ (n : ℕ). n % c.args.window) (omega arith))
 
 pub mark_unchecked-requires : goal.mark_unchecked-requires
-mark_unchecked-requires c = carried_in c.args.store.now _ (c.args.first + c.loop-k.k) c.args.window c.loop-k.invariant.2 c.requires.0 c.requires.1
+mark_unchecked-requires c = carried_in c.args.store.now _ (c.args.first + c.loop.counter) c.args.window c.loop.invariant.1 c.requires.0 c.requires.1
 
 pub overflow_add-total : goal.overflow_add-total
-overflow_add-total c = let inv = c.loop-k.invariant.1 in let few = count_within c.args.mark c.args.store.now c.args.window c.args.first c.args.count in let most = c.requires.2 in omega arith
+overflow_add-total c = let inv = c.loop.invariant.0 in let few = count_within c.args.mark c.args.store.now c.args.window c.args.first c.args.count in let most = c.requires.2 in omega arith
 
 pub next_slot_unchecked-slot-requires : goal.next_slot_unchecked-slot-requires
-next_slot_unchecked-slot-requires c = carried_below _ (c.args.first + c.loop-k.k) c.args.window c.loop-k.invariant.2 c.requires.0
+next_slot_unchecked-slot-requires c = carried_below _ (c.args.first + c.loop.counter) c.args.window c.loop.invariant.1 c.requires.0
 
-pub loop-k-preserved : goal.loop-k-preserved
-loop-k-preserved c = let here = marked c.args.mark c.args.store.now c.args.window (c.args.first + c.loop-k.k) in
-    let total : c.if-mark_unchecked-mark.total ≡ c.loop-k.total + cond here 1 0 = elim c.if-mark_unchecked-mark.branch [
-      | then-mark_unchecked-mark w ↦ w.total-is ∙ sym (ap (λ (b : Bool). c.loop-k.total + cond b 1 0) (eq-eqb _ _ (sym ((c.mark_unchecked.ensures ∙ ap (λ (s : ℕ). slot_mark (slot_at c.args.store.now s)) c.loop-k.invariant.2)) ∙ w.if-mark_unchecked-mark.true)))
-      | else-mark_unchecked-mark w ↦ w.total-is ∙ sym (ap (λ (b : Bool). c.loop-k.total + cond b 1 0) (ne_eqb _ _ (λ e. w.if-mark_unchecked-mark.false ((c.mark_unchecked.ensures ∙ ap (λ (s : ℕ). slot_mark (slot_at c.args.store.now s)) c.loop-k.invariant.2) ∙ e))) ∙ add-zero c.loop-k.total)
+pub loop-preserved : goal.loop-preserved
+loop-preserved c = let here = marked c.args.mark c.args.store.now c.args.window (c.args.first + c.loop.counter) in
+    let total : c.if-mark_unchecked-mark.total ≡ c.loop.total + cond here 1 0 = elim c.if-mark_unchecked-mark.branch [
+      | then-mark_unchecked-mark w ↦ w.total-is ∙ sym (ap (λ (b : Bool). c.loop.total + cond b 1 0) (eq-eqb _ _ (sym ((c.mark_unchecked.ensures ∙ ap (λ (s : ℕ). slot_mark (slot_at c.args.store.now s)) c.loop.invariant.1)) ∙ w.if-mark_unchecked-mark.true)))
+      | else-mark_unchecked-mark w ↦ w.total-is ∙ sym (ap (λ (b : Bool). c.loop.total + cond b 1 0) (ne_eqb _ _ (λ e. w.if-mark_unchecked-mark.false ((c.mark_unchecked.ensures ∙ ap (λ (s : ℕ). slot_mark (slot_at c.args.store.now s)) c.loop.invariant.1) ∙ e))) ∙ add-zero c.loop.total)
     ] in
-    let turn = count_turn c.args.store.now c.args.window c.args.first c.loop-k.k c.args.count c.loop-k-test.true c.args.mark in
-    let inv = c.loop-k.invariant.1 in
-    (omega arith, omega arith, carried_on _ _ c.args.first c.loop-k.k c.args.window c.loop-k.invariant.2 c.next_slot_unchecked-slot.ensures)
+    let turn = count_turn c.args.store.now c.args.window c.args.first c.loop.counter c.args.count c.loop-test.true c.args.mark in
+    let inv = c.loop.invariant.0 in
+    (omega arith, carried_on _ _ c.args.first c.loop.counter c.args.window c.loop.invariant.1 c.next_slot_unchecked-slot.ensures)
 
 pub returns : goal.returns
-returns c = let inv = c.loop-k.invariant.1 in
-    let stop = count_end c.args.mark c.args.store.now c.args.window (c.args.first + c.loop-k.k) c.loop-k.k c.args.count c.loop-k-test.false in
+returns c = let inv = c.loop.invariant.0 in
+    let stop = count_end c.args.mark c.args.store.now c.args.window (c.args.first + c.loop.counter) c.loop.counter c.args.count c.loop-test.false in
     omega arith

@@ -14,25 +14,25 @@ pub nonzero_rem-slot : goal.nonzero_rem-slot
 nonzero_rem-slot c = omega (arith, c.requires.0)
 
 pub loop-k-init : goal.loop-k-init
-loop-k-init c = (omega arith, rw (add-zero, sub-zero, zero-add), ap (λ (n : ℕ). n % c.args.window) (omega arith))
+loop-k-init c = (rw (add-zero, sub-zero, zero-add), ap (λ (n : ℕ). n % c.args.window) (omega arith))
 
 pub mark_unchecked-requires : goal.mark_unchecked-requires
-mark_unchecked-requires c = carried_in c.args.store.now _ (c.args.first + c.loop-k.k) c.args.window c.loop-k.invariant.2 c.requires.0 c.requires.1
+mark_unchecked-requires c = carried_in c.args.store.now _ (c.args.first + c.loop-k.k) c.args.window c.loop-k.invariant.1 c.requires.0 c.requires.1
 
 pub returns-then-mark_unchecked-mark : goal.returns-then-mark_unchecked-mark
-returns-then-mark_unchecked-mark c = let other : marked c.args.mark c.args.store.now c.args.window (c.args.first + c.loop-k.k) ≡ false = ne_eqb _ _ (λ e. c.if-mark_unchecked-mark.true ((c.mark_unchecked.ensures ∙ ap (λ (s : ℕ). slot_mark (slot_at c.args.store.now s)) c.loop-k.invariant.2) ∙ e)) in
-    let inv = c.loop-k.invariant.1 in
+returns-then-mark_unchecked-mark c = let other : marked c.args.mark c.args.store.now c.args.window (c.args.first + c.loop-k.k) ≡ false = ne_eqb _ _ (λ e. c.if-mark_unchecked-mark.true ((c.mark_unchecked.ensures ∙ ap (λ (s : ℕ). slot_mark (slot_at c.args.store.now s)) c.loop-k.invariant.1) ∙ e)) in
+    let inv = c.loop-k.invariant.0 in
     let stop = run_stop c.args.mark c.args.store.now c.args.window (c.args.first + c.loop-k.k) (c.args.count - c.loop-k.k) other in
     omega arith
 
 pub next_slot_unchecked-slot-requires : goal.next_slot_unchecked-slot-requires
-next_slot_unchecked-slot-requires c = carried_below _ (c.args.first + c.loop-k.k) c.args.window c.loop-k.invariant.2 c.requires.0
+next_slot_unchecked-slot-requires c = carried_below _ (c.args.first + c.loop-k.k) c.args.window c.loop-k.invariant.1 c.requires.0
 
 pub loop-k-preserved : goal.loop-k-preserved
-loop-k-preserved c = let same : marked c.args.mark c.args.store.now c.args.window (c.args.first + c.loop-k.k) ≡ true = eq-eqb _ _ (sym ((c.mark_unchecked.ensures ∙ ap (λ (s : ℕ). slot_mark (slot_at c.args.store.now s)) c.loop-k.invariant.2)) ∙ c.if-mark_unchecked-mark.false) in
-    (omega arith, run_turn c.args.store.now c.args.window c.args.first c.loop-k.k c.args.count c.loop-k-test.true c.args.mark same ∙ c.loop-k.invariant.1, carried_on _ _ c.args.first c.loop-k.k c.args.window c.loop-k.invariant.2 c.next_slot_unchecked-slot.ensures)
+loop-k-preserved c = let same : marked c.args.mark c.args.store.now c.args.window (c.args.first + c.loop-k.k) ≡ true = eq-eqb _ _ (sym ((c.mark_unchecked.ensures ∙ ap (λ (s : ℕ). slot_mark (slot_at c.args.store.now s)) c.loop-k.invariant.1)) ∙ c.if-mark_unchecked-mark.false) in
+    (run_turn c.args.store.now c.args.window c.args.first c.loop-k.k c.args.count c.loop-k-test.true c.args.mark same ∙ c.loop-k.invariant.0, carried_on _ _ c.args.first c.loop-k.k c.args.window c.loop-k.invariant.1 c.next_slot_unchecked-slot.ensures)
 
 pub returns : goal.returns
-returns c = let inv = c.loop-k.invariant.1 in
+returns c = let inv = c.loop-k.invariant.0 in
     let stop = run_end c.args.mark c.args.store.now c.args.window (c.args.first + c.loop-k.k) c.loop-k.k c.args.count c.loop-k-test.false in
     omega arith

@@ -1,4 +1,4 @@
-use Prim.Native.Nat.{◌+◌, ◌-◌, ◌%◌, ℕ}
+use Prim.Native.Nat.{◌+◌, ◌%◌, ℕ}
 use mathlib.Core.Path.{ap, ◌∙◌}
 use native.Mathlib.Omega.{arith}
 use native.Mathlib.Nat.{add-zero, sub-zero, zero-add}
@@ -12,26 +12,26 @@ use Rattle.store.proofs.payloads_length_unchecked.Goals as goal
 pub nonzero_rem-slot : goal.nonzero_rem-slot
 nonzero_rem-slot c = omega (arith, c.requires.0.positive)
 
-pub loop-k-init : goal.loop-k-init
-loop-k-init c = (omega arith, omega arith, rw (add-zero, sub-zero, zero-add), ap (λ (n : ℕ). n % c.args.window) (omega arith))
+pub loop-init : goal.loop-init
+loop-init c = (omega arith, rw (add-zero, sub-zero, zero-add), ap (λ (n : ℕ). n % c.args.window) (omega arith))
 
 pub length_unchecked-requires : goal.length_unchecked-requires
-length_unchecked-requires c = carried_in c.args.store.now _ (c.args.first + c.loop-k.k) c.args.window c.loop-k.invariant.3 c.requires.0.positive c.requires.0.room
+length_unchecked-requires c = carried_in c.args.store.now _ (c.args.first + c.loop.counter) c.args.window c.loop.invariant.2 c.requires.0.positive c.requires.0.room
 
 pub overflow_add-total : goal.overflow_add-total
-overflow_add-total c = let n = c.length_unchecked.ensures ∙ ap (λ (s : ℕ). slot_length (slot_at c.args.store.now s)) c.loop-k.invariant.3 in let short = c.requires.0.short c.loop-k.k c.loop-k-test.true in let few = c.requires.1 in omega arith
+overflow_add-total c = let n = c.length_unchecked.ensures ∙ ap (λ (s : ℕ). slot_length (slot_at c.args.store.now s)) c.loop.invariant.2 in let short = c.requires.0.short c.loop.counter c.loop-test.true in let few = c.requires.1 in omega arith
 
 pub next_slot_unchecked-slot-requires : goal.next_slot_unchecked-slot-requires
-next_slot_unchecked-slot-requires c = carried_below _ (c.args.first + c.loop-k.k) c.args.window c.loop-k.invariant.3 c.requires.0.positive
+next_slot_unchecked-slot-requires c = carried_below _ (c.args.first + c.loop.counter) c.args.window c.loop.invariant.2 c.requires.0.positive
 
-pub loop-k-preserved : goal.loop-k-preserved
-loop-k-preserved c = let short = c.requires.0.short c.loop-k.k c.loop-k-test.true in
-    let n = (c.length_unchecked.ensures ∙ ap (λ (s : ℕ). slot_length (slot_at c.args.store.now s)) c.loop-k.invariant.3) in
-    let size = slot_payload_length c.args.store.now ((c.args.first + c.loop-k.k) % c.args.window) (slot_in c.args.store.now (c.args.first + c.loop-k.k) c.args.window c.requires.0.positive c.requires.0.room) short in
-    let turn = (payloads_turn_length c.args.store.now c.args.window c.args.first c.loop-k.k c.args.count c.loop-k-test.true) in
-    let inv = c.loop-k.invariant.2 in
-    (omega arith, omega arith, omega arith, carried_on _ _ c.args.first c.loop-k.k c.args.window c.loop-k.invariant.3 c.next_slot_unchecked-slot.ensures)
+pub loop-preserved : goal.loop-preserved
+loop-preserved c = let short = c.requires.0.short c.loop.counter c.loop-test.true in
+    let n = (c.length_unchecked.ensures ∙ ap (λ (s : ℕ). slot_length (slot_at c.args.store.now s)) c.loop.invariant.2) in
+    let size = slot_payload_length c.args.store.now ((c.args.first + c.loop.counter) % c.args.window) (slot_in c.args.store.now (c.args.first + c.loop.counter) c.args.window c.requires.0.positive c.requires.0.room) short in
+    let turn = (payloads_turn_length c.args.store.now c.args.window c.args.first c.loop.counter c.args.count c.loop-test.true) in
+    let inv = c.loop.invariant.1 in
+    (omega arith, omega arith, carried_on _ _ c.args.first c.loop.counter c.args.window c.loop.invariant.2 c.next_slot_unchecked-slot.ensures)
 
 pub returns : goal.returns
-returns c = let inv = c.loop-k.invariant.2 in
-    let stop = ap length (payloads_end c.args.store.now c.args.window (c.args.first + c.loop-k.k) c.loop-k.k c.args.count c.loop-k-test.false) in record { value = omega arith; upper_bound = omega arith }
+returns c = let inv = c.loop.invariant.1 in
+    let stop = ap length (payloads_end c.args.store.now c.args.window (c.args.first + c.loop.counter) c.loop.counter c.args.count c.loop-test.false) in record { value = omega arith; upper_bound = omega arith }
