@@ -66,7 +66,7 @@ fn nanos_below_2_pow_21(x: f64) -> u64
     requires { T (below21 x) }
     ensures { result ≡ from_secs_f64 x }
 {
-    let bits = f64::to_bits(x);
+    let bits = x.to_bits();
     let field = bits / 4503599627370496;
     let significand = bits % 4503599627370496 + 4503599627370496;
     let low = significand % 4194304 * 1953125;
@@ -80,7 +80,7 @@ fn nanos_from_2_pow_21(x: f64) -> u64
     requires { T (from21 x) }
     ensures { result ≡ from_secs_f64 x }
 {
-    let bits = f64::to_bits(x);
+    let bits = x.to_bits();
     let field = bits / 4503599627370496;
     let significand = bits % 4503599627370496 + 4503599627370496;
     let places = 1075 - field;
@@ -110,5 +110,5 @@ fn closest_shifted(a: u64, k: u64) -> u64
 fn sticky_u64(b: u64) -> u64
     ensures { result ≡ sticky b }
 {
-    if b == 0 { 0 } else { 1 }
+    u64::from(b != 0)
 }
