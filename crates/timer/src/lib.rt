@@ -175,7 +175,7 @@ impl RetransmissionTimer {
     {
         RetransmissionTimer {
             deadline: Deadline::At(now + duration),
-            generation: std::num::wrapping_add_u64(self.generation, 1),
+            generation: self.generation.wrapping_add(1),
         }
     }
 
@@ -183,10 +183,9 @@ impl RetransmissionTimer {
         requires { deadline_too_late self.deadline ≡ false }
         ensures { result ≡ cancelled_unchecked self }
     {
-        let next = std::num::wrapping_add_u64(self.generation, 1);
         RetransmissionTimer {
             deadline: Deadline::Unset,
-            generation: next,
+            generation: self.generation.wrapping_add(1),
         }
     }
 
@@ -251,12 +250,6 @@ fn deadline_remaining(d: Deadline, now: u64) -> Remaining
 {
     match d {
         Deadline::Unset => Remaining::Inactive,
-        Deadline::At(t) => Remaining::For(time_left(t, now)),
+        Deadline::At(t) => Remaining::For(t.saturating_sub(now)),
     }
-}
-
-fn time_left(deadline: u64, now: u64) -> u64
-    ensures { result ≡ deadline - now }
-{
-    if now >= deadline { 0 } else { deadline - now }
 }

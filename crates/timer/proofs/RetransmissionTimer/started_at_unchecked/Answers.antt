@@ -1,4 +1,4 @@
-use Rattle.std.proofs.Common.{arith}
+use Rattle.std.proofs.Common.{arith, refl}
 use Rattle.timer.specs.Timer.{deadline_too_late, started_at_unchecked}
 use Rattle.duration.proofs.Laws.{start_in_time}
 use Rattle.timer.proofs.RetransmissionTimer.started_at_unchecked.Goals as goal
@@ -8,4 +8,4 @@ overflow_add-result c = omega (arith, start_in_time (deadline_too_late c.args.se
 
 pub returns : goal.returns
 unfolding started_at_unchecked
-returns c = simp c.wrapping_add_u64.ensures.value
+returns c = refl
