@@ -8,7 +8,7 @@ ghost use Rattle.bounds.specs.Bounds.{max_duration, max_estimate};
 ghost use Rattle.rto.specs.Rto.{durations_in_bounds, factors_in_bounds, config_in_bounds};
 ghost use Rattle.rto.specs.Rto.{estimate_broken, state_broken, counts_full, rtt_too_long, held_too_long, sample_too_long};
 ghost use Rattle.rto.specs.Rto.{default_config, no_stats, fresh, first_of, next_of, estimate_for, min_rtt, max_rtt};
-ghost use Rattle.rto.specs.Rto.{sampled, accept_sample, reject_sample, next_consecutive};
+ghost use Rattle.rto.specs.Rto.{sampled, accept_sample, reject_sample};
 ghost use Rattle.rto.specs.Rto.{update_rtt_unchecked, on_timeout_unchecked, reset_backoff_unchecked};
 ghost use Rattle.rto.specs.Rto.{mean_rtt_ms_unchecked, with_config, update_rtt, on_timeout, reset_backoff};
 ghost use Rattle.rto.specs.Rto.{has_exceeded_retry_limit, mean_rtt_ms};
@@ -16,9 +16,6 @@ ghost use Rattle.rto.specs.Rto.{has_exceeded_retry_limit, mean_rtt_ms};
 use bounds::{COUNT_LIMIT, MAX_DURATION, MAX_ESTIMATE, MAX_GRANULARITY};
 use refusal::{DoneAnswer, Refusal, TestAnswer, Verdict};
 use rtt::Estimate;
-
-// The largest u32, where the count of consecutive timeouts stops.
-const MAX_CONSECUTIVE: u32 = 4_294_967_295;
 
 #[derive(Clone, Copy)]
 pub struct RtoConfig {
@@ -256,11 +253,11 @@ impl RtoEstimator {
         requires { (counts_full self.stats ≡ false) × (self.current_rto ≤ max_duration) }
         ensures { result ≡ on_timeout_unchecked self }
     {
-        let n = next_consecutive(self.consecutive_timeouts);
+        let n = self.consecutive_timeouts.saturating_add(1);
         let mut stats = self.stats;
         stats.timeout_count += 1;
         stats.backoff_count += 1;
-        stats.max_consecutive_timeouts = max_u32(stats.max_consecutive_timeouts, n);
+        stats.max_consecutive_timeouts = stats.max_consecutive_timeouts.max(n);
         let mut e = self;
         e.current_rto = limit(
             self.current_rto * 2,
@@ -547,7 +544,7 @@ fn min_rtt(r: MaybeDuration, d: u64) -> MaybeDuration
 {
     match r {
         MaybeDuration::Unset => MaybeDuration::Set(d),
-        MaybeDuration::Set(m) => MaybeDuration::Set(min(m, d)),
+        MaybeDuration::Set(m) => MaybeDuration::Set(m.min(d)),
     }
 }
 
@@ -556,36 +553,12 @@ fn max_rtt(r: MaybeDuration, d: u64) -> MaybeDuration
 {
     match r {
         MaybeDuration::Unset => MaybeDuration::Set(d),
-        MaybeDuration::Set(m) => MaybeDuration::Set(max(m, d)),
+        MaybeDuration::Set(m) => MaybeDuration::Set(m.max(d)),
     }
 }
 
 fn limit(rto: u64, min_rto: u64, max_rto: u64) -> u64
     ensures { result ≡ min (max rto min_rto) max_rto }
 {
-    min(max(rto, min_rto), max_rto)
-}
-
-fn next_consecutive(n: u32) -> u32
-    ensures { result ≡ next_consecutive n }
-{
-    if n < MAX_CONSECUTIVE { n + 1 } else { n }
-}
-
-fn min(a: u64, b: u64) -> u64
-    ensures { result ≡ min a b }
-{
-    if a <= b { a } else { b }
-}
-
-fn max(a: u64, b: u64) -> u64
-    ensures { result ≡ max a b }
-{
-    if a <= b { b } else { a }
-}
-
-fn max_u32(a: u32, b: u32) -> u32
-    ensures { result ≡ max a b }
-{
-    if a <= b { b } else { a }
+    rto.max(min_rto).min(max_rto)
 }

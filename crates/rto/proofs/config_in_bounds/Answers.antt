@@ -1,5 +1,4 @@
 use Rattle.std.proofs.Common.{sym, ◌∙◌}
-use borrow.Author.Tests.{not-true, not-false}
 use Rattle.rto.specs.Rto.{durations_in_bounds, factors_in_bounds, config_in_bounds}
 use Rattle.rto.proofs.Checks.{and_stops, and_goes}
 use Rattle.rto.proofs.config_in_bounds.Goals as goal

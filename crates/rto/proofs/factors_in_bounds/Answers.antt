@@ -1,5 +1,4 @@
 use Rattle.std.proofs.Common.{sym, ◌∙◌}
-use borrow.Author.Tests.{not-true, not-false}
 use Rattle.rto.proofs.Checks.{four_1, four_2, four_3, four_4}
 use Rattle.float.specs.Roll.{chance_in_bounds}
 use Rattle.rtt.specs.Rtt.{factor_in_bounds}

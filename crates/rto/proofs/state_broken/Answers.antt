@@ -1,5 +1,4 @@
 use Rattle.std.proofs.Common.{sym, ◌∙◌}
-use borrow.Author.Tests.{not-true, not-false}
 use Rattle.rto.specs.Rto.{state_broken}
 use Rattle.rto.proofs.state_broken.Goals as goal
 

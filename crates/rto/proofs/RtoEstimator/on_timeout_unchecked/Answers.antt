@@ -11,4 +11,4 @@ overflow_add-stats-2 c = omega (arith, (count_below c.args.self.stats c.requires
 
 pub returns : goal.returns
 unfolding on_timeout_unchecked timed_out
-returns c = simp (c.limit.ensures, c.max_u32.ensures, c.next_consecutive-n.ensures)
+returns c = simp (c.limit.ensures, c.max.ensures, c.saturating_add-n.ensures)
