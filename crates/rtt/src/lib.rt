@@ -24,10 +24,7 @@ pub struct Estimate {
 pub fn factor_in_bounds(x: f64) -> bool
     ensures { result ≡ factor_in_bounds x }
 {
-    if x >= 0.0 {
-        return x <= 16.0;
-    }
-    false
+    x >= 0.0 && x <= 16.0
 }
 
 pub fn to_ms(ns: u64) -> f64
@@ -106,9 +103,10 @@ fn distance(x: f64, y: f64) -> f64
     requires { T (unsigned x) × T (unsigned y) }
     ensures { result ≡ Rtt.distance x y }
 {
-    if x < y { y - x } else { x - y }
+    (x - y).abs()
 }
 
+// Not `x.max(y)`, whose contract leaves open which of two equal doubles it gives.
 fn larger(x: f64, y: f64) -> f64
     ensures { result ≡ Rtt.larger x y }
 {

@@ -1,14 +1,16 @@
-use mathlib.Core.Path.{sym, subst}
-use mathlib.Core.Bool.{Bool, not}
-use lib.Dec.{T}
-use denote.Floats.{passes}
-use Rattle.float.proofs.Magnitude.{difference_lt, difference_ge}
+use Rattle.std.proofs.Common.{◌≡◌, false, refl, ◌∙◌}
+use Rattle.std.specs.Float.{float_with_sign}
+use lib.Ieee.{Float, nan, inf, fin}
+use Rattle.float.specs.Sign.{absolute}
 use Rattle.rtt.proofs.distance.Goals as goal
 
 -- `rtt::distance` meets its contract.
 
-pub returns-then-x-y : goal.returns-then-x-y
-returns-then-x-y c = difference_lt _ _ c.requires.0 c.requires.1 (passes _ c.if-x-y.true)
+without_sign : (x : Float) → float_with_sign false x ≡ absolute x
+unfolding float_with_sign
+without_sign nan = refl
+without_sign (inf s) = refl
+without_sign (fin s m e) = refl
 
-pub returns-else-x-y : goal.returns-else-x-y
-returns-else-x-y c = difference_ge _ _ c.requires.0 c.requires.1 (subst (λ (z : Bool). T (not z)) (sym c.if-x-y.false) tt)
+pub returns : goal.returns
+returns c = c.abs.ensures.value ∙ without_sign _

@@ -1,5 +1,5 @@
 use mathlib.Core.Path.{◌≡◌}
-use mathlib.Core.Bool.{true, false}
+use mathlib.Core.Bool.{true}
 use lib.Ieee.{le, of_bits}
 use Rattle.rtt.specs.Rtt.{zero64}
 use Rattle.rtt.proofs.factor_in_bounds.Goals as goal
@@ -7,9 +7,4 @@ use Rattle.rtt.proofs.factor_in_bounds.Goals as goal
 pub returns-then-x : goal.returns-then-x
 unfolding of_bits
 returns-then-x c = let a : le zero64 c.args.x ≡ true = c.if-x.true in
-    simp a
-
-pub returns : goal.returns
-unfolding of_bits
-returns c = let a : le zero64 c.args.x ≡ false = c.if-x.false in
     simp a
