@@ -68,13 +68,14 @@ fn last_octets(s: &[u8], from: usize) -> u64
     ensures { Swapped s.now from (length s.now) result × (result ≤ 281474976710656) }
 {
     let mut sum: u64 = 0;
-    let mut i = from;
-    while i + 1 < s.len() {
+    let pairs = (s.len() - from) / 2;
+    for n in 0..pairs {
+        let i = from + n * 2;
         sum += little_endian(s[i], s[i + 1], 0, 0);
-        i += 2;
     }
-    if i < s.len() {
-        sum += little_endian(s[i], 0, 0, 0);
+    let end = from + pairs * 2;
+    if end < s.len() {
+        sum += little_endian(s[end], 0, 0, 0);
     }
     sum
 }
