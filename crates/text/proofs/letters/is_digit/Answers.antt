@@ -1,4 +1,3 @@
-use Prim.Native.Nat.{◌-◌}
 use Rattle.text.specs.Decimal.{is_digit}
 use borrow.Author.Tests.{lt-leb, le-leb}
 use Rattle.text.specs.Letters.{digit_zero}
