@@ -240,14 +240,11 @@ pub fn fill_decimal_unchecked(n: u64, part: &mut [u8])
     requires { length part.old ≡ length (digits n) }
     ensures { part.new ≡ digits n }
 {
-    let mut i = part.len();
     let mut rest = n;
-    while rest >= 10 {
-        i -= 1;
+    for i in (0..part.len()).rev() {
         part[i] = digit_letter(rest % 10);
         rest /= 10;
     }
-    part[0] = digit_letter(rest);
 }
 
 // Writes n over the end of part, and blanks over the rest.
