@@ -161,5 +161,12 @@ fn due_count(count: usize, deadlines: &[u64], time: u64) -> usize
     requires { count ≤ length deadlines.now }
     ensures { result ≡ due_in time (take count deadlines.now) }
 {
-    deadlines[..count].iter().filter(|d| time >= **d).count()
+    // Faster than filter and count, which jump at each deadline.
+    let mut n = 0;
+    for deadline in &deadlines[..count] {
+        if time >= *deadline {
+            n += 1;
+        }
+    }
+    n
 }
