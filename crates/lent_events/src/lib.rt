@@ -45,16 +45,13 @@ fn check_rows(rows: &[Event]) -> Verdict
     ensures { result ≡ verdict (row_checks false rows.now) }
 {
     let mut late = false;
-    let mut i: usize = 0;
-    while i < rows.len() {
-        let row = rows[i];
-        if is_no_event(row) {
+    for row in rows {
+        if is_no_event(*row) {
             return Verdict::Refused(Refusal::State);
         }
-        if is_late(row) {
+        if is_late(*row) {
             late = true;
         }
-        i += 1;
     }
     if late {
         return Verdict::Refused(Refusal::Time);

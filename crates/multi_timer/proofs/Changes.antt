@@ -1,5 +1,7 @@
 -- What the functions below the entry points leave, as the definitions have it.
-use Rattle.std.proofs.Common.{◌≡◌, ℕ, suc, ◌+◌, ◌-◌, ◌<◌, ◌≤◌, min, max, Bool, true, false, cond, not, ◌&&◌, leb, List, [], ◌∷◌, ◌++◌, length, get_or, take, drop, set, replicate, sym, refl, ap, ◌∙◌, subst, ap₂, true≢false, zero-le, le_trans, le_refl, add-zero, arith, drop-drop, take_at, drop_at, leb-false}
+use Rattle.std.proofs.Common.{◌≡◌, ℕ, suc, ◌+◌, ◌-◌, ◌<◌, ◌≤◌, min, max, Bool, true, false, cond, not, ◌&&◌, leb, List, [], ◌∷◌, ◌++◌, length, get_or, take, drop, set, replicate, sym, refl, ap, ◌∙◌, subst, ap₂, true≢false, zero-le, le_trans, arith, drop-drop, take_at, drop_at, leb-false}
+use Rattle.std.specs.List.{count_by, fold}
+use Rattle.std.proofs.lemmas.List.Sums.{sum_by-cons}
 use mathlib.Core.Option.{some}
 use native.Mathlib.Nat.{zero-sub, max-eq_right}
 use Rattle.multi_timer.specs.Map.{Entry, keys_of, deadlines_of, ascending, lookup, is_some, keep, due, due_keys, pending, min_of, earliest}
@@ -9,7 +11,7 @@ use Rattle.multi_timer.specs.declared.MultiTimer.{MultiTimer}
 use Rattle.multi_timer.specs.declared.KeyPosition.TheVariants.{At, Absent}
 use Rattle.multi_timer.specs.declared.EarliestAnswer as Ea
 use Rattle.multi_timer.proofs.Verdicts.{Good, good_of, in_order_lem}
-use Rattle.multi_timer.proofs.Lists.{rest, rest_cons, rest_nil}
+use Rattle.multi_timer.proofs.Lists.{rest, rest_cons}
 use Rattle.multi_timer.proofs.Sorted.{length_keys, length_deadlines, keys_entries, deadlines_entries}
 use Rattle.multi_timer.proofs.Parting.{due_length, both, entries_length, next_length}
 use Rattle.multi_timer.proofs.Places.{replaced_fewer, same_is, set_is, inserted_is, removed_is, within, one_length, put_found, remove_found, at_bound, absent_lookup, absent_bound, kept_count, inserted_count, removed_count, same_count}
@@ -153,28 +155,15 @@ module _ (t : MultiTimer) (ks ds : List ℕ) (b : broken t.count ks ds ≡ false
         out_replaced : (es : List Entry) (out : List ℕ) → replaced (keys_of es) 0 out ≡ keys_of es ++ drop (length es) out
         out_replaced es out = front (keys_of es) out ∙ ap (λ (m : ℕ). keys_of es ++ drop m out) (length_keys es)
 
--- ---- the loops that count and that look for the min
-pub due_step : (now n i : ℕ) (ds : List ℕ) (c : ℕ) → i < n → n ≤ length ds → c + cond (leb (get_or ds i 0) now) 1 0 + due_in now (rest n (i + 1) ds) ≡ c + due_in now (rest n i ds)
+-- ---- the due deadlines, counted, and the least deadline
+pub due_counted : (now : ℕ) (ds : List ℕ) → due_in now ds ≡ count_by (λ d. leb d now) ds
 unfolding due_in
-due_step now n i ds c h l = rw (rest_cons n i ds h l) (go (leb (get_or ds i 0) now))
+due_counted now [] = refl
+due_counted now (d ∷ ds) = go (leb d now) (due_counted now ds) ∙ sym (sum_by-cons (λ x. cond (leb x now) 1 0) d ds)
   where
-    one : (c d : ℕ) → c + 1 + d ≡ c + suc d
-    one c d = omega arith
-
-    none_more : (c d : ℕ) → c + 0 + d ≡ c + d
-    none_more c d = omega arith
-
-    go : (b : Bool) → c + cond b 1 0 + due_in now (rest n (i + 1) ds) ≡ c + cond b (suc (due_in now (rest n (i + 1) ds))) (due_in now (rest n (i + 1) ds))
-    go true = one c (due_in now (rest n (i + 1) ds))
-    go false = none_more c (due_in now (rest n (i + 1) ds))
-
-pub due_one_most : (b : Bool) → cond b 1 0 ≤ 1
-due_one_most true = le_refl 1
-due_one_most false = zero-le
-
-pub due_end : (now n i : ℕ) (ds : List ℕ) (c : ℕ) → n ≤ i → n ≤ length ds → c ≡ c + due_in now (rest n i ds)
-unfolding due_in
-due_end now n i ds c h l = rw (rest_nil n i ds h l) (sym (add-zero c))
+    go : (b : Bool) {m n : ℕ} → m ≡ n → cond b (suc m) m ≡ cond b 1 0 + n
+    go true e = omega (arith, e)
+    go false e = omega (arith, e)
 
 min_assoc : (a b c : ℕ) → min (min a b) c ≡ min a (min b c)
 min_assoc a b c = omega arith
@@ -184,14 +173,11 @@ unfolding min_of
 min_of_min m d [] = refl
 min_of_min m d (x ∷ xs) = min_assoc m d (min_of x xs)
 
-pub min_step : (n i : ℕ) (ds : List ℕ) (m : ℕ) → i < n → n ≤ length ds → min_of (min m (get_or ds i 0)) (rest n (i + 1) ds) ≡ min_of m (rest n i ds)
+pub min_folded : (m : ℕ) (ds : List ℕ) → min_of m ds ≡ fold (λ (a d : ℕ). min a d) m ds
 unfolding min_of
-min_step n i ds m h l = rw (rest_cons n i ds h l) (min_of_min m (get_or ds i 0) (rest n (i + 1) ds))
+min_folded m [] = refl
+min_folded m (d ∷ ds) = sym (min_of_min m d ds) ∙ min_folded (min m d) ds
 
 pub min_start : (n : ℕ) (ds : List ℕ) → 0 < n → n ≤ length ds → earliest (take n ds) ≡ some (min_of (get_or ds 0 0) (rest n 1 ds))
 unfolding earliest
 min_start n ds h l = ap earliest (rest_cons n 0 ds h l)
-
-pub min_end : (n i : ℕ) (ds : List ℕ) (m : ℕ) → n ≤ i → n ≤ length ds → m ≡ min_of m (rest n i ds)
-unfolding min_of
-min_end n i ds m h l = rw (rest_nil n i ds h l)

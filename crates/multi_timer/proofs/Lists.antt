@@ -1,8 +1,6 @@
 -- Lists of numbers: what is left of a prefix, and a prefix that moves up or down by one.
-use Rattle.std.proofs.Common.{◌≡◌, ℕ, zero, suc, ◌+◌, ◌-◌, ◌<◌, ◌≤◌, List, [], ◌∷◌, ◌++◌, length, get_or, take, drop, set, replicate, sym, refl, ap, ◌∙◌, subst, ap₂, append_assoc, append-nil, le_refl, le_of_suc-le-suc, not-suc-le-zero, le_of_lt, le_antisymm, add-one, arith, length-append, length-drop, length-set, drop_of_length-le, length-take-le, drop-cons, get_or-take, take-suc, get_or-set_same, drop-set-lt}
-use borrow.Author.Fill.{fill_more}
-use lib.ListN.{length-replicate}
-use lib.Seq.{take-set-le, drop-length}
+use Rattle.std.proofs.Common.{◌≡◌, ℕ, zero, suc, ◌+◌, ◌-◌, ◌<◌, ◌≤◌, List, [], ◌∷◌, ◌++◌, length, get_or, take, drop, set, sym, refl, ap, ◌∙◌, subst, ap₂, append_assoc, le_refl, le_of_suc-le-suc, not-suc-le-zero, le_of_lt, add-one, arith, length-set, drop_of_length-le, length-take-le, drop-cons, get_or-take, take-suc, get_or-set_same, drop-set-lt}
+use lib.Seq.{take-set-le}
 
 -- ---- the first n, from i on
 abbrev pub rest : ℕ → ℕ → List ℕ → List ℕ
@@ -21,10 +19,10 @@ unfoldable pub moved_up : ℕ → ℕ → List ℕ → List ℕ
 moved_up v zero xs = set xs zero v
 moved_up v (suc i) xs = moved_up v i (set xs (suc i) (get_or xs i 0))
 
-pub up_step : (v i : ℕ) (xs : List ℕ) → 0 < i → moved_up v (i - 1) (set xs i (get_or xs (i - 1) 0)) ≡ moved_up v i xs
+pub up_step : (v i : ℕ) (xs : List ℕ) → 0 < i → moved_up v (i - 1) (set xs (i - 1 + 1) (get_or xs (i - 1) 0)) ≡ moved_up v i xs
 unfolding moved_up
 up_step v zero xs h = absurd (omega arith)
-up_step v (suc i) xs h = let p : suc i - 1 ≡ i = omega arith in ap (λ (k : ℕ). moved_up v k (set xs (suc i) (get_or xs k 0))) p
+up_step v (suc i) xs h = let p : suc i - 1 ≡ i = omega arith in ap (λ (k : ℕ). moved_up v k (set xs (k + 1) (get_or xs k 0))) p ∙ ap (λ (k : ℕ). moved_up v i (set xs k (get_or xs i 0))) (add-one i)
 
 pub up_end : (v i : ℕ) (xs : List ℕ) → i ≤ 0 → set xs 0 v ≡ moved_up v i xs
 unfolding moved_up
@@ -85,15 +83,3 @@ pub down_is : (n : ℕ) (xs : List ℕ) → 0 < n → n ≤ length xs → moved_
 down_is zero xs p h = absurd (not-suc-le-zero p)
 down_is (suc n) [] p h = absurd (not-suc-le-zero h)
 down_is (suc n) (x ∷ xs) p h = let e : suc n - 1 ≡ n = omega arith in ap (λ (m : ℕ). moved_down m 0 (x ∷ xs)) e ∙ down_first n x xs (le_of_suc-le-suc h)
-
--- ---- zeros from the front
-pub length_filled : (i : ℕ) (xs ys : List ℕ) → ys ≡ replicate i 0 ++ drop i xs → i ≤ length xs → length ys ≡ length xs
-length_filled i xs ys e h = let p : length ys ≡ i + (length xs - i) = ap length e ∙ simp (length-append, length-replicate, length-drop) in omega arith
-
-pub filled_step : (i : ℕ) (xs ys : List ℕ) → ys ≡ replicate i 0 ++ drop i xs → i ≤ length xs → i < length ys → set ys i 0 ≡ replicate (i + 1) 0 ++ drop (i + 1) xs
-filled_step i xs ys e h k = ap (λ (l : List ℕ). set l i 0) e ∙ fill_more i 0 xs (subst (λ (n : ℕ). i < n) (length_filled i xs ys e h) k)
-
-pub filled_end : (i : ℕ) (xs ys : List ℕ) → ys ≡ replicate i 0 ++ drop i xs → i ≤ length xs → length ys ≤ i → ys ≡ replicate (length xs) 0
-filled_end i xs ys e h k =
-    let n : i ≡ length xs = le_antisymm h (subst (λ (m : ℕ). m ≤ i) (length_filled i xs ys e h) k) in
-    e ∙ ap (λ (m : ℕ). replicate m 0 ++ drop m xs) n ∙ ap (λ (t : List ℕ). replicate (length xs) 0 ++ t) (drop-length xs) ∙ append-nil (replicate (length xs) 0)

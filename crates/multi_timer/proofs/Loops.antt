@@ -1,5 +1,6 @@
 -- One turn of each reading loop: what is left to read gives what the whole gives.
-use Rattle.std.proofs.Common.{◌≡◌, ℕ, zero, suc, ◌+◌, ◌-◌, ◌<◌, ◌≤◌, Bool, true, false, ◌&&◌, ltb, List, [], ◌∷◌, length, get_or, take, sym, refl, ap, subst, zero-le, le_of_eq, not-suc-le-zero, add-zero, add_assoc, zero-add, arith, length-take-le, get_or-take, le-ltb, lt-ltb, eq-eqb, ne_eqb, le-leb}
+use Rattle.std.proofs.Common.{◌≡◌, ℕ, zero, suc, ◌+◌, ◌-◌, ◌<◌, ◌≤◌, Bool, true, false, ◌&&◌, ◌||◌, ltb, List, [], ◌∷◌, length, get_or, take, sym, refl, ap, subst, zero-le, le_of_eq, not-suc-le-zero, add-zero, add_assoc, zero-add, arith, length-take-le, get_or-take, le-ltb, lt-ltb, eq-eqb, ne_eqb, le-leb}
+use Rattle.std.specs.List.{list_any}
 use Rattle.bounds.specs.Bounds.{max_time}
 use Rattle.multi_timer.specs.Map.{ascending, ascending_from}
 use Rattle.multi_timer.specs.MultiTimer.{any_late}
@@ -30,19 +31,6 @@ module _ (n i : ℕ) (xs : List ℕ) where
       alone true = refl
       alone false = refl
 
-  -- ---- late
-  pub late_found : i < n → n ≤ length xs → max_time < get_or xs i 0 → true ≡ any_late (rest n i xs)
-  unfolding any_late
-  late_found h l k = rw (rest_cons n i xs h l) (simp (lt-ltb _ _ k))
-
-  pub late_step : i < n → n ≤ length xs → get_or xs i 0 ≤ max_time → any_late (rest n (i + 1) xs) ≡ any_late (rest n i xs)
-  unfolding any_late
-  late_step h l k = rw (rest_cons n i xs h l) (simp (le-ltb _ _ k))
-
-  pub late_end : n ≤ i → n ≤ length xs → false ≡ any_late (rest n i xs)
-  unfolding any_late
-  late_end h l = rw (rest_nil n i xs h l)
-
   -- ---- the search
   pub search_at : (key : ℕ) → i < n → n ≤ length xs → get_or xs i 0 ≡ key → At i ≡ later i (search_in key (rest n i xs))
   unfolding search_in
@@ -63,6 +51,12 @@ module _ (n i : ℕ) (xs : List ℕ) where
   pub search_end : (key : ℕ) → n ≤ i → n ≤ length xs → Absent i ≡ later i (search_in key (rest n i xs))
   unfolding search_in
   search_end key h l = rw (rest_nil n i xs h l) (ap Absent (sym (add-zero i)))
+
+-- ---- late
+pub late_any : (ds : List ℕ) → any_late ds ≡ list_any (λ d. ltb max_time d) ds
+unfolding any_late
+late_any [] = refl
+late_any (d ∷ ds) = ap (λ (b : Bool). ltb max_time d || b) (late_any ds)
 
 -- four keys passed by
 pub skip_step : (n i : ℕ) (xs : List ℕ) (key : ℕ) → i + 3 < n → n ≤ length xs → ascending (take n xs) ≡ true → get_or xs (i + 3) 0 < key → later (i + 4) (search_in key (rest n (i + 4) xs)) ≡ search_in key (take n xs)

@@ -1,5 +1,5 @@
 // The checks of the entry points: 9 and 10 of what is held and given, 5 of what is lent.
-ghost use Rattle.std.specs.Prelude.{◌≡◌, ◌≤◌, false, length, take, if◌then◌else◌, nat_le};
+ghost use Rattle.std.specs.Prelude.{◌≡◌, ◌≤◌, false, length, take};
 ghost use Rattle.refusal.specs.Order.{verdict};
 ghost use Rattle.multi_timer.specs.Map.{ascending, lookup, is_some};
 ghost use Rattle.multi_timer.specs.Internal.{due_in};
@@ -102,10 +102,8 @@ fn is_ascending(count: usize, keys: &[u32]) -> bool
     ensures { result ≡ ascending (take count keys.now) }
 {
     let mut sorted = true;
-    let mut i = 1;
-    while i < count {
-        sorted = sorted & (keys[i - 1] < keys[i]);
-        i += 1;
+    for i in 1..count {
+        sorted &= keys[i - 1] < keys[i];
     }
     sorted
 }
@@ -114,14 +112,7 @@ fn any_late(count: usize, deadlines: &[u64]) -> bool
     requires { count ≤ length deadlines.now }
     ensures { result ≡ held_too_late count deadlines.now }
 {
-    let mut i = 0;
-    while i < count {
-        if deadlines[i] > MAX_TIME {
-            return true;
-        }
-        i += 1;
-    }
-    false
+    deadlines[..count].iter().any(|d| *d > MAX_TIME)
 }
 
 fn read_too_late(count: usize, deadlines: &[u64], time: u64) -> bool
@@ -170,17 +161,12 @@ fn due_count(count: usize, deadlines: &[u64], time: u64) -> usize
     requires { count ≤ length deadlines.now }
     ensures { result ≡ due_in time (take count deadlines.now) }
 {
+    // Faster than filter and count, which jump at each deadline.
     let mut n = 0;
-    let mut i = 0;
-    while i < count {
-        n += due_one(deadlines[i], time);
-        i += 1;
+    for deadline in &deadlines[..count] {
+        if time >= *deadline {
+            n += 1;
+        }
     }
     n
-}
-
-fn due_one(deadline: u64, time: u64) -> usize
-    ensures { result ≡ (if nat_le deadline time then 1 else 0) }
-{
-    if time >= deadline { 1 } else { 0 }
 }

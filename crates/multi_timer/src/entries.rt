@@ -1,5 +1,5 @@
 // The used entries in the two slices: where a key stands, and the changes at a place.
-ghost use Rattle.std.specs.Prelude.{◌≡◌, ◌<◌, ◌≤◌, min, true, length, take, drop, replicate, slice_set};
+ghost use Rattle.std.specs.Prelude.{◌≡◌, ◌<◌, ◌≤◌, true, length, take, drop, slice_set};
 ghost use Rattle.std.proofs.Math.Option.{some};
 ghost use Rattle.multi_timer.specs.Map.{ascending, earliest};
 ghost use Rattle.multi_timer.specs.Internal.{search_in, later, index_of, next_due, due_in, Partitioned};
@@ -11,8 +11,8 @@ pub(crate) fn search(count: usize, keys: &[u32], key: u32) -> KeyPosition
     requires { (count ≤ length keys.now) × (ascending (take count keys.now) ≡ true) }
     ensures { result ≡ search_in key (take count keys.now) }
 {
-    let mut i = skip_below(count, keys, key);
-    while i < count {
+    let start = skip_below(count, keys, key);
+    for i in start..count {
         let k = keys[i];
         if k >= key {
             if k == key {
@@ -20,9 +20,8 @@ pub(crate) fn search(count: usize, keys: &[u32], key: u32) -> KeyPosition
             }
             return KeyPosition::Absent(i);
         }
-        i += 1;
     }
-    KeyPosition::Absent(i)
+    KeyPosition::Absent(count)
 }
 
 // Passes by four keys at a time while the last of them is below key.
@@ -31,6 +30,7 @@ fn skip_below(count: usize, keys: &[u32], key: u32) -> usize
     ensures { (result ≤ count) × (later result (search_in key (drop result (take count keys.now)))
         ≡ search_in key (take count keys.now)) }
 {
+    // A for over chunks_exact(4) would have to count the keys passed besides.
     let mut i = 0;
     while 4 <= count - i {
         if keys[i + 3] >= key {
@@ -62,12 +62,10 @@ pub(crate) fn next_due(
     requires { (count ≤ length keys.now) × (count ≤ length deadlines.now) }
     ensures { result ≡ next_due count from time keys.now deadlines.now }
 {
-    let mut i = from;
-    while i < count {
+    for i in from..count {
         if time >= deadlines[i] {
             return NextKey::Key(keys[i]);
         }
-        i += 1;
     }
     NextKey::Nothing
 }
@@ -99,11 +97,9 @@ fn insert_first(keys: &mut [u32], deadlines: &mut [u64], n: usize, key: u32, dea
     ensures { (keys.new ≡ inserted_first n key keys.old)
         × (deadlines.new ≡ inserted_first n deadline deadlines.old) }
 {
-    let mut i = n;
-    while 0 < i {
-        keys[i] = keys[i - 1];
-        deadlines[i] = deadlines[i - 1];
-        i -= 1;
+    for i in (0..n).rev() {
+        keys[i + 1] = keys[i];
+        deadlines[i + 1] = deadlines[i];
     }
     keys[0] = key;
     deadlines[0] = deadline;
@@ -123,11 +119,9 @@ fn remove_first(keys: &mut [u32], deadlines: &mut [u64], n: usize)
     ensures { (keys.new ≡ removed_first n keys.old)
         × (deadlines.new ≡ removed_first n deadlines.old) }
 {
-    let mut i = 1;
-    while i < n {
+    for i in 1..n {
         keys[i - 1] = keys[i];
         deadlines[i - 1] = deadlines[i];
-        i += 1;
     }
     keys[n - 1] = 0;
     deadlines[n - 1] = 0;
@@ -154,8 +148,7 @@ pub(crate) fn partition(
         result keys.new deadlines.new out.new }
 {
     let mut left = 0;
-    let mut i = 0;
-    while i < count {
+    for i in 0..count {
         let key = keys[i];
         let deadline = deadlines[i];
         if time >= deadline {
@@ -165,7 +158,6 @@ pub(crate) fn partition(
             deadlines[left] = deadline;
             left += 1;
         }
-        i += 1;
     }
     left
 }
@@ -174,51 +166,21 @@ pub(crate) fn clear_keys_in(keys: &mut [u32], from: usize, to: usize)
     requires { (from ≤ to) × (to ≤ length keys.old) }
     ensures { keys.new ≡ cleared_in from to keys.old }
 {
-    clear_keys(&mut keys[from..to]);
+    keys[from..to].fill(0);
 }
 
 pub(crate) fn clear_deadlines_in(deadlines: &mut [u64], from: usize, to: usize)
     requires { (from ≤ to) × (to ≤ length deadlines.old) }
     ensures { deadlines.new ≡ cleared_in from to deadlines.old }
 {
-    clear_deadlines(&mut deadlines[from..to]);
-}
-
-pub(crate) fn clear_keys(keys: &mut [u32])
-    ensures { keys.new ≡ replicate (length keys.old) 0 }
-{
-    let mut i = 0;
-    while i < keys.len() {
-        keys[i] = 0;
-        i += 1;
-    }
-}
-
-pub(crate) fn clear_deadlines(deadlines: &mut [u64])
-    ensures { deadlines.new ≡ replicate (length deadlines.old) 0 }
-{
-    let mut i = 0;
-    while i < deadlines.len() {
-        deadlines[i] = 0;
-        i += 1;
-    }
+    deadlines[from..to].fill(0);
 }
 
 pub(crate) fn min_deadline(count: usize, deadlines: &[u64]) -> u64
     requires { (0 < count) × (count ≤ length deadlines.now) }
     ensures { some result ≡ earliest (take count deadlines.now) }
 {
-    let mut deadline = deadlines[0];
-    let mut i = 1;
-    while i < count {
-        deadline = min(deadline, deadlines[i]);
-        i += 1;
-    }
-    deadline
-}
-
-fn min(a: u64, b: u64) -> u64
-    ensures { result ≡ min a b }
-{
-    if a <= b { a } else { b }
+    deadlines[1..count]
+        .iter()
+        .fold(deadlines[0], |least, d| least.min(*d))
 }

@@ -7,8 +7,8 @@ ghost use Rattle.multi_timer.specs.MultiTimer.{pop_expired_at_unchecked, clear_u
 ghost use Rattle.multi_timer.specs.MultiTimer.{next_expired_unchecked, earliest_deadline_unchecked};
 
 use super::entries::{
-    clear_deadlines, clear_deadlines_in, clear_keys, clear_keys_in, insert_at, min_deadline,
-    next_due, partition, position_index, remove_at, search, set_deadline,
+    clear_deadlines_in, clear_keys_in, insert_at, min_deadline, next_due, partition,
+    position_index, remove_at, search, set_deadline,
 };
 use super::{EarliestAnswer, KeyPosition, MultiTimer, NextKey};
 
@@ -19,8 +19,8 @@ impl MultiTimer {
         ensures { timers_exit result keys.new deadlines.new
             ≡ new_unchecked keys.old deadlines.old }
     {
-        clear_keys(keys);
-        clear_deadlines(deadlines);
+        keys.fill(0);
+        deadlines.fill(0);
         MultiTimer {
             count: 0,
             global_generation: 0,

@@ -2,28 +2,27 @@
 -- together; so the page has lines of 72 columns.
 use Prim.Native.Nat.{ℕ, zero, suc, ◌+◌, ◌-◌, ◌*◌, ◌^◌, ◌≤◌, ◌<◌}
 use mathlib.Core.Path.{◌≡◌, refl, sym, ap, subst, ◌∙◌}
-use mathlib.Core.Bool.{Bool, true, false, cond, ◌||◌}
+use mathlib.Core.Bool.{Bool, true, false, cond}
 use mathlib.Core.List.{List, [], ◌∷◌, ◌++◌, map, append_assoc, append-nil}
 use native.Mathlib.Omega.{arith}
 use native.Mathlib.Nat.{lt_of_lt_of_le, lt_of_le_of_lt, min-le_right}
 use lib.Dec.{ltb, leb, eqb, lit<, lit≤}
-use lib.ListN.{length, take, get_or, replicate, length-append, length-take, length-map}
+use lib.ListN.{length, get_or, replicate, length-append, length-take, length-map}
 use borrow.Author.Tests.{ltb-true, ltb-false, leb-true, ne_eqb}
 use Rattle.bounds.specs.Bounds.{max_delivery_delay}
 use Rattle.refusal.specs.Clauses.{any_of}
-use Rattle.refusal.specs.Refusal.{ascii}
 use Rattle.refusal.specs.Order.{verdict}
 use Rattle.refusal.specs.declared.Verdict.TheVariants.{Accepted}
 use Rattle.refusal.proofs.Laws.{accepted_none_true, none_of, or_false}
 use Rattle.rows.specs.Rows.{as_number}
-use Rattle.events.specs.Events.{ForwardEvent, of_copies, event_of, events_of}
-use Rattle.lent_events.specs.Checks.{max_seq_num, max_copies, max_fold, any_above, is_no_event, is_late, row_checks, event_checks}
+use Rattle.events.specs.Events.{ForwardEvent, event_of}
+use Rattle.lent_events.specs.Checks.{max_seq_num, max_fold, any_above, is_no_event, is_late, row_checks}
 use Rattle.text.specs.Letters.{blank, line_feed}
 use Rattle.text.specs.Decimal.{is_digit, all_digits, digits, right_in, left_in}
-use Rattle.text.proofs.Laws.{digits_decimal, digits_length, digits_u64, digits_u32, digits_delay, digits_fold, right_width, left_width}
-use Rattle.report.specs.Page.{Side, Right, Left, Column, right, left, aligned, line, copy_width, Entries, in_places, head_entries, head_line, sent_word, of_copy, event_entries, event_line, event_lines}
+use Rattle.text.proofs.Laws.{digits_decimal, digits_length, digits_u32, digits_delay, digits_fold, right_width, left_width}
+use Rattle.report.specs.Page.{Side, Right, Left, Column, aligned, line, copy_width, Entries, in_places, head_entries, head_line, sent_word, of_copy, event_entries, event_line, event_lines}
 use Rattle.report.specs.Page.{copy_count, repeat_count, totals, last_line, page}
-use Rattle.report.specs.Lines.{line_width, breaks, InLines, none, more, Fits, AllFit, widths, HasRoom, HaveRoom}
+use Rattle.report.specs.Lines.{line_width, breaks, InLines, none, more, AllFit, widths, HasRoom, HaveRoom}
 
 -- ---- letters that are no line feed
 breaks_none : breaks [] ≡ false

@@ -1,7 +1,7 @@
 // The page for the job bag: the forward events of a run in columns, in lent memory.
 #![tactic(auto)]
 
-ghost use Rattle.std.specs.Prelude.{◌≡◌, false, cond, [], map, ◌+◌, ◌≤◌, min, length, ltb};
+ghost use Rattle.std.specs.Prelude.{◌≡◌, false, cond, [], map, ◌+◌, ◌≤◌, length, ltb};
 ghost use Rattle.refusal.specs.Order.{verdict};
 ghost use Rattle.refusal.specs.declared.Verdict.TheVariants as verdicts;
 ghost use Rattle.rows.specs.Rows.{is_set};
@@ -63,11 +63,8 @@ fn write_lines(rows: &[Event], out: &mut [u8], at: usize) -> usize
         × (out.new ≡ written_at out.old at (event_lines (map event_of rows.now))) }
 {
     let mut next = at;
-    let mut i: usize = 0;
-    while i < rows.len() {
-        let row = rows[i];
-        next = write_line(row, out, next);
-        i += 1;
+    for row in rows {
+        next = write_line(*row, out, next);
     }
     next
 }
@@ -125,15 +122,13 @@ fn write_totals(rows: &[Event], out: &mut [u8], at: usize) -> usize
     text::write_octet_unchecked(b'\n', out, c)
 }
 
+// A row has numbers of two copies at most.
 fn count_copies(rows: &[Event]) -> u64
     ensures { result ≡ copy_count (map event_of rows.now) }
 {
     let mut sum: u64 = 0;
-    let mut i: usize = 0;
-    while i < rows.len() {
-        let row = rows[i];
-        sum += copies_of(row[COPIES]);
-        i += 1;
+    for row in rows {
+        sum += row[COPIES].min(2);
     }
     sum
 }
@@ -141,24 +136,5 @@ fn count_copies(rows: &[Event]) -> u64
 fn count_repeats(rows: &[Event]) -> u64
     ensures { result ≡ repeat_count (map event_of rows.now) }
 {
-    let mut sum: u64 = 0;
-    let mut i: usize = 0;
-    while i < rows.len() {
-        let row = rows[i];
-        if row[AGAIN] == 1 {
-            sum += 1;
-        }
-        i += 1;
-    }
-    sum
-}
-
-// A row has numbers of two copies at most.
-fn copies_of(copies: u64) -> u64
-    ensures { result ≡ min copies 2 }
-{
-    if copies < 2 {
-        return copies;
-    }
-    2
+    rows.iter().filter(|row| row[AGAIN] == 1).count() as u64
 }

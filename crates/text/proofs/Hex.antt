@@ -1,7 +1,8 @@
 -- Hexadecimal letters and octets, there and back.
 use Prim.Native.Nat.{ℕ, zero, suc, ◌+◌, ◌-◌, ◌*◌, ◌/◌, ◌%◌, ◌≤◌, ◌<◌}
 use mathlib.Core.Path.{◌≡◌, refl, sym, ap, ◌∙◌}
-use mathlib.Core.Bool.{Bool, true, false, cond}
+use mathlib.Core.Bool.{Bool, true, false, cond, ◌&&◌}
+use Rattle.std.specs.List.{list_all}
 use mathlib.Core.List.{List, [], ◌∷◌}
 use native.Mathlib.Omega.{arith}
 use native.Mathlib.Nat.{div-lt_iff_lt-mul, mod-lt, div-add-mod', mul-add-div_right, mul-add-mod_self_right, div-eq_of_lt, mod-eq_of_lt}
@@ -117,6 +118,15 @@ low_four a b h = mul-add-mod_self_right a 16 b ∙ mod-eq_of_lt h
 pub hex_cons : (b : ℕ) (bs : List ℕ) → all_hex (b ∷ bs) ≡ true → (is_hex b ≡ true) × (all_hex bs ≡ true)
 unfolding all_hex
 hex_cons b bs e = both (is_hex b) (all_hex bs) e
+
+pub all_hex_each : (bs : List ℕ) → all_hex bs ≡ list_all is_hex bs
+unfolding all_hex
+all_hex_each [] = refl
+all_hex_each (b ∷ bs) = rw (all_hex_each bs) (go (is_hex b))
+  where
+    go : (t : Bool) → cond t (list_all is_hex bs) false ≡ (t && list_all is_hex bs)
+    go true = refl
+    go false = refl
 
 -- accepted letters, an even number of them, are what is written of the octets that they name
 pub hex_octets : (n : ℕ) (s : List ℕ) → length s ≡ n * 2 → all_hex s ≡ true → hex_text (octets_of s) ≡ s

@@ -16,10 +16,10 @@ use Rattle.text.specs.Place.{written_at, hex_exit, letters_at, are_letters, read
 use Rattle.text.specs.declared.HexReading.TheVariants as hex
 use Rattle.text.specs.declared.DecimalReading.TheVariants.{Number, NotANumber}
 use Rattle.text.proofs.Digits.{digits_decimal, digits_length, digits_some}
-use Rattle.text.proofs.Hex.{length_hex, hex_letters, octets_hex, hex_octets, length_octets}
+use Rattle.text.proofs.Hex.{length_hex, hex_letters, octets_hex, hex_octets}
 use Rattle.text.proofs.Hex.{both}
-use Rattle.text.proofs.Unique.{decimal_unique, decimal_digits, digits_injective}
-use Rattle.text.proofs.Runs.{run_none, run_other}
+use Rattle.text.proofs.Unique.{decimal_digits}
+use Rattle.text.proofs.Runs.{run_other}
 use Rattle.text.proofs.Runs.{run_append, run_split}
 use Rattle.text.specs.Letters.{blank, digit_zero}
 

@@ -14,10 +14,7 @@ pub(super) fn digit_letter(d: u64) -> u8
 pub(super) fn is_digit(b: u8) -> bool
     ensures { result ≡ is_digit b }
 {
-    if b < b'0' {
-        return false;
-    }
-    b <= b'9'
+    b.is_ascii_digit()
 }
 
 pub(super) fn digit_value(b: u8) -> u64

@@ -52,7 +52,7 @@ pub fn decimal_length(n: u64) -> usize
 pub fn write_decimal(n: u64, out: &mut [u8], at: usize) -> PlaceAnswer
     ensures { place_exit out.new result ≡ place out.old at (digits n) }
 {
-    let room = room_from(out, at);
+    let room = out.len().saturating_sub(at);
     if room < decimal_length(n) {
         return PlaceAnswer::Refused(Refusal::Full);
     }
@@ -79,7 +79,7 @@ pub fn write_word(word: &[u8], out: &mut [u8], at: usize) -> PlaceAnswer
 pub fn write_right(n: u64, width: usize, out: &mut [u8], at: usize) -> PlaceAnswer
     ensures { place_exit out.new result ≡ place out.old at (right_in width (digits n)) }
 {
-    let room = room_from(out, at);
+    let room = out.len().saturating_sub(at);
     if room < right_length(n, width) {
         return PlaceAnswer::Refused(Refusal::Full);
     }
@@ -151,25 +151,13 @@ pub fn read_hex(s: &[u8], at: usize, count: usize, out: &mut [u8]) -> HexReading
 pub fn is_hex_text(s: &[u8]) -> bool
     ensures { result ≡ all_hex s.now }
 {
-    let mut i: usize = 0;
-    while i < s.len() {
-        let b = s[i];
-        if !is_hex(b) {
-            return false;
-        }
-        i += 1;
-    }
-    true
+    s.iter().all(|b| is_hex(*b))
 }
 
 pub fn fill_blanks(part: &mut [u8])
     ensures { part.new ≡ replicate (length part.old) blank }
 {
-    let mut i: usize = 0;
-    while i < part.len() {
-        part[i] = b' ';
-        i += 1;
-    }
+    part.fill(b' ');
 }
 
 // Writes one octet at a place, as a letter between two numbers.
@@ -227,14 +215,10 @@ pub fn write_hex_unchecked(src: &[u8], part: &mut [u8])
     requires { length part.old ≡ length src.now * 2 }
     ensures { part.new ≡ hex_text src.now }
 {
-    let mut i: usize = 0;
-    let mut j: usize = 0;
-    while i < src.len() {
-        let b = src[i];
-        part[j] = hex_letter(b / 16);
-        part[j + 1] = hex_letter(b % 16);
-        i += 1;
-        j += 2;
+    for (i, b) in src.iter().enumerate() {
+        let j = i * 2;
+        part[j] = hex_letter(*b / 16);
+        part[j + 1] = hex_letter(*b % 16);
     }
 }
 
@@ -243,14 +227,11 @@ pub fn read_hex_unchecked(part: &[u8], dst: &mut [u8])
     requires { (length part.now ≡ length dst.old * 2) × (all_hex part.now ≡ true) }
     ensures { dst.new ≡ octets_of part.now }
 {
-    let mut i: usize = 0;
-    let mut j: usize = 0;
-    while i < dst.len() {
+    for i in 0..dst.len() {
+        let j = i * 2;
         let high = hex_value(part[j]);
         let low = hex_value(part[j + 1]);
         dst[i] = high * 16 + low;
-        i += 1;
-        j += 2;
     }
 }
 
@@ -259,14 +240,11 @@ pub fn fill_decimal_unchecked(n: u64, part: &mut [u8])
     requires { length part.old ≡ length (digits n) }
     ensures { part.new ≡ digits n }
 {
-    let mut i = part.len();
     let mut rest = n;
-    while rest >= 10 {
-        i -= 1;
+    for i in (0..part.len()).rev() {
         part[i] = digit_letter(rest % 10);
         rest /= 10;
     }
-    part[0] = digit_letter(rest);
 }
 
 // Writes n over the end of part, and blanks over the rest.
@@ -289,16 +267,6 @@ pub fn fill_left_unchecked(word: &[u8], part: &mut [u8])
     fill_blanks(&mut part[start..]);
 }
 
-// How many octets stand from a place on.
-fn room_from(out: &[u8], at: usize) -> usize
-    ensures { result ≡ length out.now - at }
-{
-    if out.len() <= at {
-        return 0;
-    }
-    out.len() - at
-}
-
 // Whether two letters for each of count octets stand at a place.
 fn are_letters(s: &[u8], at: usize, count: usize) -> bool
     ensures { result ≡ are_letters s.now at count }
@@ -317,11 +285,7 @@ fn are_letters(s: &[u8], at: usize, count: usize) -> bool
 fn right_length(n: u64, width: usize) -> usize
     ensures { result ≡ length (right_in width (digits n)) }
 {
-    let k = decimal_length(n);
-    if width <= k {
-        return k;
-    }
-    width
+    width.max(decimal_length(n))
 }
 
 // Whether the digits at a place are a number without leading zeros.
@@ -351,8 +315,7 @@ fn read_run(s: &[u8], at: usize, max: u64) -> DecimalReading
     ensures { result ≡ capped_reading max (digit_run (drop at s.now)) at }
 {
     let mut sum: u64 = 0;
-    let mut i = at;
-    while i < s.len() {
+    for i in at..s.len() {
         let b = s[i];
         if !is_digit(b) {
             return DecimalReading::Number(sum, i);
@@ -366,7 +329,7 @@ fn read_run(s: &[u8], at: usize, max: u64) -> DecimalReading
             return DecimalReading::NotANumber;
         }
         sum = tens + d;
-        i += 1;
     }
-    DecimalReading::Number(sum, i)
+    // A place past the end is given back as it is.
+    DecimalReading::Number(sum, at.max(s.len()))
 }

@@ -63,15 +63,12 @@ fn lines_fit(rows: &[Event], room: usize) -> bool
     ensures { result ≡ leb (length (event_lines (map event_of rows.now))) room }
 {
     let mut left = room;
-    let mut i: usize = 0;
-    while i < rows.len() {
-        let row = rows[i];
-        let k = line_length(row);
+    for row in rows {
+        let k = line_length(*row);
         if left < k {
             return false;
         }
         left -= k;
-        i += 1;
     }
     true
 }
@@ -82,11 +79,8 @@ fn write_lines(rows: &[Event], out: &mut [u8], at: usize) -> usize
         × (out.new ≡ written_at out.old at (event_lines (map event_of rows.now))) }
 {
     let mut next = at;
-    let mut i: usize = 0;
-    while i < rows.len() {
-        let row = rows[i];
-        next = write_line(row, out, next);
-        i += 1;
+    for row in rows {
+        next = write_line(*row, out, next);
     }
     next
 }

@@ -1,4 +1,3 @@
-use Prim.Native.Nat.{◌-◌}
 use mathlib.Core.List.{[]}
 use native.Mathlib.Omega.{arith}
 use lib.ListN.{get_or}
@@ -6,22 +5,22 @@ use native.Mathlib.Nat.{min-le_right}
 use Rattle.report.proofs.Counts.{copies_end, copies_step}
 use Rattle.report.proofs.count_copies.Goals as goal
 
-pub loop-i-init : goal.loop-i-init
-loop-i-init c = (omega arith, omega arith, omega arith)
+pub loop-row-init : goal.loop-row-init
+loop-row-init c = (omega arith, omega arith)
 
 pub overflow_add-sum : goal.overflow_add-sum
-overflow_add-sum c = let l = c.loop-i in
-    let most = min-le_right (get_or (get_or c.args.rows.now l.i []) 2 0) 2 in
+overflow_add-sum c = let l = c.loop-row in
+    let most = min-le_right (get_or (get_or c.args.rows.now l.row-index []) 2 0) 2 in
     let inv = l.invariant in omega arith
 
-pub loop-i-preserved : goal.loop-i-preserved
-loop-i-preserved c = let l = c.loop-i in
+pub loop-row-preserved : goal.loop-row-preserved
+loop-row-preserved c = let l = c.loop-row in
     let rows = c.args.rows.now in
-    let most = min-le_right (get_or (get_or rows l.i []) 2 0) 2 in
-    let step = copies_step rows l.i (omega arith) in
-    let inv = l.invariant in (omega arith, omega arith, omega arith)
+    let most = min-le_right (get_or (get_or rows l.row-index []) 2 0) 2 in
+    let step = copies_step rows l.row-index (omega arith) in
+    let inv = l.invariant in (omega arith, omega arith)
 
 pub returns : goal.returns
-returns c = let l = c.loop-i in
-    let end = copies_end c.args.rows.now l.i (omega arith) in
+returns c = let l = c.loop-row in
+    let end = copies_end c.args.rows.now l.row-index (omega arith) in
     let inv = l.invariant in omega arith

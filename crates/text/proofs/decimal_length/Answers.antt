@@ -1,4 +1,3 @@
-use Prim.Native.Nat.{◌-◌}
 use native.Mathlib.Omega.{arith}
 use Rattle.text.proofs.Digits.{length_low, length_high, tenth_less}
 use Rattle.text.proofs.Numbers.{digits_u64}

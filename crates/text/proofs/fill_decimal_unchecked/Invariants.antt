@@ -1,4 +1,4 @@
-use Prim.Native.Nat.{ℕ, ◌+◌, ◌-◌, ◌≤◌}
+use Prim.Native.Nat.{ℕ, zero, suc, ◌≤◌}
 use mathlib.Core.Path.{◌≡◌}
 use mathlib.Core.List.{List, ◌++◌}
 use Rattle.text.specs.Decimal.{digits}
@@ -10,8 +10,10 @@ pub record Left (n rest i : ℕ) (part : List ℕ) : Type 0 where
   pub within : i ≤ length part
   pub joined : digits rest ++ drop i part ≡ digits n
 
-abbrev pub invariant-loop-rest : goal.invariant-loop-rest
-invariant-loop-rest l = Left l.n l.rest l.i l.part × (length l.part ≡ length l.initial.part)
+-- the first i letters are still to be written
+abbrev pub Unwritten : ℕ → ℕ → ℕ → List ℕ → Type 0
+Unwritten n rest zero part = part ≡ digits n
+Unwritten n rest (suc i) part = Left n rest (suc i) part
 
-abbrev pub decreases-loop-rest : goal.decreases-loop-rest
-decreases-loop-rest l = l.rest
+abbrev pub invariant-loop-i : goal.invariant-loop-i
+invariant-loop-i l = Unwritten l.n l.rest l.i l.part × (length l.part ≡ length l.initial.part)

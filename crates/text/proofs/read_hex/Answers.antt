@@ -9,7 +9,7 @@ use lib.ListN.{length, take, drop, length-drop}
 use lib.Seq.{length-take-le}
 use lib.Dec.{leb}
 use native.Mathlib.Nat.{add-sub_cancel_left}
-use borrow.Author.Tests.{le-leb, lt-leb, leb-true, not-true, not-false}
+use borrow.Author.Tests.{le-leb, lt-leb, leb-true}
 use Rattle.refusal.specs.declared.Refusal.TheVariants.{Full}
 use Rattle.text.specs.declared.HexReading.TheVariants as hex
 use Rattle.text.proofs.Hex.{both}

@@ -1,5 +1,5 @@
-use Prim.Native.Nat.{ℕ, suc, ◌+◌, ◌-◌, ◌*◌, ◌≤◌, ◌<◌}
-use mathlib.Core.Path.{◌≡◌, refl, sym, ap, ◌∙◌}
+use Prim.Native.Nat.{ℕ, suc, ◌+◌, ◌*◌, ◌≤◌, ◌<◌}
+use mathlib.Core.Path.{◌≡◌, refl, sym, ap, subst, ◌∙◌}
 use native.Mathlib.Omega.{arith}
 use mathlib.Core.Bool.{true}
 use mathlib.Core.List.{List, [], ◌∷◌, ◌++◌, append-nil, append_assoc}
@@ -59,18 +59,19 @@ pub loop-i-init : goal.loop-i-init
 loop-i-init c = (record { place = omega arith; within = omega arith; long = c.requires.0; letters = c.requires.1; joined = refl }, refl)
 
 pub hex_value-high-requires : goal.hex_value-high-requires
-hex_value-high-requires c = let l = c.loop-i in (pair c.args.part.now l.dst l.i l.j l.invariant.0 (omega arith)).high
+hex_value-high-requires c = let l = c.loop-i in (pair c.args.part.now l.dst l.i (l.i * 2) l.invariant.0 (omega arith)).high
 
 pub hex_value-low-requires : goal.hex_value-low-requires
-hex_value-low-requires c = let l = c.loop-i in (pair c.args.part.now l.dst l.i l.j l.invariant.0 (omega arith)).low
+hex_value-low-requires c = let l = c.loop-i in (pair c.args.part.now l.dst l.i (l.i * 2) l.invariant.0 (omega arith)).low
 
 pub loop-i-preserved : goal.loop-i-preserved
 loop-i-preserved c = let l = c.loop-i in
-    let s = c.args.part.now in (
-      again s l.dst l.i l.j c.hex_value-high.result c.hex_value-low.result l.invariant.0 (omega arith) c.hex_value-high.ensures.0 c.hex_value-low.ensures.0,
+    let s = c.args.part.now in
+    let e : l.i * 2 + 2 ≡ (l.i + 1) * 2 = omega arith in (
+      subst (Left s _ (l.i + 1)) e (again s l.dst l.i (l.i * 2) c.hex_value-high.result c.hex_value-low.result l.invariant.0 (omega arith) c.hex_value-high.ensures.0 c.hex_value-low.ensures.0),
       simp length-set l.invariant.1,
     )
 
 pub returns : goal.returns
 returns c = let l = c.loop-i in
-    ends c.args.part.now l.dst l.i l.j l.invariant.0 (omega arith)
+    ends c.args.part.now l.dst l.i (l.i * 2) l.invariant.0 (omega arith)

@@ -1,15 +1,14 @@
-use Prim.Native.Nat.{◌-◌}
-use mathlib.Core.Path.{◌≡◌, refl, sym, ◌∙◌}
+use mathlib.Core.Path.{◌≡◌, refl, sym, ap, ◌∙◌}
+use Rattle.text.specs.declared.DecimalReading.TheVariants.{Number}
 use native.Mathlib.Omega.{arith}
 use mathlib.Core.Bool.{true, false}
 use Rattle.text.proofs.Runs.{run_from_start, from_end, from_other, from_large, from_next, tenth_small, tenth_large}
 use lib.ListN.{drop, get_or}
-use borrow.Author.Tests.{not-true, not-false}
 use Rattle.text.specs.Decimal.{is_digit}
 use Rattle.text.proofs.read_run.Goals as goal
 
 pub loop-i-init : goal.loop-i-init
-loop-i-init c = (refl, omega arith)
+loop-i-init c = (refl, omega arith, omega arith)
 
 pub returns-then-not-is_digit : goal.returns-then-not-is_digit
 returns-then-not-is_digit c = let l = c.loop-i in
@@ -55,9 +54,11 @@ loop-i-preserved c = let l = c.loop-i in
     let e : is_digit (get_or a.s.now l.i 0) ≡ true = sym c.is_digit.ensures ∙ c.if-not-is_digit.false in
     let t = tenth_large a.max l.sum c.if-max-sum.false in
     let d = c.digit_value-d.ensures.0 in
-    (rw d (sym (from_next a.s.now a.max l.sum l.i (omega arith) e (omega arith)) ∙ l.invariant.0), omega arith)
+    (rw d (sym (from_next a.s.now a.max l.sum l.i (omega arith) e (omega arith)) ∙ l.invariant.0), omega arith, omega arith)
 
 pub returns : goal.returns
 returns c = let l = c.loop-i in
     let a = c.args in
-    sym (from_end a.s.now a.max l.sum l.i (omega arith)) ∙ l.invariant.0 ∙ run_from_start a.max a.at (drop a.at a.s.now)
+    let m = c.max.ensures in
+    let e : c.max.result ≡ l.i = omega arith in
+    ap (Number l.sum) e ∙ sym (from_end a.s.now a.max l.sum l.i (omega arith)) ∙ l.invariant.0 ∙ run_from_start a.max a.at (drop a.at a.s.now)

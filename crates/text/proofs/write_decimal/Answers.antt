@@ -1,4 +1,3 @@
-use Prim.Native.Nat.{◌-◌}
 use native.Mathlib.Omega.{arith}
 use Rattle.text.specs.Decimal.{digits}
 use Rattle.text.proofs.Places.{place_full, place_written}

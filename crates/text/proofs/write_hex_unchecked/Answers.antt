@@ -1,5 +1,5 @@
-use Prim.Native.Nat.{ℕ, suc, ◌+◌, ◌-◌, ◌/◌, ◌%◌, ◌≤◌, ◌<◌}
-use mathlib.Core.Path.{◌≡◌, refl, sym, ap, ◌∙◌}
+use Prim.Native.Nat.{ℕ, suc, ◌+◌, ◌*◌, ◌/◌, ◌%◌, ◌≤◌, ◌<◌}
+use mathlib.Core.Path.{◌≡◌, refl, sym, ap, subst, ◌∙◌}
 use native.Mathlib.Omega.{arith}
 use mathlib.Core.List.{List, [], ◌∷◌, ◌++◌, append-nil, append_assoc}
 use Rattle.text.specs.Hexadecimal.{hex_letter, hex_text}
@@ -56,11 +56,12 @@ bounds-part-j-in-loop-i c = simp length-set (omega arith)
 
 pub loop-i-preserved : goal.loop-i-preserved
 loop-i-preserved c = let l = c.loop-i in
-    let s = c.args.src.now in (
-      again s l.part l.i l.j c.hex_letter.result c.hex_letter-in-loop-i.result l.invariant.0 (omega arith) c.hex_letter.ensures c.hex_letter-in-loop-i.ensures,
+    let s = c.args.src.now in
+    let e : l.i * 2 + 2 ≡ (l.i + 1) * 2 = omega arith in (
+      subst (Left s _ (l.i + 1)) e (again s l.part l.i (l.i * 2) c.hex_letter.result c.hex_letter-in-loop-i.result l.invariant.0 (omega arith) c.hex_letter.ensures c.hex_letter-in-loop-i.ensures),
       simp length-set l.invariant.1,
     )
 
 pub returns : goal.returns
 returns c = let l = c.loop-i in
-    ends c.args.src.now l.part l.i l.j l.invariant.0 (omega arith)
+    ends c.args.src.now l.part l.i (l.i * 2) l.invariant.0 (omega arith)

@@ -1,4 +1,4 @@
-use Prim.Native.Nat.{ℕ, ◌+◌, ◌-◌, ◌*◌, ◌≤◌}
+use Prim.Native.Nat.{ℕ, ◌*◌, ◌≤◌}
 use mathlib.Core.Path.{◌≡◌}
 use mathlib.Core.List.{List, ◌++◌}
 use Rattle.text.specs.Hexadecimal.{hex_text}
@@ -12,7 +12,4 @@ pub record Left (src part : List ℕ) (i j : ℕ) : Type 0 where
   pub joined : take j part ++ hex_text (drop i src) ≡ hex_text src
 
 abbrev pub invariant-loop-i : goal.invariant-loop-i
-invariant-loop-i l = Left l.src l.part l.i l.j × (length l.part ≡ length l.initial.part)
-
-abbrev pub decreases-loop-i : goal.decreases-loop-i
-decreases-loop-i l = length l.src - l.i
+invariant-loop-i l = Left l.src l.part l.i (l.i * 2) × (length l.part ≡ length l.initial.part)

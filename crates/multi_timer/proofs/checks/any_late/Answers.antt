@@ -1,15 +1,11 @@
-use Rattle.std.proofs.Common.{refl, ◌∙◌, rules}
-use Rattle.multi_timer.proofs.Loops.{late_found, late_step, late_end}
+use Rattle.std.proofs.Common.{ℕ, take, ltb, sym, ◌∙◌, rules, tests}
+use Rattle.bounds.specs.Bounds.{max_time}
+use Rattle.std.proofs.lemmas.Iterator.{YieldsList-from_slice}
+use Rattle.std.proofs.lemmas.Iterator.Search.{any_from_yields_List}
+use Rattle.multi_timer.proofs.Loops.{late_any}
 use Rattle.multi_timer.proofs.checks.any_late.Goals as goal
 
-pub loop-i-init : goal.loop-i-init
-loop-i-init c = (search rules, refl)
-
-pub returns-then-deadlines-i-gt-MAX_TIME : goal.returns-then-deadlines-i-gt-MAX_TIME
-returns-then-deadlines-i-gt-MAX_TIME c = late_found c.args.count c.loop-i.i c.args.deadlines.now c.loop-i-test.true c.requires c.if-deadlines-i-gt-MAX_TIME.true ∙ c.loop-i.invariant.1
-
-pub loop-i-preserved : goal.loop-i-preserved
-loop-i-preserved c = (search rules, late_step c.args.count c.loop-i.i c.args.deadlines.now c.loop-i-test.true c.requires c.if-deadlines-i-gt-MAX_TIME.false ∙ c.loop-i.invariant.1)
-
 pub returns : goal.returns
-returns c = late_end c.args.count c.loop-i.i c.args.deadlines.now c.loop-i-test.false c.requires ∙ c.loop-i.invariant.1
+returns c =
+    let ds = take c.args.count c.args.deadlines.now in
+    any_from_yields_List (λ (d : ℕ). ltb max_time d) _ _ _ c.any.ensures.ran (YieldsList-from_slice ds cc) (λ x b q h. search (rules, tests)) ∙ sym (late_any ds)

@@ -5,6 +5,3 @@ use Rattle.multi_timer.proofs.checks.is_ascending.Given as goal
 
 abbrev pub invariant-loop-i : goal.invariant-loop-i
 invariant-loop-i l = (1 ≤ l.i) × ((l.sorted && ascending_from (suc (get_or l.keys (l.i - 1) 0)) (rest l.count l.i l.keys)) ≡ ascending (take l.count l.keys))
-
-abbrev pub decreases-loop-i : goal.decreases-loop-i
-decreases-loop-i l = l.count - l.i

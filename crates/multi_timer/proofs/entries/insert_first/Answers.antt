@@ -1,4 +1,4 @@
-use Rattle.std.proofs.Common.{◌-◌, get_or, refl, ◌∙◌, length-set, rules}
+use Rattle.std.proofs.Common.{◌+◌, ◌-◌, get_or, refl, ◌∙◌, length-set, rules}
 use Rattle.multi_timer.proofs.Lists.{up_step, up_end, up_is}
 use Rattle.multi_timer.proofs.entries.insert_first.Goals as goal
 
@@ -10,9 +10,9 @@ loop-i-preserved c = let s = c.loop-i in
     let a = c.args in (
       search rules,
       (
-        length-set s.keys s.i (get_or s.keys (s.i - 1) 0) ∙ s.invariant.1.0,
+        length-set s.keys (s.i - 1 + 1) (get_or s.keys (s.i - 1) 0) ∙ s.invariant.1.0,
         (
-          length-set s.deadlines s.i (get_or s.deadlines (s.i - 1) 0) ∙ s.invariant.1.1.0,
+          length-set s.deadlines (s.i - 1 + 1) (get_or s.deadlines (s.i - 1) 0) ∙ s.invariant.1.1.0,
           (up_step a.key s.i s.keys c.loop-i-test.true ∙ s.invariant.1.1.1.0, up_step a.deadline s.i s.deadlines c.loop-i-test.true ∙ s.invariant.1.1.1.1),
         ),
       ),

@@ -4,6 +4,3 @@ use Rattle.multi_timer.proofs.entries.insert_first.Given as goal
 
 abbrev pub invariant-loop-i : goal.invariant-loop-i
 invariant-loop-i l = (l.i ≤ l.n) × ((length l.keys ≡ length l.initial.keys) × ((length l.deadlines ≡ length l.initial.deadlines) × ((moved_up l.key l.i l.keys ≡ moved_up l.key l.n l.initial.keys) × (moved_up l.deadline l.i l.deadlines ≡ moved_up l.deadline l.n l.initial.deadlines))))
-
-abbrev pub decreases-loop-i : goal.decreases-loop-i
-decreases-loop-i l = l.i

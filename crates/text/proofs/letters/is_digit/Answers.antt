@@ -1,13 +1,14 @@
-use Prim.Native.Nat.{◌-◌}
+use mathlib.Core.Path.{◌≡◌, refl, ◌∙◌}
+use mathlib.Core.Bool.{Bool, true, false, cond, ◌&&◌}
+use lib.Dec.{leb}
 use Rattle.text.specs.Decimal.{is_digit}
-use borrow.Author.Tests.{lt-leb, le-leb}
-use Rattle.text.specs.Letters.{digit_zero}
+use Rattle.text.specs.Letters.{digit_zero, digit_nine}
 use Rattle.text.proofs.letters.is_digit.Goals as goal
 
-pub returns-then-b-lt48 : goal.returns-then-b-lt48
-unfolding is_digit
-returns-then-b-lt48 c = simp (lt-leb digit_zero c.args.b c.if-b-lt48.true)
+both : (a b : Bool) → (a && b) ≡ cond a b false
+both true b = refl
+both false b = refl
 
 pub returns : goal.returns
 unfolding is_digit
-returns c = simp (le-leb digit_zero c.args.b c.if-b-lt48.false)
+returns c = c.is_ascii_digit.ensures.value ∙ both (leb digit_zero c.args.b) (leb c.args.b digit_nine)
