@@ -5,11 +5,13 @@ use Prim.Native.Nat.{ℕ, zero, suc, ◌≤◌, ◌<◌, ◌+◌, ◌-◌}
 use native.Mathlib.Omega.{arith}
 use native.Mathlib.Numerals.{add-one}
 use native.Mathlib.Nat.{le_refl, add-zero, sub-zero, suc-sub-suc}
-use mathlib.Core.Bool.{Bool, true, false, cond, ◌||◌, or_comm, true≢false}
+use mathlib.Core.Bool.{Bool, true, false, cond, not, ◌||◌, or_comm, true≢false}
 use mathlib.Core.List.{List, [], ◌∷◌}
 use lib.ListN.{length, drop, take, get_or, set, replicate, drop_of_length-le}
-use lib.Seq.{drop-nil}
 use borrow.Author.Tests.{eq-eqb, ne_eqb}
+use Rattle.std.proofs.Common.{ltb, ltb-false, Option, Some, None}
+use Rattle.std.specs.Option.{unwrap_or}
+use Rattle.std.specs.List.{position_or_len}
 use Rattle.schedule.specs.Record.{place_of, place_in, free_from}
 use Rattle.schedule.specs.Internal.{block_size, place_marks, block_at, first_unset, doubled_in, outside}
 use Rattle.schedule.proofs.Lists.{rest_cons, rest_none}
@@ -173,20 +175,26 @@ unset_none (suc k) (suc j) p rs h l = go (place_in p rs) refl (unset_none k j (s
         (omega (arith, i.0), ap (λ (n : ℕ). free_from n (p + suc k) rs) (suc-sub-suc j k) ∙ ap (λ (q : ℕ). free_from (j - k) q rs) (shift p k) ∙ i.1 ∙ sym f)
     go false t ih = let u : first_unset (place_marks (suc k) p rs) ≡ 0 = unset_next k p rs false t in absurd (omega arith)
 
--- the loop that looks for it
-unset_at : (i : ℕ) (ms : List Bool) (t : Bool) → get_or ms i false ≡ t → first_unset (drop i ms) ≡ cond t (suc (first_unset (drop (suc i) ms))) 0
+-- as `position` finds it
+unset_len : (ms : List Bool) → position_or_len not ms ≡ first_unset ms
 unfolding first_unset
-unset_at i [] true e = absurd (true≢false (sym e))
-unset_at i [] false e = ap first_unset (drop-nil i)
-unset_at zero (m ∷ ms) t e = ap (λ (b : Bool). cond b (suc (first_unset ms)) 0) e
-unset_at (suc i) (m ∷ ms) t e = unset_at i ms t e
+unset_len [] = refl
+unset_len (true ∷ ms) = let h = unset_len ms in omega arith
+unset_len (false ∷ ms) = refl
 
-pub unset_found : (ms : List Bool) (i : ℕ) → get_or ms i false ≡ false → i ≡ i + first_unset (drop i ms)
-unset_found ms i e = sym (ap (λ (x : ℕ). i + x) (unset_at i ms false e) ∙ add-zero i)
-
-pub unset_passed : (ms : List Bool) (i : ℕ) → get_or ms i false ≡ true → i + 1 + first_unset (drop (i + 1) ms) ≡ i + first_unset (drop i ms)
-unset_passed ms i e = let q : first_unset (drop i ms) ≡ suc (first_unset (drop (suc i) ms)) = unset_at i ms true e in rw (add-one i) (omega arith)
-
-pub unset_end : (ms : List Bool) (i : ℕ) → length ms ≤ i → i ≡ i + first_unset (drop i ms)
+unset_within : (ms : List Bool) → first_unset ms ≤ length ms
 unfolding first_unset
-unset_end ms i h = sym (ap (λ (xs : List Bool). i + first_unset xs) (drop_of_length-le ms {i = i} h) ∙ add-zero i)
+unset_within [] = omega arith
+unset_within (true ∷ ms) = let h = unset_within ms in omega arith
+unset_within (false ∷ ms) = omega arith
+
+pub unset_position : (ms : List Bool) (n : ℕ) → length ms ≡ n → unwrap_or (cond (ltb (position_or_len not ms) (length ms)) (Some (position_or_len not ms)) None) n ≡ first_unset ms
+unset_position ms n e = go (ltb (position_or_len not ms) (length ms)) refl
+  where
+    go : (t : Bool) → ltb (position_or_len not ms) (length ms) ≡ t → unwrap_or (cond t (Some (position_or_len not ms)) None) n ≡ first_unset ms
+    go true q = unset_len ms
+    go false q =
+        let most = unset_within ms in
+        let least : length ms ≤ position_or_len not ms = ltb-false _ _ q in
+        let same = unset_len ms in
+        omega arith

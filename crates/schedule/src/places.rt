@@ -94,16 +94,13 @@ fn block_at(s: &[ScheduledRow], count: usize, base: u64) -> Block
     let mut used = [false; 256];
     let mut doubled = false;
     let mut beyond = false;
-    let mut i = count;
-    while 0 < i {
-        i -= 1;
-        let r = s[i];
-        let place = r[3];
+    for i in (0..count).rev() {
+        let place = s[i][3];
         if base <= place {
             let k = place - base;
             if k < 256 {
                 let at = k as usize;
-                doubled = doubled | used[at];
+                doubled |= used[at];
                 used[at] = true;
             } else {
                 beyond = true;
@@ -122,14 +119,7 @@ fn first_unset(used: &[bool; 256]) -> usize
     requires { length used.now ≡ block_size }
     ensures { result ≡ first_unset used.now }
 {
-    let mut k: usize = 0;
-    while k < 256 {
-        if !used[k] {
-            return k;
-        }
-        k += 1;
-    }
-    256
+    used.iter().position(|used| !*used).unwrap_or(256)
 }
 
 // The lowest place that no waiting record has, found by marks.
@@ -165,14 +155,12 @@ fn sum_from(s: &[ScheduledRow], count: usize, from: usize, sum: u64) -> PlaceSum
 {
     let last = count as u64;
     let mut total = sum;
-    let mut i = from;
-    while i < count {
+    for i in from..count {
         let p = place_at(s, i);
         if last < p {
             return PlaceSum::Past;
         }
         total += p;
-        i += 1;
     }
     PlaceSum::Is(total)
 }

@@ -6,7 +6,5 @@ use Rattle.schedule.proofs.Calls.{put_first}
 use Rattle.schedule.proofs.ChannelScheduler.schedule_at_unchecked.Given as goal
 
 abbrev pub invariant-loop-k : goal.invariant-loop-k
-invariant-loop-k l = (l.k ≤ l.copies) × (schedule l.records l.places l.scheduler ≡ put_first (schedule l.initial.records l.initial.places l.initial.scheduler) l.now l.packet l.deliveries l.k) × (length l.records ≡ length l.initial.records) × (length l.places ≡ length l.initial.places)
+invariant-loop-k l = schedule l.records l.places l.scheduler ≡ put_first (schedule l.initial.records l.initial.places l.initial.scheduler) l.now l.packet l.deliveries l.k
 
-abbrev pub decreases-loop-k : goal.decreases-loop-k
-decreases-loop-k l = l.copies - l.k

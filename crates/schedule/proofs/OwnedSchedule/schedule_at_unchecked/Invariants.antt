@@ -6,7 +6,5 @@ use Rattle.schedule.proofs.Calls.{put_first}
 use Rattle.schedule.proofs.OwnedSchedule.schedule_at_unchecked.Given as goal
 
 abbrev pub invariant-loop-k : goal.invariant-loop-k
-invariant-loop-k l = (l.k ≤ l.copies) × (owned_schedule l.schedule l.places ≡ put_first (owned_schedule l.initial.schedule l.initial.places) l.now l.packet l.deliveries l.k) × (length l.places ≡ length l.initial.places)
+invariant-loop-k l = owned_schedule l.schedule l.places ≡ put_first (owned_schedule l.initial.schedule l.initial.places) l.now l.packet l.deliveries l.k
 
-abbrev pub decreases-loop-k : goal.decreases-loop-k
-decreases-loop-k l = l.copies - l.k

@@ -11,17 +11,16 @@ small : (total i count p : ℕ) → total ≤ i * 65535 → count ≤ 65535 → 
 small total i count p h k l = omega arith
 
 pub loop-i-init : goal.loop-i-init
-loop-i-init c = (c.requires.0, c.requires.3, refl)
+loop-i-init c = (c.requires.3, refl)
 
 pub returns-then-last-p : goal.returns-then-last-p
-returns-then-last-p c = sum_past c.args.s.now c.args.count c.requires.1 c.loop-i.total c.loop-i.i c.loop-i-test.true c.place_at-p.ensures c.if-last-p.true ∙ c.loop-i.invariant.2
+returns-then-last-p c = sum_past c.args.s.now c.args.count c.requires.1 c.loop-i.total c.loop-i.i c.loop-i-test.true c.place_at-p.ensures c.if-last-p.true ∙ c.loop-i.invariant.1
 
 pub loop-i-preserved : goal.loop-i-preserved
 loop-i-preserved c = (
-  omega arith,
-  small c.loop-i.total c.loop-i.i c.args.count _ c.loop-i.invariant.1 c.requires.2 c.if-last-p.false,
-  sum_next c.args.s.now c.args.count c.requires.1 c.loop-i.total c.loop-i.i c.loop-i-test.true c.place_at-p.ensures c.if-last-p.false ∙ c.loop-i.invariant.2,
+  small c.loop-i.total c.loop-i.i c.args.count _ c.loop-i.invariant.0 c.requires.2 c.if-last-p.false,
+  sum_next c.args.s.now c.args.count c.requires.1 c.loop-i.total c.loop-i.i c.loop-i-test.true c.place_at-p.ensures c.if-last-p.false ∙ c.loop-i.invariant.1,
 )
 
 pub returns : goal.returns
-returns c = sum_none c.args.count c.loop-i.total (rest_none c.args.count c.loop-i.i c.args.s.now (omega arith) c.requires.1) ∙ c.loop-i.invariant.2
+returns c = sum_none c.args.count c.loop-i.total (rest_none c.args.count c.loop-i.i c.args.s.now (omega arith) c.requires.1) ∙ c.loop-i.invariant.1
