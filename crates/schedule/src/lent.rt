@@ -66,14 +66,9 @@ impl Scheduled {
             ++ drop (count + 1) (rows s.old) }
     {
         let mut i = count;
-        while 0 < i {
-            let p = s[i - 1];
-            if p.leaves_after(r) {
-                s[i] = p;
-                i -= 1;
-            } else {
-                break;
-            }
+        while 0 < i && s[i - 1].leaves_after(r) {
+            s[i] = s[i - 1];
+            i -= 1;
         }
         s[i] = r;
     }

@@ -15,8 +15,7 @@ pub(super) fn place_doubled(s: &[ScheduledRow], count: usize, places: usize) -> 
     requires { (count ≤ length s.now) × (outside places (take count s.now) ≡ false) }
     ensures { result ≡ doubled (take count s.now) }
 {
-    let mut base: usize = 0;
-    while base < places {
+    for base in (0..places).step_by(256) {
         let block = block_at(s, count, base as u64);
         if block.doubled {
             return true;
@@ -24,7 +23,6 @@ pub(super) fn place_doubled(s: &[ScheduledRow], count: usize, places: usize) -> 
         if !block.beyond {
             return false;
         }
-        base += 256;
     }
     false
 }
@@ -127,15 +125,12 @@ fn lowest_unmarked(s: &[ScheduledRow], count: usize, places: usize) -> usize
     requires { (count ≤ length s.now) × (0 < length (free_places places (take count s.now))) }
     ensures { result ≡ lowest_free places (take count s.now) }
 {
-    let mut base: usize = 0;
-    while base < places {
+    for base in (0..places).step_by(256) {
         let block = block_at(s, count, base as u64);
-        let used = block.used;
-        let k = first_unset(&used);
+        let k = first_unset(&block.used);
         if k < 256 {
             return base + k;
         }
-        base += 256;
     }
     places
 }
@@ -175,6 +170,7 @@ fn place_sum(s: &[ScheduledRow], count: usize) -> PlaceSum
     let mut b: u64 = 0;
     let mut c: u64 = 0;
     let mut d: u64 = 0;
+    // `sum_from` goes on where this ends; a `for` would hand out no `i`.
     let mut i: usize = 0;
     while 4 <= count - i {
         let p = place_at(s, i);
