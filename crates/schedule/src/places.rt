@@ -135,14 +135,6 @@ fn lowest_unmarked(s: &[ScheduledRow], count: usize, places: usize) -> usize
     places
 }
 
-fn place_at(s: &[ScheduledRow], i: usize) -> u64
-    requires { i < length s.now }
-    ensures { result ≡ place_of (get_or s.now i []) }
-{
-    let r = s[i];
-    r[3]
-}
-
 // `sum` and the places of the records from `from` on, if none lies past `count`.
 fn sum_from(s: &[ScheduledRow], count: usize, from: usize, sum: u64) -> PlaceSum
     requires { (from ≤ count) × (count ≤ length s.now) × (count ≤ sum_limit) × (sum ≤ from * sum_limit) }
@@ -150,8 +142,8 @@ fn sum_from(s: &[ScheduledRow], count: usize, from: usize, sum: u64) -> PlaceSum
 {
     let last = count as u64;
     let mut total = sum;
-    for i in from..count {
-        let p = place_at(s, i);
+    for r in &s[from..count] {
+        let p = r[3];
         if last < p {
             return PlaceSum::Past;
         }
@@ -173,10 +165,10 @@ fn place_sum(s: &[ScheduledRow], count: usize) -> PlaceSum
     // `sum_from` goes on where this ends; a `for` would hand out no `i`.
     let mut i: usize = 0;
     while 4 <= count - i {
-        let p = place_at(s, i);
-        let q = place_at(s, i + 1);
-        let u = place_at(s, i + 2);
-        let v = place_at(s, i + 3);
+        let p = s[i][3];
+        let q = s[i + 1][3];
+        let u = s[i + 2][3];
+        let v = s[i + 3][3];
         if ((last < p) | (last < q)) | ((last < u) | (last < v)) {
             return PlaceSum::Past;
         }
