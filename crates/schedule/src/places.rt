@@ -92,8 +92,8 @@ fn block_at(s: &[ScheduledRow], count: usize, base: u64) -> Block
     let mut used = [false; 256];
     let mut doubled = false;
     let mut beyond = false;
-    for i in (0..count).rev() {
-        let place = s[i][3];
+    for r in s[..count].iter().rev() {
+        let place = r[3];
         if base <= place {
             let k = place - base;
             if k < 256 {
