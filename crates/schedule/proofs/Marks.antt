@@ -3,18 +3,16 @@ use mathlib.Core.Path.{◌≡◌, refl, sym, ◌∙◌, ap}
 use mathlib.Core.Logic.{◌⊎◌, inl, inr}
 use Prim.Native.Nat.{ℕ, zero, suc, ◌≤◌, ◌<◌, ◌+◌, ◌-◌}
 use native.Mathlib.Omega.{arith}
-use native.Mathlib.Numerals.{add-one}
-use native.Mathlib.Nat.{le_refl, add-zero, sub-zero, suc-sub-suc}
-use mathlib.Core.Bool.{Bool, true, false, cond, not, ◌||◌, or_comm, true≢false}
+use native.Mathlib.Nat.{add-zero, sub-zero, suc-sub-suc}
+use mathlib.Core.Bool.{Bool, true, false, cond, not, ◌||◌, or_comm}
 use mathlib.Core.List.{List, [], ◌∷◌}
-use lib.ListN.{length, drop, take, get_or, set, replicate, drop_of_length-le}
+use lib.ListN.{length, get_or, set, replicate}
 use borrow.Author.Tests.{eq-eqb, ne_eqb}
-use Rattle.std.proofs.Common.{ltb, ltb-false, Option, Some, None}
+use Rattle.std.proofs.Common.{ltb, ltb-false, Some, None}
 use Rattle.std.specs.Option.{unwrap_or}
 use Rattle.std.specs.List.{position_or_len}
 use Rattle.schedule.specs.Record.{place_of, place_in, free_from}
 use Rattle.schedule.specs.Internal.{block_size, place_marks, block_at, first_unset, doubled_in, outside}
-use Rattle.schedule.proofs.Lists.{rest_cons, rest_none}
 use Rattle.schedule.proofs.Sound.{place_is}
 use Rattle.schedule.proofs.FreePlaces.{free_zero, free_suc}
 use Rattle.schedule.proofs.Doubled.{in_none, in_first, in_outside, outside_none, outside_below, outside_past}

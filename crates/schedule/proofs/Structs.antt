@@ -6,7 +6,7 @@ use native.Mathlib.Numerals.{add-one, unary_clauses}
 use mathlib.Core.Bool.{Bool, true, false, cond, not, ◌&&◌}
 use mathlib.Core.List.{List, [], ◌∷◌, ◌++◌, append_assoc, map}
 use lib.ListN.{length, set, get_or, take, drop, length-set, drop_of_length-le}
-use lib.Seq.{take-suc, drop-cons, set_split, take-set-le, drop-set-lt, get_or-set_same, get_or-set_other, length-take-le, take_at, get_or-take}
+use lib.Seq.{take-suc, drop-cons, set_split, take-set-le, drop-set-lt, get_or-set_same, get_or-set_other, length-take-le, take_at}
 use Rattle.schedule.specs.Record.{record4, time_of, order_of, vacant, after, inserted, ordered_from, ordered, lowest_free}
 use Rattle.schedule.specs.State.{schedule, place_count}
 use Rattle.schedule.specs.Schedule.{first_record, put_copy, without_first}

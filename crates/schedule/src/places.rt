@@ -162,7 +162,7 @@ fn place_sum(s: &[ScheduledRow], count: usize) -> PlaceSum
     let mut b: u64 = 0;
     let mut c: u64 = 0;
     let mut d: u64 = 0;
-    // `sum_from` goes on where this ends; a `for` would hand out no `i`.
+    // `sum_from` goes on from `i`, which a `for` over steps of four wouldn't hand on.
     let mut i: usize = 0;
     while 4 <= count - i {
         let p = s[i][3];

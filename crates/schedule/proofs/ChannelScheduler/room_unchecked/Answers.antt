@@ -1,10 +1,8 @@
 use native.Mathlib.Omega.{arith}
 use mathlib.Core.Path.{◌≡◌, sym, ◌∙◌}
-use Prim.Native.Nat.{ℕ, ◌≤◌, ◌<◌, ◌-◌, ◌+◌, min}
+use Prim.Native.Nat.{ℕ, ◌≤◌, ◌+◌}
 use mathlib.Core.Bool.{false}
-use lib.ListN.{length}
 use Rattle.schedule.specs.State.{Schedule, schedule, state_broken, place_count, unused_places}
-use Rattle.schedule.specs.Schedule.{room_of}
 use Rattle.schedule.proofs.Memory.{within, places_count, room_is}
 use Rattle.schedule.proofs.ChannelScheduler.room_unchecked.Goals as goal
 

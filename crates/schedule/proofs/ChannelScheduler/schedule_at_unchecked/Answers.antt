@@ -1,6 +1,5 @@
 use native.Mathlib.Omega.{arith}
-use borrow.Author.Rules.{rules}
-use mathlib.Core.Path.{◌≡◌, refl, ◌∙◌}
+use mathlib.Core.Path.{◌≡◌, ◌∙◌}
 use Rattle.schedule.specs.State.{schedule}
 use Rattle.schedule.proofs.Calls.{put_none, put_more, put_all, next_fits, can_next}
 use Rattle.schedule.proofs.Clearing.{next_cleared}

@@ -1,6 +1,5 @@
 use native.Mathlib.Omega.{arith}
-use borrow.Author.Rules.{rules}
-use mathlib.Core.Path.{◌≡◌, refl, ◌∙◌}
+use mathlib.Core.Path.{◌≡◌, ◌∙◌}
 use Rattle.schedule.specs.Structs.{owned_schedule}
 use Rattle.schedule.proofs.Calls.{put_none, put_more, put_all, next_fits, can_next}
 use Rattle.schedule.proofs.OwnedSchedule.schedule_at_unchecked.Goals as goal

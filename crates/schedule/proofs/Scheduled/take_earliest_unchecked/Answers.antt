@@ -1,4 +1,4 @@
-use Rattle.std.proofs.Common.{◌∙◌, arith}
+use Rattle.std.proofs.Common.{◌∙◌}
 use Rattle.schedule.proofs.Structs.{taken, pushes_on, pushes_none, falls_on, falls_out}
 use Rattle.schedule.proofs.Scheduled.take_earliest_unchecked.Goals as goal
 

@@ -1,5 +1,4 @@
 use mathlib.Core.Path.{◌≡◌}
-use Prim.Native.Nat.{◌≤◌, ◌-◌}
 use lib.ListN.{drop, take}
 use Rattle.schedule.specs.Record.{vacant}
 use Rattle.schedule.specs.Internal.{any_record_broken}
@@ -7,4 +6,3 @@ use Rattle.schedule.proofs.checks.any_record_broken.Given as goal
 
 abbrev pub invariant-loop-r : goal.invariant-loop-r
 invariant-loop-r l = any_record_broken l.next l.places l.front (drop l.r-index (take l.count l.s)) ≡ any_record_broken l.next l.places vacant (take l.count l.s)
-

@@ -1,8 +1,8 @@
 use native.Mathlib.Omega.{arith}
-use mathlib.Core.Path.{◌≡◌, refl, ◌∙◌, ap}
+use mathlib.Core.Path.{◌≡◌, ◌∙◌, ap}
 use Prim.Native.Nat.{ℕ, ◌≤◌, ◌<◌, ◌-◌, ◌+◌}
 use mathlib.Core.List.{List, []}
-use lib.ListN.{length, set, get_or, length-set}
+use lib.ListN.{length, set, get_or}
 use Rattle.schedule.specs.Internal.{raised}
 use Rattle.schedule.proofs.Lists.{raise_none, raise_more}
 use Rattle.schedule.proofs.order.move_up.Goals as goal

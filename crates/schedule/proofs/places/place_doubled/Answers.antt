@@ -6,7 +6,7 @@ use lib.ListN.{take}
 use Rattle.schedule.specs.Internal.{block_size}
 use Rattle.schedule.specs.declared.Block.{Block}
 use Rattle.schedule.proofs.Sound.{test_is, negated}
-use Rattle.schedule.proofs.Doubled.{in_doubled, below_zero, below_more, below_all, between}
+use Rattle.schedule.proofs.Doubled.{in_doubled, below_zero, below_more, below_all}
 use Rattle.schedule.proofs.places.place_doubled.Goals as goal
 
 pub loop-base-init : goal.loop-base-init

@@ -7,7 +7,6 @@ use lib.ListN.{length, take, drop, get_or, length-drop}
 use lib.Seq.{length-take-le, get_or-take, get_or-drop}
 use Rattle.schedule.specs.Record.{place_of}
 use Rattle.schedule.specs.Internal.{sum_from}
-use Rattle.schedule.specs.declared.PlaceSum.{PlaceSum}
 use Rattle.schedule.specs.declared.PlaceSum.TheVariants.{Past}
 use Rattle.schedule.proofs.Lists.{rest_none}
 use Rattle.schedule.proofs.FreePlaces.{sum_none, sum_past, sum_next}
