@@ -14,6 +14,7 @@ use Rattle.refusal.proofs.Laws.{or_false}
 use Rattle.float.specs.Roll.{roll_in_bounds}
 use Rattle.channel.specs.Bounds.{chances_broken, delays_broken, config_broken, stats_full, any_roll_broken, rolls_broken}
 use Rattle.channel.specs.Process.{one}
+use Rattle.std.specs.Int.{from_bool}
 use Rattle.channel.specs.declared.ChannelConfig.{ChannelConfig}
 use Rattle.channel.specs.declared.ChannelStats.{ChannelStats}
 use Rattle.channel.specs.declared.Rolls.{Rolls}
@@ -110,3 +111,8 @@ raised k {n} {m} h e l = record { fits = omega arith }
 pub raised_one : (b : Bool) {n m : ℕ} → n < count_limit → m ≡ one b → Fits w64 (n + m)
 raised_one true h e = raised 1 h e (omega arith)
 raised_one false h e = raised 0 h e (omega arith)
+
+-- as `u64::from` counts a condition
+pub from_is : (b : Bool) {m : ℕ} → m ≡ from_bool b → m ≡ one b
+from_is true e = e
+from_is false e = e

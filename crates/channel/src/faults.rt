@@ -7,7 +7,7 @@ ghost use Rattle.schedule.specs.State.{copies};
 ghost use Rattle.channel.specs.Bounds.{config_broken, stats_full, rolls_broken};
 ghost use Rattle.channel.specs.Faults.{is_lost, is_duplicated, is_reordered, is_corrupted, carried_bytes};
 ghost use Rattle.channel.specs.Faults.{hold_of, delay_of, deliveries_of};
-ghost use Rattle.channel.specs.Process.{one, counted_stats};
+ghost use Rattle.channel.specs.Process.{counted_stats};
 
 use super::{ChannelConfig, ChannelStats, Rolls};
 use schedule::Deliveries;
@@ -76,10 +76,10 @@ pub(super) fn counted(
 {
     ChannelStats {
         packets_seen: stats.packets_seen + 1,
-        lost: stats.lost + one_if(config.is_lost(rolls)),
-        corrupted: stats.corrupted + one_if(config.is_corrupted(rolls, len)),
-        duplicated: stats.duplicated + one_if(config.is_duplicated(rolls)),
-        reordered: stats.reordered + one_if(config.is_reordered(rolls)),
+        lost: stats.lost + u64::from(config.is_lost(rolls)),
+        corrupted: stats.corrupted + u64::from(config.is_corrupted(rolls, len)),
+        duplicated: stats.duplicated + u64::from(config.is_duplicated(rolls)),
+        reordered: stats.reordered + u64::from(config.is_reordered(rolls)),
         copies_delivered: stats.copies_delivered + granted(config, rolls),
     }
 }
@@ -131,17 +131,11 @@ fn granted(config: ChannelConfig, rolls: Rolls) -> u64
     1
 }
 
-fn one_if(b: bool) -> u64
-    ensures { result ≡ one b }
-{
-    if b { 1 } else { 0 }
-}
-
 // Turns over bit `bit` of byte `byte`.
 fn flip_bit(d: &mut [u8], byte: usize, bit: u32)
     requires { (byte < length d.old) × (bit < 8) }
     ensures { d.new ≡ flip d.old byte bit }
 {
     let mask: u8 = 1 << bit;
-    d[byte] = d[byte] ^ mask;
+    d[byte] ^= mask;
 }

@@ -43,11 +43,8 @@ scan_end l i a h e = go a (sym (ap (λ (xs : List Float). a || rolls_broken xs) 
     go false e = e
 
 -- ---- rolls that are left
-pub spent_all : (n u : ℕ) → n < u → true ≡ ltb n (u + packet_rolls)
-spent_all n u h = sym (lt-ltb n (u + packet_rolls) (omega arith))
-
-pub spent_few : (n u : ℕ) → u ≤ n → ltb (n - u) packet_rolls ≡ ltb n (u + packet_rolls)
-spent_few n u h = go (ltb (n - u) packet_rolls) refl
+pub spent : (n u : ℕ) → ltb (n - u) packet_rolls ≡ ltb n (u + packet_rolls)
+spent n u = go (ltb (n - u) packet_rolls) refl
   where
     go : (t : Bool) → ltb (n - u) packet_rolls ≡ t → t ≡ ltb n (u + packet_rolls)
     go true e = sym (lt-ltb n (u + packet_rolls) (omega (arith, ltb-true (n - u) packet_rolls e)))

@@ -14,7 +14,7 @@ use Rattle.bounds.specs.Bounds.{max_datagram, max_time, place_size}
 use Rattle.refusal.specs.declared.Refusal.{Refusal}
 use Rattle.schedule.specs.State.{waiting_records, state_broken, held_late, copies, CanSchedule, Cleared}
 use Rattle.schedule.specs.Record.{time_of}
-use Rattle.schedule.specs.Schedule.{first_record, due, pop_first, pop_unchecked, pop_ready_at, on_pop, first_due, without_first}
+use Rattle.schedule.specs.Schedule.{first_record, pop_first, pop_unchecked, pop_ready_at, on_pop, first_due, without_first}
 use Rattle.schedule.specs.Waiting.{WaitingCopy, waiting, put_copies, pop_copies, nothing, leaves, first_deadline}
 use Rattle.schedule.specs.declared.FirstDue.{FirstDue}
 use Rattle.schedule.specs.declared.FirstDue.TheVariants as first

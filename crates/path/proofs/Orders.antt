@@ -14,7 +14,7 @@ use Rattle.schedule.specs.declared.Deliveries.TheVariants.{Lost, One, Two}
 use Rattle.path.specs.Direction.{Direction, schedule_of, Good}
 use Rattle.path.specs.Path.{left_by_carry, carry}
 use Rattle.path.proofs.Packets.{orders_below}
-use Rattle.path.proofs.Answers.{granted, copy_bytes, carried_on, by_left}
+use Rattle.path.proofs.Answers.{granted, copy_bytes, by_left}
 
 pub record RiseAlike (d after : Direction) : Type 0 where
   pub alike : after.path.scheduler.count + d.path.scheduler.next_order ≡ d.path.scheduler.count + after.path.scheduler.next_order

@@ -1,31 +1,27 @@
 -- A packet that is due: what its calls below ask follows from a good path, and what they give is `carry`.
-use mathlib.Core.Path.{◌≡◌, sym, ◌∙◌, ap, subst}
+use mathlib.Core.Path.{◌≡◌, ◌∙◌, ap}
 use Prim.Native.Nat.{ℕ, zero, suc, ◌+◌, ◌*◌, ◌^◌, ◌<◌, ◌≤◌}
 use native.Mathlib.Omega.{arith}
 use mathlib.Core.Bool.{Bool, true, false, cond, not, ◌||◌, and-false}
 use mathlib.Core.List.{List, [], ◌∷◌}
-use lib.ListN.{length, take, replicate}
-use lib.Seq.{length-take-le}
+use lib.ListN.{length}
 use lib.Ieee.{Float}
 use borrow.Author.Tests.{not-false, ltb-false, le-ltb, lt-leb}
 use Rattle.bounds.specs.Bounds.{count_limit, max_datagram, max_delivery_delay, max_duration, max_time}
 use Rattle.float.specs.Roll.{roll_in_bounds}
 use Rattle.refusal.proofs.Laws.{or_false}
-use Rattle.schedule.specs.State.{Schedule, schedule, counts_broken, leaves_at, deliveries_late, copies, lacks_room, CanSchedule}
-use Rattle.schedule.specs.Schedule.{schedule_at_unchecked, room_of}
-use Rattle.schedule.specs.declared.ChannelScheduler.{ChannelScheduler}
-use Rattle.schedule.specs.declared.Deliveries.{Deliveries}
-use Rattle.schedule.proofs.Laws.{or_both, room_enough, room_lacks, delays_in_time}
+use Rattle.schedule.specs.State.{counts_broken, leaves_at, deliveries_late, copies, lacks_room, CanSchedule}
+use Rattle.schedule.specs.Schedule.{schedule_at_unchecked}
+use Rattle.schedule.proofs.Laws.{or_both, delays_in_time}
 use Rattle.channel.specs.Bounds as channel-bounds
 use Rattle.channel.specs.Faults.{is_lost, deliveries_of}
-use Rattle.channel.specs.Process.{TransitExit, transit_exit, process_unchecked, CanProcess}
+use Rattle.channel.specs.Process.{TransitExit, CanProcess}
 use Rattle.channel.specs.declared.ChannelStats.{ChannelStats}
 use Rattle.channel.specs.declared.Rolls.{Rolls}
-use Rattle.channel.specs.declared.Transit.{Transit}
 use Rattle.channel.proofs.Laws.{counts_not_full, delays_in_bounds}
 use Rattle.path.specs.Rolls.{packet_rolls, roll_at, rolls_at, rolls_broken, Doubles}
 use Rattle.path.specs.Direction.{Direction, schedule_of, Counted, Good}
-use Rattle.path.specs.Path.{path_of, on_path, CarryExit, carry_exit, on_carry, rolls_spent, sent, sent_bytes, copy_fold, carry, CanCarry}
+use Rattle.path.specs.Path.{on_path, CarryExit, on_carry, rolls_spent, sent, sent_bytes, copy_fold, carry, CanCarry}
 use Rattle.path.specs.declared.Carriage.TheVariants.{RollsSpent, EventsFull, ScheduleFull, Carried}
 
 -- ---- rolls

@@ -59,10 +59,8 @@ pub fn rolls_broken(rolls: &[f64]) -> bool
     ensures { (result ≡ rolls_broken rolls.now) × Doubles rolls.now }
 {
     let mut broken = false;
-    let mut i: usize = 0;
-    while i < rolls.len() {
-        broken = broken | !float::roll_in_bounds(rolls[i]);
-        i += 1;
+    for roll in rolls {
+        broken |= !float::roll_in_bounds(*roll);
     }
     broken
 }
@@ -220,10 +218,7 @@ impl Path {
     fn rolls_spent(self, rolls: &[f64]) -> bool
         ensures { result ≡ rolls_spent self rolls.now }
     {
-        if rolls.len() < self.used {
-            return true;
-        }
-        rolls.len() - self.used < PACKET_ROLLS
+        rolls.len().saturating_sub(self.used) < PACKET_ROLLS
     }
 }
 

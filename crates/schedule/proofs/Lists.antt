@@ -1,37 +1,17 @@
--- Lists: what a loop that clears, and those that move elements down or up by one, have made after i turns.
+-- Lists: what the loops that move elements down or up by one have made after i turns.
 use mathlib.Core.Path.{◌≡◌, refl, sym, ◌∙◌, ap}
 use Prim.Native.Nat.{ℕ, zero, suc, ◌<◌, ◌≤◌, ◌+◌, ◌-◌}
 use native.Mathlib.Omega.{arith}
 use native.Mathlib.Numerals.{add-one}
 use native.Mathlib.Nat.{le_refl, add_comm, add-sub_cancel_left, sub-zero, suc-sub-suc, suc-add}
 use mathlib.Core.List.{List, [], ◌∷◌, ◌++◌, append_assoc}
-use lib.ListN.{length, set, get_or, take, drop, replicate, length-replicate, length-append, length-drop, replicate-append-replicate, drop_of_length-le, take-append-drop, get_or-append}
-use lib.Seq.{take-suc, drop-cons, set_at, length-take-le, append_snoc, get_or-append-add, get_or-drop, drop-length, take_at, drop_at, get_or-take}
+use lib.ListN.{length, set, get_or, take, drop, replicate, length-append, length-drop, drop_of_length-le, take-append-drop, get_or-append}
+use lib.Seq.{take-suc, drop-cons, set_at, length-take-le, append_snoc, get_or-append-add, get_or-drop, take_at, drop_at, get_or-take}
 use Rattle.octets.proofs.Laws.{tail_is, tail_back}
 use Rattle.schedule.specs.Internal.{raised}
 use borrow.Rule.Slice.PartMut.{mid_of, post_of, put_mid, Post-is, mid_len}
 
 module _ {A : Type 0} where
-  abbrev pub cleared : A → ℕ → List A → List A
-  cleared v i l = replicate i v ++ drop i l
-
-  pub clear_more : (v d : A) (i : ℕ) (l : List A) → i < length l → set (cleared v i l) i v ≡ cleared v (i + 1) l
-  clear_more v d i l h =
-      ap (λ (xs : List A). set (replicate i v ++ xs) i v) (drop-cons l i d h)
-      ∙ set_at (replicate i v) (get_or l i d) (drop (suc i) l) v i (length-replicate i v)
-      ∙ sym (append_snoc (replicate i v) v (drop (suc i) l))
-      ∙ ap (λ (xs : List A). xs ++ drop (suc i) l) (replicate-append-replicate i 1 v)
-      ∙ ap (λ (k : ℕ). replicate (i + 1) v ++ drop k l) (sym (add-one i))
-
-  pub clear_all : (v : A) (i : ℕ) (l : List A) → length l ≤ i → i ≤ length l → cleared v i l ≡ replicate (length l) v
-  clear_all v i l h k =
-      let e : i ≡ length l = omega arith in
-      ap (λ (n : ℕ). cleared v n l) e ∙ ap (λ (xs : List A). replicate (length l) v ++ xs) (drop-length l) ∙ nil (replicate (length l) v)
-    where
-      nil : (xs : List A) → xs ++ [] ≡ xs
-      nil [] = refl
-      nil (x ∷ xs) = ap (λ (ys : List A). x ∷ ys) (nil xs)
-
   -- the first i from one place up
   abbrev pub shifted : ℕ → List A → List A
   shifted i l = take i (drop 1 l) ++ drop i l

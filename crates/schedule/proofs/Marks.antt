@@ -3,16 +3,16 @@ use mathlib.Core.Path.{◌≡◌, refl, sym, ◌∙◌, ap}
 use mathlib.Core.Logic.{◌⊎◌, inl, inr}
 use Prim.Native.Nat.{ℕ, zero, suc, ◌≤◌, ◌<◌, ◌+◌, ◌-◌}
 use native.Mathlib.Omega.{arith}
-use native.Mathlib.Numerals.{add-one}
-use native.Mathlib.Nat.{le_refl, add-zero, sub-zero, suc-sub-suc}
-use mathlib.Core.Bool.{Bool, true, false, cond, ◌||◌, or_comm, true≢false}
+use native.Mathlib.Nat.{add-zero, sub-zero, suc-sub-suc}
+use mathlib.Core.Bool.{Bool, true, false, cond, not, ◌||◌, or_comm}
 use mathlib.Core.List.{List, [], ◌∷◌}
-use lib.ListN.{length, drop, take, get_or, set, replicate, drop_of_length-le}
-use lib.Seq.{drop-nil}
+use lib.ListN.{length, get_or, set, replicate}
 use borrow.Author.Tests.{eq-eqb, ne_eqb}
+use Rattle.std.proofs.Common.{ltb, ltb-false, Some, None}
+use Rattle.std.specs.Option.{unwrap_or}
+use Rattle.std.specs.List.{position_or_len}
 use Rattle.schedule.specs.Record.{place_of, place_in, free_from}
 use Rattle.schedule.specs.Internal.{block_size, place_marks, block_at, first_unset, doubled_in, outside}
-use Rattle.schedule.proofs.Lists.{rest_cons, rest_none}
 use Rattle.schedule.proofs.Sound.{place_is}
 use Rattle.schedule.proofs.FreePlaces.{free_zero, free_suc}
 use Rattle.schedule.proofs.Doubled.{in_none, in_first, in_outside, outside_none, outside_below, outside_past}
@@ -73,60 +73,42 @@ pub marks_length : (n p : ℕ) (rs : List (List ℕ)) → length (place_marks n 
 marks_length zero p rs = ap length (marks_zero p rs)
 marks_length (suc n) p rs = ap length (marks_next n p rs) ∙ ap suc (marks_length n (suc p) rs)
 
--- ---- what the loop has found in the records from i on
-pub record Found (s : List (List ℕ)) (count base i : ℕ) (used : List Bool) (doubled beyond : Bool) : Type 0 where
-  pub marks : used ≡ place_marks block_size base (drop i (take count s))
-  pub twice : doubled ≡ doubled_in base (drop i (take count s))
-  pub behind : beyond ≡ outside (base + block_size) (drop i (take count s))
+-- ---- what the loop has found in the records that it has seen, the last of them first
+pub record Found (rs : List (List ℕ)) (base : ℕ) (used : List Bool) (doubled beyond : Bool) : Type 0 where
+  pub marks : used ≡ place_marks block_size base rs
+  pub twice : doubled ≡ doubled_in base rs
+  pub behind : beyond ≡ outside (base + block_size) rs
 
-pub found_none : (s : List (List ℕ)) (count base : ℕ) → count ≤ length s → Found s count base count (replicate block_size false) false false
-found_none s count base h =
-    let e = rest_none count count s (le_refl count) h in
-    record { marks = marks_none block_size base e; twice = sym (in_none base e); behind = sym (outside_none (base + block_size) e) }
+pub found_none : (base : ℕ) → Found [] base (replicate block_size false) false false
+found_none base =
+    record { marks = marks_none block_size base refl; twice = sym (in_none base refl); behind = sym (outside_none (base + block_size) refl) }
 
-pub found_all : (s : List (List ℕ)) (count base i : ℕ) {used : List Bool} {doubled beyond : Bool} → i ≤ 0 → Found s count base i used doubled beyond → record { used = used; doubled = doubled; beyond = beyond } ≡ block_at base (take count s)
-found_all s count base zero h f = rw (f.marks, f.twice, f.behind)
-found_all s count base (suc i) h f = absurd (omega arith)
+pub found_all : (base : ℕ) {rs : List (List ℕ)} {used : List Bool} {doubled beyond : Bool} → Found rs base used doubled beyond → record { used = used; doubled = doubled; beyond = beyond } ≡ block_at base rs
+found_all base f = rw (f.marks, f.twice, f.behind)
 
--- one turn: the record below i
-module _ (s : List (List ℕ)) (count base i : ℕ) (some : 0 < i) (low : i ≤ count) (high : count ≤ length s) where
-  abbrev place : ℕ
-  place = place_of (get_or s (i - 1) [])
-
-  one_more : get_or s (i - 1) [] ∷ drop i (take count s) ≡ drop (i - 1) (take count s)
-  one_more = sym (rest_cons [] count (i - 1) s (omega arith) high ∙ ap (λ (k : ℕ). get_or s (i - 1) [] ∷ drop k (take count s)) (whole i some))
+-- one turn: the record in front of them
+module _ (r : List ℕ) (base : ℕ) {rs : List (List ℕ)} {used : List Bool} {doubled beyond : Bool} (f : Found rs base used doubled beyond) where
+  pub turn_in : base ≤ place_of r → place_of r - base < block_size → Found (r ∷ rs) base (set used (place_of r - base) true) (doubled || get_or used (place_of r - base) false) beyond
+  turn_in a b =
+      let place = place_of r in
+      record {
+        marks = ap (λ (xs : List Bool). set xs (place - base) true) f.marks ∙ marks_set block_size base (place - base) r rs (whole place base a) b;
+        twice = ap (λ (x : Bool). x || get_or used (place - base) false) f.twice
+            ∙ ap (λ (x : Bool). doubled_in base rs || x) (ap (λ (xs : List Bool). get_or xs (place - base) false) f.marks ∙ marks_at block_size base (place - base) rs b ∙ ap (λ (q : ℕ). place_in q rs) (sym (whole place base a)))
+            ∙ or_comm (doubled_in base rs) (place_in place rs) ∙ sym (in_first base r rs a (omega arith));
+        behind = f.behind ∙ sym (outside_below (base + block_size) r rs (omega arith));
+      }
     where
-      whole : (i : ℕ) → 0 < i → i - 1 + 1 ≡ i
-      whole i h = omega arith
+      whole : (p b : ℕ) → b ≤ p → p ≡ b + (p - b)
+      whole p b h = omega arith
 
-  module _ {used : List Bool} {doubled beyond : Bool} (f : Found s count base i used doubled beyond) where
-    pub turn_in : base ≤ place → place - base < block_size → Found s count base (i - 1) (set used (place - base) true) (doubled || get_or used (place - base) false) beyond
-    turn_in a b =
-        let rs = drop i (take count s) in
-        let r = get_or s (i - 1) [] in
-        record {
-          marks = ap (λ (xs : List Bool). set xs (place - base) true) f.marks ∙ marks_set block_size base (place - base) r rs (whole place base a) b ∙ ap (place_marks block_size base) one_more;
-          twice = ap (λ (x : Bool). x || get_or used (place - base) false) f.twice
-              ∙ ap (λ (x : Bool). doubled_in base rs || x) (ap (λ (xs : List Bool). get_or xs (place - base) false) f.marks ∙ marks_at block_size base (place - base) rs b ∙ ap (λ (q : ℕ). place_in q rs) (sym (whole place base a)))
-              ∙ or_comm (doubled_in base rs) (place_in place rs) ∙ sym (in_first base r rs a (omega arith)) ∙ ap (doubled_in base) one_more;
-          behind = f.behind ∙ sym (outside_below (base + block_size) r rs (omega arith)) ∙ ap (outside (base + block_size)) one_more;
-        }
-      where
-        whole : (p b : ℕ) → b ≤ p → p ≡ b + (p - b)
-        whole p b h = omega arith
+  pub turn_behind : base + block_size ≤ place_of r → Found (r ∷ rs) base used doubled true
+  turn_behind h =
+      record { marks = f.marks ∙ marks_outside block_size base r rs (inr h); twice = f.twice ∙ sym (in_outside base r rs (inr h)); behind = sym (outside_past (base + block_size) r rs h) }
 
-    -- outside the block
-    others : (place < base) ⊎ (base + block_size ≤ place) → (used ≡ place_marks block_size base (drop (i - 1) (take count s))) × (doubled ≡ doubled_in base (drop (i - 1) (take count s)))
-    others h =
-        let rs = drop i (take count s) in
-        let r = get_or s (i - 1) [] in
-        (f.marks ∙ marks_outside block_size base r rs h ∙ ap (place_marks block_size base) one_more, f.twice ∙ sym (in_outside base r rs h) ∙ ap (doubled_in base) one_more)
-
-    pub turn_behind : base + block_size ≤ place → Found s count base (i - 1) used doubled true
-    turn_behind h = let o = others (inr h) in record { marks = o.0; twice = o.1; behind = sym (outside_past (base + block_size) (get_or s (i - 1) []) (drop i (take count s)) h) ∙ ap (outside (base + block_size)) one_more }
-
-    pub turn_before : place < base → Found s count base (i - 1) used doubled beyond
-    turn_before h = let o = others (inl h) in record { marks = o.0; twice = o.1; behind = f.behind ∙ sym (outside_below (base + block_size) (get_or s (i - 1) []) (drop i (take count s)) (omega arith)) ∙ ap (outside (base + block_size)) one_more }
+  pub turn_before : place_of r < base → Found (r ∷ rs) base used doubled beyond
+  turn_before h =
+      record { marks = f.marks ∙ marks_outside block_size base r rs (inl h); twice = f.twice ∙ sym (in_outside base r rs (inl h)); behind = f.behind ∙ sym (outside_below (base + block_size) r rs (omega arith)) }
 
 -- ---- the first mark that isn't set
 unset_zero : (p : ℕ) (rs : List (List ℕ)) → first_unset (place_marks zero p rs) ≡ 0
@@ -173,20 +155,26 @@ unset_none (suc k) (suc j) p rs h l = go (place_in p rs) refl (unset_none k j (s
         (omega (arith, i.0), ap (λ (n : ℕ). free_from n (p + suc k) rs) (suc-sub-suc j k) ∙ ap (λ (q : ℕ). free_from (j - k) q rs) (shift p k) ∙ i.1 ∙ sym f)
     go false t ih = let u : first_unset (place_marks (suc k) p rs) ≡ 0 = unset_next k p rs false t in absurd (omega arith)
 
--- the loop that looks for it
-unset_at : (i : ℕ) (ms : List Bool) (t : Bool) → get_or ms i false ≡ t → first_unset (drop i ms) ≡ cond t (suc (first_unset (drop (suc i) ms))) 0
+-- as `position` finds it
+unset_len : (ms : List Bool) → position_or_len not ms ≡ first_unset ms
 unfolding first_unset
-unset_at i [] true e = absurd (true≢false (sym e))
-unset_at i [] false e = ap first_unset (drop-nil i)
-unset_at zero (m ∷ ms) t e = ap (λ (b : Bool). cond b (suc (first_unset ms)) 0) e
-unset_at (suc i) (m ∷ ms) t e = unset_at i ms t e
+unset_len [] = refl
+unset_len (true ∷ ms) = let h = unset_len ms in omega arith
+unset_len (false ∷ ms) = refl
 
-pub unset_found : (ms : List Bool) (i : ℕ) → get_or ms i false ≡ false → i ≡ i + first_unset (drop i ms)
-unset_found ms i e = sym (ap (λ (x : ℕ). i + x) (unset_at i ms false e) ∙ add-zero i)
-
-pub unset_passed : (ms : List Bool) (i : ℕ) → get_or ms i false ≡ true → i + 1 + first_unset (drop (i + 1) ms) ≡ i + first_unset (drop i ms)
-unset_passed ms i e = let q : first_unset (drop i ms) ≡ suc (first_unset (drop (suc i) ms)) = unset_at i ms true e in rw (add-one i) (omega arith)
-
-pub unset_end : (ms : List Bool) (i : ℕ) → length ms ≤ i → i ≡ i + first_unset (drop i ms)
+unset_within : (ms : List Bool) → first_unset ms ≤ length ms
 unfolding first_unset
-unset_end ms i h = sym (ap (λ (xs : List Bool). i + first_unset xs) (drop_of_length-le ms {i = i} h) ∙ add-zero i)
+unset_within [] = omega arith
+unset_within (true ∷ ms) = let h = unset_within ms in omega arith
+unset_within (false ∷ ms) = omega arith
+
+pub unset_position : (ms : List Bool) (n : ℕ) → length ms ≡ n → unwrap_or (cond (ltb (position_or_len not ms) (length ms)) (Some (position_or_len not ms)) None) n ≡ first_unset ms
+unset_position ms n e = go (ltb (position_or_len not ms) (length ms)) refl
+  where
+    go : (t : Bool) → ltb (position_or_len not ms) (length ms) ≡ t → unwrap_or (cond t (Some (position_or_len not ms)) None) n ≡ first_unset ms
+    go true q = unset_len ms
+    go false q =
+        let most = unset_within ms in
+        let least : length ms ≤ position_or_len not ms = ltb-false _ _ q in
+        let same = unset_len ms in
+        omega arith

@@ -153,7 +153,7 @@ module _ {A : Type 0} (aft : A → A → Bool) where
       go ih true a = insert_here r x xs a ∙ ap split (sym (for_cons r x xs true a))
       go ih false a = insert_later r x xs a ∙ ap (λ (l : List A). x ∷ l) ih ∙ ap split (sym (for_cons r x xs false a))
 
-  for_le : (r : A) (xs : List A) → index_for aft r xs ≤ length xs
+  pub for_le : (r : A) (xs : List A) → index_for aft r xs ≤ length xs
   for_le r [] = let z = for_none r in omega arith
   for_le r (x ∷ xs) = go (for_le r xs) (aft x r) refl
     where

@@ -6,7 +6,7 @@ use native.Mathlib.Numerals.{add-one, unary_clauses}
 use mathlib.Core.Bool.{Bool, true, false, cond, not, ◌&&◌}
 use mathlib.Core.List.{List, [], ◌∷◌, ◌++◌, append_assoc, map}
 use lib.ListN.{length, set, get_or, take, drop, length-set, drop_of_length-le}
-use lib.Seq.{take-suc, drop-cons, set_split, take-set-le, drop-set-lt, get_or-set_same, get_or-set_other, length-take-le, take_at, get_or-take}
+use lib.Seq.{take-suc, drop-cons, set_split, take-set-le, drop-set-lt, get_or-set_same, get_or-set_other, length-take-le, take_at}
 use Rattle.schedule.specs.Record.{record4, time_of, order_of, vacant, after, inserted, ordered_from, ordered, lowest_free}
 use Rattle.schedule.specs.State.{schedule, place_count}
 use Rattle.schedule.specs.Schedule.{first_record, put_copy, without_first}
@@ -241,18 +241,18 @@ look_right : (p x : Scheduled) (xs : List Scheduled) → leaves p x ≡ false �
 unfolding ordered_from
 look_right p x xs e = sym (ap (λ (t : Bool). not t && ordered_from leaves x xs) e)
 
-module _ (n : ℕ) (ys : List Scheduled) (within : n ≤ length ys) (p : Scheduled) (i : ℕ) (h : ordered_from leaves p (drop i (take n ys)) ≡ ordered_from leaves empty (take n ys)) where
-  look_at : i < n → drop i (take n ys) ≡ get_or ys i empty ∷ drop (suc i) (take n ys)
-  look_at l = drop-cons (take n ys) i empty (subst (λ (m : ℕ). i < m) (sym (length-take-le n ys within)) l) ∙ ap (λ (r : Scheduled). r ∷ drop (suc i) (take n ys)) (get_or-take n ys i empty l)
+module _ (n : ℕ) (ys : List Scheduled) (p : Scheduled) (i : ℕ) (h : ordered_from leaves p (drop i (take n ys)) ≡ ordered_from leaves empty (take n ys)) where
+  look_at : i < length (take n ys) → drop i (take n ys) ≡ get_or (take n ys) i empty ∷ drop (suc i) (take n ys)
+  look_at l = drop-cons (take n ys) i empty l
 
-  pub look_ends : n ≤ i → true ≡ ordered (take n (rows ys))
-  look_ends l = look_none p ∙ ap (ordered_from leaves p) (sym (drop_of_length-le (take n ys) (subst (λ (m : ℕ). m ≤ i) (sym (length-take-le n ys within)) l))) ∙ h ∙ in_order_is n ys
+  pub look_ends : length (take n ys) ≤ i → true ≡ ordered (take n (rows ys))
+  look_ends l = look_none p ∙ ap (ordered_from leaves p) (sym (drop_of_length-le (take n ys) l)) ∙ h ∙ in_order_is n ys
 
-  pub look_fails : i < n → leaves p (get_or ys i empty) ≡ true → false ≡ ordered (take n (rows ys))
-  look_fails l e = look_wrong p (get_or ys i empty) (drop (suc i) (take n ys)) e ∙ ap (ordered_from leaves p) (sym (look_at l)) ∙ h ∙ in_order_is n ys
+  pub look_fails : i < length (take n ys) → leaves p (get_or (take n ys) i empty) ≡ true → false ≡ ordered (take n (rows ys))
+  look_fails l e = look_wrong p (get_or (take n ys) i empty) (drop (suc i) (take n ys)) e ∙ ap (ordered_from leaves p) (sym (look_at l)) ∙ h ∙ in_order_is n ys
 
-  pub look_goes_on : i < n → leaves p (get_or ys i empty) ≡ false → ordered_from leaves (get_or ys i empty) (drop (i + 1) (take n ys)) ≡ ordered_from leaves empty (take n ys)
-  look_goes_on l e = ap (λ (m : ℕ). ordered_from leaves (get_or ys i empty) (drop m (take n ys))) (add-one i) ∙ look_right p (get_or ys i empty) (drop (suc i) (take n ys)) e ∙ ap (ordered_from leaves p) (sym (look_at l)) ∙ h
+  pub look_goes_on : i < length (take n ys) → leaves p (get_or (take n ys) i empty) ≡ false → ordered_from leaves (get_or (take n ys) i empty) (drop (i + 1) (take n ys)) ≡ ordered_from leaves empty (take n ys)
+  look_goes_on l e = ap (λ (m : ℕ). ordered_from leaves (get_or (take n ys) i empty) (drop m (take n ys))) (add-one i) ∙ look_right p (get_or (take n ys) i empty) (drop (suc i) (take n ys)) e ∙ ap (ordered_from leaves p) (sym (look_at l)) ∙ h
 
 -- an insertion
 pub sifts_on : (r : Scheduled) (i : ℕ) (zs : List Scheduled) → 0 < i → leaves (get_or zs (i - 1) empty) r ≡ true → sifted r (i - 1) (set zs i (get_or zs (i - 1) empty)) ≡ sifted r i zs

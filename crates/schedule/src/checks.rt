@@ -164,14 +164,11 @@ fn any_record_broken(s: &[ScheduledRow], count: usize, next: u64, places: usize)
     ensures { result ≡ any_record_broken next places vacant (take count s.now) }
 {
     let mut front = [0u64, 0, 0, 0];
-    let mut i: usize = 0;
-    while i < count {
-        let r = s[i];
-        if record_broken(front, r, next, places as u64) {
+    for r in &s[..count] {
+        if record_broken(front, *r, next, places as u64) {
             return true;
         }
-        i += 1;
-        front = r;
+        front = *r;
     }
     false
 }

@@ -5,6 +5,7 @@ ghost use Rattle.schedule.specs.Schedule.{first_record};
 ghost use Rattle.schedule.specs.Structs.{row_of, rows, scheduled_of};
 
 use super::{Scheduled, ScheduledRow, TakeResult};
+use std::mem;
 
 impl Scheduled {
     pub fn packed(self) -> ScheduledRow
@@ -48,15 +49,11 @@ impl Scheduled {
             length: 0,
             place: 0,
         };
-        let mut i = 0;
-        while i < count {
-            let q = s[i];
-            if p.leaves_after(q) {
+        for q in &s[..count] {
+            if p.leaves_after(*q) {
                 return false;
-            } else {
-                p = q;
-                i += 1;
             }
+            p = *q;
         }
         true
     }
@@ -69,14 +66,9 @@ impl Scheduled {
             ++ drop (count + 1) (rows s.old) }
     {
         let mut i = count;
-        while 0 < i {
-            let p = s[i - 1];
-            if p.leaves_after(r) {
-                s[i] = p;
-                i -= 1;
-            } else {
-                break;
-            }
+        while 0 < i && s[i - 1].leaves_after(r) {
+            s[i] = s[i - 1];
+            i -= 1;
         }
         s[i] = r;
     }
@@ -94,12 +86,8 @@ impl Scheduled {
             length: 0,
             place: 0,
         };
-        let mut i = count;
-        while 0 < i {
-            i -= 1;
-            let p = s[i];
-            s[i] = c;
-            c = p;
+        for i in (0..count).rev() {
+            c = mem::replace(&mut s[i], c);
         }
         c
     }

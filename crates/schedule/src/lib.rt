@@ -289,11 +289,9 @@ impl ChannelScheduler {
     {
         let copies = copies_of(deliveries);
         let mut scheduler = self;
-        let mut k: usize = 0;
-        while k < copies {
+        for k in 0..copies {
             let delay = delay_of(deliveries, k);
             scheduler = scheduler.put(records, places, now + delay * 1000000, packet, cleared);
-            k += 1;
         }
         scheduler
     }
@@ -355,10 +353,7 @@ impl ChannelScheduler {
     {
         let free_places = places.len() / PLACE_SIZE - self.count;
         let free_records = records.len() - self.count;
-        if free_places < free_records {
-            return free_places;
-        }
-        free_records
+        free_places.min(free_records)
     }
 }
 

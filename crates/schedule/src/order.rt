@@ -8,11 +8,7 @@ use super::{ScheduledRow, leaves_after};
 pub(super) fn clear_records(s: &mut [ScheduledRow])
     ensures { s.new ≡ replicate (length s.old) vacant }
 {
-    let mut i: usize = 0;
-    while i < s.len() {
-        s[i] = [0, 0, 0, 0];
-        i += 1;
-    }
+    s.fill([0, 0, 0, 0]);
 }
 
 // Puts `r` among the first `count` records: those that leave after it move up by one.
@@ -31,11 +27,8 @@ pub(super) fn remove_first(s: &mut [ScheduledRow], count: usize)
     ensures { s.new ≡ drop 1 (take count s.old) ++ vacant ∷ drop count s.old }
 {
     let last = count - 1;
-    let mut i: usize = 0;
-    while i < last {
-        let p = s[i + 1];
-        s[i] = p;
-        i += 1;
+    for i in 0..last {
+        s[i] = s[i + 1];
     }
     s[last] = [0, 0, 0, 0];
 }
@@ -45,20 +38,7 @@ fn index_for(s: &[ScheduledRow], count: usize, r: ScheduledRow) -> usize
     requires { (count ≤ length s.now) × (ordered (take count s.now) ≡ true) }
     ensures { result ≡ index_for after r (take count s.now) }
 {
-    let mut low: usize = 0;
-    let mut n = count;
-    while 0 < n {
-        let half = n / 2;
-        let at = low + half;
-        let p = s[at];
-        if leaves_after(p, r) {
-            n = half;
-        } else {
-            low = at + 1;
-            n = n - half - 1;
-        }
-    }
-    low
+    s[..count].partition_point(|p| !leaves_after(*p, r))
 }
 
 // Moves the first `n` records up by one. In a function of its own this loop becomes a memmove.
@@ -66,11 +46,8 @@ fn move_up(s: &mut [ScheduledRow], n: usize)
     requires { n < length s.old }
     ensures { s.new ≡ raised n 0 s.old }
 {
-    let mut i = n;
-    while 0 < i {
-        let p = s[i - 1];
-        s[i] = p;
-        i -= 1;
+    for i in (0..n).rev() {
+        s[i + 1] = s[i];
     }
 }
 

@@ -97,11 +97,9 @@ impl OwnedSchedule {
     {
         let copies = copies_of(deliveries);
         let mut schedule = self;
-        let mut k: usize = 0;
-        while k < copies {
+        for k in 0..copies {
             let delay = delay_of(deliveries, k);
             schedule = schedule.put(places, now + delay * 1000000, packet);
-            k += 1;
         }
         schedule
     }
@@ -175,11 +173,8 @@ fn packed_all(s: [Scheduled; 8]) -> [ScheduledRow; 8]
     ensures { result ≡ rows s }
 {
     let mut r = [[0u64; 4]; 8];
-    let mut i: usize = 0;
-    while i < 8 {
-        let p = s[i];
-        r[i] = p.packed();
-        i += 1;
+    for i in 0..8 {
+        r[i] = s[i].packed();
     }
     r
 }

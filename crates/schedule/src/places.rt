@@ -15,8 +15,7 @@ pub(super) fn place_doubled(s: &[ScheduledRow], count: usize, places: usize) -> 
     requires { (count ≤ length s.now) × (outside places (take count s.now) ≡ false) }
     ensures { result ≡ doubled (take count s.now) }
 {
-    let mut base: usize = 0;
-    while base < places {
+    for base in (0..places).step_by(256) {
         let block = block_at(s, count, base as u64);
         if block.doubled {
             return true;
@@ -24,7 +23,6 @@ pub(super) fn place_doubled(s: &[ScheduledRow], count: usize, places: usize) -> 
         if !block.beyond {
             return false;
         }
-        base += 256;
     }
     false
 }
@@ -94,16 +92,13 @@ fn block_at(s: &[ScheduledRow], count: usize, base: u64) -> Block
     let mut used = [false; 256];
     let mut doubled = false;
     let mut beyond = false;
-    let mut i = count;
-    while 0 < i {
-        i -= 1;
-        let r = s[i];
+    for r in s[..count].iter().rev() {
         let place = r[3];
         if base <= place {
             let k = place - base;
             if k < 256 {
                 let at = k as usize;
-                doubled = doubled | used[at];
+                doubled |= used[at];
                 used[at] = true;
             } else {
                 beyond = true;
@@ -122,14 +117,7 @@ fn first_unset(used: &[bool; 256]) -> usize
     requires { length used.now ≡ block_size }
     ensures { result ≡ first_unset used.now }
 {
-    let mut k: usize = 0;
-    while k < 256 {
-        if !used[k] {
-            return k;
-        }
-        k += 1;
-    }
-    256
+    used.iter().position(|used| !*used).unwrap_or(256)
 }
 
 // The lowest place that no waiting record has, found by marks.
@@ -137,25 +125,14 @@ fn lowest_unmarked(s: &[ScheduledRow], count: usize, places: usize) -> usize
     requires { (count ≤ length s.now) × (0 < length (free_places places (take count s.now))) }
     ensures { result ≡ lowest_free places (take count s.now) }
 {
-    let mut base: usize = 0;
-    while base < places {
+    for base in (0..places).step_by(256) {
         let block = block_at(s, count, base as u64);
-        let used = block.used;
-        let k = first_unset(&used);
+        let k = first_unset(&block.used);
         if k < 256 {
             return base + k;
         }
-        base += 256;
     }
     places
-}
-
-fn place_at(s: &[ScheduledRow], i: usize) -> u64
-    requires { i < length s.now }
-    ensures { result ≡ place_of (get_or s.now i []) }
-{
-    let r = s[i];
-    r[3]
 }
 
 // `sum` and the places of the records from `from` on, if none lies past `count`.
@@ -165,14 +142,12 @@ fn sum_from(s: &[ScheduledRow], count: usize, from: usize, sum: u64) -> PlaceSum
 {
     let last = count as u64;
     let mut total = sum;
-    let mut i = from;
-    while i < count {
-        let p = place_at(s, i);
+    for r in &s[from..count] {
+        let p = r[3];
         if last < p {
             return PlaceSum::Past;
         }
         total += p;
-        i += 1;
     }
     PlaceSum::Is(total)
 }
@@ -187,12 +162,13 @@ fn place_sum(s: &[ScheduledRow], count: usize) -> PlaceSum
     let mut b: u64 = 0;
     let mut c: u64 = 0;
     let mut d: u64 = 0;
+    // `sum_from` goes on from `i`, which a `for` over steps of four wouldn't hand on.
     let mut i: usize = 0;
     while 4 <= count - i {
-        let p = place_at(s, i);
-        let q = place_at(s, i + 1);
-        let u = place_at(s, i + 2);
-        let v = place_at(s, i + 3);
+        let p = s[i][3];
+        let q = s[i + 1][3];
+        let u = s[i + 2][3];
+        let v = s[i + 3][3];
         if ((last < p) | (last < q)) | ((last < u) | (last < v)) {
             return PlaceSum::Past;
         }

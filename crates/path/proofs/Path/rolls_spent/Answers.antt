@@ -1,8 +1,9 @@
-use Rattle.path.proofs.Calls.{spent_all, spent_few}
+use Prim.Native.Nat.{ℕ}
+use mathlib.Core.Path.{◌∙◌, ap}
+use lib.Dec.{ltb}
+use Rattle.path.specs.Rolls.{packet_rolls}
+use Rattle.path.proofs.Calls.{spent}
 use Rattle.path.proofs.Path.rolls_spent.Goals as goal
 
-pub returns-then-rolls-self : goal.returns-then-rolls-self
-returns-then-rolls-self c = spent_all _ _ c.if-rolls-self.true
-
 pub returns : goal.returns
-returns c = spent_few _ _ c.if-rolls-self.false
+returns c = ap (λ (n : ℕ). ltb n packet_rolls) c.saturating_sub.ensures ∙ spent _ _

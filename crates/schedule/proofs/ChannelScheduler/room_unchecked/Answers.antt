@@ -1,24 +1,10 @@
 use native.Mathlib.Omega.{arith}
 use mathlib.Core.Path.{◌≡◌, sym, ◌∙◌}
-use Prim.Native.Nat.{ℕ, ◌≤◌, ◌<◌, ◌-◌, ◌+◌, min}
+use Prim.Native.Nat.{ℕ, ◌≤◌, ◌+◌}
 use mathlib.Core.Bool.{false}
-use lib.ListN.{length}
 use Rattle.schedule.specs.State.{Schedule, schedule, state_broken, place_count, unused_places}
-use Rattle.schedule.specs.Schedule.{room_of}
 use Rattle.schedule.proofs.Memory.{within, places_count, room_is}
 use Rattle.schedule.proofs.ChannelScheduler.room_unchecked.Goals as goal
-
-fewer-places : (m : Schedule) → state_broken m ≡ false → place_count m - m.scheduler.count < length m.records - m.scheduler.count → place_count m - m.scheduler.count ≡ room_of m
-fewer-places m s h = least (place_count m - m.scheduler.count) (length m.records - m.scheduler.count) h ∙ sym (room_is m s)
-  where
-    least : (a b : ℕ) → a < b → a ≡ min a b
-    least a b h = omega arith
-
-fewer-records : (m : Schedule) → state_broken m ≡ false → length m.records - m.scheduler.count ≤ place_count m - m.scheduler.count → length m.records - m.scheduler.count ≡ room_of m
-fewer-records m s h = least (place_count m - m.scheduler.count) (length m.records - m.scheduler.count) h ∙ sym (room_is m s)
-  where
-    least : (a b : ℕ) → b ≤ a → b ≡ min a b
-    least a b h = omega arith
 
 count_within : (m : Schedule) → state_broken m ≡ false → m.scheduler.count ≤ place_count m
 count_within m s = let a = places_count m s in more (unused_places m) m.scheduler.count (place_count m) a
@@ -32,8 +18,5 @@ overflow_sub-free_places c = let a = c.args in count_within (schedule a.records.
 pub overflow_sub-free_records : goal.overflow_sub-free_records
 overflow_sub-free_records c = let a = c.args in within (schedule a.records.now a.places.now a.self) c.requires
 
-pub returns-then-free_places-free_records : goal.returns-then-free_places-free_records
-returns-then-free_places-free_records c = let a = c.args in fewer-places (schedule a.records.now a.places.now a.self) c.requires c.if-free_places-free_records.true
-
 pub returns : goal.returns
-returns c = let a = c.args in fewer-records (schedule a.records.now a.places.now a.self) c.requires c.if-free_places-free_records.false
+returns c = let a = c.args in c.min.ensures ∙ sym (room_is (schedule a.records.now a.places.now a.self) c.requires)

@@ -1,13 +1,12 @@
 use native.Mathlib.Omega.{arith}
-use borrow.Author.Rules.{rules}
-use mathlib.Core.Path.{◌≡◌, refl, ◌∙◌}
+use mathlib.Core.Path.{◌≡◌, ◌∙◌}
 use Rattle.schedule.specs.State.{schedule}
 use Rattle.schedule.proofs.Calls.{put_none, put_more, put_all, next_fits, can_next}
 use Rattle.schedule.proofs.Clearing.{next_cleared}
 use Rattle.schedule.proofs.ChannelScheduler.schedule_at_unchecked.Goals as goal
 
 pub loop-k-init : goal.loop-k-init
-loop-k-init c = (omega arith, put_none _ _ _ _, refl, refl)
+loop-k-init c = put_none _ _ _ _
 
 pub overflow_mul-delay : goal.overflow_mul-delay
 overflow_mul-delay c = let f = next_fits (schedule c.args.records.now c.args.places.now c.args.self) c.args.now c.args.packet.now c.args.deliveries c.loop-k.k c.requires.can_schedule c.copies_of-copies.ensures c.loop-k-test.true c.delay_of-delay.ensures in
@@ -18,11 +17,11 @@ overflow_add-now c = let f = next_fits (schedule c.args.records.now c.args.place
     omega arith
 
 pub put-scheduler-requires : goal.put-scheduler-requires
-put-scheduler-requires c = record { can_put = can_next (schedule c.args.records.now c.args.places.now c.args.self) c.args.now c.args.packet.now c.args.deliveries c.loop-k.k c.requires.can_schedule c.copies_of-copies.ensures c.loop-k-test.true c.loop-k.invariant.1; cleared = λ e. next_cleared (schedule c.args.records.now c.args.places.now c.args.self) c.args.now c.args.packet.now c.args.deliveries c.loop-k.k c.requires.can_schedule (c.requires.cleared e) c.copies_of-copies.ensures c.loop-k-test.true c.loop-k.invariant.1 }
+put-scheduler-requires c = record { can_put = can_next (schedule c.args.records.now c.args.places.now c.args.self) c.args.now c.args.packet.now c.args.deliveries c.loop-k.k c.requires.can_schedule c.copies_of-copies.ensures c.loop-k-test.true c.loop-k.invariant; cleared = λ e. next_cleared (schedule c.args.records.now c.args.places.now c.args.self) c.args.now c.args.packet.now c.args.deliveries c.loop-k.k c.requires.can_schedule (c.requires.cleared e) c.copies_of-copies.ensures c.loop-k-test.true c.loop-k.invariant }
 
 pub loop-k-preserved : goal.loop-k-preserved
-loop-k-preserved c = (omega arith, put_more (schedule c.args.records.now c.args.places.now c.args.self) c.args.now c.args.packet.now c.args.deliveries c.loop-k.k c.loop-k.invariant.1 c.delay_of-delay.ensures c.put-scheduler.ensures, search rules, search rules)
+loop-k-preserved c = put_more (schedule c.args.records.now c.args.places.now c.args.self) c.args.now c.args.packet.now c.args.deliveries c.loop-k.k c.loop-k.invariant c.delay_of-delay.ensures c.put-scheduler.ensures
 
 pub returns : goal.returns
 returns c = let last : c.loop-k.k ≡ c.copies_of-copies.result = omega arith in
-    put_all (schedule c.args.records.now c.args.places.now c.args.self) c.args.now c.args.packet.now c.args.deliveries c.loop-k.invariant.1 (last ∙ c.copies_of-copies.ensures)
+    put_all (schedule c.args.records.now c.args.places.now c.args.self) c.args.now c.args.packet.now c.args.deliveries c.loop-k.invariant (last ∙ c.copies_of-copies.ensures)

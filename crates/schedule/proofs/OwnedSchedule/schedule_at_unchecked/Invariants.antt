@@ -1,12 +1,7 @@
 use mathlib.Core.Path.{◌≡◌}
-use Prim.Native.Nat.{◌≤◌, ◌-◌}
-use lib.ListN.{length}
 use Rattle.schedule.specs.Structs.{owned_schedule}
 use Rattle.schedule.proofs.Calls.{put_first}
 use Rattle.schedule.proofs.OwnedSchedule.schedule_at_unchecked.Given as goal
 
 abbrev pub invariant-loop-k : goal.invariant-loop-k
-invariant-loop-k l = (l.k ≤ l.copies) × (owned_schedule l.schedule l.places ≡ put_first (owned_schedule l.initial.schedule l.initial.places) l.now l.packet l.deliveries l.k) × (length l.places ≡ length l.initial.places)
-
-abbrev pub decreases-loop-k : goal.decreases-loop-k
-decreases-loop-k l = l.copies - l.k
+invariant-loop-k l = owned_schedule l.schedule l.places ≡ put_first (owned_schedule l.initial.schedule l.initial.places) l.now l.packet l.deliveries l.k

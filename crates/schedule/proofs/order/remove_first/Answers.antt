@@ -14,13 +14,13 @@ last_of : (i n : ℕ) (l s : List (List ℕ)) → i ≡ n - 1 → 0 < n → n �
 last_of i n l s q p h e = rw (e, q) (shift_last vacant [] n l p h)
 
 pub loop-i-init : goal.loop-i-init
-loop-i-init c = (omega arith, (refl, refl))
+loop-i-init c = refl
 
 pub loop-i-preserved : goal.loop-i-preserved
-loop-i-preserved c = (omega arith, (simp length-set (omega arith), turn c.loop-i.i c.args.s.now c.loop-i.s (omega arith) c.loop-i.invariant.1.1))
+loop-i-preserved c = turn c.loop-i.i c.args.s.now c.loop-i.s (omega arith) c.loop-i.invariant
 
 pub shape_of-s : goal.shape_of-s
 shape_of-s c = simp length-set (omega arith)
 
 pub returns : goal.returns
-returns c = last_of c.loop-i.i c.args.count c.args.s.now c.loop-i.s (omega arith) (omega arith) (omega arith) c.loop-i.invariant.1.1
+returns c = last_of c.loop-i.i c.args.count c.args.s.now c.loop-i.s (omega arith) (omega arith) (omega arith) c.loop-i.invariant

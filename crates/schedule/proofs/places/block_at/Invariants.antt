@@ -1,9 +1,6 @@
-use Prim.Native.Nat.{◌≤◌}
+use Rattle.std.proofs.Common.{map, reverse}
 use Rattle.schedule.proofs.Marks.{Found}
 use Rattle.schedule.proofs.places.block_at.Given as goal
 
-abbrev pub invariant-loop-i : goal.invariant-loop-i
-invariant-loop-i l = (l.i ≤ l.count) × Found l.s l.count l.base l.i l.used l.doubled l.beyond
-
-abbrev pub decreases-loop-i : goal.decreases-loop-i
-decreases-loop-i l = l.i
+abbrev pub invariant-loop-r : goal.invariant-loop-r
+invariant-loop-r l = Found (reverse (map (λ r. r.now) l.yielded)) l.base l.used l.doubled l.beyond

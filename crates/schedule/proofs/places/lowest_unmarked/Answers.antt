@@ -37,14 +37,6 @@ returns-then-k-lt256 c = let a = c.args in
     let some : 0 < length (free_from (a.places - c.loop-base.base) c.loop-base.base w) = rw c.loop-base.invariant.1 c.requires.1 in
     ap (λ (x : ℕ). c.loop-base.base + x) e ∙ unset_free block_size (a.places - c.loop-base.base) c.loop-base.base w some (omega arith) ∙ ap (λ (xs : List ℕ). get_or xs 0 0) c.loop-base.invariant.1
 
-pub overflow_add-base : goal.overflow_add-base
-overflow_add-base c = let a = c.args in
-    let w = take a.count a.s.now in
-    let e : c.first_unset-k.result ≡ first_unset (place_marks block_size c.loop-base.base w) = c.first_unset-k.ensures ∙ ap (λ (b : Block). first_unset b.used) c.block_at-block.ensures in
-    let some : 0 < length (free_from (a.places - c.loop-base.base) c.loop-base.base w) = rw c.loop-base.invariant.1 c.requires.1 in
-    let f = (unset_none block_size (a.places - c.loop-base.base) c.loop-base.base w some (omega arith)).0 in
-    omega arith
-
 pub loop-base-preserved : goal.loop-base-preserved
 loop-base-preserved c = let a = c.args in
     let w = take a.count a.s.now in
@@ -55,3 +47,12 @@ loop-base-preserved c = let a = c.args in
 
 pub returns : goal.returns
 returns c = absurd (omega arith)
+
+-- no place is free in the last block: that can't be
+pub returns-else-k-lt256 : goal.returns-else-k-lt256
+returns-else-k-lt256 c = let a = c.args in
+    let w = take a.count a.s.now in
+    let e : c.first_unset-k.result ≡ first_unset (place_marks block_size c.loop-base.base w) = c.first_unset-k.ensures ∙ ap (λ (b : Block). first_unset b.used) c.block_at-block.ensures in
+    let some : 0 < length (free_from (a.places - c.loop-base.base) c.loop-base.base w) = rw c.loop-base.invariant.1 c.requires.1 in
+    let f = (unset_none block_size (a.places - c.loop-base.base) c.loop-base.base w some (omega arith)).0 in
+    absurd (omega (arith, f))
