@@ -48,8 +48,8 @@ pub enum AckNumber {
 
 // Hands over what is due on the reverse line.
 pub fn serve_reverse_unchecked(
-    reverse: Path,
-    side: AckSide,
+    mut reverse: Path,
+    mut side: AckSide,
     timing: Timing,
     notes: Notes,
     now: u64,
@@ -73,8 +73,6 @@ pub fn serve_reverse_unchecked(
         (timers_exit side.clock keys.old deadlines.old) (seg_metas notes rows.old)
         side.ack_received side.duplicate_acks) }
 {
-    let mut reverse = reverse;
-    let mut side = side;
     let mut progress = false;
     loop {
         match reverse.first_due_unchecked(records, now) {
@@ -139,11 +137,11 @@ pub fn on_ack_unchecked(
             let sender = answer.sender;
             let mut side = side;
             side.sender = sender;
-            side.ack_received = side.ack_received + 1;
+            side.ack_received += 1;
             if answer.accepted {
                 return on_accepted(side, timing, notes, now, n, seq, rows, keys, deadlines);
             }
-            side.duplicate_acks = side.duplicate_acks + 1;
+            side.duplicate_acks += 1;
             side
         }
     }
@@ -187,7 +185,7 @@ fn sample_seq(sender: Sender, n: u32) -> u32
 
 // An ACK of n that was accepted; `seq` is the segment that it gives a sample of.
 fn on_accepted(
-    side: AckSide,
+    mut side: AckSide,
     timing: Timing,
     notes: Notes,
     now: u64,
@@ -223,7 +221,6 @@ fn on_accepted(
         n,
         oldest,
     );
-    let mut side = side;
     side.estimator = estimator;
     side.clock = clock;
     side

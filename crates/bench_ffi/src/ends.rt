@@ -25,17 +25,13 @@ pub extern "C" fn arq_send_chunk_each(
 }
 
 fn sent(
-    first: SelectiveRepeatSender,
+    mut s: SelectiveRepeatSender,
     store: &mut [u8],
     payload: &[u8],
     wire: &mut [u8],
 ) -> SelectiveRepeatSender {
-    let mut s = first;
-    let mut i: usize = 0;
-    while bounds::MAX_DATAGRAM_SIZE <= wire.len() - i {
-        let c = s.send_chunk(store, payload, &mut wire[i..i + bounds::MAX_DATAGRAM_SIZE]);
-        s = c.sender;
-        i += bounds::MAX_DATAGRAM_SIZE;
+    for out in wire.chunks_exact_mut(bounds::MAX_DATAGRAM_SIZE) {
+        s = s.send_chunk(store, payload, out).sender;
     }
     s
 }
@@ -48,16 +44,12 @@ pub extern "C" fn arq_handle_ack_each(state: &mut [u64], store: &mut [u8], acks:
 }
 
 fn acknowledged(
-    first: SelectiveRepeatSender,
+    mut s: SelectiveRepeatSender,
     store: &mut [u8],
     acks: &[u8],
 ) -> SelectiveRepeatSender {
-    let mut s = first;
-    let mut i: usize = 0;
-    while bounds::HEADER_SIZE <= acks.len() - i {
-        let c = s.handle_ack(store, &acks[i..i + bounds::HEADER_SIZE]);
-        s = c.sender;
-        i += bounds::HEADER_SIZE;
+    for raw in acks.chunks_exact(bounds::HEADER_SIZE) {
+        s = s.handle_ack(store, raw).sender;
     }
     s
 }
@@ -80,19 +72,14 @@ pub extern "C" fn arq_handle_packet_each(
 }
 
 fn received(
-    first: SelectiveRepeatReceiver,
+    mut r: SelectiveRepeatReceiver,
     store: &mut [u8],
     wire: &[u8],
     output: &mut [u8],
     ack: &mut [u8],
 ) -> SelectiveRepeatReceiver {
-    let mut r = first;
-    let mut i: usize = 0;
-    while bounds::MAX_DATAGRAM_SIZE <= wire.len() - i {
-        let raw = &wire[i..i + bounds::MAX_DATAGRAM_SIZE];
-        let c = r.handle_packet(store, raw, output, ack);
-        r = c.receiver;
-        i += bounds::MAX_DATAGRAM_SIZE;
+    for raw in wire.chunks_exact(bounds::MAX_DATAGRAM_SIZE) {
+        r = r.handle_packet(store, raw, output, ack).receiver;
     }
     r
 }

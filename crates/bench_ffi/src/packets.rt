@@ -131,10 +131,8 @@ pub extern "C" fn packet_payload(raw: &[u8], out: &mut [u8]) -> usize {
 #[unsafe(no_mangle)]
 pub extern "C" fn packet_from_bytes_each(wire: &[u8]) -> u64 {
     let mut read: u64 = 0;
-    let mut i: usize = 0;
-    while bounds::MAX_DATAGRAM_SIZE <= wire.len() - i {
-        read = read ^ fields(Packet::from_bytes(&wire[i..i + bounds::MAX_DATAGRAM_SIZE]));
-        i += bounds::MAX_DATAGRAM_SIZE;
+    for raw in wire.chunks_exact(bounds::MAX_DATAGRAM_SIZE) {
+        read ^= fields(Packet::from_bytes(raw));
     }
     read
 }
@@ -179,9 +177,6 @@ fn packet_of(seq_num: u32, kind: u8, flags: u8, checksum: u16) -> PacketAnswer {
 }
 
 fn copy(src: &[u8], dst: &mut [u8]) {
-    let mut i: usize = 0;
-    while i < src.len() && i < dst.len() {
-        dst[i] = src[i];
-        i += 1;
-    }
+    let n = src.len().min(dst.len());
+    dst[..n].copy_from_slice(&src[..n]);
 }

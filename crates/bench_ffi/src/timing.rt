@@ -51,19 +51,17 @@ pub extern "C" fn timing_start_each(
 }
 
 fn started(
-    first: MultiTimer,
+    mut t: MultiTimer,
     keys: &mut [u32],
     deadlines: &mut [u64],
     given: &[u32],
     now: u64,
     duration: u64,
 ) -> MultiTimer {
-    let mut t = first;
-    let mut i = 0;
-    while i < given.len() {
-        let c = t.start_timer_at(keys, deadlines, given[i], now, duration);
-        t = c.timers;
-        i += 1;
+    for key in given {
+        t = t
+            .start_timer_at(keys, deadlines, *key, now, duration)
+            .timers;
     }
     t
 }
@@ -85,11 +83,8 @@ fn put_timers(s: &mut [u64], t: MultiTimer) {
 #[unsafe(no_mangle)]
 pub extern "C" fn timing_update_rtt_each(samples: &[u64]) -> u64 {
     let mut e = RtoEstimator::new();
-    let mut i = 0;
-    while i < samples.len() {
-        let c = e.update_rtt(samples[i], false);
-        e = c.estimator;
-        i += 1;
+    for sample in samples {
+        e = e.update_rtt(*sample, false).estimator;
     }
     e.current_rto
 }

@@ -275,7 +275,7 @@ impl GoBackNReceiver {
         requires expected_seq_bound { self.expected_seq ≤ seq_num_limit }
         ensures { result ≡ decision self reading }
     {
-        self.total_received = self.total_received + 1;
+        self.total_received += 1;
         match reading {
             PacketReading::Data(n) => self.decide_data(n),
             PacketReading::Fin(n) => self.decided(false, Reply::Ack(n)),
@@ -294,11 +294,11 @@ impl GoBackNReceiver {
             self.expected_seq = expected + 1;
             return self.decided(true, Reply::Ack(n));
         }
-        self.discarded_out_of_order = self.discarded_out_of_order + 1;
+        self.discarded_out_of_order += 1;
         if expected == 0 {
             return self.decided(false, Reply::Silent);
         }
-        self.duplicate_acks_sent = self.duplicate_acks_sent + 1;
+        self.duplicate_acks_sent += 1;
         self.decided(false, Reply::Ack(expected - 1))
     }
 

@@ -78,10 +78,10 @@ impl ReceivingSide {
 
 // Hands over what is due on the forward line, until an ACK ends the run.
 pub fn serve_forward_unchecked(
-    forward: Path,
-    side: ReceivingSide,
-    reverse: Path,
-    notes: Notes,
+    mut forward: Path,
+    mut side: ReceivingSide,
+    mut reverse: Path,
+    mut notes: Notes,
     total_chunks: u32,
     now: u64,
     rolls: &[f64],
@@ -106,10 +106,6 @@ pub fn serve_forward_unchecked(
         (inbound side store.old output.old (seg_metas notes rows.old)
         (direction reverse_records.old reverse_places.old reverse)) }
 {
-    let mut forward = forward;
-    let mut side = side;
-    let mut reverse = reverse;
-    let mut notes = notes;
     let mut progress = false;
     loop {
         match forward.first_due_unchecked(forward_records, now) {
@@ -263,29 +259,24 @@ fn gbn_duplicate(receiver: Receiver, packet: Packet, valid: bool) -> bool
 }
 
 // Counts Data, with the receiver after it.
-fn delivered(side: ReceivingSide, late: bool, receiver: Receiver) -> ReceivingSide
+fn delivered(mut side: ReceivingSide, late: bool, receiver: Receiver) -> ReceivingSide
     requires { (side.data_received + 1 < 2 ^ 64)
         × (side.duplicate_data + new_duplicates side.receiver late receiver < 2 ^ 64) }
     ensures { result ≡ delivered side late receiver }
 {
     let before = side.receiver;
-    let more = less(receiver.duplicate_count(), before.duplicate_count()) + rows::flag(late);
-    let mut side = side;
+    let more = receiver
+        .duplicate_count()
+        .saturating_sub(before.duplicate_count())
+        + rows::flag(late);
     side.receiver = receiver;
-    side.data_received = side.data_received + 1;
-    side.duplicate_data = side.duplicate_data + more;
+    side.data_received += 1;
+    side.duplicate_data += more;
     side
 }
 
-// a - b, or 0.
-fn less(a: u64, b: u64) -> u64
-    ensures { result ≡ a - b }
-{
-    if a < b { 0 } else { a - b }
-}
-
 // Notes the completion.
-fn absorb(side: ReceivingSide, total_chunks: u32, now: u64) -> ReceivingSide
+fn absorb(mut side: ReceivingSide, total_chunks: u32, now: u64) -> ReceivingSide
     ensures { result ≡ absorb total_chunks now side }
 {
     if side.completed {
@@ -295,7 +286,6 @@ fn absorb(side: ReceivingSide, total_chunks: u32, now: u64) -> ReceivingSide
     if receiver.base() < total_chunks {
         return side;
     }
-    let mut side = side;
     side.completed = true;
     side.completed_at = now;
     side
@@ -303,7 +293,7 @@ fn absorb(side: ReceivingSide, total_chunks: u32, now: u64) -> ReceivingSide
 
 // An ACK to the reverse line.
 fn submit_ack(
-    side: ReceivingSide,
+    mut side: ReceivingSide,
     reverse: Path,
     notes: Notes,
     now: u64,
@@ -336,8 +326,7 @@ fn submit_ack(
         receiver.is_cumulative(),
         any_copies(answer),
     );
-    let mut side = side;
-    side.ack_sent = side.ack_sent + 1;
+    side.ack_sent += 1;
     ForwardResult {
         side,
         reverse,

@@ -27,34 +27,21 @@ pub struct Fields {
     pub good: bool,
 }
 
-// A number and where the next one starts.
+// A number, where the digits make one, and where the next one starts.
 #[derive(Clone, Copy)]
 struct Number {
-    value: u64,
+    value: Option<u64>,
     next: usize,
-    good: bool,
-}
-
-#[derive(Clone, Copy)]
-struct Digits {
-    value: u64,
-    good: bool,
 }
 
 // Whether the line is good, and has this letter and so many numbers.
 pub fn is(f: Fields, letter: u8, count: usize) -> bool {
-    if f.good {
-        if f.letter == letter {
-            return f.count == count;
-        }
-    }
-    false
+    f.good && f.letter == letter && f.count == count
 }
 
 // The number at place i; 0 where there is none.
 pub fn value(f: Fields, i: usize) -> u64 {
-    let v = f.values;
-    if i < 12 { v[i] } else { 0 }
+    if i < 12 { f.values[i] } else { 0 }
 }
 
 pub fn read_fields(line: &[u8]) -> Fields {
@@ -67,9 +54,9 @@ pub fn read_fields(line: &[u8]) -> Fields {
             break;
         }
         let x = read_number(line, next);
-        values[k] = x.value;
+        values[k] = x.value.unwrap_or(0);
         next = x.next;
-        good = both(good, x.good);
+        good = good && x.value.is_some();
         count = k + 1;
     }
     Fields {
@@ -77,7 +64,7 @@ pub fn read_fields(line: &[u8]) -> Fields {
         values,
         count,
         bytes_at: next,
-        good: both(good, ends(line, next)),
+        good: good && ends(line, next),
     }
 }
 
@@ -88,33 +75,23 @@ fn byte(line: &[u8], i: usize) -> u8 {
 
 // A letter, and a blank after it.
 fn starts(line: &[u8]) -> bool {
-    both(byte(line, 0) != b' ', byte(line, 1) == b' ')
+    byte(line, 0) != b' ' && byte(line, 1) == b' '
 }
 
 fn no_number(line: &[u8], at: usize) -> bool {
-    if at < line.len() {
-        line[at] == b'x'
-    } else {
-        true
-    }
+    line.len() <= at || line[at] == b'x'
 }
 
 // Nothing at `at`, or bytes to the line's end.
 fn ends(line: &[u8], at: usize) -> bool {
-    if at < line.len() {
-        return both(line[at] == b'x', hexadecimal(tail(line, at)));
-    }
-    true
-}
-
-fn both(a: bool, b: bool) -> bool {
-    if a { b } else { false }
+    line.len() <= at || line[at] == b'x' && hexadecimal(tail(line, at))
 }
 
 fn read_number(line: &[u8], at: usize) -> Number {
-    let mut x = Digits {
-        value: 0,
-        good: byte(line, at) != b' ',
+    let mut value = if byte(line, at) == b' ' {
+        None
+    } else {
+        Some(0)
     };
     let mut next = at;
     for i in at..line.len() {
@@ -123,64 +100,26 @@ fn read_number(line: &[u8], at: usize) -> Number {
         if b == b' ' {
             break;
         }
-        x = with_digit(x, b);
+        value = with_digit(value, b);
     }
-    Number {
-        value: x.value,
-        next,
-        good: x.good,
-    }
+    Number { value, next }
 }
 
-// 10 x + the digit, where that is below 2^64.
-fn with_digit(x: Digits, b: u8) -> Digits {
-    if x.good {
-        if 47 < b {
-            if b < 58 {
-                return with_value(x.value, (b - 48) as u64);
-            }
-        }
-    }
-    Digits {
-        value: 0,
-        good: false,
-    }
-}
-
-fn with_value(value: u64, digit: u64) -> Digits {
-    if value < 1844674407370955161 {
-        if digit < 10 {
-            return Digits {
-                value: value * 10 + digit,
-                good: true,
-            };
-        }
-    }
-    if value == 1844674407370955161 {
-        if digit < 6 {
-            return Digits {
-                value: value * 10 + digit,
-                good: true,
-            };
-        }
-    }
-    Digits {
-        value: 0,
-        good: false,
+// Ten times the value and the digit, where that is below 2^64.
+fn with_digit(value: Option<u64>, b: u8) -> Option<u64> {
+    match b {
+        b'0'..=b'9' => value?.checked_mul(10)?.checked_add((b - b'0') as u64),
+        _ => None,
     }
 }
 
 // An even number of hexadecimal digits, 4,096 at most.
 fn hexadecimal(digits: &[u8]) -> bool {
-    if 4096 < digits.len() {
-        return false;
-    }
-    for digit in digits {
-        if hex_digit(hex_value(*digit)) != *digit {
-            return false;
-        }
-    }
-    digits.len() % 2 == 0
+    digits.len() <= 4096
+        && digits.len() % 2 == 0
+        && digits
+            .iter()
+            .all(|digit| hex_digit(hex_value(*digit)) == *digit)
 }
 
 // The line's bytes, as many as `out` has room for; answers how many.
@@ -203,7 +142,7 @@ fn tail(line: &[u8], at: usize) -> &[u8] {
 fn decode(digits: &[u8], out: &mut [u8]) -> usize
     ensures { IsPrefixLen result out.new }
 {
-    let most = min(digits.len() / 2, out.len());
+    let most = out.len().min(digits.len() / 2);
     for i in 0..most {
         out[i] = hex_value(digits[2 * i]) * 16 + hex_value(digits[2 * i + 1]);
     }
@@ -214,7 +153,7 @@ fn decode(digits: &[u8], out: &mut [u8]) -> usize
 fn encode(bytes: &[u8], out: &mut [u8]) -> usize
     ensures { IsPrefixLen result out.new }
 {
-    let most = min(bytes.len(), out.len() / 2);
+    let most = bytes.len().min(out.len() / 2);
     for i in 0..most {
         out[2 * i] = high_digit(bytes[i]);
         out[2 * i + 1] = low_digit(bytes[i]);
@@ -225,26 +164,18 @@ fn encode(bytes: &[u8], out: &mut [u8]) -> usize
 pub fn min(a: usize, b: usize) -> usize
     ensures { (result ≤ a) × (result ≤ b) }
 {
-    if a < b { a } else { b }
+    a.min(b)
 }
 
 // A hexadecimal digit's value; 0 for any other byte.
 fn hex_value(c: u8) -> u8
     ensures { result < 16 }
 {
-    if c < 48 {
-        return 0;
+    match c {
+        b'0'..=b'9' => c - b'0',
+        b'a'..=b'f' => c - b'a' + 10,
+        _ => 0,
     }
-    if c < 58 {
-        return c - 48;
-    }
-    if c < 97 {
-        return 0;
-    }
-    if c < 103 {
-        return c - 87;
-    }
-    0
 }
 
 fn high_digit(b: u8) -> u8 {
@@ -258,7 +189,7 @@ fn low_digit(b: u8) -> u8 {
 fn hex_digit(d: u8) -> u8
     requires { d < 16 }
 {
-    if d < 10 { d + 48 } else { d + 87 }
+    if d < 10 { b'0' + d } else { b'a' + (d - 10) }
 }
 
 // Where the line that starts at `from` ends, for a text that goes on there.
@@ -266,12 +197,10 @@ pub fn line_end_unchecked(text: &[u8], from: usize) -> usize
     requires { from < length text.now }
     ensures { (from ≤ result) × (result ≤ length text.now) }
 {
-    for i in from..text.len() {
-        if text[i] == b'\n' {
-            return i;
-        }
+    match text[from..].iter().position(|b| *b == b'\n') {
+        Some(n) => from + n,
+        None => text.len(),
     }
-    text.len()
 }
 
 // The lines of a text, each without its end.
@@ -319,23 +248,20 @@ pub fn low(n: u64) -> u32 {
 
 // The first n bytes, or all where there are fewer.
 pub fn prefix(bytes: &[u8], n: usize) -> &[u8] {
-    if n < bytes.len() { &bytes[..n] } else { bytes }
+    &bytes[..n.min(bytes.len())]
 }
 
 // The bytes from `from` to below `to`; none where there are no such.
 pub fn part(bytes: &[u8], from: usize, to: usize) -> &[u8] {
-    if from <= to {
-        if to <= bytes.len() {
-            return &bytes[from..to];
-        }
+    if from <= to && to <= bytes.len() {
+        &bytes[from..to]
+    } else {
+        &bytes[..0]
     }
-    &bytes[..0]
 }
 
 pub fn fill(bytes: &mut [u8], b: u8) {
-    for byte in bytes.iter_mut() {
-        *byte = b;
-    }
+    bytes.fill(b);
 }
 
 // CRC-32 (IEEE 802.3, reflected): of "123456789" it is cbf43926.
@@ -373,6 +299,7 @@ pub fn read_full(input: &mut impl Read, text: &mut [u8]) -> io::Result<usize>
     ensures { ReadsAtMost result text.new }
 {
     let mut done = 0;
+    // Not counted: each read says how much it gave.
     while done < text.len() {
         let n = input.read(&mut text[done..])?;
         if n == 0 {

@@ -458,7 +458,7 @@ impl SelectiveRepeatReceiver {
         requires self_value { counters_broken self ≡ false }
         ensures { result ≡ decision (receiver self store.now) reading }
     {
-        self.total_received = self.total_received + 1;
+        self.total_received += 1;
         match reading {
             PacketReading::Data(n) => self.decide_data(store, n),
             PacketReading::Fin(n) => self.decided(false, Reply::Ack(n), SlotChange::Unchanged),
@@ -487,11 +487,11 @@ impl SelectiveRepeatReceiver {
         }
         if base < n {
             if store::mark_unchecked(store, n as usize % window) != 1 {
-                self.buffered_out_of_order = self.buffered_out_of_order + 1;
+                self.buffered_out_of_order += 1;
                 return self.decided(false, Reply::Ack(n), SlotChange::Hold(n));
             }
         }
-        self.duplicates_count = self.duplicates_count + 1;
+        self.duplicates_count += 1;
         self.decided(false, Reply::Ack(n), SlotChange::Unchanged)
     }
 

@@ -2,7 +2,7 @@
 use Prim.Native.Nat.{ℕ, ◌+◌, ◌-◌, ◌≤◌, ◌<◌}
 use native.Mathlib.Omega.{arith}
 use native.Mathlib.Nat.{le_trans}
-use mathlib.Core.Path.{◌≡◌, refl, sym, ap, ◌∙◌, subst}
+use mathlib.Core.Path.{◌≡◌, refl, sym, ap, ◌∙◌}
 use mathlib.Core.Bool.{Bool, true, false, ◌&&◌, and-eq-true_iff}
 use mathlib.Core.List.{List, [], ◌++◌}
 use lib.Dec.{ltb, lit≤}
@@ -10,7 +10,7 @@ use lib.Ieee.{Float}
 use lib.ListN.{length, get_or, take, drop, replicate, length-take, length-drop, length-append, length-replicate}
 use lib.Seq.{length-take-le}
 use borrow.Author.Tests.{ltb-true}
-use Rattle.bounds.specs.Bounds.{header_size, max_payload, max_datagram, max_chunks, seq_num_limit, count_limit}
+use Rattle.bounds.specs.Bounds.{header_size, max_payload, max_datagram, count_limit}
 use Rattle.packet.specs.Format.{new_packet}
 use Rattle.packet.specs.declared.PacketType.TheVariants.{Data}
 use Rattle.packet.proofs.Laws.{made_length}
@@ -25,7 +25,6 @@ use Rattle.delivery.specs.Ends.{bytes_sent}
 use Rattle.multi_timer.proofs.Laws.{Within}
 use Rattle.clock.specs.Clock.{Submission}
 use Rattle.clock.specs.declared.Timing.{Timing}
-use Rattle.clock.specs.declared.Timing.TheVariants.{PerNumber}
 use Rattle.clock.proofs.Laws.{running}
 use Rattle.session.specs.Sending.{SenderEnd, window_of, window_end, can_send, oldest_outstanding, send_chunk}
 use Rattle.session.specs.GoodSender.{is_selective, CleanSender, GoodSender, CanSendChunk}
@@ -35,7 +34,7 @@ use Rattle.session.proofs.Laws.{good_can_send, good_numbers, send_good}
 use Rattle.submission.specs.Submission.{SubmitExit, submit, CanSubmit}
 use Rattle.submission.proofs.Laws.{can_submit, submit_good, submit_keeps, submit_within, submit_first_count}
 use Rattle.sending.specs.Sending.{PumpState, pump_state, PumpExit, pump_exit, next_number, can_pump, submit_sent, send_one}
-use Rattle.sending.specs.Good.{GoodPump, CanPump}
+use Rattle.sending.specs.Good.{CanPump}
 use Rattle.sending.proofs.Sends.{SentOne, sent_one, sent_same, written_same}
 
 -- ---- numbers

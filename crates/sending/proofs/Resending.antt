@@ -13,7 +13,6 @@ use Rattle.window.specs.Slots.{datagram_for}
 use Rattle.window.proofs.Laws.{sound}
 use Rattle.delivery.specs.Calls.{number_of}
 use Rattle.path.specs.Rolls.{packet_rolls}
-use Rattle.path.specs.Direction.{Good}
 use Rattle.path.specs.Path.{is_going}
 use Rattle.path.specs.declared.Stop.TheVariants.{Going}
 use Rattle.path.proofs.Laws.{going_is}
@@ -27,8 +26,8 @@ use Rattle.session.specs.Sending.{SenderEnd, window_of, window_end, oldest_outst
 use Rattle.session.specs.GoodSender as session
 use Rattle.session.specs.GoodSender.{is_selective, sender_broken}
 use Rattle.session.specs.declared.Oldest.{Oldest}
-use Rattle.session.proofs.Laws.{within_one, datagram_number, datagram_short}
-use Rattle.submission.specs.Submission.{Outgoing, submit, GoodOutgoing}
+use Rattle.session.proofs.Laws.{datagram_number, datagram_short}
+use Rattle.submission.specs.Submission.{Outgoing, GoodOutgoing}
 use Rattle.submission.proofs.Laws.{SubmitKeeps, submit_within, submit_written, submit_used, going_used}
 use Rattle.sending.specs.Good.{TimersWithin}
 use Rattle.sending.specs.Retransmit.{counted_again, RetransmitExit, retransmit_exit, retransmit, CanRetransmit, ceiling_met, exhausted, retransmit_all, CanRetransmitAll}
@@ -109,13 +108,6 @@ module _ {t : Timing} {rolls : List Float} {rto now : ℕ} {v : SenderEnd} {firs
 
   pub first_short : length (datagram_for (window_end v) first) ≤ max_datagram
   first_short = datagram_short v first can.sender within_first
-
-  -- the next number is one of the window too
-  pub next_low : first + 1 < 2 ^ 32
-  next_low =
-      let low = (sound (is_selective v.sender.state) (window_of v.sender) v.store can.sender).low in
-      let b = can.within.below in
-      omega (arith, low, b)
 
   module _ (oldest : Oldest) where
     abbrev x : RetransmitExit
@@ -307,6 +299,13 @@ pub record SameLengths (u o : Outgoing) : Type 0 where
   pub keys : length o.clock.keys ≡ length u.clock.keys
   pub deadlines : length o.clock.deadlines ≡ length u.clock.deadlines
 
+-- the number past the last is a number too
+pub all_low : {t : Timing} {rolls : List Float} {rto now : ℕ} {v : SenderEnd} {first count : ℕ} {r : Resends} {o : Outgoing} → CanRetransmitAll t rolls rto now v first count r o → first + count < 2 ^ 32
+all_low {v = v} can =
+    let low = (sound (is_selective v.sender.state) (window_of v.sender) v.store can.sender).low in
+    let b = can.within.below in
+    omega (arith, low, b)
+
 -- what is left to send makes of the present what the whole makes of the start
 pub record Left (limit : ℕ) (t : Timing) (rolls : List Float) (rto now : ℕ) (v : SenderEnd) (first count : ℕ) (r₀ : Resends) (o₀ : Outgoing) (seq left : ℕ) (r : Resends) (o : Outgoing) : Type 0 where
   pub eq : retransmit_all limit t rolls rto now (oldest_outstanding v.sender) (packets_from v seq left) r o
@@ -314,8 +313,10 @@ pub record Left (limit : ℕ) (t : Timing) (rolls : List Float) (rto now : ℕ) 
   pub can : CanRetransmitAll t rolls rto now v seq left r o
   pub same : SameLengths o₀ o
 
-pub left_start : {limit : ℕ} {t : Timing} {rolls : List Float} {rto now : ℕ} {v : SenderEnd} {first count : ℕ} {r : Resends} {o : Outgoing} → CanRetransmitAll t rolls rto now v first count r o → Left limit t rolls rto now v first count r o first count r o
-left_start can = record { eq = refl; can = can; same = record { rows = refl; events = refl; records = refl; places = refl; keys = refl; deadlines = refl } }
+pub left_start : {limit : ℕ} {t : Timing} {rolls : List Float} {rto now : ℕ} {v : SenderEnd} {first count : ℕ} {r : Resends} {o : Outgoing} → {left : ℕ} → left ≡ count → CanRetransmitAll t rolls rto now v first count r o → Left limit t rolls rto now v first count r o first left r o
+left_start {limit} {t} {rolls} {rto} {now} {v} {first} {count} {r} {o} e can =
+    subst (λ (k : ℕ). Left limit t rolls rto now v first count r o first k r o) (sym e)
+    (record { eq = refl; can = can; same = record { rows = refl; events = refl; records = refl; places = refl; keys = refl; deadlines = refl } })
 
 module _ {limit : ℕ} {t : Timing} {rolls : List Float} {rto now : ℕ} {v : SenderEnd} {first count : ℕ} {r₀ : Resends} {o₀ : Outgoing} {seq left : ℕ} {r : Resends} {o : Outgoing} (l : Left limit t rolls rto now v first count r₀ o₀ seq left r o) where
   abbrev whole : RetransmitExit
@@ -345,15 +346,6 @@ module _ {limit : ℕ} {t : Timing} {rolls : List Float} {rto now : ℕ} {v : Se
     pub left_can : CanRetransmit t rolls rto now v seq r o
     left_can = can_retransmit_first can_some
 
-    pub left_less : left - 1 < left
-    left_less = omega arith
-
-    pub left_sub : 1 ≤ left
-    left_sub = omega arith
-
-    pub left_low : seq + 1 < 2 ^ 32
-    left_low = next_low can_some
-
     module _ {b : Bool} (e : b ≡ ceiling_met limit r) where
       pub left_met : b ≡ true → {r' : Resends} → r' ≡ exhausted r → retransmit_exit r' o Going ≡ whole
       left_met f p = ap (λ (c : Resends). retransmit_exit c o Going) p ∙ sym (all_met limit t rolls rto now (oldest_outstanding v.sender) (datagram_for (window_end v) seq) (packets_from v (suc seq) (left - 1)) r o (sym e ∙ f)) ∙ eq_some
@@ -365,17 +357,18 @@ module _ {limit : ℕ} {t : Timing} {rolls : List Float} {rto now : ℕ} {v : Se
         pub left_stopped : not g ≡ true → x ≡ whole
         left_stopped n = d ∙ sym (all_stopped limit t rolls rto now (oldest_outstanding v.sender) (datagram_for (window_end v) seq) (packets_from v (suc seq) (left - 1)) r o (datagram_number (window_end v) seq) (sym e ∙ f) (stop_is ∙ stops g n)) ∙ eq_some
 
-        pub left_next : not g ≡ false → SameLengths o₀ x.outgoing → Left limit t rolls rto now v first count r₀ o₀ (seq + 1) (left - 1) x.resends x.outgoing
-        left_next n same =
+        pub left_next : not g ≡ false → SameLengths o₀ x.outgoing → {m : ℕ} → m ≡ left - 1 → Left limit t rolls rto now v first count r₀ o₀ (seq + 1) m x.resends x.outgoing
+        left_next n same e' =
             let j = stop_is ∙ goes g n in
-            subst (λ (k : ℕ). Left limit t rolls rto now v first count r₀ o₀ k (left - 1) x.resends x.outgoing) (next seq)
+            subst (λ (k : ℕ). Left limit t rolls rto now v first count r₀ o₀ (seq + 1) k x.resends x.outgoing) (sym e')
+            (subst (λ (k : ℕ). Left limit t rolls rto now v first count r₀ o₀ k (left - 1) x.resends x.outgoing) (next seq)
             (record {
               eq =
                   ap (λ (y : RetransmitExit). retransmit_all limit t rolls rto now (oldest_outstanding v.sender) (packets_from v (suc seq) (left - 1)) y.resends y.outgoing) d
                   ∙ sym (all_going limit t rolls rto now (oldest_outstanding v.sender) (datagram_for (window_end v) seq) (packets_from v (suc seq) (left - 1)) r o (datagram_number (window_end v) seq) (sym e ∙ f) j) ∙ eq_some;
               can = subst (λ (y : RetransmitExit). CanRetransmitAll t rolls rto now v (suc seq) (left - 1) y.resends y.outgoing) (sym d) (can_retransmit_rest can_some (oldest_outstanding v.sender) j);
               same = same;
-            })
+            }))
           where
             next : (n : ℕ) → suc n ≡ n + 1
             next n = omega arith

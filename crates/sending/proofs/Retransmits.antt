@@ -7,9 +7,9 @@ use mathlib.Core.Bool.{Bool, true, false}
 use mathlib.Core.List.{List, ◌++◌}
 use lib.Dec.{lit<}
 use lib.Ieee.{Float}
-use lib.ListN.{length, take, drop, length-append}
+use lib.ListN.{length, take, length-append}
 use lib.Seq.{take_at, length-take-le}
-use Rattle.bounds.specs.Bounds.{max_datagram, count_limit}
+use Rattle.bounds.specs.Bounds.{max_datagram}
 use Rattle.window.specs.State.{numbers_broken}
 use Rattle.window.specs.Slots.{datagram_for}
 use Rattle.window.proofs.Laws.{sound}
@@ -25,7 +25,7 @@ use Rattle.session.proofs.Laws.{unbroken_numbers}
 use Rattle.submission.specs.Submission.{Outgoing, SubmitExit, submit, GoodOutgoing, CanSubmit}
 use Rattle.submission.proofs.Laws.{SubmitKeeps, can_submit, submit_good, submit_keeps, submit_again_notes}
 use Rattle.rows.specs.Rows.{as_number}
-use Rattle.sending.specs.Retransmit.{counted_again, RetransmitExit, retransmit_exit, retransmit, CanRetransmit}
+use Rattle.sending.specs.Retransmit.{counted_again, retransmit_exit, retransmit, CanRetransmit}
 use Rattle.sending.specs.declared.Resends.{Resends}
 
 up : {a b c : ℕ} → a < b → b < c → a + 1 < c

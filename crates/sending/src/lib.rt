@@ -118,20 +118,18 @@ fn send_one(
         keys,
         deadlines,
     );
-    let outbound = submitted.outbound;
-    let stop = submitted.stop;
     PumpResult {
         sender,
-        outbound,
+        outbound: submitted.outbound,
         progress: true,
-        stop,
+        stop: submitted.stop,
     }
 }
 
 // The chunks that the window has space for.
 pub fn pump_sends_unchecked(
-    sender: Sender,
-    outbound: Outbound,
+    mut sender: Sender,
+    mut outbound: Outbound,
     timing: Timing,
     rto: u64,
     total_chunks: u32,
@@ -161,8 +159,6 @@ pub fn pump_sends_unchecked(
         (seg_metas outbound.notes rows.old) outbound.events events.old
         (timers_exit outbound.clock keys.old deadlines.old))) }
 {
-    let mut sender = sender;
-    let mut outbound = outbound;
     let mut progress = false;
     let mut wire = [0u8; MAX_DATAGRAM_SIZE];
     while can_pump_unchecked(sender, total_chunks) {
@@ -185,15 +181,11 @@ pub fn pump_sends_unchecked(
             deadlines,
             &mut wire,
         );
-        let stop = sent.stop;
-        let going = path::is_going(stop);
-        if !going {
+        if !path::is_going(sent.stop) {
             return sent;
         }
-        let after = sent.sender;
-        let left = sent.outbound;
-        sender = after;
-        outbound = left;
+        sender = sent.sender;
+        outbound = sent.outbound;
         progress = true;
     }
     PumpResult {
@@ -258,12 +250,10 @@ pub fn retransmit_unchecked(
         keys,
         deadlines,
     );
-    let outbound = submitted.outbound;
-    let stop = submitted.stop;
     RetransmitResult {
         resends,
-        outbound,
-        stop,
+        outbound: submitted.outbound,
+        stop: submitted.stop,
     }
 }
 
@@ -271,11 +261,11 @@ fn counted_again(resends: Resends, premature: bool) -> Resends
     requires { (resends.retx_submitted + 1 < 2 ^ 64) × (resends.premature + as_number premature < 2 ^ 64) }
     ensures { result ≡ counted_again resends premature }
 {
-    let more = rows::flag(premature);
-    let mut resends = resends;
-    resends.retx_submitted = resends.retx_submitted + 1;
-    resends.premature = resends.premature + more;
-    resends
+    Resends {
+        retx_submitted: resends.retx_submitted + 1,
+        premature: resends.premature + rows::flag(premature),
+        ..resends
+    }
 }
 
 // Whether as many packets were sent again as a run may send.
@@ -288,16 +278,17 @@ pub fn ceiling_met(resends: Resends, max_retransmissions: u64) -> bool
 pub fn exhausted(resends: Resends) -> Resends
     ensures { result ≡ exhausted resends }
 {
-    let mut resends = resends;
-    resends.exhausted = true;
-    resends
+    Resends {
+        exhausted: true,
+        ..resends
+    }
 }
 
 // So many outstanding numbers from `first` on, until the ceiling is met or a packet ends the run.
 pub fn retransmit_from_unchecked(
     sender: Sender,
-    resends: Resends,
-    outbound: Outbound,
+    mut resends: Resends,
+    mut outbound: Outbound,
     timing: Timing,
     rto: u64,
     max_retransmissions: u64,
@@ -326,16 +317,10 @@ pub fn retransmit_from_unchecked(
         (seg_metas outbound.notes rows.old) outbound.events events.old
         (timers_exit outbound.clock keys.old deadlines.old)) }
 {
-    let mut resends = resends;
-    let mut outbound = outbound;
-    let mut seq = first;
-    let mut left = count;
-    while 0 < left {
-        let met = ceiling_met(resends, max_retransmissions);
-        if met {
-            let resends = exhausted(resends);
+    for seq in first..first + count {
+        if ceiling_met(resends, max_retransmissions) {
             return RetransmitResult {
-                resends,
+                resends: exhausted(resends),
                 outbound,
                 stop: Stop::Going,
             };
@@ -344,17 +329,11 @@ pub fn retransmit_from_unchecked(
             sender, resends, outbound, timing, rto, now, seq, store, rolls, rows, events, records,
             places, keys, deadlines,
         );
-        let stop = resent.stop;
-        let going = path::is_going(stop);
-        if !going {
+        if !path::is_going(resent.stop) {
             return resent;
         }
-        let counted = resent.resends;
-        let after = resent.outbound;
-        resends = counted;
-        outbound = after;
-        seq = seq + 1;
-        left = left - 1;
+        resends = resent.resends;
+        outbound = resent.outbound;
     }
     RetransmitResult {
         resends,

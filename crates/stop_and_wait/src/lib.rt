@@ -222,7 +222,7 @@ impl StopAndWaitSender {
     {
         let window = self.window_unchecked();
         window.release_unchecked(store, seq_num + 1, clean);
-        self.current_seq = self.current_seq + 1;
+        self.current_seq += 1;
         self.in_flight = false;
         self.current_retries = 0;
         self
@@ -312,7 +312,7 @@ impl StopAndWaitSender {
     {
         match answer {
             TimeoutAnswer::Resent(_) => {
-                self.current_retries = self.current_retries + 1;
+                self.current_retries += 1;
                 self.total_sent = window.total_sent;
                 self.retransmissions = window.retransmissions;
                 self
@@ -434,13 +434,13 @@ impl StopAndWaitReceiver {
         requires expected_seq_bound { self.expected_seq ≤ seq_num_limit }
         ensures { result ≡ decision self reading }
     {
-        self.total_received = self.total_received + 1;
+        self.total_received += 1;
         match reading {
             PacketReading::Data(n) => self.decide_data(n),
             PacketReading::Fin(n) => self.decided(false, Reply::Ack(n)),
             PacketReading::Ack => self.decided(false, Reply::Silent),
             PacketReading::Corrupted => {
-                self.corrupted_count = self.corrupted_count + 1;
+                self.corrupted_count += 1;
                 self.decided(false, Reply::Silent)
             }
         }
@@ -456,7 +456,7 @@ impl StopAndWaitReceiver {
             return self.decided(true, Reply::Ack(n));
         }
         if n < expected {
-            self.duplicates_count = self.duplicates_count + 1;
+            self.duplicates_count += 1;
             return self.decided(false, Reply::Ack(n));
         }
         self.decided(false, Reply::Ack(last_number(expected)))

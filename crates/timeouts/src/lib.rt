@@ -235,7 +235,7 @@ fn fire_single(
     sender: Sender,
     estimator: RtoEstimator,
     resends: Resends,
-    outbound: Outbound,
+    mut outbound: Outbound,
     timing: Timing,
     max_retransmissions: u64,
     now: u64,
@@ -263,7 +263,6 @@ fn fire_single(
 {
     let clock = outbound.clock;
     let clock = clock.cancel_unchecked();
-    let mut outbound = outbound;
     outbound.clock = clock;
     let of = timeout_of(timing);
     timed_out(
@@ -291,7 +290,7 @@ fn fire_number(
     sender: Sender,
     estimator: RtoEstimator,
     resends: Resends,
-    outbound: Outbound,
+    mut outbound: Outbound,
     max_retransmissions: u64,
     now: u64,
     n: u32,
@@ -319,7 +318,6 @@ fn fire_number(
 {
     let clock = outbound.clock;
     let clock = clock.cancel_number_unchecked(keys, deadlines, n);
-    let mut outbound = outbound;
     outbound.clock = clock;
     timed_out(
         sender,
@@ -344,10 +342,10 @@ fn fire_number(
 // The numbers whose timers have run out, ascending. A number's timer may be started again; those of the numbers above
 // it stay as they are.
 fn fire_numbers(
-    sender: Sender,
-    estimator: RtoEstimator,
-    resends: Resends,
-    outbound: Outbound,
+    mut sender: Sender,
+    mut estimator: RtoEstimator,
+    mut resends: Resends,
+    mut outbound: Outbound,
     max_retransmissions: u64,
     now: u64,
     rolls: &[f64],
@@ -373,10 +371,6 @@ fn fire_numbers(
         (seg_metas outbound.notes rows.old) outbound.events events.old
         (timers_exit outbound.clock keys.old deadlines.old))) }
 {
-    let mut sender = sender;
-    let mut estimator = estimator;
-    let mut resends = resends;
-    let mut outbound = outbound;
     let mut from: u32 = 0;
     loop {
         let clock = outbound.clock;

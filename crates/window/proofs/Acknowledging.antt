@@ -11,7 +11,6 @@ use Rattle.refusal.specs.declared.Refusal.TheVariants.{State, Counts}
 use Rattle.refusal.specs.Order.{verdict, order, decide, held_checks}
 use Rattle.refusal.proofs.Laws.{true_check, held_state, held_counts, held_none, on_accepted, on_refused}
 use Rattle.packet.specs.Reading.{read_datagram, reading_checks}
-use Rattle.packet.specs.declared.Packet.{Packet}
 use Rattle.packet.specs.declared.PacketType.{PacketType}
 use Rattle.packet.specs.declared.PacketType.TheVariants as packetType
 use Rattle.packet.specs.declared.DatagramReading.{DatagramReading}

@@ -2,7 +2,7 @@
 // slots.
 #![tactic(auto)]
 
-ghost use Rattle.std.specs.Prelude.{◌≡◌, ◌+◌, ◌-◌, ◌*◌, ◌≤◌, ◌<◌, min, true, false, length, drop, ◌++◌};
+ghost use Rattle.std.specs.Prelude.{◌≡◌, ◌+◌, ◌-◌, ◌*◌, ◌≤◌, ◌<◌, true, false, length, drop, ◌++◌};
 ghost use Rattle.bounds.specs.Bounds.{count_limit, header_size, max_payload, seq_num_limit, slot_size};
 ghost use Rattle.window.specs.Acknowledgement.{is_in_window, by_packet, by_reading, ack_decision};
 ghost use Rattle.window.specs.Sending.{make_exit, make_window, send_exit, send_chunk, send_chunk_unchecked};
@@ -240,7 +240,7 @@ impl SendWindow {
         let packet = Packet::new_data(next).compute_and_set_checksum_unchecked(payload);
         packet.to_bytes_unchecked(payload, out);
         self.next_seq_num = next + 1;
-        self.total_sent = self.total_sent + 1;
+        self.total_sent += 1;
         self
     }
 
@@ -254,8 +254,8 @@ impl SendWindow {
         let slot = seq_num as usize % self.window_size;
         let flags = store::flags_unchecked(store, slot) | packet::FLAG_RETRANSMITTED;
         store::set_flags_unchecked(store, slot, flags);
-        self.total_sent = self.total_sent + 1;
-        self.retransmissions = self.retransmissions + 1;
+        self.total_sent += 1;
+        self.retransmissions += 1;
         self
     }
 
@@ -288,20 +288,17 @@ impl SendWindow {
         requires { Resendable self store.now first count }
         ensures { result ≡ length (datagrams_from (sender self store.now) first count) }
     {
-        let end = first + count;
         let mut total: usize = 0;
-        let mut n = first;
-        while n < end {
+        for n in first..first + count {
             let slot = n as usize % self.window_size;
             total += Packet::HEADER_SIZE + store::length_unchecked(store, slot) as usize;
-            n += 1;
         }
         total
     }
 
     // Marks count numbers from first on as sent again and counts them.
     pub fn mark_retransmitted_from_unchecked(
-        self,
+        mut self,
         store: &mut [u8],
         first: u32,
         count: u32,
@@ -310,14 +307,10 @@ impl SendWindow {
         requires total_sent_bound { (self.total_sent < count_limit) × (self.retransmissions < count_limit) }
         ensures { sender result store.new ≡ mark_from (sender self store.old) first count }
     {
-        let end = first + count;
-        let mut window = self;
-        let mut n = first;
-        while n < end {
-            window = window.mark_retransmitted_unchecked(store, n);
-            n += 1;
+        for n in first..first + count {
+            self = self.mark_retransmitted_unchecked(store, n);
         }
-        window
+        self
     }
 
     // Writes the datagrams of count numbers from first on, one after another, to the start of out.
@@ -328,12 +321,9 @@ impl SendWindow {
             ≡ datagrams_from (sender self store.now) first count
             ++ drop (length (datagrams_from (sender self store.now) first count)) out.old }
     {
-        let end = first + count;
         let mut at: usize = 0;
-        let mut n = first;
-        while n < end {
+        for n in first..first + count {
             at += self.write_datagram_unchecked(store, n, &mut out[at..]);
-            n += 1;
         }
     }
 
@@ -450,7 +440,7 @@ impl SendWindow {
         if self.counts_broken() {
             return TimeoutDecision::Refused(Refusal::Counts);
         }
-        let count = min(most, self.next_seq_num - self.send_base);
+        let count = most.min(self.next_seq_num - self.send_base);
         if count == 0 {
             return TimeoutDecision::Nothing;
         }
@@ -520,24 +510,13 @@ pub fn store_short(store: &[u8], window: usize) -> bool
     store.len() / bounds::SLOT_SIZE < window
 }
 
-fn min(a: u32, b: u32) -> u32
-    ensures { result ≡ min a b }
-{
-    if a < b {
-        return a;
-    }
-    b
-}
-
 // Empties the slots of the numbers from `from` up to until.
 pub fn empty_slots_unchecked(store: &mut [u8], window: usize, from: u32, until: u32, clean: bool)
     requires window_nonzero { (0 < window) × (window * slot_size ≤ length store.old) × (from ≤ until) }
     requires clean_slots { clean ≡ true → CleanSlots store.old window }
     ensures { store.new ≡ empty_from store.old window from (until - from) }
 {
-    let mut n = from;
-    while n < until {
+    for n in from..until {
         store::empty_unchecked(store, n as usize % window, clean);
-        n += 1;
     }
 }

@@ -1,6 +1,6 @@
 use mathlib.Core.Path.{ap}
 use mathlib.Core.Bool.{not}
-use Prim.Native.Nat.{ℕ, ◌-◌}
+use Prim.Native.Nat.{ℕ}
 use mathlib.Core.Path.{sym, ◌∙◌}
 use lib.ListN.{length-replicate}
 use Rattle.bounds.specs.Bounds.{max_datagram}
@@ -20,35 +20,14 @@ slice_bounds-send_one-end c = sym c.loop-timing.invariant.1
 pub send_one-sent-requires : goal.send_one-sent-requires
 send_one-sent-requires c = record { can_pump = c.loop-timing.invariant.0.can; sender_value = (sym c.can_pump_unchecked.ensures ∙ c.loop-timing-test.true, c.loop-timing.invariant.1) }
 
-pub shape_of-store-then-not-going : goal.shape_of-store-then-not-going
-shape_of-store-then-not-going c = c.send_one-sent.auto.store ∙ c.loop-timing.invariant.0.same.store
-
-pub shape_of-rows-then-not-going : goal.shape_of-rows-then-not-going
-shape_of-rows-then-not-going c = c.send_one-sent.auto.rows ∙ c.loop-timing.invariant.0.same.rows
-
-pub shape_of-events-then-not-going : goal.shape_of-events-then-not-going
-shape_of-events-then-not-going c = c.send_one-sent.auto.events ∙ c.loop-timing.invariant.0.same.events
-
-pub shape_of-records-then-not-going : goal.shape_of-records-then-not-going
-shape_of-records-then-not-going c = c.send_one-sent.auto.records ∙ c.loop-timing.invariant.0.same.records
-
-pub shape_of-places-then-not-going : goal.shape_of-places-then-not-going
-shape_of-places-then-not-going c = c.send_one-sent.auto.places ∙ c.loop-timing.invariant.0.same.places
-
-pub shape_of-keys-then-not-going : goal.shape_of-keys-then-not-going
-shape_of-keys-then-not-going c = c.send_one-sent.auto.keys ∙ c.loop-timing.invariant.0.same.keys
-
-pub shape_of-deadlines-then-not-going : goal.shape_of-deadlines-then-not-going
-shape_of-deadlines-then-not-going c = c.send_one-sent.auto.deadlines ∙ c.loop-timing.invariant.0.same.deadlines
-
-pub returns-then-not-going : goal.returns-then-not-going
-returns-then-not-going c = left_stopped c.loop-timing.invariant.0 c.can_pump_unchecked.ensures c.loop-timing-test.true c.send_one-sent.ensures c.is_going-going.ensures (ap not c.if-not-going.true)
+pub returns-then-not-is_going : goal.returns-then-not-is_going
+returns-then-not-is_going c = left_stopped c.loop-timing.invariant.0 c.can_pump_unchecked.ensures c.loop-timing-test.true c.send_one-sent.ensures c.is_going.ensures (ap not c.if-not-is_going.true)
 
 pub loop-timing-smaller : goal.loop-timing-smaller
-loop-timing-smaller c = left_less c.loop-timing.invariant.0 c.can_pump_unchecked.ensures c.loop-timing-test.true c.send_one-sent.ensures c.is_going-going.ensures
+loop-timing-smaller c = left_less c.loop-timing.invariant.0 c.can_pump_unchecked.ensures c.loop-timing-test.true c.send_one-sent.ensures c.is_going.ensures
 
 pub loop-timing-preserved : goal.loop-timing-preserved
-loop-timing-preserved c = (left_next c.loop-timing.invariant.0 c.can_pump_unchecked.ensures c.loop-timing-test.true c.send_one-sent.ensures c.is_going-going.ensures (ap not c.if-not-going.false) (record { store = c.send_one-sent.auto.store ∙ c.loop-timing.invariant.0.same.store; rows = c.send_one-sent.auto.rows ∙ c.loop-timing.invariant.0.same.rows; events = c.send_one-sent.auto.events ∙ c.loop-timing.invariant.0.same.events; records = c.send_one-sent.auto.records ∙ c.loop-timing.invariant.0.same.records; places = c.send_one-sent.auto.places ∙ c.loop-timing.invariant.0.same.places; keys = c.send_one-sent.auto.keys ∙ c.loop-timing.invariant.0.same.keys; deadlines = c.send_one-sent.auto.deadlines ∙ c.loop-timing.invariant.0.same.deadlines }), c.send_one-sent.auto.wire ∙ c.loop-timing.invariant.1)
+loop-timing-preserved c = (left_next c.loop-timing.invariant.0 c.can_pump_unchecked.ensures c.loop-timing-test.true c.send_one-sent.ensures c.is_going.ensures (ap not c.if-not-is_going.false) (record { store = c.send_one-sent.auto.store ∙ c.loop-timing.invariant.0.same.store; rows = c.send_one-sent.auto.rows ∙ c.loop-timing.invariant.0.same.rows; events = c.send_one-sent.auto.events ∙ c.loop-timing.invariant.0.same.events; records = c.send_one-sent.auto.records ∙ c.loop-timing.invariant.0.same.records; places = c.send_one-sent.auto.places ∙ c.loop-timing.invariant.0.same.places; keys = c.send_one-sent.auto.keys ∙ c.loop-timing.invariant.0.same.keys; deadlines = c.send_one-sent.auto.deadlines ∙ c.loop-timing.invariant.0.same.deadlines }), c.send_one-sent.auto.wire ∙ c.loop-timing.invariant.1)
 
 pub shape_of-store : goal.shape_of-store
 shape_of-store c = c.loop-timing.invariant.0.same.store

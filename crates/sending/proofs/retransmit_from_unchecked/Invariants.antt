@@ -1,3 +1,4 @@
+use Prim.Native.Nat.{◌+◌, ◌-◌}
 use Rattle.path.specs.Direction.{direction}
 use Rattle.notes.specs.Notes.{seg_metas}
 use Rattle.multi_timer.specs.MultiTimer.{timers_exit}
@@ -6,8 +7,5 @@ use Rattle.submission.specs.Submission.{outgoing}
 use Rattle.sending.proofs.Resending.{Left}
 use Rattle.sending.proofs.retransmit_from_unchecked.Given as goal
 
-abbrev pub invariant-loop-left : goal.invariant-loop-left
-invariant-loop-left l = Left l.max_retransmissions l.timing l.rolls l.rto l.now (sender_end l.sender l.store) l.first l.count l.initial.resends (outgoing (direction l.initial.records l.initial.places l.initial.outbound.forward) (seg_metas l.initial.outbound.notes l.initial.rows) l.initial.outbound.events l.initial.events (timers_exit l.initial.outbound.clock l.initial.keys l.initial.deadlines)) l.seq l.left l.resends (outgoing (direction l.records l.places l.outbound.forward) (seg_metas l.outbound.notes l.rows) l.outbound.events l.events (timers_exit l.outbound.clock l.keys l.deadlines))
-
-abbrev pub decreases-loop-left : goal.decreases-loop-left
-decreases-loop-left l = l.left
+abbrev pub invariant-loop-seq : goal.invariant-loop-seq
+invariant-loop-seq l = Left l.max_retransmissions l.timing l.rolls l.rto l.now (sender_end l.sender l.store) l.first l.count l.initial.resends (outgoing (direction l.initial.records l.initial.places l.initial.outbound.forward) (seg_metas l.initial.outbound.notes l.initial.rows) l.initial.outbound.events l.initial.events (timers_exit l.initial.outbound.clock l.initial.keys l.initial.deadlines)) l.seq (l.first + l.count - l.seq) l.resends (outgoing (direction l.records l.places l.outbound.forward) (seg_metas l.outbound.notes l.rows) l.outbound.events l.events (timers_exit l.outbound.clock l.keys l.deadlines))

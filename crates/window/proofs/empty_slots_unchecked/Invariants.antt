@@ -1,4 +1,4 @@
-use Prim.Native.Nat.{◌-◌, ◌≤◌}
+use Prim.Native.Nat.{◌-◌}
 use mathlib.Core.Bool.{true}
 use mathlib.Core.Path.{◌≡◌}
 use lib.ListN.{length}
@@ -7,7 +7,4 @@ use Rattle.window.specs.Slots.{empty_from}
 use Rattle.window.proofs.empty_slots_unchecked.Given as goal
 
 abbrev pub invariant-loop-n : goal.invariant-loop-n
-invariant-loop-n l = (l.from ≤ l.n) × (l.n ≤ l.until) × (length l.store ≡ length l.initial.store) × (empty_from l.store l.window l.n (l.until - l.n) ≡ empty_from l.initial.store l.window l.from (l.until - l.from)) × (l.clean ≡ true → CleanSlots l.store l.window)
-
-abbrev pub decreases-loop-n : goal.decreases-loop-n
-decreases-loop-n l = l.until - l.n
+invariant-loop-n l = (length l.store ≡ length l.initial.store) × (empty_from l.store l.window l.n (l.until - l.n) ≡ empty_from l.initial.store l.window l.from (l.until - l.from)) × (l.clean ≡ true → CleanSlots l.store l.window)

@@ -6,7 +6,4 @@ use Rattle.window.specs.Resending.{datagrams_from}
 use Rattle.window.proofs.SendWindow.datagrams_length_unchecked.Given as goal
 
 abbrev pub invariant-loop-n : goal.invariant-loop-n
-invariant-loop-n l = (l.first ≤ l.n) × (l.n ≤ l.end) × (l.total ≤ (l.n - l.first) * 1410) × (l.total + length (datagrams_from (sender l.self l.store) l.n (l.end - l.n)) ≡ length (datagrams_from (sender l.self l.store) l.first l.count))
-
-abbrev pub decreases-loop-n : goal.decreases-loop-n
-decreases-loop-n l = l.end - l.n
+invariant-loop-n l = (l.total ≤ (l.n - l.first) * 1410) × (l.total + length (datagrams_from (sender l.self l.store) l.n (l.first + l.count - l.n)) ≡ length (datagrams_from (sender l.self l.store) l.first l.count))
