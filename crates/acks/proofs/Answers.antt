@@ -1,4 +1,5 @@
 -- What a datagram from the reverse line leaves, by what it is.
+use Rattle.std.specs.Prelude.{None, Option, Some}
 use Prim.Native.Nat.{ℕ, ◌+◌}
 use mathlib.Core.Path.{◌≡◌, refl, sym, ap, ◌∙◌}
 use mathlib.Core.Bool.{Bool, true, false, cond}
@@ -11,16 +12,14 @@ use Rattle.session.specs.Sending.{window_of, oldest_outstanding, handle_ack, ack
 use Rattle.session.specs.GoodSender.{SenderUnbroken}
 use Rattle.session.proofs.Laws.{ack_accepted, ack_not_accepted}
 use Rattle.acks.specs.Acks.{AckState, ack_state, ack_number, sample_seq, on_accepted, counted, duplicate, is_accepted, by_number, on_ack}
-use Rattle.acks.specs.declared.AckNumber.{AckNumber}
-use Rattle.acks.specs.declared.AckNumber.TheVariants as ack
 use Rattle.acks.proofs.Calls.{acked, answered, dropped_law, answered_is}
 
 module _ (timing : Timing) (now : ℕ) (raw : List ℕ) (s : AckState) where
   -- anything else than a valid ACK is dropped uncounted
-  pub on_ack_dropped : ack_number (read_datagram raw) ≡ ack.Nothing → on_ack timing now raw s ≡ s
+  pub on_ack_dropped : ack_number (read_datagram raw) ≡ None → on_ack timing now raw s ≡ s
   on_ack_dropped e = sym (dropped_law timing now raw s (sym e) refl)
 
-  module _ (n : ℕ) (h : SenderUnbroken s.sender) (e : ack_number (read_datagram raw) ≡ ack.Number n) where
+  module _ (n : ℕ) (h : SenderUnbroken s.sender) (e : ack_number (read_datagram raw) ≡ Some n) where
     -- of a number that isn't outstanding: the two counts, and nothing else
     pub on_ack_duplicate : is_in_window (window_of s.sender.sender) n ≡ false → on_ack timing now raw s ≡ ack_state s.sender s.estimator s.clock s.metas (s.received + 1) (s.duplicates + 1)
     on_ack_duplicate i = sym (ap (answered timing now raw s n) (ack_not_accepted s.sender n i ∙ sym (acked s.sender raw h n e)) ∙ answered_is timing now raw s n e)
@@ -46,6 +45,6 @@ module _ (timing : Timing) (now : ℕ) (raw : List ℕ) (s : AckState) where
       test n true = accepted n
       test n false = twice
 
-      go : (x : AckNumber) → P (by_number x timing now raw s)
-      go ack.Nothing = dropped
-      go (ack.Number n) = test n (is_accepted (handle_ack s.sender raw).answer)
+      go : (x : Option ℕ) → P (by_number x timing now raw s)
+      go None = dropped
+      go (Some n) = test n (is_accepted (handle_ack s.sender raw).answer)

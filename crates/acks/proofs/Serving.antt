@@ -1,4 +1,5 @@
 -- The loop over what is due on the reverse line: its turns, and that what is left of it makes of the present what the whole makes of the start.
+use Rattle.std.specs.Prelude.{None, Ok, Option, Some}
 use Prim.Native.Nat.{ℕ, zero, suc, ◌+◌, ◌-◌, ◌*◌, ◌<◌}
 use mathlib.Core.Path.{◌≡◌, refl, sym, ap, subst, ◌∙◌}
 use mathlib.Core.Bool.{Bool, true, false, cond}
@@ -7,9 +8,6 @@ use native.Mathlib.Omega.{arith}
 use lib.ListN.{length, take, drop}
 use Rattle.bounds.specs.Bounds.{place_size}
 use Rattle.schedule.specs.Schedule.{first_due}
-use Rattle.schedule.specs.declared.FirstDue.{FirstDue}
-use Rattle.schedule.specs.declared.FirstDue.TheVariants as first
-use Rattle.schedule.specs.declared.ReadyAnswer.TheVariants as ready
 use Rattle.path.specs.Direction.{Direction, direction}
 use Rattle.path.specs.Path.{TakeExit, left_by_take, take_ready, remove_first, packet_buffer}
 use Rattle.path.specs.declared.Path.{Path}
@@ -30,30 +28,30 @@ abbrev pub next_state : Timing → ℕ → Direction → AckState → ℕ → Ac
 next_state timing now d s n = on_ack timing now (take n (next_taken now d).out) s
 
 module _ (timing : Timing) (now : ℕ) (d : Direction) (s : AckState) where
-  idle_at : (n : ℕ) → (next_taken now d).result.answer ≡ ready.Nothing → serve_at_most n timing now d s ≡ serve_exit d s false
+  idle_at : (n : ℕ) → (next_taken now d).result.answer ≡ Ok None → serve_at_most n timing now d s ≡ serve_exit d s false
   unfolding serve_at_most
   idle_at zero e = refl
   idle_at (suc n) e = rw e
 
   -- nothing is due
-  pub serve_reverse_idle : (next_taken now d).result.answer ≡ ready.Nothing → serve_reverse timing now d s ≡ serve_exit d s false
+  pub serve_reverse_idle : (next_taken now d).result.answer ≡ Ok None → serve_reverse timing now d s ≡ serve_exit d s false
   serve_reverse_idle e = idle_at d.path.scheduler.count e
 
-  turn_at : (n k m : ℕ) → (next_taken now d).result.answer ≡ ready.Packet n → m + 1 ≡ k → serve_at_most k timing now d s ≡ progressed (serve_at_most m timing now (left_by_take (next_taken now d)) (next_state timing now d s n))
+  turn_at : (n k m : ℕ) → (next_taken now d).result.answer ≡ Ok (Some n) → m + 1 ≡ k → serve_at_most k timing now d s ≡ progressed (serve_at_most m timing now (left_by_take (next_taken now d)) (next_state timing now d s n))
   unfolding serve_at_most
   turn_at n zero m e h = absurd (omega arith)
   turn_at n (suc k) m e h = let p : m ≡ k = omega arith in rw (p, e)
 
   -- one is handed over
-  pub serve_reverse_next : (n : ℕ) → (next_taken now d).result.answer ≡ ready.Packet n → serve_reverse timing now d s ≡ progressed (serve_reverse timing now (left_by_take (next_taken now d)) (next_state timing now d s n))
+  pub serve_reverse_next : (n : ℕ) → (next_taken now d).result.answer ≡ Ok (Some n) → serve_reverse timing now d s ≡ progressed (serve_reverse timing now (left_by_take (next_taken now d)) (next_state timing now d s n))
   serve_reverse_next n e = turn_at n d.path.scheduler.count (left_by_take (next_taken now d)).path.scheduler.count e (take_count d now packet_buffer n e)
 
   -- ---- what a turn asks, and what it leaves
   module _ (can : CanServeReverse d s now) where
-    pub can_hand_over : (n : ℕ) → (next_taken now d).result.answer ≡ ready.Packet n → CanOnAck s now
+    pub can_hand_over : (n : ℕ) → (next_taken now d).result.answer ≡ Ok (Some n) → CanOnAck s now
     can_hand_over n e = record { good = can.good; few = omega (arith, can.few, take_count d now packet_buffer n e) }
 
-    pub turn_good : (n : ℕ) → (next_taken now d).result.answer ≡ ready.Packet n → CanServeReverse (left_by_take (next_taken now d)) (next_state timing now d s n) now
+    pub turn_good : (n : ℕ) → (next_taken now d).result.answer ≡ Ok (Some n) → CanServeReverse (left_by_take (next_taken now d)) (next_state timing now d s n) now
     turn_good n e =
         let l = take_leaves d now packet_buffer can.sound can.times in
         let raw = take n (next_taken now d).out in
@@ -93,11 +91,11 @@ over_progressed : (progress : Bool) (x : ServeExit) → progressed x ≡ left_ov
 over_progressed true x = refl
 over_progressed false x = refl
 
-module _ {timing : Timing} {now : ℕ} {f g : Direction} {u v : AckState} {progress : Bool} {a : FirstDue} (l : Left timing now f g u v progress) (e : a ≡ first_due g.path.scheduler.count g.records now) where
-  pub left_idle : a ≡ first.Nothing → serve_exit g v progress ≡ serve_reverse timing now f u
+module _ {timing : Timing} {now : ℕ} {f g : Direction} {u v : AckState} {progress : Bool} {a : Option (ℕ × ℕ)} (l : Left timing now f g u v progress) (e : a ≡ first_due g.path.scheduler.count g.records now) where
+  pub left_idle : a ≡ None → serve_exit g v progress ≡ serve_reverse timing now f u
   left_idle q = over_idle progress g v ∙ ap (left_over progress) (sym (serve_reverse_idle timing now g v (take_not_due g now packet_buffer (sym e ∙ q)))) ∙ l.eq
 
-  module _ {place len : ℕ} (q : a ≡ first.Packet place len) where
+  module _ {place len : ℕ} (q : a ≡ Some (place, len)) where
     pub left_takes : TakesPlace g now packet_buffer place len
     left_takes = take_place g now packet_buffer place len l.can.sound l.can.cleared (sym e ∙ q)
 

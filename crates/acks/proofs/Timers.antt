@@ -1,4 +1,5 @@
 -- The timers beside the sender after a datagram from the reverse line.
+use Rattle.std.specs.Prelude.{None, Ok, Option, Some}
 use Prim.Native.Nat.{ℕ}
 use mathlib.Core.Path.{◌≡◌, refl, sym, ap, ◌∙◌, subst}
 use mathlib.Core.Bool.{Bool, true, false}
@@ -6,7 +7,6 @@ use mathlib.Core.List.{List}
 use lib.ListN.{take}
 use Rattle.packet.specs.Reading.{read_datagram}
 use Rattle.window.specs.Acknowledgement.{is_in_window, AckExit, ack_exit}
-use Rattle.window.specs.declared.AckAnswer.TheVariants as ackAnswer
 use Rattle.path.specs.Direction.{Direction}
 use Rattle.clock.specs.Clock.{sample_rtt, Held}
 use Rattle.clock.specs.Timers.{GoodTimers}
@@ -18,8 +18,6 @@ use Rattle.session.specs.GoodSender.{is_selective, SenderUnbroken}
 use Rattle.session.proofs.Laws.{ack_accepted, ack_keeps_sender, acknowledged_due}
 use Rattle.acks.specs.Acks.{AckState, ack_number, sample_seq, on_accepted, counted, on_ack}
 use Rattle.acks.specs.Reverse.{serve_reverse, CanServeReverse}
-use Rattle.acks.specs.declared.AckNumber.{AckNumber}
-use Rattle.acks.specs.declared.AckNumber.TheVariants as ack
 use Rattle.acks.proofs.Answers.{on_ack_dropped, on_ack_duplicate, on_ack_accepted, on_accepted_is}
 use Rattle.acks.proofs.Calls.{acked}
 use Rattle.acks.proofs.Keeps.{on_ack_keeps}
@@ -31,12 +29,12 @@ module _ (timing : Timing) (now : ℕ) (raw : List ℕ) (s : AckState) where
   Kept y = GoodTimers timing y.sender y.clock
 
   -- the ACK of an outstanding number: its timer is cancelled, the others' numbers are due as before
-  accepted_timers : (n : ℕ) → SenderUnbroken s.sender → ack_number (read_datagram raw) ≡ ack.Number n → Held s.clock → (timing ≡ PerNumber → is_selective s.sender.sender.state ≡ true) → is_in_window (window_of s.sender.sender) n ≡ true → Kept s
+  accepted_timers : (n : ℕ) → SenderUnbroken s.sender → ack_number (read_datagram raw) ≡ Some n → Held s.clock → (timing ≡ PerNumber → is_selective s.sender.sender.state ≡ true) → is_in_window (window_of s.sender.sender) n ≡ true → Kept s
       → Kept (on_accepted timing now n (sample_seq s.sender.sender.state n) (counted s (acknowledged s.sender n)))
   accepted_timers n h e held selective i g =
       let seq = sample_seq s.sender.sender.state n in
       let v = acknowledged s.sender n in
-      let is : handle_ack s.sender raw ≡ ack_exit ackAnswer.Accepted v = acked s.sender raw h n e ∙ sym (ack_accepted s.sender n i refl) in
+      let is : handle_ack s.sender raw ≡ ack_exit (Ok true) v = acked s.sender raw h n e ∙ sym (ack_accepted s.sender n i refl) in
       let x = sample_rtt s.estimator s.metas seq now in
       subst Kept (sym (on_accepted_is timing now raw (counted s v) n seq))
       (rearm_timers timing s.sender v s.clock x.metas (record { time = now; seq = n; rto = x.estimator.current_rto; oldest = oldest_outstanding v.sender }) g held
@@ -46,13 +44,13 @@ module _ (timing : Timing) (now : ℕ) (raw : List ℕ) (s : AckState) where
       → GoodTimers timing s.sender s.clock → GoodTimers timing (on_ack timing now raw s).sender (on_ack timing now raw s).clock
   on_ack_timers h held selective g = by_number_lem (ack_number (read_datagram raw)) refl
     where
-      by_test_lem : (n : ℕ) → ack_number (read_datagram raw) ≡ ack.Number n → (b : Bool) → is_in_window (window_of s.sender.sender) n ≡ b → Kept (on_ack timing now raw s)
+      by_test_lem : (n : ℕ) → ack_number (read_datagram raw) ≡ Some n → (b : Bool) → is_in_window (window_of s.sender.sender) n ≡ b → Kept (on_ack timing now raw s)
       by_test_lem n e true i = subst Kept (sym (on_ack_accepted timing now raw s n h e i)) (accepted_timers n h e held selective i g)
       by_test_lem n e false i = subst Kept (sym (on_ack_duplicate timing now raw s n h e i)) g
 
-      by_number_lem : (x : AckNumber) → ack_number (read_datagram raw) ≡ x → Kept (on_ack timing now raw s)
-      by_number_lem ack.Nothing e = subst Kept (sym (on_ack_dropped timing now raw s e)) g
-      by_number_lem (ack.Number n) e = by_test_lem n e (is_in_window (window_of s.sender.sender) n) refl
+      by_number_lem : (x : Option ℕ) → ack_number (read_datagram raw) ≡ x → Kept (on_ack timing now raw s)
+      by_number_lem None e = subst Kept (sym (on_ack_dropped timing now raw s e)) g
+      by_number_lem (Some n) e = by_test_lem n e (is_in_window (window_of s.sender.sender) n) refl
 
 -- the loop over what is due on the reverse line
 pub serve_reverse_timers : (timing : Timing) (now : ℕ) (d : Direction) (s : AckState) → CanServeReverse d s now → (timing ≡ PerNumber → is_selective s.sender.sender.state ≡ true)

@@ -1,4 +1,5 @@
 -- What the loop over the reverse line leaves, turn by turn.
+use Rattle.std.specs.Prelude.{None, Ok, Some}
 use Prim.Native.Nat.{ℕ, ◌+◌, ◌≤◌}
 use mathlib.Core.Path.{◌≡◌, sym, ap, subst}
 use mathlib.Core.Bool.{true, false}
@@ -7,7 +8,6 @@ use native.Mathlib.Omega.{arith}
 use lib.ListN.{take}
 use lib.Ieee.{Float}
 use Rattle.bounds.specs.Bounds.{count_limit}
-use Rattle.schedule.specs.declared.ReadyAnswer.TheVariants as ready
 use Rattle.path.specs.Direction.{Direction, Good}
 use Rattle.path.specs.Path.{left_by_take, take_ready, packet_buffer, is_taken}
 use Rattle.path.proofs.Laws.{EachWaiting, TakeKeeps, take_keeps_same, take_keeps_then, take_count, by_takes, taken_keeps, take_good, take_each, take_front}
@@ -22,8 +22,8 @@ use Rattle.acks.proofs.Serving.{next_taken, next_state, serve_reverse_idle, serv
 module _ (timing : Timing) (now : ℕ) where
   -- whatever holds where nothing is due, and before a turn if it holds after it, holds of the loop
   pub serve_reverse_turns : (R : Direction → AckState → ServeExit → Type 0)
-      → ((d : Direction) (s : AckState) → (next_taken now d).result.answer ≡ ready.Nothing → R d s (serve_exit d s false))
-      → ((d : Direction) (s : AckState) (n : ℕ) (x : ServeExit) → (next_taken now d).result.answer ≡ ready.Packet n → R (left_by_take (next_taken now d)) (next_state timing now d s n) x → R d s (progressed x))
+      → ((d : Direction) (s : AckState) → (next_taken now d).result.answer ≡ Ok None → R d s (serve_exit d s false))
+      → ((d : Direction) (s : AckState) (n : ℕ) (x : ServeExit) → (next_taken now d).result.answer ≡ Ok (Some n) → R (left_by_take (next_taken now d)) (next_state timing now d s n) x → R d s (progressed x))
       → (d : Direction) (s : AckState) → R d s (serve_reverse timing now d s)
   serve_reverse_turns R idle next =
       by_takes now packet_buffer (next_state timing now) (λ d s. R d s (serve_reverse timing now d s)) (λ d s e. subst (R d s) (sym (serve_reverse_idle timing now d s e)) (idle d s e))
@@ -31,7 +31,7 @@ module _ (timing : Timing) (now : ℕ) where
 
   -- an invariant of the turns holds at the end
   pub serve_reverse_invariant : (Q : Direction → AckState → Type 0)
-      → ((d : Direction) (s : AckState) (n : ℕ) → (next_taken now d).result.answer ≡ ready.Packet n → Q d s → Q (left_by_take (next_taken now d)) (next_state timing now d s n))
+      → ((d : Direction) (s : AckState) (n : ℕ) → (next_taken now d).result.answer ≡ Ok (Some n) → Q d s → Q (left_by_take (next_taken now d)) (next_state timing now d s n))
       → (d : Direction) (s : AckState) → Q d s → Q (serve_reverse timing now d s).reverse (serve_reverse timing now d s).state
   serve_reverse_invariant Q turn d s = serve_reverse_turns (λ d s x. Q d s → Q x.reverse x.state) (λ d s e q. q) (λ d s n x e rest q. rest (turn d s n e q)) d s
 
@@ -57,8 +57,8 @@ module _ (timing : Timing) (now : ℕ) where
     serve_reverse_progress = serve_reverse_turns (λ d s x. x.progress ≡ is_taken (next_taken now d).result.answer) (λ d s e. ap is_taken (sym e)) (λ d s n x e rest. ap is_taken (sym e)) d s
 
     -- nothing that is due is left
-    pub serve_reverse_drained : (take_ready (serve_reverse timing now d s).reverse now packet_buffer).result.answer ≡ ready.Nothing
-    serve_reverse_drained = serve_reverse_turns (λ d s x. (take_ready x.reverse now packet_buffer).result.answer ≡ ready.Nothing) (λ d s e. e) (λ d s n x e rest. rest) d s
+    pub serve_reverse_drained : (take_ready (serve_reverse timing now d s).reverse now packet_buffer).result.answer ≡ Ok None
+    serve_reverse_drained = serve_reverse_turns (λ d s x. (take_ready x.reverse now packet_buffer).result.answer ≡ Ok None) (λ d s e. e) (λ d s n x e rest. rest) d s
 
     -- ---- where the loop can be asked
     module _ (can : CanServeReverse d s now) where

@@ -1,13 +1,11 @@
 -- The reference's `on_ack` (`app/transfer.rs`): a datagram that the reverse line hands over to the sender, with the
 -- sample that it gives and the timer that it sets.
-use Rattle.std.specs.Prelude.{ℕ, ◌+◌, Bool, true, false, cond, List}
+use Rattle.std.specs.Prelude.{ℕ, ◌+◌, Bool, true, false, cond, List, Err, None, Ok, Option, Result, Some}
 use Rattle.packet.specs.Reading.{read_datagram}
 use Rattle.packet.specs.declared.PacketType.{PacketType}
 use Rattle.packet.specs.declared.PacketType.TheVariants as packetType
 use Rattle.packet.specs.declared.DatagramReading.{DatagramReading}
 use Rattle.packet.specs.declared.DatagramReading.TheVariants as reading
-use Rattle.window.specs.declared.AckAnswer.{AckAnswer}
-use Rattle.window.specs.declared.AckAnswer.TheVariants as ackAnswer
 use Rattle.rto.specs.declared.RtoEstimator.{RtoEstimator}
 use Rattle.notes.specs.Notes.{SegMetas}
 use Rattle.clock.specs.Clock.{ClockState, Accepted, rearm_after_ack, sample_rtt}
@@ -15,8 +13,7 @@ use Rattle.clock.specs.declared.Timing.{Timing}
 use Rattle.session.specs.Sending.{SenderEnd, handle_ack, oldest_outstanding}
 use Rattle.session.specs.declared.SenderState.{SenderState}
 use Rattle.session.specs.declared.SenderState.TheVariants as senderState
-use Rattle.acks.specs.declared.AckNumber.{AckNumber}
-use Rattle.acks.specs.declared.AckNumber.TheVariants as ack
+use Rattle.refusal.specs.declared.Refusal.{Refusal}
 
 -- what an ACK works on: the sender with its store, the estimator, the timers, the notes, and the counts `ack_received`
 -- and `duplicate_acks`
@@ -39,15 +36,15 @@ ack_state sender estimator clock metas received duplicates = record {
 }
 
 -- the number of a valid ACK; anything else has none
-abbrev pub of_type : PacketType → ℕ → AckNumber
-of_type packetType.Data n = ack.Nothing
-of_type packetType.Ack n = ack.Number n
-of_type packetType.Fin n = ack.Nothing
+abbrev pub of_type : PacketType → ℕ → Option ℕ
+of_type packetType.Data n = None
+of_type packetType.Ack n = Some n
+of_type packetType.Fin n = None
 
-abbrev pub ack_number : DatagramReading → AckNumber
-ack_number (reading.Valid p) = of_type p.pkt_type p.seq_num
-ack_number (reading.Corrupted p) = ack.Nothing
-ack_number (reading.Refused r) = ack.Nothing
+abbrev pub ack_number : Result DatagramReading Refusal → Option ℕ
+ack_number (Ok (reading.Valid p)) = of_type p.pkt_type p.seq_num
+ack_number (Ok (reading.Corrupted p)) = None
+ack_number (Err r) = None
 
 -- `sample_seq`, of the sender before the ACK of n: Selective Repeat samples that ACK, the others their oldest segment
 abbrev pub sample_seq : SenderState → ℕ → ℕ
@@ -72,14 +69,14 @@ abbrev pub duplicate : AckState → AckState
 duplicate s = ack_state s.sender s.estimator s.clock s.metas s.received (s.duplicates + 1)
 
 -- `accept_ack`
-abbrev pub is_accepted : AckAnswer → Bool
-is_accepted ackAnswer.Accepted = true
-is_accepted ackAnswer.NotAccepted = false
-is_accepted (ackAnswer.Refused r) = false
+abbrev pub is_accepted : Result Bool Refusal → Bool
+is_accepted (Ok true) = true
+is_accepted (Ok false) = false
+is_accepted (Err r) = false
 
-abbrev pub by_number : AckNumber → Timing → ℕ → List ℕ → AckState → AckState
-by_number ack.Nothing timing now raw s = s
-by_number (ack.Number n) timing now raw s =
+abbrev pub by_number : Option ℕ → Timing → ℕ → List ℕ → AckState → AckState
+by_number None timing now raw s = s
+by_number (Some n) timing now raw s =
     let x = handle_ack s.sender raw in
     let after = counted s x.after in
     cond (is_accepted x.answer) (on_accepted timing now n (sample_seq s.sender.sender.state n) after)

@@ -18,7 +18,7 @@ use notes::{Note, Notes};
 use packet::{DatagramReading, Packet, PacketType};
 use path::Path;
 use rto::RtoEstimator;
-use schedule::{FirstDue, ScheduledRow};
+use schedule::ScheduledRow;
 use session::{Sender, SenderState};
 
 // What ACKs change besides the lent slices.
@@ -37,13 +37,6 @@ pub struct ServeResult {
     pub reverse: Path,
     pub side: AckSide,
     pub progress: bool,
-}
-
-// The number of a valid ACK.
-#[derive(Clone, Copy)]
-pub enum AckNumber {
-    Number(u32),
-    Nothing,
 }
 
 // Hands over what is due on the reverse line.
@@ -76,14 +69,14 @@ pub fn serve_reverse_unchecked(
     let mut progress = false;
     loop {
         match reverse.first_due_unchecked(records, now) {
-            FirstDue::Nothing => {
+            None => {
                 return ServeResult {
                     reverse,
                     side,
                     progress,
                 };
             }
-            FirstDue::Packet(place, len) => {
+            Some((place, len)) => {
                 let from = place * PLACE_SIZE;
                 let end = from + len;
                 let after = on_ack_unchecked(
@@ -129,8 +122,8 @@ pub fn on_ack_unchecked(
         side.ack_received side.duplicate_acks) }
 {
     match ack_number(raw) {
-        AckNumber::Nothing => side,
-        AckNumber::Number(n) => {
+        None => side,
+        Some(n) => {
             let sender = side.sender;
             let seq = sample_seq(sender, n);
             let answer = sender.handle_ack_unchecked(store, n);
@@ -147,24 +140,24 @@ pub fn on_ack_unchecked(
     }
 }
 
-fn ack_number(raw: &[u8]) -> AckNumber
+fn ack_number(raw: &[u8]) -> Option<u32>
     ensures { result ≡ ack_number (read_datagram raw.now) }
 {
     match Packet::read_datagram(raw) {
-        DatagramReading::Valid(packet) => number_of(packet),
-        DatagramReading::Corrupted(_) => AckNumber::Nothing,
-        DatagramReading::Refused(_) => AckNumber::Nothing,
+        Ok(DatagramReading::Valid(packet)) => number_of(packet),
+        Ok(DatagramReading::Corrupted(_)) => None,
+        Err(_) => None,
     }
 }
 
-fn number_of(packet: Packet) -> AckNumber
+fn number_of(packet: Packet) -> Option<u32>
     ensures { result ≡ of_type packet.pkt_type packet.seq_num }
 {
     let pkt_type = packet.pkt_type;
     match pkt_type {
-        PacketType::Data => AckNumber::Nothing,
-        PacketType::Ack => AckNumber::Number(packet.seq_num),
-        PacketType::Fin => AckNumber::Nothing,
+        PacketType::Data => None,
+        PacketType::Ack => Some(packet.seq_num),
+        PacketType::Fin => None,
     }
 }
 

@@ -19,18 +19,14 @@
 // the bytes delivered and the CRC-32 of the output.
 #![tactic(auto)]
 
-use go_back_n::{GoBackNReceiver, GoBackNSender, GoBackNSenderAnswer};
-use receiver::ReceiveAnswer;
-use refusal::{CountAnswer, Refusal, TestAnswer};
+use go_back_n::{GoBackNReceiver, GoBackNSender};
+use refusal::Refusal;
 use replay_io::{Fields, Lines};
-use selective_repeat::{
-    SelectiveRepeatReceiver, SelectiveRepeatReceiverAnswer, SelectiveRepeatSender,
-    SelectiveRepeatSenderAnswer,
-};
+use selective_repeat::{SelectiveRepeatReceiver, SelectiveRepeatSender};
 use std::io;
 use std::io::Write;
-use stop_and_wait::{StopAndWaitReceiver, StopAndWaitSender, StopAndWaitSenderAnswer};
-use window::{AckAnswer, SendAnswer, SendWindow, TimeoutAnswer};
+use stop_and_wait::{StopAndWaitReceiver, StopAndWaitSender};
+use window::SendWindow;
 
 #[derive(Clone, Copy)]
 enum Sender {
@@ -314,19 +310,19 @@ fn new_sender(
 ) -> io::Result<Sender> {
     if protocol == 0 {
         return match StopAndWaitSender::new(retries, store) {
-            StopAndWaitSenderAnswer::Sender(s) => made_sender(writer, Sender::StopAndWait(s)),
-            StopAndWaitSenderAnswer::Refused(r) => refused_sender(writer, r),
+            Ok(s) => made_sender(writer, Sender::StopAndWait(s)),
+            Err(r) => refused_sender(writer, r),
         };
     }
     if protocol == 1 {
         return match GoBackNSender::new(window, store) {
-            GoBackNSenderAnswer::Sender(s) => made_sender(writer, Sender::GoBackN(s)),
-            GoBackNSenderAnswer::Refused(r) => refused_sender(writer, r),
+            Ok(s) => made_sender(writer, Sender::GoBackN(s)),
+            Err(r) => refused_sender(writer, r),
         };
     }
     match SelectiveRepeatSender::new(window, store) {
-        SelectiveRepeatSenderAnswer::Sender(s) => made_sender(writer, Sender::SelectiveRepeat(s)),
-        SelectiveRepeatSenderAnswer::Refused(r) => refused_sender(writer, r),
+        Ok(s) => made_sender(writer, Sender::SelectiveRepeat(s)),
+        Err(r) => refused_sender(writer, r),
     }
 }
 
@@ -353,11 +349,8 @@ fn new_receiver(
         return made_receiver(writer, Receiver::GoBackN(GoBackNReceiver::new()));
     }
     match SelectiveRepeatReceiver::new(window, store) {
-        SelectiveRepeatReceiverAnswer::Receiver(r) => made_receiver(
-            writer,
-            Receiver::SelectiveRepeat(r),
-        ),
-        SelectiveRepeatReceiverAnswer::Refused(r) => refused_receiver(writer, r),
+        Ok(r) => made_receiver(writer, Receiver::SelectiveRepeat(r)),
+        Err(r) => refused_receiver(writer, r),
     }
 }
 
@@ -695,38 +688,50 @@ fn set_go_back_n(f: Fields, r: GoBackNReceiver) -> GoBackNReceiver {
     t
 }
 
-fn print_sent(writer: &mut impl Write, a: SendAnswer, out: &[u8]) -> io::Result<()> {
+fn print_sent(
+    writer: &mut impl Write,
+    a: Result<Option<usize>, Refusal>,
+    out: &[u8],
+) -> io::Result<()> {
     match a {
-        SendAnswer::Sent(n) => replay_io::print_number(writer, n as u64)?,
-        SendAnswer::WindowFull => replay_io::print(writer, b" full")?,
-        SendAnswer::Refused(r) => replay_io::print_refusal(writer, r)?,
+        Ok(Some(n)) => replay_io::print_number(writer, n as u64)?,
+        Ok(None) => replay_io::print(writer, b" full")?,
+        Err(r) => replay_io::print_refusal(writer, r)?,
     }
     replay_io::print_bytes(writer, out)
 }
 
-fn print_resent(writer: &mut impl Write, a: TimeoutAnswer, out: &[u8]) -> io::Result<()> {
+fn print_resent(
+    writer: &mut impl Write,
+    a: Result<Option<usize>, Refusal>,
+    out: &[u8],
+) -> io::Result<()> {
     match a {
-        TimeoutAnswer::Resent(n) => replay_io::print_number(writer, n as u64)?,
-        TimeoutAnswer::Nothing => replay_io::print(writer, b" none")?,
-        TimeoutAnswer::Refused(r) => replay_io::print_refusal(writer, r)?,
+        Ok(Some(n)) => replay_io::print_number(writer, n as u64)?,
+        Ok(None) => replay_io::print(writer, b" none")?,
+        Err(r) => replay_io::print_refusal(writer, r)?,
     }
     replay_io::print_bytes(writer, out)
 }
 
-fn print_received(writer: &mut impl Write, a: ReceiveAnswer, ack: &[u8]) -> io::Result<()> {
+fn print_received(
+    writer: &mut impl Write,
+    a: Result<Option<u32>, Refusal>,
+    ack: &[u8],
+) -> io::Result<()> {
     match a {
-        ReceiveAnswer::Ack(n) => replay_io::print_number(writer, n as u64)?,
-        ReceiveAnswer::Silent => replay_io::print(writer, b" none")?,
-        ReceiveAnswer::Refused(r) => replay_io::print_refusal(writer, r)?,
+        Ok(Some(n)) => replay_io::print_number(writer, n as u64)?,
+        Ok(None) => replay_io::print(writer, b" none")?,
+        Err(r) => replay_io::print_refusal(writer, r)?,
     }
     replay_io::print_bytes(writer, ack)
 }
 
-fn print_acknowledged(writer: &mut impl Write, a: AckAnswer) -> io::Result<()> {
+fn print_acknowledged(writer: &mut impl Write, a: Result<bool, Refusal>) -> io::Result<()> {
     match a {
-        AckAnswer::Accepted => replay_io::print(writer, b" accepted"),
-        AckAnswer::NotAccepted => replay_io::print(writer, b" ignored"),
-        AckAnswer::Refused(r) => replay_io::print_refusal(writer, r),
+        Ok(true) => replay_io::print(writer, b" accepted"),
+        Ok(false) => replay_io::print(writer, b" ignored"),
+        Err(r) => replay_io::print_refusal(writer, r),
     }
 }
 
@@ -873,17 +878,17 @@ fn print_buffered(writer: &mut impl Write, receiver: Receiver, store: &[u8]) -> 
     }
 }
 
-fn print_test(writer: &mut impl Write, a: TestAnswer) -> io::Result<()> {
+fn print_test(writer: &mut impl Write, a: Result<bool, Refusal>) -> io::Result<()> {
     match a {
-        TestAnswer::Is(b) => replay_io::print_test(writer, b),
-        TestAnswer::Refused(r) => replay_io::print_refusal(writer, r),
+        Ok(b) => replay_io::print_test(writer, b),
+        Err(r) => replay_io::print_refusal(writer, r),
     }
 }
 
-fn print_count(writer: &mut impl Write, a: CountAnswer) -> io::Result<()> {
+fn print_count(writer: &mut impl Write, a: Result<usize, Refusal>) -> io::Result<()> {
     match a {
-        CountAnswer::Count(n) => replay_io::print_number(writer, n as u64),
-        CountAnswer::Refused(r) => replay_io::print_refusal(writer, r),
+        Ok(n) => replay_io::print_number(writer, n as u64),
+        Err(r) => replay_io::print_refusal(writer, r),
     }
 }
 

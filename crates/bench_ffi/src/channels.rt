@@ -10,9 +10,9 @@ ghost use Rattle.schedule.specs.Schedule.{scheduler, CanPop};
 ghost use Rattle.schedule.specs.declared.Deliveries.TheVariants.{One};
 
 use crate::{at, put};
-use channel::{Channel, ChannelAnswer, ChannelConfig, ChannelStats, ProcessAnswer, Rolls};
-use refusal::{CountAnswer, DoneAnswer, Refusal, TestAnswer};
-use schedule::{ChannelScheduler, DeadlineAnswer, Deliveries, ReadyAnswer};
+use channel::{Channel, ChannelConfig, ChannelStats, Rolls};
+use refusal::Refusal;
+use schedule::{ChannelScheduler, Deliveries};
 
 fn real_at(s: &[f64], i: usize) -> f64 {
     if i < s.len() { s[i] } else { 0.0 }
@@ -96,46 +96,46 @@ fn put_deliveries(answer: &mut [u64], d: Deliveries) {
     }
 }
 
-fn put_outcome(answer: &mut [u64], o: ProcessAnswer) {
+fn put_outcome(answer: &mut [u64], o: Result<Deliveries, Refusal>) {
     match o {
-        ProcessAnswer::Delivered(d) => put_deliveries(answer, d),
-        ProcessAnswer::Refused(r) => put(answer, 0, code(r)),
+        Ok(d) => put_deliveries(answer, d),
+        Err(r) => put(answer, 0, code(r)),
     }
 }
 
-fn put_queued(answer: &mut [u64], q: DoneAnswer) {
+fn put_queued(answer: &mut [u64], q: Result<(), Refusal>) {
     match q {
-        DoneAnswer::Done => put(answer, 0, 0),
-        DoneAnswer::Refused(r) => put(answer, 0, code(r)),
+        Ok(()) => put(answer, 0, 0),
+        Err(r) => put(answer, 0, code(r)),
     }
 }
 
-fn put_ready(answer: &mut [u64], r: ReadyAnswer) {
+fn put_ready(answer: &mut [u64], r: Result<Option<usize>, Refusal>) {
     match r {
-        ReadyAnswer::Nothing => put(answer, 0, 0),
-        ReadyAnswer::Packet(n) => {
+        Ok(None) => put(answer, 0, 0),
+        Ok(Some(n)) => {
             put(answer, 0, 1);
             put(answer, 1, n as u64);
         }
-        ReadyAnswer::Refused(x) => put(answer, 0, code(x)),
+        Err(x) => put(answer, 0, code(x)),
     }
 }
 
-fn put_deadline(answer: &mut [u64], d: DeadlineAnswer) {
+fn put_deadline(answer: &mut [u64], d: Result<Option<u64>, Refusal>) {
     match d {
-        DeadlineAnswer::Nothing => put(answer, 0, 0),
-        DeadlineAnswer::At(t) => {
+        Ok(None) => put(answer, 0, 0),
+        Ok(Some(t)) => {
             put(answer, 0, 1);
             put(answer, 1, t);
         }
-        DeadlineAnswer::Refused(r) => put(answer, 0, code(r)),
+        Err(r) => put(answer, 0, code(r)),
     }
 }
 
-fn put_emptiness(answer: &mut [u64], e: TestAnswer) {
+fn put_emptiness(answer: &mut [u64], e: Result<bool, Refusal>) {
     match e {
-        TestAnswer::Is(b) => put(answer, 6, flag(b)),
-        TestAnswer::Refused(r) => put(answer, 6, code(r)),
+        Ok(b) => put(answer, 6, flag(b)),
+        Err(r) => put(answer, 6, code(r)),
     }
 }
 
@@ -161,8 +161,8 @@ fn put_scheduler(answer: &mut [u64], s: ChannelScheduler) {
 #[unsafe(no_mangle)]
 pub extern "C" fn channel_new(reals: &[f64], numbers: &[u64]) -> u64 {
     match Channel::new(config_of(reals, numbers)) {
-        ChannelAnswer::Made(_) => 0,
-        ChannelAnswer::Refused(r) => code(r),
+        Ok(_) => 0,
+        Err(r) => code(r),
     }
 }
 
@@ -262,15 +262,15 @@ pub extern "C" fn schedule_read(
     put_emptiness(answer, s.is_empty(records, places));
 }
 
-fn put_amount(answer: &mut [u64], i: usize, a: CountAnswer)
+fn put_amount(answer: &mut [u64], i: usize, a: Result<usize, Refusal>)
     requires { i < 8 }
 {
     match a {
-        CountAnswer::Count(n) => {
+        Ok(n) => {
             put(answer, i, 1);
             put(answer, i + 1, n as u64);
         }
-        CountAnswer::Refused(r) => put(answer, i, code(r)),
+        Err(r) => put(answer, i, code(r)),
     }
 }
 
@@ -313,8 +313,8 @@ pub extern "C" fn pop_ready_at_unchecked(
     let done = s.pop_ready_at_unchecked(records, places, now, out);
     let ready = done.answer;
     match ready {
-        ReadyAnswer::Packet(n) => n,
-        ReadyAnswer::Nothing => 4096,
-        ReadyAnswer::Refused(_) => 8192,
+        Ok(Some(n)) => n,
+        Ok(None) => 4096,
+        Err(_) => 8192,
     }
 }

@@ -1,7 +1,8 @@
 // Packets. An export answers as a host's; a packet's number, kind, flags and checksum go to the first four places of
 // `answer`.
 use crate::{done, put};
-use packet::{ChecksumAnswer, LengthAnswer, Packet, PacketAnswer, PacketType, PacketTypeAnswer};
+use packet::{Packet, PacketType};
+use refusal::Refusal;
 
 #[unsafe(no_mangle)]
 pub extern "C" fn packet_header_size() -> usize {
@@ -22,8 +23,8 @@ pub extern "C" fn packet_flag_retransmitted() -> u8 {
 #[unsafe(no_mangle)]
 pub extern "C" fn packet_try_from(byte: u8) -> u64 {
     match PacketType::try_from(byte) {
-        PacketTypeAnswer::Type(t) => done(t.to_byte() as u64),
-        PacketTypeAnswer::Refused(r) => host_answer::refusal_answer(r),
+        Ok(t) => done(t.to_byte() as u64),
+        Err(r) => host_answer::refusal_answer(r),
     }
 }
 
@@ -45,8 +46,8 @@ pub extern "C" fn packet_new_fin(seq_num: u32, answer: &mut [u64]) -> u64 {
 #[unsafe(no_mangle)]
 pub extern "C" fn packet_is_retransmitted(seq_num: u32, kind: u8, flags: u8, checksum: u16) -> u64 {
     match packet_of(seq_num, kind, flags, checksum) {
-        PacketAnswer::Packet(p) => done(p.is_retransmitted() as u64),
-        PacketAnswer::Refused(r) => host_answer::refusal_answer(r),
+        Ok(p) => done(p.is_retransmitted() as u64),
+        Err(r) => host_answer::refusal_answer(r),
     }
 }
 
@@ -59,8 +60,8 @@ pub extern "C" fn packet_set_retransmitted(
     answer: &mut [u64],
 ) -> u64 {
     match packet_of(seq_num, kind, flags, checksum) {
-        PacketAnswer::Packet(p) => put_packet(answer, p.set_retransmitted()),
-        PacketAnswer::Refused(r) => host_answer::refusal_answer(r),
+        Ok(p) => put_packet(answer, p.set_retransmitted()),
+        Err(r) => host_answer::refusal_answer(r),
     }
 }
 
@@ -73,11 +74,11 @@ pub extern "C" fn packet_compute_checksum(
     payload: &[u8],
 ) -> u64 {
     match packet_of(seq_num, kind, flags, checksum) {
-        PacketAnswer::Packet(p) => match p.compute_checksum(payload) {
-            ChecksumAnswer::Checksum(k) => done(k as u64),
-            ChecksumAnswer::Refused(r) => host_answer::refusal_answer(r),
+        Ok(p) => match p.compute_checksum(payload) {
+            Ok(k) => done(k as u64),
+            Err(r) => host_answer::refusal_answer(r),
         },
-        PacketAnswer::Refused(r) => host_answer::refusal_answer(r),
+        Err(r) => host_answer::refusal_answer(r),
     }
 }
 
@@ -91,8 +92,8 @@ pub extern "C" fn packet_compute_and_set_checksum(
     answer: &mut [u64],
 ) -> u64 {
     match packet_of(seq_num, kind, flags, checksum) {
-        PacketAnswer::Packet(p) => put_packet_answer(answer, p.compute_and_set_checksum(payload)),
-        PacketAnswer::Refused(r) => host_answer::refusal_answer(r),
+        Ok(p) => put_packet_answer(answer, p.compute_and_set_checksum(payload)),
+        Err(r) => host_answer::refusal_answer(r),
     }
 }
 
@@ -106,11 +107,11 @@ pub extern "C" fn packet_to_bytes(
     out: &mut [u8],
 ) -> u64 {
     match packet_of(seq_num, kind, flags, checksum) {
-        PacketAnswer::Packet(p) => match p.to_bytes(payload, out) {
-            LengthAnswer::Length(n) => done(n as u64),
-            LengthAnswer::Refused(r) => host_answer::refusal_answer(r),
+        Ok(p) => match p.to_bytes(payload, out) {
+            Ok(n) => done(n as u64),
+            Err(r) => host_answer::refusal_answer(r),
         },
-        PacketAnswer::Refused(r) => host_answer::refusal_answer(r),
+        Err(r) => host_answer::refusal_answer(r),
     }
 }
 
@@ -137,13 +138,13 @@ pub extern "C" fn packet_from_bytes_each(wire: &[u8]) -> u64 {
     read
 }
 
-fn fields(a: PacketAnswer) -> u64 {
+fn fields(a: Result<Packet, Refusal>) -> u64 {
     match a {
-        PacketAnswer::Packet(p) => {
+        Ok(p) => {
             let pkt_type = p.pkt_type;
             p.seq_num as u64 ^ pkt_type.to_byte() as u64 ^ p.flags as u64 ^ p.checksum as u64
         }
-        PacketAnswer::Refused(_) => 0,
+        Err(_) => 0,
     }
 }
 
@@ -156,23 +157,23 @@ fn put_packet(answer: &mut [u64], p: Packet) -> u64 {
     done(0)
 }
 
-fn put_packet_answer(answer: &mut [u64], a: PacketAnswer) -> u64 {
+fn put_packet_answer(answer: &mut [u64], a: Result<Packet, Refusal>) -> u64 {
     match a {
-        PacketAnswer::Packet(p) => put_packet(answer, p),
-        PacketAnswer::Refused(r) => host_answer::refusal_answer(r),
+        Ok(p) => put_packet(answer, p),
+        Err(r) => host_answer::refusal_answer(r),
     }
 }
 
 // The packet of these fields, or a refusal of the kind.
-fn packet_of(seq_num: u32, kind: u8, flags: u8, checksum: u16) -> PacketAnswer {
+fn packet_of(seq_num: u32, kind: u8, flags: u8, checksum: u16) -> Result<Packet, Refusal> {
     match PacketType::try_from(kind) {
-        PacketTypeAnswer::Type(pkt_type) => PacketAnswer::Packet(Packet {
+        Ok(pkt_type) => Ok(Packet {
             seq_num,
             pkt_type,
             flags,
             checksum,
         }),
-        PacketTypeAnswer::Refused(r) => PacketAnswer::Refused(r),
+        Err(r) => Err(r),
     }
 }
 

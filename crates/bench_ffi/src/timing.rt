@@ -17,11 +17,11 @@ pub extern "C" fn timing_as_secs_f64(ns: u64) -> f64 {
 #[unsafe(no_mangle)]
 pub extern "C" fn timing_from_secs_f64(x: f64, answer: &mut [u64]) -> u64 {
     match duration::from_secs_f64(x) {
-        duration::FromSecs::Nanos(n) => {
+        Some(n) => {
             put(answer, 0, n);
             done(0)
         }
-        duration::FromSecs::OutOfRange => host_answer::NOTHING,
+        None => host_answer::NOTHING,
     }
 }
 

@@ -15,13 +15,13 @@ use Rattle.schedule.specs.declared.Deliveries.{Deliveries}
 use Rattle.schedule.specs.declared.Deliveries.TheVariants.{Lost, One, Two}
 use Rattle.channel.specs.Faults.{is_lost, is_duplicated, is_reordered, is_corrupted, byte_at, bit_at, carried_bytes, delay_of, deliveries_of}
 use Rattle.refusal.specs.Order.{verdict}
-use Rattle.refusal.specs.declared.Verdict.TheVariants.{Accepted}
 use Rattle.refusal.proofs.Laws.{accepted_none_true}
 use Rattle.channel.specs.Process.{one, stats6, channel_of, counted_stats, transit_exit, process_unchecked, process_checks, CanProcess}
 use Rattle.channel.specs.declared.ChannelConfig.{ChannelConfig}
 use Rattle.channel.specs.declared.ChannelStats.{ChannelStats}
 use Rattle.channel.specs.declared.Rolls.{Rolls}
 use Rattle.channel.specs.declared.Channel.{Channel}
+use Rattle.refusal.specs.Order.{passed}
 
 -- ---- tests that are asked only of a packet that isn't lost
 pub unless : (a b : Bool) → a ≡ false → b ≡ (not a && b)
@@ -138,7 +138,7 @@ module _ (ch : Channel) (p : List ℕ) (r : Rolls) (out : List ℕ) where
   pub fits_out : is_lost ch.config r ≡ false → CanProcess ch p r out → length p ≤ length out
   fits_out a can = ltb-false (length out) (length p) (sym (ap (λ (b : Bool). not b && ltb (length out) (length p)) a) ∙ can.room)
 
-  pub can_process : verdict (process_checks ch r (length p) (length out)) ≡ Accepted → CanProcess ch p r out
+  pub can_process : verdict (process_checks ch r (length p) (length out)) ≡ passed → CanProcess ch p r out
   can_process e = let n = accepted_none_true (process_checks ch r (length p) (length out)) e in record { config = n.0; counts = n.1.0; rolls = n.1.1.0; short = n.1.1.1.0; room = n.1.1.1.1.0 }
 
 module _ (ch : Channel) (p : List ℕ) (r : Rolls) where

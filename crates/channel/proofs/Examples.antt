@@ -1,4 +1,5 @@
 -- Whole calls, by computation: a packet lost, one duplicated and held back, one corrupted; and the counters after the three.
+use Rattle.std.specs.Prelude.{Ok}
 use mathlib.Core.Path.{◌≡◌, refl}
 use Prim.Native.Nat.{ℕ}
 use mathlib.Core.Bool.{true, false}
@@ -17,7 +18,6 @@ use Rattle.channel.specs.declared.ChannelConfig.{ChannelConfig}
 use Rattle.channel.specs.declared.ChannelStats.{ChannelStats}
 use Rattle.channel.specs.declared.Channel.{Channel}
 use Rattle.channel.specs.declared.Rolls.{Rolls}
-use Rattle.channel.specs.declared.ProcessAnswer.TheVariants.{Delivered}
 use Rattle.channel.proofs.Tallies.{history}
 use Rattle.channel.proofs.NoFaults.{zero, CarriedWhole, carried_whole}
 
@@ -57,7 +57,7 @@ abbrev made : Channel
 made = channel_of setup (stats6 0 0 0 0 0 0)
 
 abbrev delivers : List ℕ → ChannelStats → Deliveries → ProcessExit
-delivers out s ds = process_exit out (record { channel = channel_of setup s; answer = Delivered ds })
+delivers out s ds = process_exit out (record { channel = channel_of setup s; answer = Ok ds })
 
 pub record ChannelRows : Type 0 where
   pub lost : process made (0x41 ∷ 0x42 ∷ []) lost_rolls (7 ∷ 8 ∷ 9 ∷ []) ≡ delivers (7 ∷ 8 ∷ 9 ∷ []) (stats6 1 1 0 0 0 0) Lost

@@ -1,4 +1,5 @@
 -- What crates above may cite: where the rolls point, what a corrupted copy is, how long a delay is, and the counters from the history of calls.
+use Rattle.std.specs.Prelude.{Err, Ok}
 use mathlib.Core.Path.{◌≡◌, refl, sym, ◌∙◌, ap, subst}
 use mathlib.Core.Logic.{◌≢◌, ⊎_elim}
 use Prim.Native.Nat.{ℕ, ◌+◌, ◌^◌, ◌<◌, ◌≤◌, ◌*◌, ◌/◌}
@@ -20,7 +21,6 @@ use Rattle.float.proofs.Laws.{scaled_below, j1}
 use Rattle.schedule.specs.State.{leaves_at, deliveries_late}
 use Rattle.refusal.specs.Order.{check, verdict}
 use Rattle.refusal.specs.declared.Refusal.TheVariants.{Setup}
-use Rattle.refusal.specs.declared.Verdict.TheVariants.{Accepted}
 use Rattle.refusal.proofs.Laws.{on_accepted, none_true_accepted, either_answer}
 use Rattle.schedule.specs.declared.Deliveries.{Deliveries}
 use Rattle.schedule.specs.declared.Deliveries.TheVariants.{Lost, One, Two}
@@ -30,11 +30,10 @@ use Rattle.channel.specs.Faults.{is_lost, is_duplicated, is_reordered, is_corrup
 use Rattle.channel.specs.Process.{new_channel, new_channel_unchecked, process_checks, TransitExit, process_unchecked, ProcessExit, transited, process, CanProcess}
 use Rattle.channel.specs.declared.ChannelConfig.{ChannelConfig}
 use Rattle.channel.specs.declared.Channel.{Channel}
-use Rattle.channel.specs.declared.ChannelAnswer.TheVariants as making
-use Rattle.channel.specs.declared.ProcessAnswer.TheVariants as outcome
 use Rattle.channel.specs.declared.Rolls.{Rolls}
 use Rattle.channel.proofs.Limits.{delays_within, rolls_within}
 use Rattle.channel.proofs.Carrying.{unless_lost, deliveries_lost, corrupt_law, uncorrupted_law, uncorrupted_lost, in_place_law}
+use Rattle.refusal.specs.Order.{passed}
 pub use Rattle.channel.proofs.Carrying.{granted_lost, granted_one, granted_two, granted_le, corrupted_some}
 pub use Rattle.channel.proofs.Carrying.{can_process}
 pub use Rattle.channel.proofs.Tallies.{processed, history, refused_are}
@@ -43,22 +42,22 @@ pub use Rattle.channel.proofs.Counters.{CountsRise, counted_rises, rises_below, 
 pub use Rattle.channel.proofs.NoFaults.{Zero, zero, roll_not_below, NoFaults, CarriedWhole, carried_whole}
 
 -- ---- an accepted call is the call below its entry point
-pub new_accepted : (c : ChannelConfig) → config_broken c ≡ false → new_channel c ≡ making.Made (new_channel_unchecked c)
+pub new_accepted : (c : ChannelConfig) → config_broken c ≡ false → new_channel c ≡ Ok (new_channel_unchecked c)
 unfolding new_channel
-new_accepted c e = on_accepted making.Refused (making.Made (new_channel_unchecked c)) (none_true_accepted (check (config_broken c) Setup ∷ []) (e, tt))
+new_accepted c e = on_accepted Err (Ok (new_channel_unchecked c)) (none_true_accepted (check (config_broken c) Setup ∷ []) (e, tt))
 
 module _ (ch : Channel) (p : List ℕ) (r : Rolls) (out : List ℕ) where
-  pub process_accepted : verdict (process_checks ch r (length p) (length out)) ≡ Accepted → process ch p r out ≡ transited (process_unchecked ch p r out)
+  pub process_accepted : verdict (process_checks ch r (length p) (length out)) ≡ passed → process ch p r out ≡ transited (process_unchecked ch p r out)
   unfolding process
   process_accepted e = on_accepted _ _ e
 
-  pub process_accepts : CanProcess ch p r out → verdict (process_checks ch r (length p) (length out)) ≡ Accepted
+  pub process_accepts : CanProcess ch p r out → verdict (process_checks ch r (length p) (length out)) ≡ passed
   process_accepts c = none_true_accepted (process_checks ch r (length p) (length out)) (c.config, (c.counts, (c.rolls, (c.short, (c.room, tt)))))
 
-  pub process_delivered : (ds : Deliveries) → (process ch p r out).result.answer ≡ outcome.Delivered ds → (verdict (process_checks ch r (length p) (length out)) ≡ Accepted) × (ds ≡ deliveries_of ch.config r)
+  pub process_delivered : (ds : Deliveries) → (process ch p r out).result.answer ≡ Ok ds → (verdict (process_checks ch r (length p) (length out)) ≡ passed) × (ds ≡ deliveries_of ch.config r)
   unfolding process process_unchecked
   process_delivered ds =
-      either_answer (λ (x : ProcessExit). x.result.answer ≡ outcome.Delivered ds → (verdict (process_checks ch r (length p) (length out)) ≡ Accepted) × (ds ≡ deliveries_of ch.config r)) (verdict (process_checks ch r (length p) (length out))) _ _
+      either_answer (λ (x : ProcessExit). x.result.answer ≡ Ok ds → (verdict (process_checks ch r (length p) (length out)) ≡ passed) × (ds ≡ deliveries_of ch.config r)) (verdict (process_checks ch r (length p) (length out))) _ _
       (λ x e. let z : ◌≡◌ {A = ℕ} 0 1 = cc in absurd (omega arith)) (λ v e. (v, cc))
 
   -- the bytes of the copies stand at the front of the buffer

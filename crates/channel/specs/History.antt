@@ -1,6 +1,6 @@
 -- Document 01, "Links that would ruin a book" (tallies from the history of calls) and `channel/mod.rs`: the counters as
 -- the calls and their rolls give them. The latest call stands first.
-use Rattle.std.specs.Prelude.{ℕ, ◌+◌, Bool, true, false, cond, not, ◌||◌, ◌&&◌, List, [], ◌∷◌, length, ltb}
+use Rattle.std.specs.Prelude.{ℕ, ◌+◌, Bool, true, false, cond, not, ◌||◌, ◌&&◌, List, [], ◌∷◌, length, ltb, Err, Ok, Result}
 use Rattle.std.specs.Float.Ieee.{lt}
 use Rattle.bounds.specs.Bounds.{max_datagram}
 use Rattle.channel.specs.Bounds.{config_broken, stats_full, rolls_broken}
@@ -9,8 +9,8 @@ use Rattle.channel.specs.declared.ChannelConfig.{ChannelConfig}
 use Rattle.channel.specs.declared.ChannelStats.{ChannelStats}
 use Rattle.channel.specs.declared.Channel.{Channel}
 use Rattle.channel.specs.declared.Rolls.{Rolls}
-use Rattle.channel.specs.declared.ProcessAnswer.{ProcessAnswer}
-use Rattle.channel.specs.declared.ProcessAnswer.TheVariants.{Delivered, Refused}
+use Rattle.schedule.specs.declared.Deliveries.{Deliveries}
+use Rattle.refusal.specs.declared.Refusal.{Refusal}
 
 -- one call of `process`
 pub record Call : Type 0 where
@@ -73,6 +73,6 @@ unfoldable pub after_calls : ChannelConfig → List Call → Channel
 after_calls c [] = channel_of c (stats6 0 0 0 0 0 0)
 after_calls c (x ∷ xs) = (process (after_calls c xs) x.packet x.rolls x.out).result.channel
 
-abbrev pub is_refused : ProcessAnswer → Bool
-is_refused (Delivered d) = false
-is_refused (Refused r) = true
+abbrev pub is_refused : Result Deliveries Refusal → Bool
+is_refused (Ok d) = false
+is_refused (Err r) = true

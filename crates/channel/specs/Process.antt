@@ -1,6 +1,6 @@
 -- Document 01, `channel/mod.rs` and "Turned away": what making a channel and handing it a packet answer and leave
 -- behind.
-use Rattle.std.specs.Prelude.{ℕ, ◌+◌, ◌≡◌, Bool, true, false, cond, not, ◌&&◌, List, [], ◌∷◌, ◌++◌, length, drop, ltb}
+use Rattle.std.specs.Prelude.{ℕ, ◌+◌, ◌≡◌, Bool, true, false, cond, not, ◌&&◌, List, [], ◌∷◌, ◌++◌, length, drop, ltb, Err, Ok, Result}
 use Rattle.bounds.specs.Bounds.{max_datagram}
 use Rattle.refusal.specs.Order.{Check, check, verdict, decide}
 use Rattle.refusal.specs.declared.Refusal.TheVariants.{Setup, State, Counts, Roll, Long, Full}
@@ -11,12 +11,10 @@ use Rattle.channel.specs.declared.ChannelConfig.{ChannelConfig}
 use Rattle.channel.specs.declared.ChannelStats.{ChannelStats}
 use Rattle.channel.specs.declared.Channel.{Channel}
 use Rattle.channel.specs.declared.Rolls.{Rolls}
-use Rattle.channel.specs.declared.ChannelAnswer.{ChannelAnswer}
-use Rattle.channel.specs.declared.ChannelAnswer.TheVariants as making
-use Rattle.channel.specs.declared.ProcessAnswer.{ProcessAnswer}
-use Rattle.channel.specs.declared.ProcessAnswer.TheVariants as outcome
 use Rattle.channel.specs.declared.ProcessResult.{ProcessResult}
 use Rattle.channel.specs.declared.Transit.{Transit}
+use Rattle.schedule.specs.declared.Deliveries.{Deliveries}
+use Rattle.refusal.specs.declared.Refusal.{Refusal}
 
 abbrev pub stats6 : ℕ → ℕ → ℕ → ℕ → ℕ → ℕ → ChannelStats
 stats6 seen lost corrupted duplicated reordered delivered =
@@ -36,9 +34,9 @@ channel_of c s = record { config = c; stats = s }
 abbrev pub new_channel_unchecked : ChannelConfig → Channel
 new_channel_unchecked c = channel_of c (stats6 0 0 0 0 0 0)
 
-unfoldable pub new_channel : ChannelConfig → ChannelAnswer
+unfoldable pub new_channel : ChannelConfig → Result Channel Refusal
 new_channel c =
-    decide (verdict (check (config_broken c) Setup ∷ [])) making.Refused (making.Made (new_channel_unchecked c))
+    decide (verdict (check (config_broken c) Setup ∷ [])) Err (Ok (new_channel_unchecked c))
 
 abbrev pub one : Bool → ℕ
 one true = 1
@@ -73,13 +71,13 @@ pub record ProcessExit : Type 0 where
 abbrev pub process_exit : List ℕ → ProcessResult → ProcessExit
 process_exit o p = record { out = o; result = p }
 
-abbrev pub refused_exit : Channel → List ℕ → ProcessAnswer → ProcessExit
+abbrev pub refused_exit : Channel → List ℕ → Result Deliveries Refusal → ProcessExit
 refused_exit ch out a = process_exit out (record { channel = ch; answer = a })
 
 abbrev pub transited : TransitExit → ProcessExit
 transited x =
     process_exit x.out
-    (record { channel = x.result.channel; answer = outcome.Delivered x.result.deliveries })
+    (record { channel = x.result.channel; answer = Ok x.result.deliveries })
 
 -- check 5: a buffer shorter than the copy that is written to it
 abbrev pub out_short : Channel → Rolls → ℕ → ℕ → Bool
@@ -98,7 +96,7 @@ process_checks ch r n size =
 unfoldable pub process : Channel → List ℕ → Rolls → List ℕ → ProcessExit
 process ch p r out =
     decide (verdict (process_checks ch r (length p) (length out)))
-    (λ x. refused_exit ch out (outcome.Refused x))
+    (λ x. refused_exit ch out (Err x))
     (transited (process_unchecked ch p r out))
 
 -- what the call below the entry point takes for granted: the checks before it are false

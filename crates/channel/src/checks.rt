@@ -7,31 +7,36 @@ ghost use Rattle.channel.specs.Process.{out_short, process_checks};
 
 use super::{Channel, ChannelConfig, ChannelStats, Rolls};
 use bounds::{COUNT_LIMIT, MAX_DATAGRAM_SIZE};
-use refusal::{Refusal, Verdict};
+use refusal::Refusal;
 
 impl Channel {
     // The checks of `process`, of a packet of `len` bytes and a buffer of `size`.
-    pub(super) fn process_verdict(self, rolls: Rolls, len: usize, size: usize) -> Verdict
+    pub(super) fn process_verdict(
+        self,
+        rolls: Rolls,
+        len: usize,
+        size: usize,
+    ) -> Result<(), Refusal>
         ensures { result ≡ verdict (process_checks self rolls len size) }
     {
         let config = self.config;
         if config.config_broken() {
-            return Verdict::Refused(Refusal::State);
+            return Err(Refusal::State);
         }
         let stats = self.stats;
         if stats.stats_full() {
-            return Verdict::Refused(Refusal::Counts);
+            return Err(Refusal::Counts);
         }
         if rolls.rolls_broken() {
-            return Verdict::Refused(Refusal::Roll);
+            return Err(Refusal::Roll);
         }
         if MAX_DATAGRAM_SIZE < len {
-            return Verdict::Refused(Refusal::Long);
+            return Err(Refusal::Long);
         }
         if self.out_short(rolls, len, size) {
-            return Verdict::Refused(Refusal::Full);
+            return Err(Refusal::Full);
         }
-        Verdict::Accepted
+        Ok(())
     }
 
     // Check 5.

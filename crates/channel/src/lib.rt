@@ -8,7 +8,7 @@ ghost use Rattle.channel.specs.Process.{transit_exit, process_unchecked, CanProc
 ghost use Rattle.channel.specs.Process.{process_exit, process};
 
 use faults::{corrupt, counted, deliveries_of};
-use refusal::{Refusal, Verdict};
+use refusal::Refusal;
 use schedule::Deliveries;
 
 mod checks;
@@ -56,21 +56,9 @@ pub struct Rolls {
 }
 
 #[derive(Clone, Copy)]
-pub enum ChannelAnswer {
-    Made(Channel),
-    Refused(Refusal),
-}
-
-#[derive(Clone, Copy)]
-pub enum ProcessAnswer {
-    Delivered(Deliveries),
-    Refused(Refusal),
-}
-
-#[derive(Clone, Copy)]
 pub struct ProcessResult {
     pub channel: Channel,
-    pub answer: ProcessAnswer,
+    pub answer: Result<Deliveries, Refusal>,
 }
 
 #[derive(Clone, Copy)]
@@ -81,13 +69,13 @@ pub struct Transit {
 
 impl Channel {
     // A channel that has seen no packet.
-    pub fn new(config: ChannelConfig) -> ChannelAnswer
+    pub fn new(config: ChannelConfig) -> Result<Channel, Refusal>
         ensures { result ≡ new_channel config }
     {
         if config.config_broken() {
-            return ChannelAnswer::Refused(Refusal::Setup);
+            return Err(Refusal::Setup);
         }
-        ChannelAnswer::Made(Channel::new_unchecked(config))
+        Ok(Channel::new_unchecked(config))
     }
 
     // Takes one packet and answers when its copies are delivered.
@@ -96,17 +84,17 @@ impl Channel {
             ≡ process self packet.now rolls out.old }
     {
         match self.process_verdict(rolls, packet.len(), out.len()) {
-            Verdict::Refused(r) => ProcessResult {
+            Err(r) => ProcessResult {
                 channel: self,
-                answer: ProcessAnswer::Refused(r),
+                answer: Err(r),
             },
-            Verdict::Accepted => {
+            Ok(()) => {
                 let done = self.process_unchecked(packet, rolls, out);
                 let next = done.channel;
                 let deliveries = done.deliveries;
                 ProcessResult {
                     channel: next,
-                    answer: ProcessAnswer::Delivered(deliveries),
+                    answer: Ok(deliveries),
                 }
             }
         }

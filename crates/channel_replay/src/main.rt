@@ -16,13 +16,10 @@
 
 ghost use Rattle.std.specs.Prelude.{◌≡◌, length};
 
-use channel::{Channel, ChannelAnswer, ChannelConfig, ChannelStats, ProcessAnswer, Rolls};
-use refusal::{CountAnswer, DoneAnswer, TestAnswer};
+use channel::{Channel, ChannelConfig, ChannelStats, Rolls};
+use refusal::Refusal;
 use replay_io::{Fields, Lines};
-use schedule::{
-    ChannelScheduler, DeadlineAnswer, Deliveries, OwnedSchedule, PopResult, ReadyAnswer,
-    ScheduleResult, Scheduled,
-};
+use schedule::{ChannelScheduler, Deliveries, OwnedSchedule, PopResult, ScheduleResult, Scheduled};
 use std::io;
 use std::io::Write;
 
@@ -238,13 +235,17 @@ fn fill_records(records: &mut [[u64; 4]]) {
     }
 }
 
-fn channel_or(writer: &mut impl Write, a: ChannelAnswer, before: Channel) -> io::Result<Channel> {
+fn channel_or(
+    writer: &mut impl Write,
+    a: Result<Channel, Refusal>,
+    before: Channel,
+) -> io::Result<Channel> {
     match a {
-        ChannelAnswer::Made(c) => {
+        Ok(c) => {
             replay_io::print(writer, b" made")?;
             Ok(c)
         }
-        ChannelAnswer::Refused(r) => {
+        Err(r) => {
             replay_io::print_refusal(writer, r)?;
             Ok(before)
         }
@@ -514,13 +515,16 @@ fn deliveries_of(copies: u64, first: u64, second: u64) -> Deliveries {
     Deliveries::Two(first, second)
 }
 
-fn print_process(writer: &mut impl Write, a: ProcessAnswer) -> io::Result<Deliveries> {
+fn print_process(
+    writer: &mut impl Write,
+    a: Result<Deliveries, Refusal>,
+) -> io::Result<Deliveries> {
     match a {
-        ProcessAnswer::Delivered(d) => {
+        Ok(d) => {
             print_deliveries(writer, d)?;
             Ok(d)
         }
-        ProcessAnswer::Refused(r) => {
+        Err(r) => {
             replay_io::print_refusal(writer, r)?;
             Ok(Deliveries::Lost)
         }
@@ -551,40 +555,40 @@ fn print_stats(writer: &mut impl Write, s: ChannelStats) -> io::Result<()> {
     replay_io::print_number(writer, s.copies_delivered)
 }
 
-fn print_done(writer: &mut impl Write, a: DoneAnswer) -> io::Result<()> {
+fn print_done(writer: &mut impl Write, a: Result<(), Refusal>) -> io::Result<()> {
     match a {
-        DoneAnswer::Done => replay_io::print(writer, b" done"),
-        DoneAnswer::Refused(r) => replay_io::print_refusal(writer, r),
+        Ok(()) => replay_io::print(writer, b" done"),
+        Err(r) => replay_io::print_refusal(writer, r),
     }
 }
 
-fn print_ready(writer: &mut impl Write, a: ReadyAnswer) -> io::Result<()> {
+fn print_ready(writer: &mut impl Write, a: Result<Option<usize>, Refusal>) -> io::Result<()> {
     match a {
-        ReadyAnswer::Packet(n) => replay_io::print_number(writer, n as u64),
-        ReadyAnswer::Nothing => replay_io::print(writer, b" none"),
-        ReadyAnswer::Refused(r) => replay_io::print_refusal(writer, r),
+        Ok(Some(n)) => replay_io::print_number(writer, n as u64),
+        Ok(None) => replay_io::print(writer, b" none"),
+        Err(r) => replay_io::print_refusal(writer, r),
     }
 }
 
-fn print_deadline(writer: &mut impl Write, a: DeadlineAnswer) -> io::Result<()> {
+fn print_deadline(writer: &mut impl Write, a: Result<Option<u64>, Refusal>) -> io::Result<()> {
     match a {
-        DeadlineAnswer::At(x) => replay_io::print_number(writer, x),
-        DeadlineAnswer::Nothing => replay_io::print(writer, b" none"),
-        DeadlineAnswer::Refused(r) => replay_io::print_refusal(writer, r),
+        Ok(Some(x)) => replay_io::print_number(writer, x),
+        Ok(None) => replay_io::print(writer, b" none"),
+        Err(r) => replay_io::print_refusal(writer, r),
     }
 }
 
-fn print_count(writer: &mut impl Write, a: CountAnswer) -> io::Result<()> {
+fn print_count(writer: &mut impl Write, a: Result<usize, Refusal>) -> io::Result<()> {
     match a {
-        CountAnswer::Count(n) => replay_io::print_number(writer, n as u64),
-        CountAnswer::Refused(r) => replay_io::print_refusal(writer, r),
+        Ok(n) => replay_io::print_number(writer, n as u64),
+        Err(r) => replay_io::print_refusal(writer, r),
     }
 }
 
-fn print_test(writer: &mut impl Write, a: TestAnswer) -> io::Result<()> {
+fn print_test(writer: &mut impl Write, a: Result<bool, Refusal>) -> io::Result<()> {
     match a {
-        TestAnswer::Is(b) => replay_io::print_test(writer, b),
-        TestAnswer::Refused(r) => replay_io::print_refusal(writer, r),
+        Ok(b) => replay_io::print_test(writer, b),
+        Err(r) => replay_io::print_refusal(writer, r),
     }
 }
 

@@ -1,4 +1,5 @@
 -- One law a return.
+use Rattle.std.specs.Prelude.{Err, None, Ok, Result, Some}
 use Prim.Native.Nat.{ℕ, ◌+◌, ◌-◌, zero-le}
 use mathlib.Core.Path.{◌≡◌, refl, sym, ap, ◌∙◌}
 use mathlib.Core.Bool.{Bool, true, false, ◌||◌}
@@ -7,22 +8,13 @@ use mathlib.Core.Option.{Option, none, some}
 use native.Mathlib.Omega.{arith}
 use Rattle.timer.specs.Timer.{new_timer, expired_at, started_at_unchecked, cancelled_unchecked}
 use Rattle.timer.specs.declared.RetransmissionTimer.{RetransmissionTimer}
-use Rattle.timer.specs.declared.Deadline.{Deadline}
-use Rattle.timer.specs.declared.Deadline.TheVariants.{Unset, At}
 use Rattle.refusal.specs.declared.Refusal.{Refusal}
 use Rattle.multi_timer.specs.Map.{Entry, deadlines_of, due_keys, earliest}
 use Rattle.multi_timer.specs.MultiTimer.{timers_exit, used, broken, new_unchecked, start_timer_at_unchecked, cancel_timer_unchecked, next_key, next_expired_unchecked, earliest_answer, earliest_deadline_unchecked}
 use Rattle.multi_timer.specs.declared.MultiTimer.{MultiTimer}
-use Rattle.multi_timer.specs.declared.NextKey.{NextKey}
-use Rattle.multi_timer.specs.declared.NextKey as next
-use Rattle.multi_timer.specs.declared.EarliestAnswer.{EarliestAnswer}
-use Rattle.multi_timer.specs.declared.EarliestAnswer as first
 use Rattle.multi_timer.proofs.Laws.{used_ascending, due_from_all, next_key_lem, next_nothing}
 use Rattle.rto.specs.declared.RtoEstimator.{RtoEstimator}
 use Rattle.notes.specs.Notes.{SegMetas, rto_at_send, expiry, sample_exit, take_sample}
-use Rattle.notes.specs.declared.Expiry.{Expiry}
-use Rattle.notes.specs.declared.Expiry as expiration
-use Rattle.notes.specs.declared.Sample.{Sample}
 use Rattle.clock.specs.EditionClock.{on_send, on_ack, idle_expiry}
 use Rattle.clock.specs.Clock.{ClockState, clock, timer_of, timers_of, with_timer, new_clock, is_oldest, is_outstanding, arm_oldest, Submission, arm_after_submit, cancel_number, Accepted, rearm_after_ack, single_due, due, as_deadline, next_deadline, sample_rtt_exit, by_sample, sample_rtt}
 use Rattle.clock.specs.declared.Clock.{Clock}
@@ -30,8 +22,6 @@ use Rattle.clock.specs.declared.Timing.{Timing}
 use Rattle.clock.specs.declared.Timing as timing
 use Rattle.clock.specs.declared.Due.{Due}
 use Rattle.clock.specs.declared.Due as ran
-use Rattle.session.specs.declared.Oldest.{Oldest}
-use Rattle.session.specs.declared.Oldest.TheVariants.{Number, Nothing}
 
 pub new_law : (ks ds : List ℕ) {t : RetransmissionTimer} {ts : MultiTimer} {ks' ds' : List ℕ} → t ≡ new_timer → timers_exit ts ks' ds' ≡ new_unchecked ks ds → timers_exit (clock t ts) ks' ds' ≡ new_clock ks ds
 unfolding new_clock
@@ -39,16 +29,16 @@ new_law ks ds p q = rw (p, ← q)
 
 -- ---- `arm_oldest`
 module _ (t : RetransmissionTimer) (m : SegMetas) (now : ℕ) where
-  pub arm_none : {o : Oldest} → o ≡ Nothing → cancelled_unchecked t ≡ arm_oldest t m now o
+  pub arm_none : {o : Option ℕ} → o ≡ None → cancelled_unchecked t ≡ arm_oldest t m now o
   unfolding arm_oldest
   arm_none e = rw e
 
-  module _ {o : Oldest} {seq : ℕ} {x : Expiry} (e : o ≡ Number seq) (p : x ≡ expiry m seq) where
-    pub arm_missing : x ≡ expiration.TheVariants.Nothing → cancelled_unchecked t ≡ arm_oldest t m now o
+  module _ {o : Option ℕ} {seq : ℕ} {x : Option ℕ} (e : o ≡ Some seq) (p : x ≡ expiry m seq) where
+    pub arm_missing : x ≡ None → cancelled_unchecked t ≡ arm_oldest t m now o
     unfolding arm_oldest
     arm_missing q = rw (e, ← p, q)
 
-    pub arm_until : {d k : ℕ} → x ≡ expiration.TheVariants.At d → k ≡ d - now → started_at_unchecked t now k ≡ arm_oldest t m now o
+    pub arm_until : {d k : ℕ} → x ≡ Some d → k ≡ d - now → started_at_unchecked t now k ≡ arm_oldest t m now o
     unfolding arm_oldest
     arm_until q r = rw (e, ← p, q, r)
 
@@ -106,63 +96,63 @@ module _ (s : ClockState) (now : ℕ) (outstanding : Bool) {t : Timing} where
   unfolding due
   due_edition e p = rw e p
 
-  module _ (w : broken (timers_of s).count s.keys s.deadlines ≡ false) {n : NextKey} (p : n ≡ next_expired_unchecked (timers_of s) s.keys s.deadlines 0 now) (e : t ≡ timing.TheVariants.PerNumber) where
+  module _ (w : broken (timers_of s).count s.keys s.deadlines ≡ false) {n : Option ℕ} (p : n ≡ next_expired_unchecked (timers_of s) s.keys s.deadlines 0 now) (e : t ≡ timing.TheVariants.PerNumber) where
     abbrev es : List Entry
     es = used (timers_of s) s.keys s.deadlines
 
     met : n ≡ next_key (due_keys now es)
     met = p ∙ ap next_key (due_from_all 0 now 0 es (used_ascending (timers_of s) s.keys s.deadlines w) zero-le)
 
-    pub due_numbers : {k : ℕ} → n ≡ next.TheVariants.Key k → ran.TheVariants.Numbers ≡ due t s now outstanding
+    pub due_numbers : {k : ℕ} → n ≡ Some k → ran.TheVariants.Numbers ≡ due t s now outstanding
     unfolding due
     due_numbers {k} f = let r = next_key_lem (due_keys now es) k (sym met ∙ f) in rw (e, r.1)
 
-    pub due_none : n ≡ next.TheVariants.Nothing → ran.TheVariants.Nothing ≡ due t s now outstanding
+    pub due_none : n ≡ None → ran.TheVariants.Nothing ≡ due t s now outstanding
     unfolding due
     due_none f = rw (e, next_nothing (due_keys now es) (sym met ∙ f))
 
 -- ---- `next_deadline`
 module _ (s : ClockState) {t : Timing} where
-  pub deadline_single : {d : Deadline} → t ≡ timing.TheVariants.Single → d ≡ (timer_of s).deadline → d ≡ next_deadline t s
+  pub deadline_single : {d : Option ℕ} → t ≡ timing.TheVariants.Single → d ≡ (timer_of s).deadline → d ≡ next_deadline t s
   unfolding next_deadline
   deadline_single e p = rw e p
 
-  pub deadline_edition : {d : Deadline} → t ≡ timing.TheVariants.Edition → d ≡ (timer_of s).deadline → d ≡ next_deadline t s
+  pub deadline_edition : {d : Option ℕ} → t ≡ timing.TheVariants.Edition → d ≡ (timer_of s).deadline → d ≡ next_deadline t s
   unfolding next_deadline
   deadline_edition e p = rw e p
 
-  module _ {a : EarliestAnswer} (e : t ≡ timing.TheVariants.PerNumber) (p : a ≡ earliest_deadline_unchecked (timers_of s) s.keys s.deadlines) where
+  module _ {a : Result (Option ℕ) Refusal} (e : t ≡ timing.TheVariants.PerNumber) (p : a ≡ earliest_deadline_unchecked (timers_of s) s.keys s.deadlines) where
     abbrev o : Option ℕ
     o = earliest (deadlines_of (used (timers_of s) s.keys s.deadlines))
 
-    answer_at : (o : Option ℕ) (d : ℕ) → earliest_answer o ≡ first.TheVariants.At d → At d ≡ as_deadline o
+    answer_at : (o : Option ℕ) (d : ℕ) → earliest_answer o ≡ Ok (Some d) → Some d ≡ as_deadline o
     answer_at none d q = let z : ◌≡◌ {A = ℕ} 0 1 = cc in absurd (omega arith)
-    answer_at (some x) d q = ap At (same q)
+    answer_at (some x) d q = ap Some (same q)
       where
-        same : first.TheVariants.At x ≡ first.TheVariants.At d → d ≡ x
+        same : Ok (Some x) ≡ Ok (Some d) → d ≡ x
         same q = cc
 
-    answer_none : (o : Option ℕ) → earliest_answer o ≡ first.TheVariants.Nothing → Unset ≡ as_deadline o
+    answer_none : (o : Option ℕ) → earliest_answer o ≡ Ok None → None ≡ as_deadline o
     answer_none none q = refl
     answer_none (some x) q = let z : ◌≡◌ {A = ℕ} 0 1 = cc in absurd (omega arith)
 
-    answer_refused : (o : Option ℕ) (r : Refusal) → earliest_answer o ≡ first.TheVariants.Refused r → Unset ≡ as_deadline o
+    answer_refused : (o : Option ℕ) (r : Refusal) → earliest_answer o ≡ Err r → None ≡ as_deadline o
     answer_refused none r q = refl
     answer_refused (some x) r q = let z : ◌≡◌ {A = ℕ} 0 1 = cc in absurd (omega arith)
 
-    pub deadline_at : {d : ℕ} → a ≡ first.TheVariants.At d → At d ≡ next_deadline t s
+    pub deadline_at : {d : ℕ} → a ≡ Ok (Some d) → Some d ≡ next_deadline t s
     unfolding next_deadline
     deadline_at {d} q = rw e (answer_at o d (sym p ∙ q))
 
-    pub deadline_none : a ≡ first.TheVariants.Nothing → Unset ≡ next_deadline t s
+    pub deadline_none : a ≡ Ok None → None ≡ next_deadline t s
     unfolding next_deadline
     deadline_none q = rw e (answer_none o (sym p ∙ q))
 
-    pub deadline_refused : {r : Refusal} → a ≡ first.TheVariants.Refused r → Unset ≡ next_deadline t s
+    pub deadline_refused : {r : Refusal} → a ≡ Err r → None ≡ next_deadline t s
     unfolding next_deadline
     deadline_refused {r} q = rw e (answer_refused o r (sym p ∙ q))
 
 -- ---- `sample_rtt`
-pub sample_law : (e : RtoEstimator) (m : SegMetas) (seq now : ℕ) {m' : SegMetas} {x y : Sample} → sample_exit m' x ≡ take_sample m seq now → x ≡ y → sample_rtt_exit m' (by_sample e y) ≡ sample_rtt e m seq now
+pub sample_law : (e : RtoEstimator) (m : SegMetas) (seq now : ℕ) {m' : SegMetas} {x y : Option (ℕ × Bool)} → sample_exit m' x ≡ take_sample m seq now → x ≡ y → sample_rtt_exit m' (by_sample e y) ≡ sample_rtt e m seq now
 unfolding sample_rtt
 sample_law e m seq now p q = rw (← q, ← p)

@@ -1,4 +1,5 @@
 -- The deadlines that the calls set, and the numbers whose timers run.
+use Rattle.std.specs.Prelude.{Some}
 use Prim.Native.Nat.{ℕ, ◌+◌, ◌-◌, ◌≤◌, ◌<◌}
 use mathlib.Core.Path.{◌≡◌, refl, ◌∙◌}
 use mathlib.Core.Bool.{Bool, true, false, cond, ◌||◌, true≢false}
@@ -10,7 +11,6 @@ use borrow.Author.Tests.{ltb-false, le-ltb}
 use Rattle.bounds.specs.Bounds.{max_time}
 use Rattle.timer.specs.Timer.{deadline_too_late, started_at_unchecked}
 use Rattle.timer.specs.declared.RetransmissionTimer.{RetransmissionTimer}
-use Rattle.timer.specs.declared.Deadline.TheVariants.{At}
 use Rattle.multi_timer.specs.Map.{Entry, deadlines_of, put, remove, due_keys, min_of, earliest}
 use Rattle.multi_timer.specs.MultiTimer.{used, broken, any_late}
 use Rattle.multi_timer.proofs.Laws.{start_holds, cancel_holds, used_times}
@@ -20,10 +20,9 @@ use Rattle.clock.specs.Clock.{ClockState, timer_of, timers_of, with_timer, is_ol
 use Rattle.clock.specs.declared.Timing.{Timing}
 use Rattle.clock.specs.declared.Timing.TheVariants.{Single, PerNumber, Edition}
 use Rattle.clock.specs.declared.Due as ran
-use Rattle.session.specs.declared.Oldest.TheVariants.{Number}
 
 -- ---- the single timer runs out at the oldest segment's deadline, or now if that is past
-pub arm_oldest_deadline : (t : RetransmissionTimer) (m : SegMetas) (now seq : ℕ) → seq < m.notes.count → (arm_oldest t m now (Number seq)).deadline ≡ At (now + (deadline_of (meta_at m seq) - now))
+pub arm_oldest_deadline : (t : RetransmissionTimer) (m : SegMetas) (now seq : ℕ) → seq < m.notes.count → (arm_oldest t m now (Some seq)).deadline ≡ Some (now + (deadline_of (meta_at m seq) - now))
 unfolding arm_oldest started_at_unchecked
 arm_oldest_deadline t m now seq h = rw (expiry_noted m seq h)
 

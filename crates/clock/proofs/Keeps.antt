@@ -1,5 +1,6 @@
 -- What every call keeps: the timers' checks are false, and each number with a timer lies in the window, so that a start
 -- there finds an entry.
+use Rattle.std.specs.Prelude.{None, Option, Some}
 use Prim.Native.Nat.{ℕ, ◌+◌, ◌-◌, ◌≤◌, ◌<◌}
 use mathlib.Core.Path.{◌≡◌, refl, sym, ap, ◌∙◌}
 use mathlib.Core.Bool.{Bool, true, false, cond, not, ◌||◌}
@@ -17,30 +18,26 @@ use Rattle.multi_timer.specs.Map.{deadlines_of}
 use Rattle.multi_timer.specs.MultiTimer.{timers_exit, used, broken, any_late}
 use Rattle.multi_timer.proofs.Laws.{new_holds, start_holds, cancel_holds, start_times, cancel_times, Within, within_none, within_put, within_remove, start_full_within}
 use Rattle.notes.specs.Notes.{SegMetas, rto_at_send, expiry, Timely}
-use Rattle.notes.specs.declared.Expiry.{Expiry}
-use Rattle.notes.specs.declared.Expiry as expiration
 use Rattle.notes.proofs.Laws.{rto_within, expiry_within}
 use Rattle.clock.specs.EditionClock.{is_running, on_send, on_ack}
 use Rattle.clock.specs.Clock.{ClockState, timer_of, timers_of, with_timer, new_clock, is_oldest, is_outstanding, arm_until, arm_oldest, Submission, arm_after_submit, cancel_number, Accepted, rearm_after_ack, cancel, Held, CanRearm, CanArm}
 use Rattle.clock.specs.declared.Clock.{Clock}
 use Rattle.clock.specs.declared.Timing.{Timing}
 use Rattle.clock.specs.declared.Timing as timing
-use Rattle.session.specs.declared.Oldest.{Oldest}
-use Rattle.session.specs.declared.Oldest.TheVariants.{Number, Nothing}
 
 -- ---- the single timer
 started_held : (t : RetransmissionTimer) (now rto : ℕ) → deadline_too_late t.deadline ≡ false → now ≤ max_duration → rto ≤ max_duration → deadline_too_late (started_at_unchecked t now rto).deadline ≡ false
 started_held t now rto h p q = start_held t now rto (start_too_late_within t now rto h p q)
 
 module _ (t : RetransmissionTimer) (h : deadline_too_late t.deadline ≡ false) where
-  pub arm_oldest_held : (m : SegMetas) (now : ℕ) (o : Oldest) → Timely m now → deadline_too_late (arm_oldest t m now o).deadline ≡ false
+  pub arm_oldest_held : (m : SegMetas) (now : ℕ) (o : Option ℕ) → Timely m now → deadline_too_late (arm_oldest t m now o).deadline ≡ false
   unfolding arm_oldest
-  arm_oldest_held m now Nothing w = cancel_held t
-  arm_oldest_held m now (Number seq) w = go (expiry m seq) refl
+  arm_oldest_held m now None w = cancel_held t
+  arm_oldest_held m now (Some seq) w = go (expiry m seq) refl
     where
-      go : (x : Expiry) → expiry m seq ≡ x → deadline_too_late (arm_until t now x).deadline ≡ false
-      go expiration.TheVariants.Nothing e = cancel_held t
-      go (expiration.TheVariants.At d) e = started_held t now (d - now) h w.within (expiry_within m seq now d w e).ahead
+      go : (x : Option ℕ) → expiry m seq ≡ x → deadline_too_late (arm_until t now x).deadline ≡ false
+      go None e = cancel_held t
+      go (Some d) e = started_held t now (d - now) h w.within (expiry_within m seq now d w e).ahead
 
   pub on_send_held : (now rto : ℕ) → now ≤ max_duration → rto ≤ max_duration → deadline_too_late (on_send t now rto).deadline ≡ false
   unfolding on_send

@@ -1,9 +1,9 @@
 -- RFC 6298, section 5, of the edition clock, in the RFC's order; and where the source's own timing does the same.
+use Rattle.std.specs.Prelude.{None, Some}
 use Prim.Native.Nat.{ℕ, ◌+◌, ◌*◌}
 use mathlib.Core.Path.{◌≡◌, refl}
 use mathlib.Core.Bool.{Bool, true, false}
 use Rattle.timer.specs.Timer.{expired_at, started_at_unchecked, cancelled_unchecked}
-use Rattle.timer.specs.declared.Deadline.TheVariants.{Unset, At}
 use Rattle.rto.specs.Rto.{limited, on_timeout_unchecked}
 use Rattle.rto.specs.declared.RtoEstimator.{RtoEstimator}
 use Rattle.notes.specs.Notes.{SegMetas}
@@ -12,11 +12,10 @@ use Rattle.clock.specs.Clock.{ClockState, timer_of, with_timer, arm_oldest, Subm
 use Rattle.clock.specs.declared.Clock.{Clock}
 use Rattle.clock.specs.declared.Timing.TheVariants.{Single, Edition}
 use Rattle.clock.specs.declared.Due as ran
-use Rattle.session.specs.declared.Oldest.TheVariants.{Number, Nothing}
 
 module _ (s : ClockState) (m : SegMetas) where
   -- (5.1): a packet that is sent, also again, starts a timer that isn't running, to expire after the RTO
-  pub rfc_5_1 : (x : Submission) → is_running (timer_of s) ≡ false → (timer_of (arm_after_submit Edition s m x)).deadline ≡ At (x.time + x.rto)
+  pub rfc_5_1 : (x : Submission) → is_running (timer_of s) ≡ false → (timer_of (arm_after_submit Edition s m x)).deadline ≡ Some (x.time + x.rto)
   unfolding arm_after_submit on_send started_at_unchecked
   rfc_5_1 x e = rw e
 
@@ -26,17 +25,17 @@ module _ (s : ClockState) (m : SegMetas) where
   rfc_5_1_running x e = rw e
 
   -- (5.3): an ACK of new data restarts it, to expire after the current RTO
-  pub rfc_5_3 : (x : Accepted) → {seq : ℕ} → x.oldest ≡ Number seq → (timer_of (rearm_after_ack Edition s m x)).deadline ≡ At (x.time + x.rto)
+  pub rfc_5_3 : (x : Accepted) → {seq : ℕ} → x.oldest ≡ Some seq → (timer_of (rearm_after_ack Edition s m x)).deadline ≡ Some (x.time + x.rto)
   unfolding rearm_after_ack on_ack started_at_unchecked
   rfc_5_3 x e = rw e
 
   -- (5.2), from which document 01 departs: with nothing outstanding it runs on, restarted
-  pub departs_5_2 : (x : Accepted) → x.oldest ≡ Nothing → (timer_of (rearm_after_ack Edition s m x)).deadline ≡ At (x.time + x.rto)
+  pub departs_5_2 : (x : Accepted) → x.oldest ≡ None → (timer_of (rearm_after_ack Edition s m x)).deadline ≡ Some (x.time + x.rto)
   unfolding rearm_after_ack on_ack started_at_unchecked
   departs_5_2 x e = rw e
 
   -- the source's own timing follows (5.2)
-  pub single_5_2 : (x : Accepted) → x.oldest ≡ Nothing → (timer_of (rearm_after_ack Single s m x)).deadline ≡ Unset
+  pub single_5_2 : (x : Accepted) → x.oldest ≡ None → (timer_of (rearm_after_ack Single s m x)).deadline ≡ None
   unfolding rearm_after_ack arm_oldest cancelled_unchecked
   single_5_2 x e = rw e
 
@@ -56,14 +55,14 @@ module _ (s : ClockState) (now : ℕ) where
   unfolding due
   not_due outstanding e = rw e
 
-pub stopped : (c : Clock) → (cancel c).timer.deadline ≡ Unset
+pub stopped : (c : Clock) → (cancel c).timer.deadline ≡ None
 unfolding cancel cancelled_unchecked
 stopped c = refl
 
 -- (5.4) to (5.6), the clock's part: the timer is stopped, the RTO doubled within its limits, and the packet that is then
 -- sent starts the timer with the doubled RTO
 pub rfc_5_6 : (s : ClockState) (m : SegMetas) (e : RtoEstimator) (x : Submission) → x.rto ≡ (on_timeout_unchecked e).current_rto
-    → (timer_of (arm_after_submit Edition (with_timer s (cancelled_unchecked (timer_of s))) m x)).deadline ≡ At (x.time + limited e.config (e.current_rto * 2))
+    → (timer_of (arm_after_submit Edition (with_timer s (cancelled_unchecked (timer_of s))) m x)).deadline ≡ Some (x.time + limited e.config (e.current_rto * 2))
 unfolding arm_after_submit on_send started_at_unchecked cancelled_unchecked on_timeout_unchecked
 rfc_5_6 s m e x p = rw p
 

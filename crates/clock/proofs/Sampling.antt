@@ -1,4 +1,5 @@
 -- What a sample does to the estimator and to the notes.
+use Rattle.std.specs.Prelude.{None, Option, Some}
 use Prim.Native.Nat.{ℕ, ◌+◌, ◌-◌, ◌≤◌}
 use mathlib.Core.Path.{◌≡◌, refl, ap}
 use mathlib.Core.Bool.{Bool, true, false}
@@ -12,8 +13,6 @@ use Rattle.rto.specs.declared.RtoEstimator.{RtoEstimator}
 use Rattle.rto.proofs.Laws.{Doubles, Good, accept_good, reject_good}
 use Rattle.notes.specs.SegMeta.{with_rtt_sampled}
 use Rattle.notes.specs.Notes.{SegMetas, meta_at, update, SampleExit, take_sample}
-use Rattle.notes.specs.declared.Sample.{Sample}
-use Rattle.notes.specs.declared.Sample.TheVariants.{Rtt, Nothing}
 use Rattle.notes.proofs.Laws.{sample_cases, sample_within}
 use Rattle.clock.specs.Clock.{sample_rtt_exit, by_sample, sample_rtt}
 
@@ -24,11 +23,11 @@ pub record Counted (before after : RtoEstimator) : Type 0 where
   pub timeouts : after.stats.timeout_count ≡ before.stats.timeout_count
   pub backoffs : after.stats.backoff_count ≡ before.stats.backoff_count
 
-counted : (e : RtoEstimator) (x : Sample) → Counted e (by_sample e x)
+counted : (e : RtoEstimator) (x : Option (ℕ × Bool)) → Counted e (by_sample e x)
 unfolding accept_sample reject_sample sampled
-counted e Nothing = record { config = refl; samples = omega arith; timeouts = refl; backoffs = refl }
-counted e (Rtt d true) = record { config = refl; samples = omega arith; timeouts = refl; backoffs = refl }
-counted e (Rtt d false) = record { config = refl; samples = omega arith; timeouts = refl; backoffs = refl }
+counted e None = record { config = refl; samples = omega arith; timeouts = refl; backoffs = refl }
+counted e (Some (d, true)) = record { config = refl; samples = omega arith; timeouts = refl; backoffs = refl }
+counted e (Some (d, false)) = record { config = refl; samples = omega arith; timeouts = refl; backoffs = refl }
 
 module _ (e : RtoEstimator) (m : SegMetas) (seq now : ℕ) where
   -- the notes are those that `take_sample` leaves
@@ -50,9 +49,9 @@ module _ (e : RtoEstimator) (m : SegMetas) (seq now : ℕ) where
       by d true l = reject_good e g
       by d false l = accept_good e d f g l
 
-      go : (x : Sample) → (take_sample m seq now).sample ≡ x → Good (by_sample e x)
-      go Nothing p = g
-      go (Rtt d again) p = by d again (le_trans (sample_within m seq now d again p) h)
+      go : (x : Option (ℕ × Bool)) → (take_sample m seq now).sample ≡ x → Good (by_sample e x)
+      go None p = g
+      go (Some (d, again)) p = by d again (le_trans (sample_within m seq now d again p) h)
 
   pub sample_rtt_counts : Counted e (sample_rtt e m seq now).estimator
   unfolding sample_rtt

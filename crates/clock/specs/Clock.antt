@@ -1,12 +1,10 @@
 -- When a run sends again: the reference's `app/transfer.rs`, `arm_after_submit`, `arm_oldest`, `rearm_after_ack`,
 -- `due`, `next_deadline` and `sample_rtt`; and the edition clock in their place.
-use Rattle.std.specs.Prelude.{ℕ, ◌+◌, ◌-◌, ◌≤◌, ◌≡◌, Bool, true, false, cond, ◌||◌, List, [], ◌∷◌, eqb, length}
+use Rattle.std.specs.Prelude.{ℕ, ◌+◌, ◌-◌, ◌≤◌, ◌≡◌, Bool, true, false, cond, ◌||◌, List, [], ◌∷◌, eqb, length, None, Some}
 use Rattle.std.proofs.Math.Option.{Option, none, some}
 use Rattle.bounds.specs.Bounds.{max_duration}
 use Rattle.timer.specs.Timer.{new_timer, deadline_too_late, expired_at, started_at_unchecked, cancelled_unchecked}
 use Rattle.timer.specs.declared.RetransmissionTimer.{RetransmissionTimer}
-use Rattle.timer.specs.declared.Deadline.{Deadline}
-use Rattle.timer.specs.declared.Deadline as deadline
 use Rattle.multi_timer.specs.Map.{deadlines_of, due_keys, earliest}
 use Rattle.multi_timer.specs.MultiTimer.{TimersExit, timers_exit, answering, used, broken, held_too_late, start_full}
 use Rattle.multi_timer.specs.MultiTimer.{new_unchecked, start_timer_at_unchecked, cancel_timer_unchecked}
@@ -14,18 +12,12 @@ use Rattle.multi_timer.specs.declared.MultiTimer.{MultiTimer}
 use Rattle.rto.specs.Rto.{state_broken, counts_full, update_rtt_unchecked}
 use Rattle.rto.specs.declared.RtoEstimator.{RtoEstimator}
 use Rattle.notes.specs.Notes.{SegMetas, rto_at_send, expiry, take_sample, Timely}
-use Rattle.notes.specs.declared.Expiry.{Expiry}
-use Rattle.notes.specs.declared.Expiry as expiration
-use Rattle.notes.specs.declared.Sample.{Sample}
-use Rattle.notes.specs.declared.Sample as sample
 use Rattle.clock.specs.EditionClock.{on_send, on_ack, idle_expiry}
 use Rattle.clock.specs.declared.Clock.{Clock}
 use Rattle.clock.specs.declared.Timing.{Timing}
 use Rattle.clock.specs.declared.Timing as timing
 use Rattle.clock.specs.declared.Due.{Due}
 use Rattle.clock.specs.declared.Due as ran
-use Rattle.session.specs.declared.Oldest.{Oldest}
-use Rattle.session.specs.declared.Oldest.TheVariants.{Number, Nothing}
 
 -- ---- a clock with the slices of its timer set
 abbrev pub ClockState : Type 0
@@ -50,22 +42,22 @@ unfoldable pub new_clock : List ℕ → List ℕ → ClockState
 new_clock ks ds = answering (clock new_timer) (new_unchecked ks ds)
 
 -- ---- the lowest outstanding number
-abbrev pub is_oldest : Oldest → ℕ → Bool
-is_oldest Nothing seq = false
-is_oldest (Number n) seq = eqb n seq
+abbrev pub is_oldest : Option ℕ → ℕ → Bool
+is_oldest None seq = false
+is_oldest (Some n) seq = eqb n seq
 
-abbrev pub is_outstanding : Oldest → Bool
-is_outstanding Nothing = false
-is_outstanding (Number n) = true
+abbrev pub is_outstanding : Option ℕ → Bool
+is_outstanding None = false
+is_outstanding (Some n) = true
 
 -- `arm_oldest`: the oldest outstanding segment's timer runs from its last sending, for the RTO of that time
-abbrev pub arm_until : RetransmissionTimer → ℕ → Expiry → RetransmissionTimer
-arm_until t now expiration.TheVariants.Nothing = cancelled_unchecked t
-arm_until t now (expiration.TheVariants.At d) = started_at_unchecked t now (d - now)
+abbrev pub arm_until : RetransmissionTimer → ℕ → Option ℕ → RetransmissionTimer
+arm_until t now None = cancelled_unchecked t
+arm_until t now (Some d) = started_at_unchecked t now (d - now)
 
-unfoldable pub arm_oldest : RetransmissionTimer → SegMetas → ℕ → Oldest → RetransmissionTimer
-arm_oldest t m now Nothing = cancelled_unchecked t
-arm_oldest t m now (Number seq) = arm_until t now (expiry m seq)
+unfoldable pub arm_oldest : RetransmissionTimer → SegMetas → ℕ → Option ℕ → RetransmissionTimer
+arm_oldest t m now None = cancelled_unchecked t
+arm_oldest t m now (Some seq) = arm_until t now (expiry m seq)
 
 -- ---- `arm_after_submit`: after the segment `seq` went to the channel; `rto` is the current one
 pub record Submission : Type 0 where
@@ -73,7 +65,7 @@ pub record Submission : Type 0 where
   pub seq : ℕ
   pub rto : ℕ
   pub retransmission : Bool
-  pub oldest : Oldest
+  pub oldest : Option ℕ
 
 unfoldable pub arm_after_submit : Timing → ClockState → SegMetas → Submission → ClockState
 arm_after_submit timing.TheVariants.Single s m x =
@@ -93,7 +85,7 @@ pub record Accepted : Type 0 where
   pub time : ℕ
   pub seq : ℕ
   pub rto : ℕ
-  pub oldest : Oldest
+  pub oldest : Option ℕ
 
 unfoldable pub rearm_after_ack : Timing → ClockState → SegMetas → Accepted → ClockState
 rearm_after_ack timing.TheVariants.Single s m x = with_timer s (arm_oldest (timer_of s) m x.time x.oldest)
@@ -124,11 +116,11 @@ due timing.TheVariants.Edition s now outstanding =
     single_due (expired_at (timer_of s).deadline now) outstanding idle_expiry
 
 -- ---- `next_deadline`, of the timers
-abbrev pub as_deadline : Option ℕ → Deadline
-as_deadline none = deadline.TheVariants.Unset
-as_deadline (some d) = deadline.TheVariants.At d
+abbrev pub as_deadline : Option ℕ → Option ℕ
+as_deadline none = None
+as_deadline (some d) = Some d
 
-unfoldable pub next_deadline : Timing → ClockState → Deadline
+unfoldable pub next_deadline : Timing → ClockState → Option ℕ
 next_deadline timing.TheVariants.Single s = (timer_of s).deadline
 next_deadline timing.TheVariants.PerNumber s =
     as_deadline (earliest (deadlines_of (used (timers_of s) s.keys s.deadlines)))
@@ -142,9 +134,9 @@ pub record SampleRttExit : Type 0 where
 abbrev pub sample_rtt_exit : SegMetas → RtoEstimator → SampleRttExit
 sample_rtt_exit m e = record { metas = m; estimator = e }
 
-abbrev pub by_sample : RtoEstimator → Sample → RtoEstimator
-by_sample e (sample.TheVariants.Rtt d retransmitted) = update_rtt_unchecked e d retransmitted
-by_sample e sample.TheVariants.Nothing = e
+abbrev pub by_sample : RtoEstimator → Option (ℕ × Bool) → RtoEstimator
+by_sample e (Some (d, retransmitted)) = update_rtt_unchecked e d retransmitted
+by_sample e None = e
 
 unfoldable pub sample_rtt : RtoEstimator → SegMetas → ℕ → ℕ → SampleRttExit
 sample_rtt e m seq now =

@@ -12,11 +12,10 @@ ghost use Rattle.clock.specs.Clock.{clock, new_clock, is_oldest, arm_oldest, arm
 ghost use Rattle.clock.specs.Clock.{rearm_after_ack, cancel, single_due, due, next_deadline, sample_rtt_exit};
 ghost use Rattle.clock.specs.Clock.{sample_rtt, Held, CanRearm, CanArm, CanSample};
 
-use multi_timer::{EarliestAnswer, MultiTimer, NextKey};
-use notes::{Expiry, Note, Notes, Sample};
+use multi_timer::MultiTimer;
+use notes::{Note, Notes};
 use rto::RtoEstimator;
-use session::Oldest;
-use timer::{Deadline, RetransmissionTimer};
+use timer::RetransmissionTimer;
 
 #[derive(Clone, Copy)]
 pub enum Timing {
@@ -60,8 +59,8 @@ pub fn sample_rtt_unchecked(
 {
     let taken = notes.take_sample_unchecked(rows, seq, now);
     match taken {
-        Sample::Nothing => estimator,
-        Sample::Rtt(sample, retransmitted) => estimator.update_rtt_unchecked(sample, retransmitted),
+        None => estimator,
+        Some((sample, retransmitted)) => estimator.update_rtt_unchecked(sample, retransmitted),
     }
 }
 
@@ -90,7 +89,7 @@ impl Clock {
         now: u64,
         seq: u32,
         retransmission: bool,
-        oldest: Oldest,
+        oldest: Option<u32>,
     ) -> Clock
         requires { CanArm timing (timers_exit self keys.old deadlines.old) (seg_metas notes rows.now) now rto
             seq }
@@ -130,7 +129,7 @@ impl Clock {
         deadlines: &mut [u64],
         now: u64,
         seq: u32,
-        oldest: Oldest,
+        oldest: Option<u32>,
     ) -> Clock
         requires { CanRearm (timers_exit self keys.old deadlines.old) (seg_metas notes rows.now) now rto }
         ensures { timers_exit result keys.new deadlines.new
@@ -183,8 +182,8 @@ impl Clock {
                 let t = self.timers;
                 let next = t.next_expired_unchecked(keys, deadlines, 0, now);
                 match next {
-                    NextKey::Key(_) => Due::Numbers,
-                    NextKey::Nothing => Due::Nothing,
+                    Some(_) => Due::Numbers,
+                    None => Due::Nothing,
                 }
             }
             Timing::Edition => self.single_due(now, outstanding, Due::Idle),
@@ -196,7 +195,7 @@ impl Clock {
         timing: Timing,
         keys: &[u32],
         deadlines: &[u64],
-    ) -> Deadline
+    ) -> Option<u64>
         requires { broken self.timers.count keys.now deadlines.now ≡ false }
         ensures { result ≡ next_deadline timing (timers_exit self keys.now deadlines.now) }
     {
@@ -206,10 +205,10 @@ impl Clock {
                 let t = self.timers;
                 let earliest = t.earliest_deadline_unchecked(keys, deadlines);
                 match earliest {
-                    EarliestAnswer::At(d) => Deadline::At(d),
-                    EarliestAnswer::Nothing => Deadline::Unset,
+                    Ok(Some(d)) => Some(d),
+                    Ok(None) => None,
                     // Never: the set is sound.
-                    EarliestAnswer::Refused(_) => Deadline::Unset,
+                    Err(_) => None,
                 }
             }
             Timing::Edition => self.single_deadline(),
@@ -217,17 +216,17 @@ impl Clock {
     }
 
     // The timer of the oldest outstanding segment, from its last sending.
-    fn arm_oldest(self, notes: Notes, rows: &[Note], now: u64, oldest: Oldest) -> Clock
+    fn arm_oldest(self, notes: Notes, rows: &[Note], now: u64, oldest: Option<u32>) -> Clock
         requires { (deadline_too_late self.timer.deadline ≡ false) × Timely (seg_metas notes rows.now) now }
         ensures { result
             ≡ clock (arm_oldest self.timer (seg_metas notes rows.now) now oldest) self.timers }
     {
         let t = self.timer;
         match oldest {
-            Oldest::Nothing => self.with_timer(t.cancelled_unchecked()),
-            Oldest::Number(seq) => match notes.expiry_unchecked(rows, seq) {
-                Expiry::Nothing => self.with_timer(t.cancelled_unchecked()),
-                Expiry::At(deadline) => {
+            None => self.with_timer(t.cancelled_unchecked()),
+            Some(seq) => match notes.expiry_unchecked(rows, seq) {
+                None => self.with_timer(t.cancelled_unchecked()),
+                Some(deadline) => {
                     self.with_timer(t.started_at_unchecked(now, time_left(deadline, now)))
                 }
             },
@@ -242,8 +241,8 @@ impl Clock {
         let t = self.timer;
         let deadline = t.deadline;
         match deadline {
-            Deadline::Unset => self.started(now, rto),
-            Deadline::At(_) => self,
+            None => self.started(now, rto),
+            Some(_) => self,
         }
     }
 
@@ -270,7 +269,7 @@ impl Clock {
         Due::Nothing
     }
 
-    fn single_deadline(self) -> Deadline
+    fn single_deadline(self) -> Option<u64>
         ensures { result ≡ self.timer.deadline }
     {
         let t = self.timer;
@@ -295,12 +294,12 @@ impl Clock {
     }
 }
 
-fn is_oldest(oldest: Oldest, seq: u32) -> bool
+fn is_oldest(oldest: Option<u32>, seq: u32) -> bool
     ensures { result ≡ is_oldest oldest seq }
 {
     match oldest {
-        Oldest::Number(n) => n == seq,
-        Oldest::Nothing => false,
+        Some(n) => n == seq,
+        None => false,
     }
 }
 

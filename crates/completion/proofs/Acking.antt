@@ -1,8 +1,8 @@
 -- A copy that the reverse line hands over, and all that are due: the ends stay those of a list of calls.
+use Rattle.std.specs.Prelude.{Ok, Some}
 use Prim.Native.Nat.{ℕ}
 use mathlib.Core.Path.{◌≡◌}
 use mathlib.Core.List.{List}
-use Rattle.schedule.specs.declared.ReadyAnswer.TheVariants as ready
 use Rattle.path.specs.Direction.{Direction}
 use Rattle.path.specs.Path.{left_by_take, packet_buffer}
 use Rattle.path.proofs.Laws.{take_each, take_front}
@@ -26,7 +26,7 @@ module _ (timing : Timing) (now : ℕ) (s : Start) (r : ReceiverEnd) (output : L
     can : CanServeReverse d a now
     follows : Follows s a.sender r output forward d
 
-  turn_follows : (d : Direction) (a : AckState) (n : ℕ) → (next_taken now d).result.answer ≡ ready.Packet n → Acks d a → Acks (left_by_take (next_taken now d)) (next_state timing now d a n)
+  turn_follows : (d : Direction) (a : AckState) (n : ℕ) → (next_taken now d).result.answer ≡ Ok (Some n) → Acks d a → Acks (left_by_take (next_taken now d)) (next_state timing now d a n)
   turn_follows d a n e q =
       let f = q.follows.holds in
       let left = on_lines f f.forward_copies (take_each d now packet_buffer q.can.sound f.reverse_copies) in

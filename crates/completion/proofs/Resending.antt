@@ -1,4 +1,5 @@
 -- The packets of a timeout, submitted one after the other.
+use Rattle.std.specs.Prelude.{Option}
 use Prim.Native.Nat.{ℕ, zero, suc}
 use mathlib.Core.Path.{◌≡◌, sym, subst}
 use mathlib.Core.List.{List, [], ◌∷◌}
@@ -11,7 +12,6 @@ use Rattle.delivery.specs.Calls.{number_of}
 use Rattle.window.specs.Slots.{datagram_for}
 use Rattle.session.specs.Sending.{SenderEnd, window_end}
 use Rattle.session.specs.Receiving.{ReceiverEnd}
-use Rattle.session.specs.declared.Oldest.{Oldest}
 use Rattle.session.proofs.Laws.{datagram_number, datagram_short}
 use Rattle.submission.specs.Submission.{Outgoing, CanSubmit}
 use Rattle.sending.specs.Retransmit.{RetransmitExit, retransmit, retransmit_all, CanRetransmitAll}
@@ -48,7 +48,7 @@ module _ {s : Start} {c : ChannelConfig} {rolls : List Float} where
   resubmitted_first : {packet : List ℕ} {packets : List (List ℕ)} {o o' : Outgoing} → Resubmits s c rolls (packet ∷ []) o o' → Resubmits s c rolls (packet ∷ packets) o o'
   resubmitted_first a = resubmitted_then a (none_resubmitted a.logged)
 
-  module _ (t : Timing) (rto now : ℕ) (oldest : Oldest) where
+  module _ (t : Timing) (rto now : ℕ) (oldest : Option ℕ) where
     pub one_resubmitted : (seq : ℕ) (packet : List ℕ) (r : Resends) (o : Outgoing) → number_of packet ≡ seq → LoggedIn c o → CanSubmit t rolls (resubmission rto now oldest seq) packet o
         → Resubmits s c rolls (packet ∷ []) o (retransmit t rolls rto now oldest seq packet r o).outgoing
     unfolding retransmit

@@ -1,4 +1,5 @@
 -- The invariant of a run: if the flips of its events are outside the length bytes, its parts follow a list of calls. Every part of a step keeps it.
+use Rattle.std.specs.Prelude.{Option}
 use Prim.Native.Nat.{ℕ, zero, suc, ◌+◌, ◌-◌, ◌≤◌, ◌<◌}
 use mathlib.Core.Path.{◌≡◌, refl, sym, ap, ◌∙◌, subst}
 use mathlib.Core.Bool.{Bool, true, false, not, true≢false}
@@ -18,7 +19,6 @@ use Rattle.clock.specs.declared.Timing.{Timing}
 use Rattle.session.specs.Sending.{SenderEnd, new_sender, resent}
 use Rattle.session.specs.Receiving.{ReceiverEnd, new_receiver}
 use Rattle.session.specs.declared.Timeout.{Timeout}
-use Rattle.session.specs.declared.Oldest.{Oldest}
 use Rattle.session.proofs.Laws.{ResentAs}
 use Rattle.submission.specs.Submission.{Outgoing}
 use Rattle.receiving.specs.Receiving.{Inbound, serve_forward}
@@ -94,7 +94,7 @@ runs_timed_out t x q =
     }
 
 -- with its packets until the ceiling is met or the run ends
-pub runs_resent : {s : Start} {c : ChannelConfig} {rolls : List Float} {v : SenderEnd} {r : ReceiverEnd} {output : List ℕ} {o : Outgoing} {reverse : Direction} {timing : Timing} {rto now : ℕ} {again : Resends} (limit : ℕ) (oldest : Oldest) (t : Timeout) (x : ResentAs v t)
+pub runs_resent : {s : Start} {c : ChannelConfig} {rolls : List Float} {v : SenderEnd} {r : ReceiverEnd} {output : List ℕ} {o : Outgoing} {reverse : Direction} {timing : Timing} {rto now : ℕ} {again : Resends} (limit : ℕ) (oldest : Option ℕ) (t : Timeout) (x : ResentAs v t)
     → CanRetransmitAll timing rolls rto now (resent v t).after x.first x.count again o → RunsOutgoing s c rolls v r output o reverse
     → RunsOutgoing s c rolls (resent v t).after r output (retransmit_all limit timing rolls rto now oldest (resent v t).packets again o).outgoing reverse
 runs_resent {s} {c} {rolls} {v} {o = o} {timing = timing} {rto} {now} {again} limit oldest t x can q =

@@ -1,4 +1,5 @@
 -- A copy that the forward line hands over, and all that are due: the ends stay those of a list of calls.
+use Rattle.std.specs.Prelude.{Ok, Some}
 use Prim.Native.Nat.{ℕ}
 use mathlib.Core.Path.{◌≡◌, refl, sym, ap, ◌∙◌, subst}
 use mathlib.Core.Bool.{Bool, true, false}
@@ -9,9 +10,7 @@ use Rattle.packet.specs.Format.{new_packet, made}
 use Rattle.packet.specs.Reading.{read_datagram}
 use Rattle.packet.specs.declared.PacketType.TheVariants.{Ack}
 use Rattle.packet.proofs.Laws.{made_length}
-use Rattle.receiver.specs.declared.ReceiveAnswer.TheVariants as receiveAnswer
 use Rattle.channel.proofs.Laws.{NoFaults}
-use Rattle.schedule.specs.declared.ReadyAnswer.TheVariants as ready
 use native.Mathlib.Omega.{arith}
 use Rattle.path.specs.Direction.{Direction}
 use Rattle.path.specs.Path.{left_by_take, packet_buffer, CanCarry}
@@ -40,7 +39,7 @@ module _ (rolls : List Float) (total now : ℕ) (raw : List ℕ) (b : Inbound) (
   can_carry n = record { good = can.good.reverse; in_time = can.in_time; short = omega (arith, made_length (new_packet n Ack) []) }
 
   -- each copy that waits on the reverse line has P, if the ACK that goes out has it
-  reverse_each : {P : List ℕ → Type 0} → ((n : ℕ) → (handled raw b).answer ≡ receiveAnswer.Ack n → P (made (new_packet n Ack) [])) → EachWaiting P b.reverse → EachWaiting P (on_forward rolls total now raw b).inbound.reverse
+  reverse_each : {P : List ℕ → Type 0} → ((n : ℕ) → (handled raw b).answer ≡ Ok (Some n) → P (made (new_packet n Ack) [])) → EachWaiting P b.reverse → EachWaiting P (on_forward rolls total now raw b).inbound.reverse
   unfolding submit_ack received
   reverse_each {P} each a =
       forward_either rolls total now raw b (λ (x : ForwardExit). EachWaiting P x.inbound.reverse) (λ h. a) (λ h. a)
@@ -53,7 +52,7 @@ module _ (rolls : List Float) (total now : ℕ) (raw : List ℕ) (b : Inbound) (
       after : RunWorld s
       after = step (ends s.protocol) u (packet_call f m ack_buffer)
 
-      replied : (n : ℕ) → (handled raw b).answer ≡ receiveAnswer.Ack n → WholeOf after.replies (made (new_packet n Ack) [])
+      replied : (n : ℕ) → (handled raw b).answer ≡ Ok (Some n) → WholeOf after.replies (made (new_packet n Ack) [])
       replied n e =
           subst (λ (l : List (List ℕ)). WholeOf l (made (new_packet n Ack) [])) (sym (packet_replied f m ack_buffer ∙ ap (λ (l : List (List ℕ)). u.replies ++ l) (replied_packets_lem (end_of b) raw b.output ack_buffer ∙ ap ack_packets e)))
           (whole_of_new u.replies (made (new_packet n Ack) [] ∷ []) (made (new_packet n Ack) []) (whole_one (made (new_packet n Ack) [])))
@@ -75,7 +74,7 @@ pub record Serves (s : Start) (v : SenderEnd) (rolls : List Float) (now : ℕ) (
   pub follows : FollowsInbound s v forward b
 
 module _ (rolls : List Float) (total now : ℕ) {s : Start} {v : SenderEnd} where
-  pub turn_follows : (forward : Direction) (b : Inbound) (n : ℕ) → (next_taken now forward).result.answer ≡ ready.Packet n → Serves s v rolls now forward b → Serves s v rolls now (left_by_take (next_taken now forward)) (next_exit rolls total now forward b n).inbound
+  pub turn_follows : (forward : Direction) (b : Inbound) (n : ℕ) → (next_taken now forward).result.answer ≡ Ok (Some n) → Serves s v rolls now forward b → Serves s v rolls now (left_by_take (next_taken now forward)) (next_exit rolls total now forward b n).inbound
   turn_follows forward b n e q =
       let raw = take n (next_taken now forward).out in
       let on = can_hand_over rolls total now forward b q.can n e in

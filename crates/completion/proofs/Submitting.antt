@@ -1,4 +1,5 @@
 -- Datagrams that are submitted: a new chunk's, and those of a timeout.
+use Rattle.std.specs.Prelude.{Option}
 use Prim.Native.Nat.{ℕ, ◌<◌}
 use mathlib.Core.Path.{◌≡◌, refl, sym, ap, ◌∙◌, subst}
 use mathlib.Core.Bool.{true}
@@ -19,7 +20,6 @@ use Rattle.delivery.specs.Ends.{ends}
 use Rattle.session.specs.Sending.{SenderEnd, window_end, send_chunk}
 use Rattle.session.specs.Receiving.{ReceiverEnd}
 use Rattle.session.specs.GoodSender.{CanSendChunk}
-use Rattle.session.specs.declared.Oldest.{Oldest}
 use Rattle.session.proofs.Laws.{sent_packets_lem}
 use Rattle.submission.specs.Submission.{Outgoing, entry_free, submit, CanSubmit}
 use Rattle.submission.proofs.Laws.{can_carry, submit_forward}
@@ -48,10 +48,10 @@ module _ (timing : Timing) (rolls : List Float) (x : Submission) (wire : List �
       f.reverse_copies
 
 -- ---- a packet that is sent again
-abbrev pub resubmission : ℕ → ℕ → Oldest → ℕ → Submission
+abbrev pub resubmission : ℕ → ℕ → Option ℕ → ℕ → Submission
 resubmission rto now oldest seq = record { time = now; seq = seq; rto = rto; retransmission = true; oldest = oldest }
 
-module _ (t : Timing) (rolls : List Float) (rto now : ℕ) (oldest : Oldest) (seq : ℕ) (packet : List ℕ) (r : Resends) (o : Outgoing) {s : Start} {u : RunWorld s} {v : SenderEnd} {e : ReceiverEnd} {output : List ℕ} {reverse : Direction} where
+module _ (t : Timing) (rolls : List Float) (rto now : ℕ) (oldest : Option ℕ) (seq : ℕ) (packet : List ℕ) (r : Resends) (o : Outgoing) {s : Start} {u : RunWorld s} {v : SenderEnd} {e : ReceiverEnd} {output : List ℕ} {reverse : Direction} where
   pub retransmit_follows : {c : ChannelConfig} → number_of packet ≡ seq → CanSubmit t rolls (resubmission rto now oldest seq) packet o → LoggedIn c o → WholeOf u.sent packet
       → FlipsOutside c rolls (chunks_in s) (events_in (retransmit t rolls rto now oldest seq packet r o).outgoing) → FollowsIn s u v e output o.forward reverse
       → FollowsIn s u v e output (retransmit t rolls rto now oldest seq packet r o).outgoing.forward reverse

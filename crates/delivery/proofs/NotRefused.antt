@@ -1,4 +1,5 @@
 -- In a world that an admissible list leads to, a call with room enough is not refused, as long as no counter is full.
+use Rattle.std.specs.Prelude.{None, Option, Some}
 use Prim.Native.Nat.{ℕ, zero, suc, ◌+◌, ◌-◌, ◌*◌, ◌≤◌, ◌<◌}
 use mathlib.Core.Path.{◌≡◌, refl, ap, ◌∙◌}
 use mathlib.Core.List.{List, [], ◌∷◌, ◌++◌, flatten, append-nil}
@@ -29,8 +30,6 @@ use Rattle.receiver.specs.Reply.{ack_missing, room_missing, ApplyExit, applied}
 use Rattle.receiver.specs.Receive as receiver
 use Rattle.receiver.specs.Receive.{ReceiveExit, Reception}
 use Rattle.receiver.specs.declared.Decision.{Decision}
-use Rattle.receiver.specs.declared.Reply.{Reply}
-use Rattle.receiver.specs.declared.Reply.TheVariants as reply
 use Rattle.receiver.proofs.Laws.{state_low}
 use Rattle.packet.specs.Reading.{payload_of}
 use Rattle.stop_and_wait.specs.Sender as stop_and_wait
@@ -82,9 +81,9 @@ room_fits d size filled output ack h l = rw (deliver d.deliver h, ack_fits d.rep
     deliver true h = le-ltb _ _ h
     deliver false h = refl
 
-    ack_fits : (r : Reply) → ack_missing r ack ≡ false
-    ack_fits (reply.Ack n) = le-ltb _ _ l
-    ack_fits reply.Silent = refl
+    ack_fits : (r : Option ℕ) → ack_missing r ack ≡ false
+    ack_fits (Some n) = le-ltb _ _ l
+    ack_fits None = refl
 
 applied_filled : (d : Decision) (bytes : List ℕ) (filled : ℕ) (output ack : List ℕ) → (applied d bytes filled output ack).filled ≡ filled + cond d.deliver (length bytes) 0
 unfolding applied

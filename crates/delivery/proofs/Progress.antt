@@ -1,4 +1,5 @@
 -- A call whose checks are all false is done, or at least not refused: what the theorem over lists doesn't say.
+use Rattle.std.specs.Prelude.{Err, Ok, Result}
 use Prim.Native.Nat.{ℕ, zero, suc, ◌+◌, ◌*◌, ◌≤◌}
 use mathlib.Core.Path.{◌≡◌, refl, sym, ap, ◌∙◌}
 use mathlib.Core.List.{List}
@@ -81,12 +82,12 @@ unfolding resend
 timeout_done broken counts v n k out b c room some =
     ap (λ (x : TimeoutExit slots.Sender). is_resent x.answer) (on_accepted _ _ (none_true_accepted _ (b, (c, (room, tt))))) ∙ rw some refl
 
-handled : {S : Type 0} (s : SendWindow) (x : DatagramReading) (v : S) (accept : ℕ → S) → ((r : Refusal) → x ≡ reading.Refused r → ⊥)
+handled : {S : Type 0} (s : SendWindow) (x : Result DatagramReading Refusal) (v : S) (accept : ℕ → S) → ((r : Refusal) → x ≡ Err r → ⊥)
     → is_handled (by_decision (by_reading s x) v accept).answer ≡ true
 unfolding by_decision
-handled s (reading.Valid p) v accept t = by_type_lem p.pkt_type (is_in_window s p.seq_num)
+handled s (Ok (reading.Valid p)) v accept t = by_type_lem p.pkt_type (is_in_window s p.seq_num)
   where
-    by_test_lem : (b : Bool) → is_handled (by_decision (cond b (decision.Accept p.seq_num (p.seq_num + 1)) decision.NotAccepted) v accept).answer ≡ true
+    by_test_lem : (b : Bool) → is_handled (by_decision (cond b (Ok (decision.Accept p.seq_num (p.seq_num + 1))) (Ok decision.NotAccepted)) v accept).answer ≡ true
     by_test_lem true = refl
     by_test_lem false = refl
 
@@ -94,13 +95,13 @@ handled s (reading.Valid p) v accept t = by_type_lem p.pkt_type (is_in_window s 
     by_type_lem packetType.Data b = refl
     by_type_lem packetType.Ack b = by_test_lem (is_in_window s p.seq_num)
     by_type_lem packetType.Fin b = refl
-handled s (reading.Corrupted p) v accept t = refl
-handled s (reading.Refused r) v accept t = absurd (t r refl)
+handled s (Ok (reading.Corrupted p)) v accept t = refl
+handled s (Err r) v accept t = absurd (t r refl)
 
 pub ack_done : {S : Type 0} (selective : Bool) (s : SendWindow) (store raw : List ℕ) (v : S) (accept : ℕ → S) → state_broken selective s store ≡ false → counts_broken s ≡ false → Taken raw
     → is_handled (by_decision (ack_decision selective s store raw) v accept).answer ≡ true
 ack_done selective s store raw v accept b c t =
-    ap (λ (d : AckDecision). is_handled (by_decision d v accept).answer) (ack_read selective s store raw b c) ∙ handled s (read_datagram raw) v accept t
+    ap (λ (d : Result AckDecision Refusal). is_handled (by_decision d v accept).answer) (ack_read selective s store raw b c) ∙ handled s (read_datagram raw) v accept t
 
 module _ {R : Type 0} (x : Reception R) (raw output ack : List ℕ) (b : x.state_broken ≡ false) (c : x.counts_broken ≡ false) (room : no_room x output ack ≡ false) where
   applied : Taken raw → number_high (read_datagram raw) ≡ false → receive x raw output ack ≡ received_exit x output ack

@@ -1,4 +1,5 @@
 -- A receiver over bytes follows the machine, whatever its state's type.
+use Rattle.std.specs.Prelude.{Err, None, Ok, Option, Result, Some}
 use Prim.Native.Nat.{ℕ, ◌+◌, ◌≤◌}
 use mathlib.Core.Path.{◌≡◌, refl, sym, ap, ap₂, ◌∙◌}
 use mathlib.Core.List.{List, [], ◌∷◌, ◌++◌, flatten, append-nil}
@@ -14,10 +15,6 @@ use Rattle.receiver.specs.Reply.{answer_of}
 use Rattle.receiver.specs.Receive as receiver
 use Rattle.receiver.specs.Receive.{ReceiveExit, Reception}
 use Rattle.receiver.specs.declared.PacketReading.TheVariants as reading
-use Rattle.receiver.specs.declared.Reply.{Reply}
-use Rattle.receiver.specs.declared.Reply.TheVariants as reply
-use Rattle.receiver.specs.declared.ReceiveAnswer.{ReceiveAnswer}
-use Rattle.receiver.specs.declared.ReceiveAnswer.TheVariants as answer
 use Rattle.receiver.proofs.Laws.{receive_either, data_valid}
 use Rattle.refinement.specs.Follows.{acks_of}
 use Rattle.refinement.specs.Copies.{AckOf, NotValid}
@@ -26,11 +23,12 @@ use Rattle.delivery.specs.Calls.{Done}
 use Rattle.delivery.specs.Ends.{bytes_replied, is_received, WithOutput, with_output, by_receiving}
 use Rattle.delivery.proofs.Datagrams.{DataBytes, AckBytes, Each}
 use Rattle.delivery.proofs.SenderFollows.{false_true}
+use Rattle.refusal.specs.declared.Refusal.{Refusal}
 
 -- a Refused packet changes nothing
-pub answered : (r : Reply) → is_received (answer_of r) ≡ true
-answered (reply.Ack n) = refl
-answered reply.Silent = refl
+pub answered : (r : Option ℕ) → is_received (answer_of r) ≡ true
+answered (Some n) = refl
+answered None = refl
 
 pub not_received : {R : Type 0} (x : Reception R) (raw output ack : List ℕ) → is_received (receiver.receive x raw output ack).answer ≡ false
     → by_receiving (receiver.receive x raw output ack) ≡ record { after = with_output x.state output; written = []; is_done = false; is_refused = true }
@@ -40,22 +38,22 @@ not_received {R} x raw output ack =
     (λ s h. refl) (λ k h. false_true (sym h ∙ answered x.decision.reply))
 
 -- the ACKs that were written
-replies_of : (a : ReceiveAnswer) (ack : List ℕ) → List (List ℕ)
-replies_of (answer.Ack n) ack = take 10 ack ∷ []
-replies_of answer.Silent ack = []
-replies_of (answer.Refused r) ack = []
+replies_of : (a : Result (Option ℕ) Refusal) (ack : List ℕ) → List (List ℕ)
+replies_of (Ok (Some n)) ack = take 10 ack ∷ []
+replies_of (Ok None) ack = []
+replies_of (Err r) ack = []
 
-replies_joined : (a : ReceiveAnswer) (ack : List ℕ) → bytes_replied a ack ≡ flatten (replies_of a ack)
+replies_joined : (a : Result (Option ℕ) Refusal) (ack : List ℕ) → bytes_replied a ack ≡ flatten (replies_of a ack)
 unfolding replies_of flatten
-replies_joined (answer.Ack n) ack = sym (append-nil (take 10 ack))
-replies_joined answer.Silent ack = refl
-replies_joined (answer.Refused r) ack = refl
+replies_joined (Ok (Some n)) ack = sym (append-nil (take 10 ack))
+replies_joined (Ok None) ack = refl
+replies_joined (Err r) ack = refl
 
-each_reply : (a : ReceiveAnswer) (ack : List ℕ) → ((n : ℕ) → a ≡ answer.Ack n → AckOf n (take 10 ack)) → Each AckBytes (replies_of a ack) (acks_of a)
+each_reply : (a : Result (Option ℕ) Refusal) (ack : List ℕ) → ((n : ℕ) → a ≡ Ok (Some n) → AckOf n (take 10 ack)) → Each AckBytes (replies_of a ack) (acks_of a)
 unfolding replies_of
-each_reply (answer.Ack n) ack h = (h n refl, tt)
-each_reply answer.Silent ack h = tt
-each_reply (answer.Refused r) ack h = tt
+each_reply (Ok (Some n)) ack h = (h n refl, tt)
+each_reply (Ok None) ack h = tt
+each_reply (Err r) ack h = tt
 
 no_data : (n : ℕ) (raw : List ℕ) → NotValid raw → read_packet raw ≡ reading.Data n → {X : Type 0} → X
 no_data n raw t e = absurd (data_valid raw n t e)
@@ -127,7 +125,7 @@ module _ (p : ProtocolType) (w : ℕ) (R : Type 0) (view : R → ReceiverState) 
       | packet_refused s f ↦ rw f (record { after = h; nothing = refl; output = refl; behind = refl })
       | not_data none i ↦ record {
         after = record { good = good; mark = mark_after; is = i.follows ∙ h.is };
-        nothing = ap (λ (a : ReceiveAnswer). bytes_replied a y.ack) (i.silent t).0;
+        nothing = ap (λ (a : Result (Option ℕ) Refusal). bytes_replied a y.ack) (i.silent t).0;
         output = rw (i.filled, i.output_is) refl;
         behind = rw (i.filled, i.output_is) refl;
       }

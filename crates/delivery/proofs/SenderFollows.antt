@@ -1,4 +1,5 @@
 -- A sender over bytes follows the machine, whatever its state's type: view reads the window and store from it.
+use Rattle.std.specs.Prelude.{Err, Ok, Result}
 use Prim.Native.Nat.{ℕ, zero, suc, ◌+◌, ◌-◌, ◌≤◌, ◌<◌}
 use mathlib.Core.Path.{◌≡◌, refl, sym, ap, ◌∙◌, subst}
 use mathlib.Core.List.{List, [], map, flatten}
@@ -17,8 +18,6 @@ use Rattle.window.specs.Acknowledgement.{AckExit, by_decision}
 use Rattle.window.specs.Resending.{TimeoutExit}
 use Rattle.window.specs.declared.AckDecision.{AckDecision}
 use Rattle.window.specs.declared.AckDecision.TheVariants as decision
-use Rattle.window.specs.declared.SendAnswer.TheVariants as sendAnswer
-use Rattle.window.specs.declared.TimeoutAnswer.TheVariants as timeoutAnswer
 use Rattle.refinement.specs.Follows.{sender_of}
 use Rattle.refinement.specs.Good.{Good}
 use Rattle.packet.specs.declared.Packet.{Packet}
@@ -29,6 +28,7 @@ use Rattle.delivery.specs.Calls.{Done, Ends}
 use Rattle.delivery.specs.Ends.{bytes_sent, is_sent, bytes_resent, is_resent, is_handled, by_acknowledging}
 use Rattle.delivery.proofs.Datagrams.{DataBytes, AckBytes, Each}
 use Rattle.delivery.proofs.Follow.{SenderKept, ChunkSent, SentAgain}
+use Rattle.refusal.specs.declared.Refusal.{Refusal}
 
 pub false_true : {X : Type 0} → ◌≡◌ {A = Bool} false true → X
 false_true e = let z : ◌≡◌ {A = ℕ} 1 0 = ap (λ (b : Bool). cond b 0 1) e in absurd (omega arith)
@@ -92,7 +92,7 @@ module _ (E : Ends) (view : E.Sender → slots.Sender) (selective : Bool) (w : �
 
     same_number : (n k : ℕ) → IsAck raw n → IsAck raw k → n ≡ k
     same_number n k e f =
-        let g : reading.Valid e.packet ≡ reading.Valid f.packet = sym e.read ∙ f.read in
+        let g : Ok (reading.Valid e.packet) ≡ Ok (reading.Valid f.packet) = sym e.read ∙ f.read in
         let same : e.packet ≡ f.packet = cc in
         sym e.number ∙ ap (λ (q : Packet). q.seq_num) same ∙ f.number
 
@@ -167,8 +167,8 @@ module _ (E : Ends) (view : E.Sender → slots.Sender) (selective : Bool) (w : �
   ]
 
 -- a refused ACK changes nothing
-pub not_handled : {S : Type 0} (d : AckDecision) (v : S) (accept : ℕ → S) → is_handled (by_decision d v accept).answer ≡ false → (by_decision d v accept).after ≡ v
+pub not_handled : {S : Type 0} (d : Result AckDecision Refusal) (v : S) (accept : ℕ → S) → is_handled (by_decision d v accept).answer ≡ false → (by_decision d v accept).after ≡ v
 unfolding by_decision
-not_handled (decision.Accept n base) v accept e = false_true (sym e)
-not_handled decision.NotAccepted v accept e = refl
-not_handled (decision.Refused r) v accept e = refl
+not_handled (Ok (decision.Accept n base)) v accept e = false_true (sym e)
+not_handled (Ok decision.NotAccepted) v accept e = refl
+not_handled (Err r) v accept e = refl

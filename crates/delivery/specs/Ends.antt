@@ -1,89 +1,79 @@
 -- The ends of the three protocols: the definitions that the contracts of their entry points cite.
-use Rattle.std.specs.Prelude.{ℕ, ◌*◌, List, [], ◌++◌, ◌≡◌, Bool, true, false, not, take, drop, replicate}
+use Rattle.std.specs.Prelude.{ℕ, ◌*◌, List, [], ◌++◌, ◌≡◌, Bool, true, false, not, take, drop, replicate, Err, None, Ok, Option, Result, Some}
 use Rattle.bounds.specs.Bounds.{header_size, slot_size}
 use Rattle.octets.specs.Octets.{Octets}
 use Rattle.window.specs.State.{window_broken, store_short}
 use Rattle.window.specs.Slots as slots
 use Rattle.window.specs.Sending.{make_exit, make_window, SendExit, send_chunk}
-use Rattle.window.specs.declared.SendWindowAnswer.TheVariants as makeAnswer
 use Rattle.window.specs.Acknowledgement.{AckExit}
 use Rattle.window.specs.Resending.{TimeoutExit}
-use Rattle.window.specs.declared.SendAnswer.{SendAnswer}
-use Rattle.window.specs.declared.SendAnswer.TheVariants as sendAnswer
-use Rattle.window.specs.declared.AckAnswer.{AckAnswer}
-use Rattle.window.specs.declared.AckAnswer.TheVariants as ackAnswer
-use Rattle.window.specs.declared.TimeoutAnswer.{TimeoutAnswer}
-use Rattle.window.specs.declared.TimeoutAnswer.TheVariants as timeoutAnswer
 use Rattle.receiver.specs.Receive.{ReceiveExit}
-use Rattle.receiver.specs.declared.ReceiveAnswer.{ReceiveAnswer}
-use Rattle.receiver.specs.declared.ReceiveAnswer.TheVariants as receiveAnswer
 use Rattle.go_back_n.specs.Sender as go_back_n
 use Rattle.go_back_n.specs.Receiver as goBackNReceiver
 use Rattle.stop_and_wait.specs.Sender as stop_and_wait
 use Rattle.stop_and_wait.specs.Receiver as stopAndWaitReceiver
 use Rattle.selective_repeat.specs.Sender as selective_repeat
 use Rattle.selective_repeat.specs.Receiver as selectiveRepeatReceiver
-use Rattle.stop_and_wait.specs.declared.StopAndWaitSenderAnswer.TheVariants as stopAndWaitMade
-use Rattle.selective_repeat.specs.declared.SelectiveRepeatReceiverAnswer.TheVariants as selectiveRepeatMade
 use Rattle.protocol.specs.PlainMachine.{WindowFits}
 use Rattle.protocol.specs.declared.ProtocolType.{ProtocolType}
 use Rattle.protocol.specs.declared.ProtocolType.TheVariants.{StopAndWait, GoBackN, SelectiveRepeat}
 use Rattle.delivery.specs.Calls.{Done, done, Ends, World, fresh}
+use Rattle.refusal.specs.declared.Refusal.{Refusal}
 
 -- the bytes that an answer says were written, and whether the call was done
-abbrev pub bytes_sent : SendAnswer → List ℕ → List ℕ
-bytes_sent (sendAnswer.Sent n) out = take n out
-bytes_sent sendAnswer.WindowFull out = []
-bytes_sent (sendAnswer.Refused r) out = []
+abbrev pub bytes_sent : Result (Option ℕ) Refusal → List ℕ → List ℕ
+bytes_sent (Ok (Some n)) out = take n out
+bytes_sent (Ok None) out = []
+bytes_sent (Err r) out = []
 
-abbrev pub is_sent : SendAnswer → Bool
-is_sent (sendAnswer.Sent n) = true
-is_sent sendAnswer.WindowFull = false
-is_sent (sendAnswer.Refused r) = false
+abbrev pub is_sent : Result (Option ℕ) Refusal → Bool
+is_sent (Ok (Some n)) = true
+is_sent (Ok None) = false
+is_sent (Err r) = false
 
-abbrev pub is_send_refused : SendAnswer → Bool
-is_send_refused (sendAnswer.Sent n) = false
-is_send_refused sendAnswer.WindowFull = false
-is_send_refused (sendAnswer.Refused r) = true
+abbrev pub is_send_refused : Result (Option ℕ) Refusal → Bool
+is_send_refused (Ok (Some n)) = false
+is_send_refused (Ok None) = false
+is_send_refused (Err r) = true
 
 abbrev pub by_sending : {S : Type 0} → SendExit S → Done S
 by_sending x = done x.after (bytes_sent x.answer x.out) (is_sent x.answer) (is_send_refused x.answer)
 
-abbrev pub bytes_resent : TimeoutAnswer → List ℕ → List ℕ
-bytes_resent (timeoutAnswer.Resent n) out = take n out
-bytes_resent timeoutAnswer.Nothing out = []
-bytes_resent (timeoutAnswer.Refused r) out = []
+abbrev pub bytes_resent : Result (Option ℕ) Refusal → List ℕ → List ℕ
+bytes_resent (Ok (Some n)) out = take n out
+bytes_resent (Ok None) out = []
+bytes_resent (Err r) out = []
 
-abbrev pub is_resent : TimeoutAnswer → Bool
-is_resent (timeoutAnswer.Resent n) = true
-is_resent timeoutAnswer.Nothing = false
-is_resent (timeoutAnswer.Refused r) = false
+abbrev pub is_resent : Result (Option ℕ) Refusal → Bool
+is_resent (Ok (Some n)) = true
+is_resent (Ok None) = false
+is_resent (Err r) = false
 
-abbrev pub is_timeout_refused : TimeoutAnswer → Bool
-is_timeout_refused (timeoutAnswer.Resent n) = false
-is_timeout_refused timeoutAnswer.Nothing = false
-is_timeout_refused (timeoutAnswer.Refused r) = true
+abbrev pub is_timeout_refused : Result (Option ℕ) Refusal → Bool
+is_timeout_refused (Ok (Some n)) = false
+is_timeout_refused (Ok None) = false
+is_timeout_refused (Err r) = true
 
 abbrev pub by_resending : {S : Type 0} → TimeoutExit S → Done S
 by_resending x = done x.after (bytes_resent x.answer x.out) (is_resent x.answer) (is_timeout_refused x.answer)
 
-abbrev pub is_handled : AckAnswer → Bool
-is_handled ackAnswer.Accepted = true
-is_handled ackAnswer.NotAccepted = true
-is_handled (ackAnswer.Refused r) = false
+abbrev pub is_handled : Result Bool Refusal → Bool
+is_handled (Ok true) = true
+is_handled (Ok false) = true
+is_handled (Err r) = false
 
 abbrev pub by_acknowledging : {S : Type 0} → AckExit S → Done S
 by_acknowledging x = done x.after [] (is_handled x.answer) (not (is_handled x.answer))
 
-abbrev pub bytes_replied : ReceiveAnswer → List ℕ → List ℕ
-bytes_replied (receiveAnswer.Ack n) ack = take header_size ack
-bytes_replied receiveAnswer.Silent ack = []
-bytes_replied (receiveAnswer.Refused r) ack = []
+abbrev pub bytes_replied : Result (Option ℕ) Refusal → List ℕ → List ℕ
+bytes_replied (Ok (Some n)) ack = take header_size ack
+bytes_replied (Ok None) ack = []
+bytes_replied (Err r) ack = []
 
-abbrev pub is_received : ReceiveAnswer → Bool
-is_received (receiveAnswer.Ack n) = true
-is_received receiveAnswer.Silent = true
-is_received (receiveAnswer.Refused r) = false
+abbrev pub is_received : Result (Option ℕ) Refusal → Bool
+is_received (Ok (Some n)) = true
+is_received (Ok None) = true
+is_received (Err r) = false
 
 -- a receiver and its output
 pub record WithOutput (R : Type 0) : Type 0 where
@@ -184,12 +174,12 @@ pub record Made (p : ProtocolType) (w : ℕ) (sending receiving : List ℕ) : Ty
 abbrev pub FromMaking : (p : ProtocolType) → ℕ → ℕ → List ℕ → List ℕ → List ℕ → Type 0
 FromMaking StopAndWait w limit sending receiving output =
     let v = (fresh_ends StopAndWait w limit sending receiving output).sender in
-    stop_and_wait.new_sender limit sending ≡ make_exit (stopAndWaitMade.Sender v.sender) v.store
+    stop_and_wait.new_sender limit sending ≡ make_exit (Ok v.sender) v.store
 FromMaking GoBackN w limit sending receiving output =
     let v = (fresh_ends GoBackN w limit sending receiving output).sender in
-    make_window w sending ≡ make_exit (makeAnswer.Window v.window) v.store
+    make_window w sending ≡ make_exit (Ok v.window) v.store
 FromMaking SelectiveRepeat w limit sending receiving output =
     let v = (fresh_ends SelectiveRepeat w limit sending receiving output).sender in
     let r = (fresh_ends SelectiveRepeat w limit sending receiving output).receiver.receiver in
-    (make_window w sending ≡ make_exit (makeAnswer.Window v.window) v.store)
-    × (selectiveRepeatReceiver.make_receiver w receiving ≡ make_exit (selectiveRepeatMade.Receiver r.state) r.store)
+    (make_window w sending ≡ make_exit (Ok v.window) v.store)
+    × (selectiveRepeatReceiver.make_receiver w receiving ≡ make_exit (Ok r.state) r.store)

@@ -1,4 +1,5 @@
 -- On the forward line the copies that wait and the orders given out rise together, over `fire_timers`.
+use Rattle.std.specs.Prelude.{Option}
 use Prim.Native.Nat.{ℕ}
 use mathlib.Core.Path.{◌≡◌, subst}
 use mathlib.Core.Bool.{true}
@@ -8,7 +9,6 @@ use Rattle.path.proofs.Laws.{RiseAlike, rise_same, rise_then}
 use Rattle.clock.specs.Clock.{cancel_number, Submission}
 use Rattle.clock.specs.declared.Timing.{Timing}
 use Rattle.clock.specs.declared.Timing.TheVariants as timing
-use Rattle.session.specs.declared.Oldest.{Oldest}
 use Rattle.session.specs.declared.Timeout.{Timeout}
 use Rattle.session.specs.declared.Timeout.TheVariants as timeout
 use Rattle.submission.specs.Submission.{Outgoing}
@@ -19,7 +19,7 @@ use Rattle.timeouts.specs.Timeouts.{FireState, FireExit, with_clock, stopped, ti
 use Rattle.timeouts.specs.Good.{GoodFire}
 use Rattle.timeouts.proofs.Laws.{timed_out_turns, numbers_keep, timers_by}
 
-retransmit_orders : (t : Timing) (rolls : List Float) (rto now : ℕ) (oldest : Oldest) (seq : ℕ) (packet : List ℕ) (r : Resends) (o : Outgoing) → RiseAlike o.forward (retransmit t rolls rto now oldest seq packet r o).outgoing.forward
+retransmit_orders : (t : Timing) (rolls : List Float) (rto now : ℕ) (oldest : Option ℕ) (seq : ℕ) (packet : List ℕ) (r : Resends) (o : Outgoing) → RiseAlike o.forward (retransmit t rolls rto now oldest seq packet r o).outgoing.forward
 unfolding retransmit
 retransmit_orders t rolls rto now oldest seq packet r o = submit_orders t rolls (record { time = now; seq = seq; rto = rto; retransmission = true; oldest = oldest }) packet o
 

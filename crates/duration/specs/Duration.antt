@@ -1,11 +1,9 @@
 -- Rust's std::time::Duration, `as_secs_f64` and `from_secs_f64`, on nanoseconds; document 01, `timing/rto.rs`.
-use Rattle.std.specs.Prelude.{ℕ, ◌*◌, ◌/◌, ◌%◌, Bool, false, cond, ◌&&◌, pos, negsuc, Float}
+use Rattle.std.specs.Prelude.{ℕ, ◌*◌, ◌/◌, ◌%◌, Bool, false, cond, ◌&&◌, pos, negsuc, Float, None, Option, Some}
 use Rattle.std.specs.Float.{binary64, fin}
 use Rattle.std.specs.Float.Ieee.{add, div, of_int, le, lt}
 use Rattle.std.specs.Float.Ieee.Nearest.{closest}
 use Rattle.std.specs.Float.Ieee.Positive.{num, den}
-use Rattle.duration.specs.declared.FromSecs.{FromSecs}
-use Rattle.duration.specs.declared.FromSecs.TheVariants.{Nanos, OutOfRange}
 
 -- the whole seconds, plus the rest over 1e9
 abbrev pub as_secs_f64 : ℕ → Float
@@ -29,5 +27,5 @@ below21 x = le (fin false 1 (negsuc 30)) x && lt x (fin false 1 (pos 21))
 abbrev pub from21 : Float → Bool
 from21 x = le (fin false 1 (pos 21)) x && lt x (fin false 1 (pos 34))
 
-abbrev pub from_secs_checked : Float → FromSecs
-from_secs_checked x = cond (secs_in_bounds x) (Nanos (from_secs_f64 x)) OutOfRange
+abbrev pub from_secs_checked : Float → Option ℕ
+from_secs_checked x = cond (secs_in_bounds x) (Some (from_secs_f64 x)) None

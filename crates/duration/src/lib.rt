@@ -9,13 +9,6 @@ ghost use Rattle.duration.specs.Duration.{as_secs_f64, from_secs_f64, secs_in_bo
 
 use bounds::{MAX_DURATION, MAX_TIME};
 
-// The nanoseconds, or that x is negative, not a number, or 2^34 or more.
-#[derive(Clone, Copy)]
-pub enum FromSecs {
-    Nanos(u64),
-    OutOfRange,
-}
-
 pub fn start_late(now: u64, duration: u64) -> bool
     ensures { result ≡ start_late now duration }
 {
@@ -36,15 +29,15 @@ pub fn as_secs_f64(ns: u64) -> f64
     (whole as f64) + (part as f64) / 1000000000.0
 }
 
-pub fn from_secs_f64(x: f64) -> FromSecs
+pub fn from_secs_f64(x: f64) -> Option<u64>
     ensures { result ≡ from_secs_checked x }
 {
     if x >= 0.0 {
         if x < 17179869184.0 {
-            return FromSecs::Nanos(from_secs_f64_unchecked(x));
+            return Some(from_secs_f64_unchecked(x));
         }
     }
-    FromSecs::OutOfRange
+    None
 }
 
 // For 0 <= x < 2^34; below 2^-31 it is 0.

@@ -1,4 +1,5 @@
 -- What samples and timeouts make of the estimator, as section 2 sees it.
+use Rattle.std.specs.Prelude.{None, Option, Some}
 use Prim.Native.Nat.{ℕ, ◌+◌, ◌≤◌}
 use native.Mathlib.Omega.{arith}
 use mathlib.Core.Path.{◌≡◌, refl, sym, ◌∙◌, subst}
@@ -9,10 +10,7 @@ use Rattle.rto.specs.Rto.{limited, estimate_for, accept_sample, reject_sample, o
 use Rattle.rto.specs.Rto as rto
 use Rattle.rto.specs.declared.RtoConfig.{RtoConfig}
 use Rattle.rto.specs.declared.RtoEstimator.{RtoEstimator}
-use Rattle.rto.specs.declared.MaybeDuration.TheVariants.{Set}
 use Rattle.notes.specs.Notes.{SegMetas, take_sample}
-use Rattle.notes.specs.declared.Sample.{Sample}
-use Rattle.notes.specs.declared.Sample.TheVariants as sample
 use Rattle.notes.proofs.Laws.{sample_within}
 use Rattle.clock.specs.Clock.{by_sample, sample_rtt}
 use Rattle.edition_clock.specs.AlongARun.{Estimates, same, estimated}
@@ -45,7 +43,7 @@ module _ {now : ℕ} {from e : RtoEstimator} {rtos : List ℕ} (q : Estimated no
   estimated_more age l =
       record {
         config = q.config;
-        estimates = subst (λ (c : RtoConfig). Estimates now from.config from.srtt from.rttvar (Set (estimate_for c e.srtt e.rttvar age).srtt) (Set (estimate_for c e.srtt e.rttvar age).rttvar) (rtos ++ limited c (estimate_for c e.srtt e.rttvar age).rto ∷ [])) (sym q.config)
+        estimates = subst (λ (c : RtoConfig). Estimates now from.config from.srtt from.rttvar (Some (estimate_for c e.srtt e.rttvar age).srtt) (Some (estimate_for c e.srtt e.rttvar age).rttvar) (rtos ++ limited c (estimate_for c e.srtt e.rttvar age).rto ∷ [])) (sym q.config)
             (estimated age l q.estimates);
         counted = one_more _ _ (length rtos) _ q.counted (length-append rtos (limited e.config (estimate_for e.config e.srtt e.rttvar age).rto ∷ []));
       }
@@ -55,11 +53,11 @@ pub data Sampling (now : ℕ) (e : RtoEstimator) : RtoEstimator → Type 0 where
   without : {f : RtoEstimator} → Unsampled e f → f.current_rto ≡ e.current_rto → Sampling now e f
   with_sample : {f : RtoEstimator} (age : ℕ) → age ≤ now → f ≡ accept_sample e age → Sampling now e f
 
-by_sample_lem : (now : ℕ) (e : RtoEstimator) (x : Sample) → ((age : ℕ) (again : Bool) → x ≡ sample.Rtt age again → age ≤ now) → Sampling now e (by_sample e x)
+by_sample_lem : (now : ℕ) (e : RtoEstimator) (x : Option (ℕ × Bool)) → ((age : ℕ) (again : Bool) → x ≡ Some (age, again) → age ≤ now) → Sampling now e (by_sample e x)
 unfolding reject_sample
-by_sample_lem now e sample.Nothing h = without (record { config = refl; srtt = refl; rttvar = refl; count = refl }) refl
-by_sample_lem now e (sample.Rtt age true) h = without (record { config = refl; srtt = refl; rttvar = refl; count = refl }) refl
-by_sample_lem now e (sample.Rtt age false) h = with_sample age (h age false refl) refl
+by_sample_lem now e None h = without (record { config = refl; srtt = refl; rttvar = refl; count = refl }) refl
+by_sample_lem now e (Some (age, true)) h = without (record { config = refl; srtt = refl; rttvar = refl; count = refl }) refl
+by_sample_lem now e (Some (age, false)) h = with_sample age (h age false refl) refl
 
 pub sampling : (e : RtoEstimator) (m : SegMetas) (seq now : ℕ) → Sampling now e (sample_rtt e m seq now).estimator
 unfolding sample_rtt

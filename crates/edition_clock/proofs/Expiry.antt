@@ -1,5 +1,6 @@
 -- (5.4) to (5.6) of `fire_timers`: an expiry with something outstanding sends the earliest packet again, doubles the RTO and
 -- starts the timer with it; with nothing outstanding it only stops the timer.
+use Rattle.std.specs.Prelude.{Option}
 use Prim.Native.Nat.{ℕ, ◌+◌, ◌*◌, ◌≤◌, min, max}
 use native.Mathlib.Omega.{arith}
 use mathlib.Core.Path.{◌≡◌, refl, sym, ap, ◌∙◌, subst}
@@ -22,7 +23,6 @@ use Rattle.clock.specs.Clock.{timer_of, Submission, cancel, due}
 use Rattle.clock.specs.declared.Timing.TheVariants.{Edition}
 use Rattle.clock.proofs.Laws.{expiry_due, expiry_idle, not_due}
 use Rattle.session.specs.Sending.{SenderEnd, window_of, window_end, has_outstanding, oldest_outstanding, resent}
-use Rattle.session.specs.declared.Oldest.{Oldest}
 use Rattle.session.specs.declared.Timeout.TheVariants.{Earliest}
 use Rattle.session.proofs.Laws.{datagram_number}
 use Rattle.submission.specs.Submission.{Outgoing, outgoing, note_before, entry_free, on_carriage, submit}
@@ -50,7 +50,7 @@ unfolding on_timeout_unchecked
 timeout_5_5 e l h = doubled_within min_rto max_rto e.current_rto e.config.min_rto e.config.max_rto l.lower l.upper h
 
 -- ---- one packet again
-module _ (limit : ℕ) (rolls : List Float) (rto now : ℕ) (oldest : Oldest) (seq : ℕ) (packet : List ℕ) (r : Resends) (o : Outgoing) where
+module _ (limit : ℕ) (rolls : List Float) (rto now : ℕ) (oldest : Option ℕ) (seq : ℕ) (packet : List ℕ) (r : Resends) (o : Outgoing) where
   abbrev sends : RetransmitExit
   sends = retransmit Edition rolls rto now oldest seq packet r o
 

@@ -1,4 +1,5 @@
 -- What each rule keeps of a run's timer, RTO and retries, over plain states.
+use Rattle.std.specs.Prelude.{None, Option, Some}
 use Prim.Native.Nat.{ℕ, ◌+◌, ◌-◌, ◌*◌, ◌≤◌, ◌<◌, min}
 use native.Mathlib.Omega.{arith}
 use native.Mathlib.Nat.{le_trans, mul-le-mul_right}
@@ -9,8 +10,6 @@ use mathlib.Core.List.{List, [], ◌∷◌, ◌++◌}
 use lib.Dec.{leb}
 use borrow.Author.Tests.{leb-true, leb-false}
 use Rattle.timer.specs.Timer.{active, expired_at}
-use Rattle.timer.specs.declared.Deadline.{Deadline}
-use Rattle.timer.specs.declared.Deadline.TheVariants.{Unset, At}
 use Rattle.rto.specs.declared.RtoEstimator.{RtoEstimator}
 use Rattle.clock.specs.Clock.{ClockState, timer_of}
 use Rattle.session.specs.Sending.{SenderEnd, has_outstanding}
@@ -21,30 +20,30 @@ use Rattle.edition_clock.proofs.Expiry.{EditionLimits}
 use Rattle.edition_clock.proofs.Estimates.{Estimated, estimated_start, Unsampled, estimated_same, estimated_more, Sampling, without, with_sample}
 
 -- ---- deadlines
-same_time : {a b : ℕ} → At a ≡ At b → a ≡ b
+same_time : {a b : ℕ} → Some a ≡ Some b → a ≡ b
 same_time e = cc
 
-at_unset : {a : ℕ} → Unset ≡ At a → ⊥
+at_unset : {a : ℕ} → None ≡ Some a → ⊥
 at_unset e = let z : ◌≡◌ {A = ℕ} 0 1 = cc in omega arith
 
 -- the timer is set to expire after the RTO
-module _ (now rto : ℕ) {x : Deadline} (e : x ≡ At (now + rto)) where
+module _ (now rto : ℕ) {x : Option ℕ} (e : x ≡ Some (now + rto)) where
   set_active : active x ≡ true
   set_active = rw e
 
-  set_not_overdue : (d : ℕ) → x ≡ At d → now ≤ d
+  set_not_overdue : (d : ℕ) → x ≡ Some d → now ≤ d
   set_not_overdue d f = let k = same_time (sym e ∙ f) in omega arith
 
-  set_not_far : (d : ℕ) → x ≡ At d → d ≤ now + rto
+  set_not_far : (d : ℕ) → x ≡ Some d → d ≤ now + rto
   set_not_far d f = let k = same_time (sym e ∙ f) in omega arith
 
-  set_least : (n : ℕ) → n ≤ now + rto → (d : ℕ) → x ≡ At d → n ≤ d
+  set_least : (n : ℕ) → n ≤ now + rto → (d : ℕ) → x ≡ Some d → n ≤ d
   set_least n h d f = let k = same_time (sym e ∙ f) in omega arith
 
 -- (5.1) leaves a timer that runs, and sets one that doesn't
-sent_cases : (x y : Deadline) (now rto : ℕ) → rto_timer y rto ≡ on_sent now (rto_timer x rto) → ((y ≡ x) × (active x ≡ true)) ⊎ (y ≡ At (now + rto))
-sent_cases Unset y now rto e = inr (ap (λ (t : RtoTimer). t.deadline) e)
-sent_cases (At d) y now rto e = inl (ap (λ (t : RtoTimer). t.deadline) e, refl)
+sent_cases : (x y : Option ℕ) (now rto : ℕ) → rto_timer y rto ≡ on_sent now (rto_timer x rto) → ((y ≡ x) × (active x ≡ true)) ⊎ (y ≡ Some (now + rto))
+sent_cases None y now rto e = inr (ap (λ (t : RtoTimer). t.deadline) e)
+sent_cases (Some d) y now rto e = inl (ap (λ (t : RtoTimer). t.deadline) e, refl)
 
 -- an ACK of new data sets it, also the last one
 ack_starts : (outstanding : Bool) (now rto : ℕ) → on_new_ack outstanding now rto ≡ started now rto
@@ -52,9 +51,9 @@ ack_starts true now rto = refl
 ack_starts false now rto = refl
 
 -- an expiry was due
-due_at : (x : Deadline) (now : ℕ) → expired_at x now ≡ true → {P : Type 0} → ((d : ℕ) → x ≡ At d → d ≤ now → P) → P
-due_at Unset now e p = absurd (true≢false (sym e))
-due_at (At d) now e p = p d refl (leb-true d now e)
+due_at : (x : Option ℕ) (now : ℕ) → expired_at x now ≡ true → {P : Type 0} → ((d : ℕ) → x ≡ Some d → d ≤ now → P) → P
+due_at None now e p = absurd (true≢false (sym e))
+due_at (Some d) now e p = p d refl (leb-true d now e)
 
 -- ---- a moment: what the rules look at and count
 pub record Moment : Type 0 where
@@ -79,12 +78,12 @@ pub record Kept (limit now : ℕ) (m : Moment) : Type 0 where
   pub low : min_rto ≤ m.estimator.current_rto
   pub high : m.estimator.current_rto ≤ max_rto
   pub runs : has_outstanding m.sender.sender ≡ true → active (timer_of m.clock).deadline ≡ true
-  pub not_overdue : (d : ℕ) → (timer_of m.clock).deadline ≡ At d → now ≤ d
-  pub not_far : (d : ℕ) → (timer_of m.clock).deadline ≡ At d → d ≤ now + m.estimator.current_rto
+  pub not_overdue : (d : ℕ) → (timer_of m.clock).deadline ≡ Some d → now ≤ d
+  pub not_far : (d : ℕ) → (timer_of m.clock).deadline ≡ Some d → d ≤ now + m.estimator.current_rto
   pub limit_is : LimitIs limit m.sender.sender.state
   pub retries : retries_of m.sender.sender.state ≤ m.again
   pub paced : m.again * min_rto ≤ now
-  pub spaced : (d : ℕ) → (timer_of m.clock).deadline ≡ At d → (m.again + 1) * min_rto ≤ d
+  pub spaced : (d : ℕ) → (timer_of m.clock).deadline ≡ Some d → (m.again + 1) * min_rto ≤ d
 
 -- the rules that led to it from the timer x, with what was counted on the way
 pub record Chain (now : ℕ) (from m : Moment) : Type 0 where
@@ -143,7 +142,7 @@ module _ {limit now : ℕ} {from m : Moment} (a : Along limit now from m) where
       → Sampling now m.estimator e → (outstanding : Bool) → timer_with c e.current_rto ≡ on_new_ack outstanding now e.current_rto → Along limit now from (moment v e c m.written m.again (m.received + 1) m.duplicates)
   ack_along v e c f l low high how outstanding t =
       let rto = e.current_rto in
-      let s : (timer_of c).deadline ≡ At (now + e.current_rto) = ap (λ (x : RtoTimer). x.deadline) (t ∙ ack_starts outstanding now e.current_rto) in
+      let s : (timer_of c).deadline ≡ Some (now + e.current_rto) = ap (λ (x : RtoTimer). x.deadline) (t ∙ ack_starts outstanding now e.current_rto) in
       record {
         kept = record {
           limits = l;
@@ -247,7 +246,7 @@ module _ {limit now : ℕ} {from m : Moment} (a : Along limit now from m) where
             spaced = λ d g. k.spaced d (sym e.0 ∙ g);
           }
 
-      set : (timer_of c).deadline ≡ At (now + m.estimator.current_rto) → Kept limit now then
+      set : (timer_of c).deadline ≡ Some (now + m.estimator.current_rto) → Kept limit now then
       set e =
           let k = a.kept in
           record {
@@ -274,7 +273,7 @@ module _ {limit now : ℕ} {from m : Moment} (a : Along limit now from m) where
   expired_along v e c written again x i r l u t w g =
       let doubled = min (2 * m.estimator.current_rto) max_rto in
       let rto : e.current_rto ≡ min (2 * m.estimator.current_rto) max_rto = ap (λ (y : RtoTimer). y.rto) t in
-      let s : (timer_of c).deadline ≡ At (now + min (2 * m.estimator.current_rto) max_rto) = ap (λ (y : RtoTimer). y.deadline) t in
+      let s : (timer_of c).deadline ≡ Some (now + min (2 * m.estimator.current_rto) max_rto) = ap (λ (y : RtoTimer). y.deadline) t in
       let least = doubled_low m.estimator.current_rto a.kept.low in
       let served = expiry_served x in
       let most : min (2 * m.estimator.current_rto) max_rto ≤ max_rto = omega arith in
@@ -306,7 +305,7 @@ module _ {limit now : ℕ} {from m : Moment} (a : Along limit now from m) where
       }
 
   -- and with nothing outstanding
-  pub idle_along : (c : ClockState) → expired_at (timer_of m.clock).deadline now ≡ true → has_outstanding m.sender.sender ≡ false → (timer_of c).deadline ≡ Unset
+  pub idle_along : (c : ClockState) → expired_at (timer_of m.clock).deadline now ≡ true → has_outstanding m.sender.sender ≡ false → (timer_of c).deadline ≡ None
       → Along limit now from (moment m.sender m.estimator c m.written m.again m.received m.duplicates)
   idle_along c x o u =
       let k = a.kept in
@@ -329,7 +328,7 @@ module _ {limit now : ℕ} {from m : Moment} (a : Along limit now from m) where
           resent = h.resent;
           acks = h.acks;
           rtos = h.rtos;
-          follows = subst (λ (y : Deadline). Follows now (timer_on from) (rto_timer y m.estimator.current_rto) h.packets h.resent h.acks h.rtos) (sym u) (idle x h.follows);
+          follows = subst (λ (y : Option ℕ). Follows now (timer_on from) (rto_timer y m.estimator.current_rto) h.packets h.resent h.acks h.rtos) (sym u) (idle x h.follows);
           estimated = h.estimated;
           written = h.written;
           again = h.again;
@@ -344,7 +343,7 @@ module _ {limit now : ℕ} {from m : Moment} (a : Along limit now from m) where
       due_at (timer_of m.clock).deadline now x (λ d e q. spaced_few (retries_of m.sender.sender.state) m.again min_rto d now limit most a.kept.retries (a.kept.spaced d e) q h p)
 
 -- a later moment, not past the deadline
-pub kept_later : {limit now : ℕ} {m : Moment} → Kept limit now m → (later : ℕ) → now ≤ later → ((d : ℕ) → (timer_of m.clock).deadline ≡ At d → later ≤ d) → Kept limit later m
+pub kept_later : {limit now : ℕ} {m : Moment} → Kept limit now m → (later : ℕ) → now ≤ later → ((d : ℕ) → (timer_of m.clock).deadline ≡ Some d → later ≤ d) → Kept limit later m
 kept_later {now = now} {m = m} k later h p =
     record {
       limits = k.limits;

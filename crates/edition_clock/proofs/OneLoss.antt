@@ -1,10 +1,10 @@
 -- What one lost datagram costs Go-Back-N, by computation of the run.
+use Rattle.std.specs.Prelude.{Ok}
 use Prim.Native.Nat.{ℕ}
 use mathlib.Core.Path.{◌≡◌, refl, ap, ◌∙◌}
 use mathlib.Core.Bool.{true}
 use lib.Ieee as ieee
 use Rattle.refusal.specs.Order.{verdict}
-use Rattle.refusal.specs.declared.Verdict.TheVariants.{Accepted}
 use Rattle.setup.specs.Setup.{start_checks}
 use Rattle.setup.proofs.Laws.{start_accepted}
 use Rattle.setup.specs.declared.ClockChoice.{ClockChoice}
@@ -17,7 +17,6 @@ use Rattle.step.specs.declared.End.TheVariants.{Ended}
 use Rattle.transfer.specs.Start.{plan_for, new_run, start_of}
 use Rattle.transfer.specs.Run.{run}
 use Rattle.transfer.specs.Transfer.{default_ceilings, finished_at, outcome_of, RunExit, run_transfer}
-use Rattle.transfer.specs.declared.RunAnswer.TheVariants as answer
 use Rattle.transfer.proofs.Laws.{steps_from, is_going_on, run_steps, accepted_is}
 use Rattle.edition_clock.specs.OneLoss.{config, file, memory, Delivers}
 use Rattle.notes.specs.Notes as notes
@@ -69,6 +68,7 @@ use Rattle.step.specs.Settle as stepSettle
 use Rattle.step.specs.Step as step
 use Rattle.setup.specs.Setup as setup
 use Rattle.transfer.specs.Start as transferStart
+use Rattle.refusal.specs.Order.{passed}
 
 -- ---- the smallest input, on either clock
 module _ (clock : ClockChoice) where
@@ -78,12 +78,12 @@ module _ (clock : ClockChoice) where
   abbrev first : RunState
   first = new_run default_ceilings (config clock) memory
 
-  answers : verdict (start_checks (start_of (config clock) file memory)) ≡ Accepted → (run_transfer default_ceilings (config clock) file memory).answer ≡ answer.Outcome (outcome_of (run plan file first))
+  answers : verdict (start_checks (start_of (config clock) file memory)) ≡ passed → (run_transfer default_ceilings (config clock) file memory).answer ≡ Ok (outcome_of (run plan file first))
   answers a = ap (λ (x : RunExit). x.answer) (accepted_is default_ceilings (config clock) file memory (start_accepted (start_of (config clock) file memory) a))
 
   -- by so many steps
   record Computes (n time : ℕ) : Type 0 where
-    starts : verdict (start_checks (start_of (config clock) file memory)) ≡ Accepted
+    starts : verdict (start_checks (start_of (config clock) file memory)) ≡ passed
     goes : is_going_on plan file n first ≡ true
     done : (steps_from plan file n first).state.arrivals.inbound.side.completed ≡ true
     over : (steps_from plan file n first).course ≡ Over Ended time

@@ -1,4 +1,5 @@
 -- (5.1) and (5.3) of the run's own calls: a packet that is submitted, a chunk that is sent, an ACK that is handed over.
+use Rattle.std.specs.Prelude.{None, Some}
 use Prim.Native.Nat.{ℕ}
 use mathlib.Core.Path.{◌≡◌, refl, ap, ◌∙◌}
 use mathlib.Core.Bool.{Bool, true, false, cond}
@@ -21,7 +22,6 @@ use Rattle.submission.specs.Submission.{Outgoing, submit}
 use Rattle.submission.proofs.Laws.{submit_going, submit_stopped}
 use Rattle.sending.specs.Sending.{PumpState, send_one}
 use Rattle.acks.specs.Acks.{AckState, ack_number, sample_seq, on_accepted, counted, on_ack}
-use Rattle.acks.specs.declared.AckNumber.TheVariants as ack
 use Rattle.acks.proofs.Laws.{on_ack_dropped, on_ack_duplicate, on_ack_accepted}
 use Rattle.edition_clock.specs.Section5.{RtoTimer, rto_timer, started, on_sent, on_new_ack}
 use Rattle.edition_clock.specs.AlongARun.{timer_with}
@@ -71,7 +71,7 @@ module _ (now : ℕ) (raw : List ℕ) (s : AckState) where
   abbrev after : AckState
   after = on_ack Edition now raw s
 
-  module _ (n : ℕ) (h : SenderUnbroken s.sender) (e : ack_number (read_datagram raw) ≡ ack.Number n) where
+  module _ (n : ℕ) (h : SenderUnbroken s.sender) (e : ack_number (read_datagram raw) ≡ Some n) where
     -- an ACK of new data, by what it leaves outstanding
     pub ack_5_3 : is_in_window (window_of s.sender.sender) n ≡ true
         → timer_at after ≡ on_new_ack (is_outstanding (oldest_outstanding (acknowledged s.sender n).sender)) now after.estimator.current_rto
@@ -81,5 +81,5 @@ module _ (now : ℕ) (raw : List ℕ) (s : AckState) where
     pub ack_not_new : is_in_window (window_of s.sender.sender) n ≡ false → timer_at after ≡ timer_at s
     ack_not_new i = ap timer_at (on_ack_duplicate Edition now raw s n h e i)
 
-  pub no_ack : ack_number (read_datagram raw) ≡ ack.Nothing → timer_at after ≡ timer_at s
+  pub no_ack : ack_number (read_datagram raw) ≡ None → timer_at after ≡ timer_at s
   no_ack e = ap timer_at (on_ack_dropped Edition now raw s e)

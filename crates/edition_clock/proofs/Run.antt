@@ -1,4 +1,5 @@
 -- A whole run on the edition clock, from a start that isn't refused.
+use Rattle.std.specs.Prelude.{None, Some}
 use Prim.Native.Nat.{ℕ, zero, suc, ◌-◌, ◌*◌, ◌<◌}
 use native.Mathlib.Omega.{arith}
 use mathlib.Core.Path.{◌≡◌, refl, sym, subst}
@@ -9,7 +10,6 @@ use Rattle.bounds.specs.Bounds.{max_duration}
 use Rattle.protocol.specs.declared.ProtocolType.{ProtocolType}
 use Rattle.protocol.specs.declared.ProtocolType.TheVariants as protocol
 use Rattle.timer.specs.Timer.{new_timer}
-use Rattle.timer.specs.declared.Deadline.TheVariants.{Unset, At}
 use Rattle.rto.specs.Rto.{fresh}
 use Rattle.rto.specs.declared.RtoConfig.{RtoConfig}
 use Rattle.path.specs.Rolls.{Doubles}
@@ -92,7 +92,7 @@ timing_is protocol.SelectiveRepeat k i e = absurd i
 nothing_yet : (low high : ℕ) → low ≡ 0 → high ≡ 0 → 0 < high - low → ⊥
 nothing_yet low high e f h = omega arith
 
-unset_at : {d : ℕ} → Unset ≡ At d → ⊥
+unset_at : {d : ℕ} → None ≡ Some d → ⊥
 unset_at e = let z : ◌≡◌ {A = ℕ} 0 1 = cc in omega arith
 
 module _ (k : Ceilings) (c : TransferConfig) (g : Given) (l : Lent) (h : CanStart (start_of c g l)) (e : c.clock ≡ choice.Edition) where

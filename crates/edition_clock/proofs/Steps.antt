@@ -1,4 +1,5 @@
 -- What the parts of a step keep, and a step that goes on.
+use Rattle.std.specs.Prelude.{None, Option, Some}
 use Prim.Native.Nat.{ℕ, ◌+◌, ◌*◌, ◌≤◌, ◌<◌, min, max}
 use native.Mathlib.Omega.{arith}
 use mathlib.Core.Path.{◌≡◌, refl, sym, ◌∙◌, subst}
@@ -14,8 +15,6 @@ use Rattle.timer.specs.Timer.{expired_at}
 use Rattle.rto.specs.Rto.{accept_sample, reject_sample, on_timeout_unchecked}
 use Rattle.rto.specs.declared.RtoEstimator.{RtoEstimator}
 use Rattle.notes.specs.Notes.{SegMetas, take_sample}
-use Rattle.notes.specs.declared.Sample.{Sample}
-use Rattle.notes.specs.declared.Sample.TheVariants as sample
 use Rattle.path.specs.Direction.{Direction}
 use Rattle.path.specs.Path.{is_going}
 use Rattle.path.proofs.Laws.{going_is}
@@ -32,8 +31,6 @@ use Rattle.sending.proofs.Laws.{chunk, blank, given, written, can_send_lem, pump
 use Rattle.acks.specs.Acks.{AckState, ack_number, sample_seq, on_accepted, counted, on_ack}
 use Rattle.acks.specs.Good.{CanOnAck}
 use Rattle.acks.specs.Reverse.{serve_reverse, CanServeReverse}
-use Rattle.acks.specs.declared.AckNumber.{AckNumber}
-use Rattle.acks.specs.declared.AckNumber.TheVariants as ack
 use Rattle.acks.proofs.Laws.{on_ack_dropped, on_ack_duplicate, on_ack_accepted, on_accepted_is, next_taken, can_hand_over, turn_good, serve_reverse_invariant}
 use Rattle.arrivals.specs.Arrivals.{ArrivalState, ArrivalExit, acks_of, serve_arrivals, CanServeArrivals}
 use Rattle.arrivals.proofs.Laws.{between, can_serve_reverse, either_exit}
@@ -66,11 +63,11 @@ pub record Limited (e : RtoEstimator) : Type 0 where
 clamped : (x a b : ℕ) → a ≡ min_rto → b ≡ max_rto → (min_rto ≤ min (max x a) b) × (min (max x a) b ≤ max_rto)
 clamped x a b e f = (omega arith, omega arith)
 
-by_sample_lem : (e : RtoEstimator) (x : Sample) → Limited e → Limited (by_sample e x)
+by_sample_lem : (e : RtoEstimator) (x : Option (ℕ × Bool)) → Limited e → Limited (by_sample e x)
 unfolding accept_sample reject_sample
-by_sample_lem e sample.Nothing l = l
-by_sample_lem e (sample.Rtt d true) l = record { limits = l.limits; low = l.low; high = l.high }
-by_sample_lem e (sample.Rtt d false) l = let c = clamped _ e.config.min_rto e.config.max_rto l.limits.lower l.limits.upper in record { limits = l.limits; low = c.0; high = c.1 }
+by_sample_lem e None l = l
+by_sample_lem e (Some (d, true)) l = record { limits = l.limits; low = l.low; high = l.high }
+by_sample_lem e (Some (d, false)) l = let c = clamped _ e.config.min_rto e.config.max_rto l.limits.lower l.limits.upper in record { limits = l.limits; low = c.0; high = c.1 }
 
 sampled : (e : RtoEstimator) (m : SegMetas) (seq now : ℕ) → Limited e → Limited (sample_rtt e m seq now).estimator
 unfolding sample_rtt
@@ -111,13 +108,13 @@ module _ (limit now : ℕ) (from : Moment) (w a : ℕ) where
           (ack_along h v _ _ (acknowledged_fresh limit s.sender n k.limit_is) l.limits l.low l.high (sampling s.estimator s.metas seq now) (is_outstanding (oldest_outstanding v.sender))
           (subst (λ (y : AckState). timer_at y ≡ on_new_ack (is_outstanding (oldest_outstanding v.sender)) now y.estimator.current_rto) (on_accepted_is Edition now raw u n seq) (accepted_5_3 now n seq u)))
 
-      by_test_lem : (n : ℕ) → ack_number (read_datagram raw) ≡ ack.Number n → (b : Bool) → is_in_window (window_of s.sender.sender) n ≡ b → Is (on_ack Edition now raw s)
+      by_test_lem : (n : ℕ) → ack_number (read_datagram raw) ≡ Some n → (b : Bool) → is_in_window (window_of s.sender.sender) n ≡ b → Is (on_ack Edition now raw s)
       by_test_lem n e true i = subst Is (sym (on_ack_accepted Edition now raw s n on.good.sender e i)) (accepted n)
       by_test_lem n e false i = subst Is (sym (on_ack_duplicate Edition now raw s n on.good.sender e i)) (duplicate_along h)
 
-      by_number_lem : (x : AckNumber) → ack_number (read_datagram raw) ≡ x → Is (on_ack Edition now raw s)
-      by_number_lem ack.Nothing e = subst Is (sym (on_ack_dropped Edition now raw s e)) h
-      by_number_lem (ack.Number n) e = by_test_lem n e (is_in_window (window_of s.sender.sender) n) refl
+      by_number_lem : (x : Option ℕ) → ack_number (read_datagram raw) ≡ x → Is (on_ack Edition now raw s)
+      by_number_lem None e = subst Is (sym (on_ack_dropped Edition now raw s e)) h
+      by_number_lem (Some n) e = by_test_lem n e (is_in_window (window_of s.sender.sender) n) refl
 
   reverse_along : (d : Direction) (s : AckState) → CanServeReverse d s now → Is s → Is (serve_reverse Edition now d s).state
   reverse_along d s can h =

@@ -1,12 +1,9 @@
 -- RFC 6298, section 5, and document 01, "The edition clock", along a run.
-use Rattle.std.specs.Prelude.{ℕ, ◌+◌, ◌-◌, ◌*◌, ◌≤◌, ◌≡◌, true, List, [], ◌∷◌, ◌++◌, length}
+use Rattle.std.specs.Prelude.{ℕ, ◌+◌, ◌-◌, ◌*◌, ◌≤◌, ◌≡◌, true, List, [], ◌∷◌, ◌++◌, length, Option, Some}
 use Rattle.rto.specs.Rto.{limited, estimate_for}
 use Rattle.rto.specs.declared.RtoConfig.{RtoConfig}
 use Rattle.rto.specs.declared.RtoEstimator.{RtoEstimator}
-use Rattle.rto.specs.declared.MaybeDuration.{MaybeDuration}
-use Rattle.rto.specs.declared.MaybeDuration.TheVariants.{Set}
 use Rattle.timer.specs.Timer.{active}
-use Rattle.timer.specs.declared.Deadline.TheVariants.{At}
 use Rattle.events.specs.Events.{ForwardEvent, events_of}
 use Rattle.clock.specs.Clock.{ClockState, timer_of, Submission}
 use Rattle.session.specs.Sending.{window_of, has_outstanding}
@@ -33,11 +30,11 @@ new_acks s = s.arrivals.received - s.arrivals.duplicates
 
 -- Section 2 at the moment `now`, with the setup c, from one SRTT and RTTVAR to others: the RTO of each sample, none
 -- older than the run, is that of (2.2) or (2.3), within its limits.
-pub data Estimates (now : ℕ) (c : RtoConfig) (srtt rttvar : MaybeDuration)
-    : MaybeDuration → MaybeDuration → List ℕ → Type 0 where
+pub data Estimates (now : ℕ) (c : RtoConfig) (srtt rttvar : Option ℕ)
+    : Option ℕ → Option ℕ → List ℕ → Type 0 where
   same : Estimates now c srtt rttvar srtt rttvar []
-  estimated : {s v : MaybeDuration} {rtos : List ℕ} (age : ℕ) → age ≤ now → Estimates now c srtt rttvar s v rtos
-      → Estimates now c srtt rttvar (Set (estimate_for c s v age).srtt) (Set (estimate_for c s v age).rttvar)
+  estimated : {s v : Option ℕ} {rtos : List ℕ} (age : ℕ) → age ≤ now → Estimates now c srtt rttvar s v rtos
+      → Estimates now c srtt rttvar (Some (estimate_for c s v age).srtt) (Some (estimate_for c s v age).rttvar)
       (rtos ++ limited c (estimate_for c s v age).rto ∷ [])
 
 abbrev pub estimator_in : RunState → RtoEstimator
@@ -69,8 +66,8 @@ pub record WithinLimits (s : RunState) : Type 0 where
 pub record OnTheClock (s : RunState) : Type 0 where
   pub limits : WithinLimits s
   pub runs : has_outstanding s.arrivals.sender.sender ≡ true → active (timer_in s).deadline ≡ true
-  pub not_overdue : (d : ℕ) → (timer_in s).deadline ≡ At d → s.time ≤ d
-  pub not_far : (d : ℕ) → (timer_in s).deadline ≡ At d → d ≤ s.time + (timer_in s).rto
+  pub not_overdue : (d : ℕ) → (timer_in s).deadline ≡ Some d → s.time ≤ d
+  pub not_far : (d : ℕ) → (timer_in s).deadline ≡ Some d → d ≤ s.time + (timer_in s).rto
 
 -- ---- an expiry, from s to u. (5.4): one packet more, of the earliest number outstanding, marked as sent again
 pub record EarliestAgain (s u : FireState) : Type 0 where

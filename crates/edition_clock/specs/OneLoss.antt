@@ -1,6 +1,6 @@
 -- What one lost datagram costs Go-Back-N: window 2, two chunks of one byte, base delay 5 ms, the first datagram lost,
 -- and the edition clock's numbers.
-use Rattle.std.specs.Prelude.{ℕ, ◌*◌, ◌≡◌, true, [], ◌∷◌, replicate}
+use Rattle.std.specs.Prelude.{ℕ, ◌*◌, ◌≡◌, true, [], ◌∷◌, replicate, Ok}
 use Rattle.bounds.specs.Bounds.{slot_size, place_size}
 use Rattle.rows.specs.Rows.{vacant}
 use Rattle.schedule.specs.Record as scheduled
@@ -11,7 +11,6 @@ use Rattle.setup.specs.declared.TransferConfig.{TransferConfig}
 use Rattle.step.specs.State.{Given, given, Lent, lent}
 use Rattle.transfer.specs.Transfer.{default_ceilings, run_transfer}
 use Rattle.transfer.specs.declared.Outcome.{Outcome}
-use Rattle.transfer.specs.declared.RunAnswer.TheVariants as answer
 use Rattle.edition_clock.specs.Section5.{min_rto, max_rto}
 
 -- a roll of 0 is below the chance of a loss, rolls of 1/4 aren't
@@ -56,6 +55,6 @@ memory =
 -- `run_transfer` delivers the file at this time
 pub record Delivers (clock : ClockChoice) (time : ℕ) : Type 0 where
   pub outcome : Outcome
-  pub answered : (run_transfer default_ceilings (config clock) file memory).answer ≡ answer.Outcome outcome
+  pub answered : (run_transfer default_ceilings (config clock) file memory).answer ≡ Ok outcome
   pub completed : outcome.completed ≡ true
   pub finished : outcome.finished_at ≡ time

@@ -1,15 +1,13 @@
 -- RFC 6298, section 5, over what its rules speak of: the timer, which runs while it has a deadline, and the RTO. How an
 -- RTO comes of a sample is section 2's. Document 01, "The edition clock", departs from (5.2).
-use Rattle.std.specs.Prelude.{ℕ, ◌+◌, ◌*◌, min, ◌≡◌, Bool, true, cond, List, [], ◌∷◌, ◌++◌}
+use Rattle.std.specs.Prelude.{ℕ, ◌+◌, ◌*◌, min, ◌≡◌, Bool, true, cond, List, [], ◌∷◌, ◌++◌, None, Option, Some}
 use Rattle.timer.specs.Timer.{active, expired_at}
-use Rattle.timer.specs.declared.Deadline.{Deadline}
-use Rattle.timer.specs.declared.Deadline.TheVariants.{Unset, At}
 
 pub record RtoTimer : Type 0 where
-  pub deadline : Deadline
+  pub deadline : Option ℕ
   pub rto : ℕ
 
-abbrev pub rto_timer : Deadline → ℕ → RtoTimer
+abbrev pub rto_timer : Option ℕ → ℕ → RtoTimer
 rto_timer d rto = record { deadline = d; rto = rto }
 
 -- in nanoseconds: 1 s, the minimum of (2.4), and 60 s, the least maximum that (2.5) allows
@@ -21,7 +19,7 @@ max_rto = 60000000000
 
 -- to expire after the RTO
 abbrev pub started : ℕ → ℕ → RtoTimer
-started now rto = rto_timer (At (now + rto)) rto
+started now rto = rto_timer (Some (now + rto)) rto
 
 -- (5.1): a packet with data is sent, for the first time or again
 abbrev pub on_sent : ℕ → RtoTimer → RtoTimer
@@ -42,7 +40,7 @@ on_expiry now x = started now (min (2 * x.rto) max_rto)
 
 -- document 01: an expiry with nothing outstanding only stops the timer
 abbrev pub on_idle_expiry : RtoTimer → RtoTimer
-on_idle_expiry x = rto_timer Unset x.rto
+on_idle_expiry x = rto_timer None x.rto
 
 -- The rules lead from x to another timer, all at the moment `now`, with so many packets sent, so many of them again by
 -- (5.4), so many ACKs of new data, and the RTOs that their samples gave, oldest first.

@@ -1,14 +1,12 @@
 -- arq/gbn.rs, `GoBackNReceiver`; document 01, "Turned away" and "Every receiver acknowledges any valid Fin by its own
 -- number".
-use Rattle.std.specs.Prelude.{ℕ, ◌+◌, ◌-◌, List, Bool, true, false, cond, eqb}
+use Rattle.std.specs.Prelude.{ℕ, ◌+◌, ◌-◌, List, Bool, true, false, cond, eqb, None, Option, Some}
 use Rattle.packet.specs.Reading.{payload_of}
 use Rattle.receiver.specs.State.{state_broken, counts_broken}
 use Rattle.receiver.specs.Reading.{read_packet}
 use Rattle.receiver.specs.Receive.{ReceiveExit, Reception, receive, receive_unchecked}
 use Rattle.receiver.specs.declared.PacketReading.{PacketReading}
 use Rattle.receiver.specs.declared.PacketReading.TheVariants as reading
-use Rattle.receiver.specs.declared.Reply.{Reply}
-use Rattle.receiver.specs.declared.Reply.TheVariants as reply
 use Rattle.go_back_n.specs.declared.GoBackNReceiver.{GoBackNReceiver}
 use Rattle.go_back_n.specs.declared.GoBackNDecision.{GoBackNDecision}
 
@@ -25,7 +23,7 @@ state expected filled received discarded duplicates =
 abbrev pub new_receiver : GoBackNReceiver
 new_receiver = state 0 0 0 0 0
 
-abbrev pub decided : GoBackNReceiver → Bool → Reply → GoBackNDecision
+abbrev pub decided : GoBackNReceiver → Bool → Option ℕ → GoBackNDecision
 decided r deliver reply = record { receiver = r; decision = record { deliver = deliver; reply = reply } }
 
 -- Data in order is delivered and acknowledged; other Data is discarded and, once something was delivered, answered with
@@ -34,20 +32,20 @@ unfoldable pub data_decision : GoBackNReceiver → ℕ → GoBackNDecision
 data_decision r n =
     cond (eqb n r.expected_seq)
     (decided (state (r.expected_seq + 1) r.filled r.total_received r.discarded_out_of_order
-    r.duplicate_acks_sent) true (reply.Ack n))
+    r.duplicate_acks_sent) true (Some n))
     (cond (eqb r.expected_seq 0)
     (decided (state r.expected_seq r.filled r.total_received (r.discarded_out_of_order + 1)
-    r.duplicate_acks_sent) false reply.Silent)
+    r.duplicate_acks_sent) false None)
     (decided (state r.expected_seq r.filled r.total_received (r.discarded_out_of_order + 1)
     (r.duplicate_acks_sent + 1)) false
-    (reply.Ack (r.expected_seq - 1))))
+    (Some (r.expected_seq - 1))))
 
 -- every packet is counted; Fin is acknowledged by its own number; an ACK and a corrupted packet are not answered
 abbrev pub by_kind : GoBackNReceiver → PacketReading → GoBackNDecision
 by_kind r (reading.Data n) = data_decision r n
-by_kind r (reading.Fin n) = decided r false (reply.Ack n)
-by_kind r reading.Ack = decided r false reply.Silent
-by_kind r reading.Corrupted = decided r false reply.Silent
+by_kind r (reading.Fin n) = decided r false (Some n)
+by_kind r reading.Ack = decided r false None
+by_kind r reading.Corrupted = decided r false None
 
 unfoldable pub decision : GoBackNReceiver → PacketReading → GoBackNDecision
 decision r h = by_kind (state r.expected_seq r.filled (r.total_received + 1) r.discarded_out_of_order

@@ -1,20 +1,19 @@
 -- arq/gbn.rs, `GoBackNSender`; document 01, "Turned away".
-use Rattle.std.specs.Prelude.{ℕ, ◌+◌, List, false}
+use Rattle.std.specs.Prelude.{ℕ, ◌+◌, List, false, Err, Ok, Result}
 use Rattle.window.specs.State.{outstanding, state_broken, counts_broken}
 use Rattle.window.specs.Slots.{Sender, release}
 use Rattle.window.specs.Acknowledgement.{ack_decision, AckExit, by_decision}
 use Rattle.window.specs.Resending.{TimeoutExit, resend, resend_outstanding}
 use Rattle.window.specs.declared.AckDecision.{AckDecision}
-use Rattle.window.specs.declared.SendWindowAnswer.{SendWindowAnswer}
-use Rattle.window.specs.declared.SendWindowAnswer.TheVariants as makeAnswer
-use Rattle.go_back_n.specs.declared.GoBackNSenderAnswer.{GoBackNSenderAnswer}
-use Rattle.go_back_n.specs.declared.GoBackNSenderAnswer.TheVariants as made
+use Rattle.go_back_n.specs.declared.GoBackNSender.{GoBackNSender}
+use Rattle.refusal.specs.declared.Refusal.{Refusal}
+use Rattle.window.specs.declared.SendWindow.{SendWindow}
 
-abbrev pub made_window : GoBackNSenderAnswer → SendWindowAnswer
-made_window (made.Sender s) = makeAnswer.Window s.window
-made_window (made.Refused r) = makeAnswer.Refused r
+abbrev pub made_window : Result GoBackNSender Refusal → Result SendWindow Refusal
+made_window (Ok s) = Ok s.window
+made_window (Err r) = Err r
 
-abbrev pub decide_ack : Sender → List ℕ → AckDecision
+abbrev pub decide_ack : Sender → List ℕ → Result AckDecision Refusal
 decide_ack v raw = ack_decision false v.window v.store raw
 
 -- an accepted ACK acknowledges its number and all before it

@@ -17,9 +17,9 @@ ghost use Rattle.receiver.specs.State as receiverState;
 ghost use Rattle.receiver.specs.State.{counts_broken};
 
 use packet::Packet;
-use receiver::{Decision, PacketReading, ReadingAnswer, ReceiveAnswer, Reply};
-use refusal::{CountAnswer, Refusal, TestAnswer};
-use window::{AckAnswer, AckDecision, SendAnswer, SendWindow, SendWindowAnswer, TimeoutAnswer};
+use receiver::{Decision, PacketReading};
+use refusal::Refusal;
+use window::{AckDecision, SendWindow};
 
 #[derive(Clone, Copy)]
 pub struct GoBackNSender {
@@ -27,38 +27,30 @@ pub struct GoBackNSender {
 }
 
 #[derive(Clone, Copy)]
-pub enum GoBackNSenderAnswer {
-    Sender(GoBackNSender),
-    Refused(Refusal),
-}
-
-#[derive(Clone, Copy)]
 pub struct GoBackNSendResult {
     pub sender: GoBackNSender,
-    pub answer: SendAnswer,
+    pub answer: Result<Option<usize>, Refusal>,
 }
 
 #[derive(Clone, Copy)]
 pub struct GoBackNAckResult {
     pub sender: GoBackNSender,
-    pub answer: AckAnswer,
+    pub answer: Result<bool, Refusal>,
 }
 
 #[derive(Clone, Copy)]
 pub struct GoBackNTimeoutResult {
     pub sender: GoBackNSender,
-    pub answer: TimeoutAnswer,
+    pub answer: Result<Option<usize>, Refusal>,
 }
 
 impl GoBackNSender {
-    pub fn new(window_size: usize, store: &mut [u8]) -> GoBackNSenderAnswer
+    pub fn new(window_size: usize, store: &mut [u8]) -> Result<GoBackNSender, Refusal>
         ensures { make_exit (made_window result) store.new ≡ make_window window_size store.old }
     {
         match SendWindow::new(window_size, store) {
-            SendWindowAnswer::Window(window) => GoBackNSenderAnswer::Sender(GoBackNSender {
-                window,
-            }),
-            SendWindowAnswer::Refused(r) => GoBackNSenderAnswer::Refused(r),
+            Ok(window) => Ok(GoBackNSender { window }),
+            Err(r) => Err(r),
         }
     }
 
@@ -83,17 +75,17 @@ impl GoBackNSender {
             ≡ handle_ack (sender self.window store.old) raw.now }
     {
         match self.decide_ack(store, raw) {
-            AckDecision::Accept { seq_num, base: _ } => GoBackNAckResult {
+            Ok(AckDecision::Accept { seq_num, base: _ }) => GoBackNAckResult {
                 sender: self.acknowledge_unchecked(store, seq_num, false),
-                answer: AckAnswer::Accepted,
+                answer: Ok(true),
             },
-            AckDecision::NotAccepted => GoBackNAckResult {
+            Ok(AckDecision::NotAccepted) => GoBackNAckResult {
                 sender: self,
-                answer: AckAnswer::NotAccepted,
+                answer: Ok(false),
             },
-            AckDecision::Refused(r) => GoBackNAckResult {
+            Err(r) => GoBackNAckResult {
                 sender: self,
-                answer: AckAnswer::Refused(r),
+                answer: Err(r),
             },
         }
     }
@@ -130,7 +122,7 @@ impl GoBackNSender {
     }
 
     // What a datagram as an ACK does.
-    pub fn decide_ack(self, store: &[u8], raw: &[u8]) -> AckDecision
+    pub fn decide_ack(self, store: &[u8], raw: &[u8]) -> Result<AckDecision, Refusal>
         ensures { result ≡ decide_ack (sender self.window store.now) raw.now }
     {
         let window = self.window;
@@ -152,21 +144,21 @@ impl GoBackNSender {
         GoBackNSender { window }
     }
 
-    pub fn can_send(self) -> TestAnswer
+    pub fn can_send(self) -> Result<bool, Refusal>
         ensures { result ≡ can_send self.window }
     {
         let window = self.window;
         window.can_send()
     }
 
-    pub fn in_flight_count(self) -> CountAnswer
+    pub fn in_flight_count(self) -> Result<usize, Refusal>
         ensures { result ≡ in_flight_count self.window }
     {
         let window = self.window;
         window.in_flight_count()
     }
 
-    pub fn has_unacked_packets(self) -> TestAnswer
+    pub fn has_unacked_packets(self) -> Result<bool, Refusal>
         ensures { result ≡ has_unacked_packets self.window }
     {
         let window = self.window;
@@ -194,7 +186,7 @@ pub struct GoBackNDecision {
 #[derive(Clone, Copy)]
 pub struct GoBackNReceiveResult {
     pub receiver: GoBackNReceiver,
-    pub answer: ReceiveAnswer,
+    pub answer: Result<Option<u32>, Refusal>,
 }
 
 impl GoBackNReceiver {
@@ -229,12 +221,12 @@ impl GoBackNReceiver {
             raw,
             output,
         ) {
-            ReadingAnswer::Reading(reading) => {
+            Ok(reading) => {
                 self.handle_packet_unchecked(reading, Packet::payload(raw), output, ack)
             }
-            ReadingAnswer::Refused(r) => GoBackNReceiveResult {
+            Err(r) => GoBackNReceiveResult {
                 receiver: self,
-                answer: ReceiveAnswer::Refused(r),
+                answer: Err(r),
             },
         }
     }
@@ -257,7 +249,7 @@ impl GoBackNReceiver {
         let decision = after.decision;
         let result = receiver::apply_unchecked(decision, payload, self.filled, output, ack);
         let answer = result.answer;
-        if answer.is_refused() {
+        if answer.is_err() {
             return GoBackNReceiveResult {
                 receiver: self,
                 answer,
@@ -278,9 +270,9 @@ impl GoBackNReceiver {
         self.total_received += 1;
         match reading {
             PacketReading::Data(n) => self.decide_data(n),
-            PacketReading::Fin(n) => self.decided(false, Reply::Ack(n)),
-            PacketReading::Ack => self.decided(false, Reply::Silent),
-            PacketReading::Corrupted => self.decided(false, Reply::Silent),
+            PacketReading::Fin(n) => self.decided(false, Some(n)),
+            PacketReading::Ack => self.decided(false, None),
+            PacketReading::Corrupted => self.decided(false, None),
         }
     }
 
@@ -292,17 +284,17 @@ impl GoBackNReceiver {
         let expected = self.expected_seq;
         if n == expected {
             self.expected_seq = expected + 1;
-            return self.decided(true, Reply::Ack(n));
+            return self.decided(true, Some(n));
         }
         self.discarded_out_of_order += 1;
         if expected == 0 {
-            return self.decided(false, Reply::Silent);
+            return self.decided(false, None);
         }
         self.duplicate_acks_sent += 1;
-        self.decided(false, Reply::Ack(expected - 1))
+        self.decided(false, Some(expected - 1))
     }
 
-    fn decided(self, deliver: bool, reply: Reply) -> GoBackNDecision
+    fn decided(self, deliver: bool, reply: Option<u32>) -> GoBackNDecision
         ensures { result ≡ decided self deliver reply }
     {
         GoBackNDecision {

@@ -1,5 +1,6 @@
 -- Laws of the packed answers, for crates above to cite: status and value are read back; which answers refuse; what
 -- survives the packing.
+use Rattle.std.specs.Prelude.{Err, Ok, Result}
 use Prim.Native.Nat.{ℕ, ◌+◌, ◌*◌, ◌/◌, ◌%◌, ◌≤◌, ◌<◌}
 use mathlib.Core.Path.{◌≡◌, refl, sym, ap, ◌∙◌}
 use mathlib.Core.Bool.{Bool, true, false, cond}
@@ -7,12 +8,6 @@ use mathlib.Core.List.{List}
 use native.Mathlib.Omega.{arith}
 use Rattle.refusal.specs.Refusal.{entry_of}
 use Rattle.refusal.specs.declared.Refusal.{Refusal}
-use Rattle.refusal.specs.declared.Verdict.{Verdict}
-use Rattle.refusal.specs.declared.Verdict.TheVariants.{Accepted, Refused}
-use Rattle.refusal.specs.declared.TestAnswer.{TestAnswer}
-use Rattle.refusal.specs.declared.TestAnswer.TheVariants as test
-use Rattle.refusal.specs.declared.CountAnswer.{CountAnswer}
-use Rattle.refusal.specs.declared.CountAnswer.TheVariants as count
 use Rattle.refusal.specs.Order.{Check, verdict, decide}
 use Rattle.refusal.proofs.Laws.{NoneTrue, accepted_none_true, EachRefusal, refused_one_of}
 use Rattle.refusal.specs.declared.Refusal.TheVariants.{Short, Kind, Cut, Setup, Full, Long, Numbers, Counts, State, Time, Roll}
@@ -85,10 +80,10 @@ ordinary_not_refusing status value h k refusing = let e = status_back status val
 -- ---- what the answers hold survives the packing
 -- what holds of each check's refusal and of the accepted answer holds of the answer
 module _ {A : Type 0} (P : A → Type 0) (cs : List Check) (f : Refusal → A) (a : A) (each : EachRefusal (λ r. P (f r)) cs) (ok : NoneTrue cs → P a) where
-  by_verdict : (v : Verdict) → verdict cs ≡ v → P (decide v f a)
+  by_verdict : (v : Result Unit Refusal) → verdict cs ≡ v → P (decide v f a)
   unfolding decide
-  by_verdict Accepted e = ok (accepted_none_true cs e)
-  by_verdict (Refused r) e = refused_one_of (λ (s : Refusal). P (f s)) r cs each e
+  by_verdict (Ok tt) e = ok (accepted_none_true cs e)
+  by_verdict (Err r) e = refused_one_of (λ (s : Refusal). P (f s)) r cs each e
 
   pub of_answer : P (decide (verdict cs) f a)
   of_answer = by_verdict (verdict cs) refl
@@ -113,10 +108,10 @@ pub time_fits : ValuesFit Time
 time_fits = record { first = omega arith; second = omega arith }
 
 -- of an answer that is a test or a count
-abbrev pub TestFits : TestAnswer → Type 0
-TestFits (test.Is b) = Unit {0}
-TestFits (test.Refused r) = ValuesFit r
+abbrev pub TestFits : Result Bool Refusal → Type 0
+TestFits (Ok b) = Unit {0}
+TestFits (Err r) = ValuesFit r
 
-abbrev pub CountFits : CountAnswer → Type 0
-CountFits (count.Count n) = n < value_limit
-CountFits (count.Refused r) = ValuesFit r
+abbrev pub CountFits : Result ℕ Refusal → Type 0
+CountFits (Ok n) = n < value_limit
+CountFits (Err r) = ValuesFit r

@@ -1,14 +1,8 @@
 -- What a call of the host interface answers: one number of 64 bits, a status in its lowest 8 bits and a value in the 56
 -- above them. The statuses 1 to 11 are the refusals of document 01, "Turned away", by their numbers.
-use Rattle.std.specs.Prelude.{ℕ, ◌+◌, ◌*◌, ◌/◌, ◌%◌, ◌≤◌, ◌<◌, cond}
+use Rattle.std.specs.Prelude.{ℕ, ◌+◌, ◌*◌, ◌/◌, ◌%◌, ◌≤◌, ◌<◌, cond, Bool, Err, Ok, Result}
 use Rattle.refusal.specs.Refusal.{entry_of, values_of}
 use Rattle.refusal.specs.declared.Refusal.{Refusal}
-use Rattle.refusal.specs.declared.TestAnswer.{TestAnswer}
-use Rattle.refusal.specs.declared.TestAnswer.TheVariants as test
-use Rattle.refusal.specs.declared.CountAnswer.{CountAnswer}
-use Rattle.refusal.specs.declared.CountAnswer.TheVariants as count
-use Rattle.refusal.specs.declared.DoneAnswer.{DoneAnswer}
-use Rattle.refusal.specs.declared.DoneAnswer.TheVariants as done
 
 abbrev pub status_limit : ℕ
 status_limit = 256
@@ -60,17 +54,17 @@ unfoldable pub refusal_answer : Refusal → ℕ
 refusal_answer r =
     packed (entry_of r).number (first_value r % word_limit + second_value r % word_limit * word_limit)
 
-unfoldable pub test_answer : TestAnswer → ℕ
-test_answer (test.Is b) = packed done_status (cond b 1 0)
-test_answer (test.Refused r) = refusal_answer r
+unfoldable pub test_answer : Result Bool Refusal → ℕ
+test_answer (Ok b) = packed done_status (cond b 1 0)
+test_answer (Err r) = refusal_answer r
 
-unfoldable pub count_answer : CountAnswer → ℕ
-count_answer (count.Count n) = packed done_status n
-count_answer (count.Refused r) = refusal_answer r
+unfoldable pub count_answer : Result ℕ Refusal → ℕ
+count_answer (Ok n) = packed done_status n
+count_answer (Err r) = refusal_answer r
 
-unfoldable pub done_answer : DoneAnswer → ℕ
-done_answer done.Done = packed done_status 0
-done_answer (done.Refused r) = refusal_answer r
+unfoldable pub done_answer : Result Unit Refusal → ℕ
+done_answer (Ok tt) = packed done_status 0
+done_answer (Err r) = refusal_answer r
 
 -- an answer says that the call was refused
 pub record Refusing (answer : ℕ) : Type 0 where

@@ -6,7 +6,7 @@ ghost use Rattle.std.specs.Prelude.{◌≡◌, ◌<◌};
 ghost use Rattle.host_answer.specs.Answer.{packed, status_limit, refusal_answer, test_answer, count_answer};
 ghost use Rattle.host_answer.specs.Answer.{done_answer};
 
-use refusal::{CountAnswer, DoneAnswer, Refusal, TestAnswer};
+use refusal::Refusal;
 
 pub const DONE: u64 = 0;
 
@@ -42,35 +42,35 @@ pub fn refusal_answer(r: Refusal) -> u64
     )
 }
 
-pub fn test_answer(a: TestAnswer) -> u64
+pub fn test_answer(a: Result<bool, Refusal>) -> u64
     ensures { result ≡ test_answer a }
 {
     match a {
-        TestAnswer::Is(b) => {
+        Ok(b) => {
             if b {
                 return pack_unchecked(DONE, 1);
             }
             pack_unchecked(DONE, 0)
         }
-        TestAnswer::Refused(r) => refusal_answer(r),
+        Err(r) => refusal_answer(r),
     }
 }
 
-pub fn count_answer(a: CountAnswer) -> u64
+pub fn count_answer(a: Result<usize, Refusal>) -> u64
     ensures { result ≡ count_answer a }
 {
     match a {
-        CountAnswer::Count(n) => pack_unchecked(DONE, n as u64),
-        CountAnswer::Refused(r) => refusal_answer(r),
+        Ok(n) => pack_unchecked(DONE, n as u64),
+        Err(r) => refusal_answer(r),
     }
 }
 
-pub fn done_answer(a: DoneAnswer) -> u64
+pub fn done_answer(a: Result<(), Refusal>) -> u64
     ensures { result ≡ done_answer a }
 {
     match a {
-        DoneAnswer::Done => pack_unchecked(DONE, 0),
-        DoneAnswer::Refused(r) => refusal_answer(r),
+        Ok(()) => pack_unchecked(DONE, 0),
+        Err(r) => refusal_answer(r),
     }
 }
 

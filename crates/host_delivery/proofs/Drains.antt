@@ -1,4 +1,5 @@
 -- Demand 3 of the exports with drains between the calls: a drain of words does what the receiver's own does.
+use Rattle.std.specs.Prelude.{Err, Ok, Option, Result}
 use Prim.Native.Nat.{ℕ, suc, ◌<◌}
 use mathlib.Core.Path.{◌≡◌, refl, sym, ap, ◌∙◌, subst}
 use mathlib.Core.List.{List, []}
@@ -7,8 +8,6 @@ use native.Mathlib.Omega.{arith}
 use borrow.Author.Tests.{eqb-true}
 use lib.ListN.{length, get_or, take}
 use Rattle.bounds.specs.Bounds.{count_limit}
-use Rattle.refusal.specs.declared.CountAnswer.{CountAnswer}
-use Rattle.refusal.specs.declared.CountAnswer.TheVariants as count
 use Rattle.protocol.specs.declared.ProtocolType.{ProtocolType}
 use Rattle.protocol.specs.declared.ProtocolType.TheVariants.{StopAndWait, GoBackN, SelectiveRepeat}
 use Rattle.protocol.specs.Machine.{ReceiverState}
@@ -20,7 +19,6 @@ use Rattle.session.specs.Ends.{receiver_of, output_of}
 use Rattle.session.proofs.Laws.{with_output_of}
 use Rattle.host_answer.specs.Answer.{status_in, value_limit, count_answer, Refusing}
 use Rattle.host_answer.specs.Exit.{WordsExit}
-use Rattle.host_words.specs.declared.HeldReceiver.{HeldReceiver}
 use Rattle.host_words.specs.Words.{with_receiver}
 use Rattle.host_words.proofs.Words.{receiver_places}
 use Rattle.host_drain.specs.declared.DrainResult.{DrainResult}
@@ -36,11 +34,13 @@ use Rattle.host_delivery.proofs.Answers.{done_read, refused_not_done}
 use Rattle.host_delivery.proofs.Receivers.{HoldsReceiver, put_back, put_holds, host_packets, host_output, host_unwritten}
 use Rattle.host_delivery.proofs.Making.{start_of, made, window_fits, made_receiver}
 use Rattle.host_delivery.proofs.Demand3.{simulation, host_follows, made_follows}
+use Rattle.session.specs.declared.Receiver.{Receiver}
+use Rattle.refusal.specs.declared.Refusal.{Refusal}
 
-drained_read : (a : CountAnswer) → is_done (count_answer a) ≡ is_drained a
+drained_read : (a : Result ℕ Refusal) → is_done (count_answer a) ≡ is_drained a
 unfolding count_answer
-drained_read (count.Count n) = done_read n
-drained_read (count.Refused r) = refused_not_done r
+drained_read (Ok n) = done_read n
+drained_read (Err r) = refused_not_done r
 
 any_store : (p : ProtocolType) (store : List ℕ) (r : (ends p).Receiver) → (drain_receiver (receiver_of p store r) (output_of p r)).answer ≡ drain_answer p r
 unfolding drain_receiver
@@ -62,7 +62,7 @@ module _ (p : ProtocolType) (w : ℕ) (h : HostReceiver) (r : (ends p).Receiver)
   drain_is : drain_of h ≡ drained h.words (drain_receiver (receiver_of p h.store r) (output_of p r))
   unfolding drain_held
   drain_is =
-      ap (λ (x : HeldReceiver). drain_held x h.words h.store h.output) before.held
+      ap (λ (x : Option Receiver). drain_held x h.words h.store h.output) before.held
       ∙ sym (ap (λ (store : List ℕ). drained h.words (drain_receiver (receiver_end (receiver_of p h.store r).receiver store) h.output)) before.store)
       ∙ sym (ap (λ (output : List ℕ). drained h.words (drain_receiver (receiver_of p h.store r) output)) before.output)
 

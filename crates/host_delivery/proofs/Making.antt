@@ -1,4 +1,5 @@
 -- What two makings that are done leave: words that hold demand 3's fresh ends.
+use Rattle.std.specs.Prelude.{Err, Ok, Result}
 use Prim.Native.Nat.{ℕ, ◌≤◌}
 use mathlib.Core.Path.{◌≡◌, refl, sym, ap, ◌∙◌, subst}
 use mathlib.Core.List.{List, [], ◌∷◌}
@@ -9,8 +10,6 @@ use lib.ListN.{length}
 use lib.Dec.{ltb}
 use Rattle.octets.specs.Octets.{Octets}
 use Rattle.refusal.specs.declared.Refusal.TheVariants.{State, Setup, Full}
-use Rattle.refusal.specs.declared.Verdict.{Verdict}
-use Rattle.refusal.specs.declared.Verdict.TheVariants.{Accepted, Refused}
 use Rattle.refusal.specs.Order.{Check, check, verdict, decide}
 use Rattle.refusal.specs.Clauses.{any_of}
 use Rattle.refusal.proofs.Laws.{accepted_none_true, none_true_accepted, on_accepted, none_of, any_of_none}
@@ -37,6 +36,7 @@ use Rattle.host_delivery.proofs.Senders as senders
 use Rattle.host_delivery.proofs.Senders.{RetriesFit, HoldsSender}
 use Rattle.host_delivery.proofs.Receivers as receivers
 use Rattle.host_delivery.proofs.Receivers.{HoldsReceiver}
+use Rattle.refusal.specs.declared.Refusal.{Refusal}
 
 -- ---- makings that are done
 abbrev make_checks : ℕ → Bool → List ℕ → List ℕ → List Check
@@ -48,13 +48,13 @@ record Makes (slots : ℕ) (setup : Bool) (words store : List ℕ) (made : CallE
   bounds : setup ≡ false
   long : state_words ≤ length words
 
-makes_by : (slots : ℕ) (setup : Bool) (words store : List ℕ) (made : CallExit) (v : Verdict) → verdict (make_checks slots setup words store) ≡ v
+makes_by : (slots : ℕ) (setup : Bool) (words store : List ℕ) (made : CallExit) (v : Result Unit Refusal) → verdict (make_checks slots setup words store) ≡ v
     → is_done (decide v (λ r. call_exit (refusal_answer r) (words ∷ store ∷ [])) made).answer ≡ true → Makes slots setup words store made
 unfolding make_unless decide
-makes_by slots setup words store made Accepted e h =
+makes_by slots setup words store made (Ok tt) e h =
     let none = accepted_none_true (make_checks slots setup words store) e in
     record { is = on_accepted _ made e; room = none.0; bounds = none.1.0; long = ltb-false (length words) state_words none.1.1.0 }
-makes_by slots setup words store made (Refused r) e h = let f = refused_not_done r in let z : ◌≡◌ {A = ℕ} 0 1 = cc in absurd (omega arith)
+makes_by slots setup words store made (Err r) e h = let f = refused_not_done r in let z : ◌≡◌ {A = ℕ} 0 1 = cc in absurd (omega arith)
 
 makes : (slots : ℕ) (setup : Bool) (words store : List ℕ) (made : CallExit) → is_done (make_unless slots setup words store made).answer ≡ true → Makes slots setup words store made
 unfolding make_unless

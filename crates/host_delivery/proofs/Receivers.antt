@@ -1,4 +1,5 @@
 -- A receiver in words does what the protocol's own does: the words hold it after every call.
+use Rattle.std.specs.Prelude.{Option, Some}
 use Prim.Native.Nat.{ℕ, ◌≤◌}
 use mathlib.Core.Path.{◌≡◌, refl, sym, ap, ◌∙◌, subst}
 use mathlib.Core.List.{List}
@@ -19,8 +20,6 @@ use Rattle.delivery.proofs.Laws.{ReceiverGood, receiver_good_sound, receiver_ste
 use Rattle.session.specs.Receiving.{ReceiverEnd, receiver_end, handle_packet}
 use Rattle.session.specs.Ends.{receiver_of, output_of}
 use Rattle.session.proofs.Laws.{with_output_of, handle_packet_is, receiver_base_is, output_is, unwritten_is}
-use Rattle.host_words.specs.declared.HeldReceiver.{HeldReceiver}
-use Rattle.host_words.specs.declared.HeldReceiver.TheVariants as heldReceivers
 use Rattle.host_words.specs.Words.{state_words, receiver_word, held_receiver, receiver_fields, with_receiver}
 use Rattle.host_words.proofs.Words.{receiver_places, receiver_length}
 use Rattle.host_words.proofs.HeldBack.{receiver_protocol_of, ReceiverFits, receiver_kind, receiver_held}
@@ -30,12 +29,13 @@ use Rattle.host_ends.specs.Receiver.{received, receive_held}
 use Rattle.host_delivery.specs.Host.{HostReceiver, host_ends, by_receiver}
 use Rattle.host_delivery.proofs.Simulation.{Does}
 use Rattle.host_delivery.proofs.Answers.{packet_refused, twice_not, replied_bytes}
+use Rattle.session.specs.declared.Receiver.{Receiver}
 
 -- words of p's receiver hold r, with its output and, in Selective Repeat, its store; r is good
 pub record HoldsReceiver (p : ProtocolType) (w : ℕ) (h : HostReceiver) (r : (ends p).Receiver) : Type 0 where
   pub long : state_words ≤ length h.words
   pub word : get_or h.words 0 0 ≡ receiver_word p
-  pub held : held_receiver h.words ≡ heldReceivers.Receiver (receiver_of p h.store r).receiver
+  pub held : held_receiver h.words ≡ Some (receiver_of p h.store r).receiver
   pub store : (receiver_of p h.store r).store ≡ h.store
   pub output : output_of p r ≡ h.output
   pub good : ReceiverGood p w r
@@ -77,7 +77,7 @@ put_holds p w words store r enough word good =
       long = omega (arith, size, enough);
       word = receiver_kind words x ∙ word;
       held = receiver_held words x enough (word ∙ ap receiver_word (sym (protocol_of_lem p store r))) (sound_fits p store r (receiver_good_sound p w r good))
-          ∙ ap heldReceivers.Receiver (any_store p store (receiver_of p store r).store r);
+          ∙ ap Some (any_store p store (receiver_of p store r).store r);
       store = own_store p store r;
       output = refl;
       good = good;
@@ -87,7 +87,7 @@ module _ (p : ProtocolType) (w : ℕ) (h : HostReceiver) (r : (ends p).Receiver)
   receive_is : (raw ack : List ℕ) → host.receive h.words h.store raw h.output ack ≡ received h.words (handle_packet (receiver_of p h.store r) raw (output_of p r) ack)
   unfolding receive_held
   receive_is raw ack =
-      ap (λ (x : HeldReceiver). receive_held x h.words h.store raw h.output ack) before.held
+      ap (λ (x : Option Receiver). receive_held x h.words h.store raw h.output ack) before.held
       ∙ sym (ap (λ (store : List ℕ). received h.words (handle_packet (receiver_end (receiver_of p h.store r).receiver store) raw h.output ack)) before.store)
       ∙ sym (ap (λ (output : List ℕ). received h.words (handle_packet (receiver_of p h.store r) raw output ack)) before.output)
 

@@ -1,4 +1,5 @@
 -- A sender in words does what the protocol's own does: the words hold it after every call.
+use Rattle.std.specs.Prelude.{Err, None, Ok, Option, Result, Some}
 use Prim.Native.Nat.{ℕ, ◌≤◌, min}
 use mathlib.Core.Path.{◌≡◌, refl, sym, ap, ◌∙◌, subst}
 use mathlib.Core.List.{List, [], ◌∷◌}
@@ -13,10 +14,6 @@ use Rattle.refusal.specs.declared.Refusal.TheVariants.{State, Counts, Full}
 use Rattle.refusal.specs.Order.{check, verdict}
 use Rattle.refusal.proofs.Laws.{either_answer}
 use Rattle.window.specs.declared.SendWindow.{SendWindow}
-use Rattle.window.specs.declared.SendAnswer.{SendAnswer}
-use Rattle.window.specs.declared.SendAnswer.TheVariants as sendAnswer
-use Rattle.window.specs.declared.TimeoutAnswer.{TimeoutAnswer}
-use Rattle.window.specs.declared.TimeoutAnswer.TheVariants as timeoutAnswer
 use Rattle.window.specs.State.{outstanding, state_broken, counts_broken}
 use Rattle.window.specs.Slots as slots
 use Rattle.window.specs.Sending as window
@@ -34,8 +31,6 @@ use Rattle.session.specs.declared.Timeout.{Timeout}
 use Rattle.session.specs.Sending.{SenderEnd, sender_end, send_chunk, handle_ack, handle_timeout}
 use Rattle.session.specs.Ends.{sender_of, timeout_of, done_as}
 use Rattle.session.proofs.Laws.{send_chunk_is, handle_ack_is, handle_timeout_is, sender_base_is}
-use Rattle.host_words.specs.declared.HeldSender.{HeldSender}
-use Rattle.host_words.specs.declared.HeldSender.TheVariants as heldSenders
 use Rattle.host_words.specs.Words.{state_words, sender_word, held_sender}
 use Rattle.host_words.proofs.Words.{sender_window, sender_length}
 use Rattle.host_words.proofs.HeldBack.{protocol_of, SenderFits, sender_kind, sender_held}
@@ -46,6 +41,8 @@ use Rattle.host_ends.proofs.Fits.{send_fits, timeout_fits}
 use Rattle.host_delivery.specs.Host.{HostSender, host_ends, by_sender, by_ack}
 use Rattle.host_delivery.proofs.Simulation.{Does}
 use Rattle.host_delivery.proofs.Answers.{sent_done, sent_refused, sent_bytes_lem, resent_done, resent_refused, resent_bytes, ack_refused, twice_not}
+use Rattle.refusal.specs.declared.Refusal.{Refusal}
+use Rattle.session.specs.declared.Sender.{Sender}
 
 -- retries of 32 bits: Stop-and-Wait counts no further than its limit
 abbrev pub RetriesFit : (p : ProtocolType) → (ends p).Sender → Type 0
@@ -57,7 +54,7 @@ RetriesFit SelectiveRepeat v = Unit {0}
 pub record HoldsSender (p : ProtocolType) (h : HostSender) (s : (ends p).Sender) : Type 0 where
   pub long : state_words ≤ length h.words
   pub word : get_or h.words 0 0 ≡ sender_word p
-  pub held : held_sender h.words ≡ heldSenders.Sender (sender_of p s).sender
+  pub held : held_sender h.words ≡ Some (sender_of p s).sender
   pub store : (sender_of p s).store ≡ h.store
   pub good : SenderSound p s
   pub retries : RetriesFit p s
@@ -122,31 +119,31 @@ module _ (p : ProtocolType) (h : HostSender) (s : (ends p).Sender) (before : Hol
   send_is : (payload out : List ℕ) → host.send h.words h.store payload out ≡ sent h.words (send_chunk (sender_of p s) payload out)
   unfolding send_held
   send_is payload out =
-      ap (λ (x : HeldSender). send_held x h.words h.store payload out) before.held
+      ap (λ (x : Option Sender). send_held x h.words h.store payload out) before.held
       ∙ sym (ap (λ (store : List ℕ). sent h.words (send_chunk (sender_end (sender_of p s).sender store) payload out)) before.store)
 
   timeout_is : (t : Timeout) (out : List ℕ) → host.timeout h.words h.store t out ≡ timed_out h.words (handle_timeout (sender_of p s) t out)
   unfolding timeout_held
   timeout_is t out =
-      ap (λ (x : HeldSender). timeout_held x h.words h.store t out) before.held
+      ap (λ (x : Option Sender). timeout_held x h.words h.store t out) before.held
       ∙ sym (ap (λ (store : List ℕ). timed_out h.words (handle_timeout (sender_end (sender_of p s).sender store) t out)) before.store)
 
   acknowledge_is : (raw : List ℕ) → host.acknowledge h.words h.store raw ≡ acknowledged (number_of raw) h.words (handle_ack (sender_of p s) raw)
   unfolding acknowledge_held
   acknowledge_is raw =
-      ap (λ (x : HeldSender). acknowledge_held x h.words h.store raw) before.held
+      ap (λ (x : Option Sender). acknowledge_held x h.words h.store raw) before.held
       ∙ sym (ap (λ (store : List ℕ). acknowledged (number_of raw) h.words (handle_ack (sender_end (sender_of p s).sender store) raw)) before.store)
 
 -- ---- retries
-by_send_retries : (s : StopAndWaitSender) (a : SendAnswer) (w : SendWindow) → s.current_retries ≤ s.max_retries → (stop_and_wait.by_send s a w).current_retries ≤ (stop_and_wait.by_send s a w).max_retries
-by_send_retries s (sendAnswer.Sent n) w h = omega arith
-by_send_retries s sendAnswer.WindowFull w h = h
-by_send_retries s (sendAnswer.Refused r) w h = h
+by_send_retries : (s : StopAndWaitSender) (a : Result (Option ℕ) Refusal) (w : SendWindow) → s.current_retries ≤ s.max_retries → (stop_and_wait.by_send s a w).current_retries ≤ (stop_and_wait.by_send s a w).max_retries
+by_send_retries s (Ok (Some n)) w h = omega arith
+by_send_retries s (Ok None) w h = h
+by_send_retries s (Err r) w h = h
 
-by_send_limit : (s : StopAndWaitSender) (a : SendAnswer) (w : SendWindow) → (stop_and_wait.by_send s a w).max_retries ≡ s.max_retries
-by_send_limit s (sendAnswer.Sent n) w = refl
-by_send_limit s sendAnswer.WindowFull w = refl
-by_send_limit s (sendAnswer.Refused r) w = refl
+by_send_limit : (s : StopAndWaitSender) (a : Result (Option ℕ) Refusal) (w : SendWindow) → (stop_and_wait.by_send s a w).max_retries ≡ s.max_retries
+by_send_limit s (Ok (Some n)) w = refl
+by_send_limit s (Ok None) w = refl
+by_send_limit s (Err r) w = refl
 
 send_retries : (p : ProtocolType) (s : (ends p).Sender) (payload out : List ℕ) → RetriesFit p s → RetriesFit p ((ends p).send_chunk s payload out).after
 send_retries StopAndWait s payload out r =
@@ -164,28 +161,28 @@ ack_retries GoBackN s raw r = tt
 ack_retries SelectiveRepeat s raw r = tt
 
 -- nothing is sent again where no retry is left
-abbrev NotResent : TimeoutAnswer → Type 0
-NotResent (timeoutAnswer.Resent n) = ⊥
-NotResent timeoutAnswer.Nothing = Unit {0}
-NotResent (timeoutAnswer.Refused r) = Unit {0}
+abbrev NotResent : Result (Option ℕ) Refusal → Type 0
+NotResent (Ok (Some n)) = ⊥
+NotResent (Ok None) = Unit {0}
+NotResent (Err r) = Unit {0}
 
 none_left : (broken counts : Bool) (v : slots.Sender) (n : ℕ) (out : List ℕ) → NotResent (resend broken counts v n 0 out).answer
 unfolding resend
 none_left broken counts v n out =
     either_answer (λ (x : TimeoutExit slots.Sender). NotResent x.answer)
-    (verdict (check broken State ∷ check counts Counts ∷ check (ltb (length out) (length (sent_again v n 0))) Full ∷ [])) (λ r. timeout_exit (timeoutAnswer.Refused r) v out) (timeout_exit timeoutAnswer.Nothing v out) (λ r. tt) (λ e. tt)
+    (verdict (check broken State ∷ check counts Counts ∷ check (ltb (length out) (length (sent_again v n 0))) Full ∷ [])) (λ r. timeout_exit (Err r) v out) (timeout_exit (Ok None) v out) (λ r. tt) (λ e. tt)
 
-by_timeout_retries : (s : StopAndWaitSender) (a : TimeoutAnswer) (w : SendWindow) (left : Bool) → ltb s.current_retries s.max_retries ≡ left → (left ≡ false → NotResent a)
+by_timeout_retries : (s : StopAndWaitSender) (a : Result (Option ℕ) Refusal) (w : SendWindow) (left : Bool) → ltb s.current_retries s.max_retries ≡ left → (left ≡ false → NotResent a)
     → s.current_retries ≤ s.max_retries → (stop_and_wait.by_timeout s a w).current_retries ≤ (stop_and_wait.by_timeout s a w).max_retries
-by_timeout_retries s (timeoutAnswer.Resent n) w true e k h = let below = ltb-true s.current_retries s.max_retries e in omega (arith, below)
-by_timeout_retries s (timeoutAnswer.Resent n) w false e k h = absurd (k refl)
-by_timeout_retries s timeoutAnswer.Nothing w left e k h = h
-by_timeout_retries s (timeoutAnswer.Refused r) w left e k h = h
+by_timeout_retries s (Ok (Some n)) w true e k h = let below = ltb-true s.current_retries s.max_retries e in omega (arith, below)
+by_timeout_retries s (Ok (Some n)) w false e k h = absurd (k refl)
+by_timeout_retries s (Ok None) w left e k h = h
+by_timeout_retries s (Err r) w left e k h = h
 
-by_timeout_limit : (s : StopAndWaitSender) (a : TimeoutAnswer) (w : SendWindow) → (stop_and_wait.by_timeout s a w).max_retries ≡ s.max_retries
-by_timeout_limit s (timeoutAnswer.Resent n) w = refl
-by_timeout_limit s timeoutAnswer.Nothing w = refl
-by_timeout_limit s (timeoutAnswer.Refused r) w = refl
+by_timeout_limit : (s : StopAndWaitSender) (a : Result (Option ℕ) Refusal) (w : SendWindow) → (stop_and_wait.by_timeout s a w).max_retries ≡ s.max_retries
+by_timeout_limit s (Ok (Some n)) w = refl
+by_timeout_limit s (Ok None) w = refl
+by_timeout_limit s (Err r) w = refl
 
 spent : (s : StopAndWaitSender) (v : slots.Sender) (out : List ℕ) → ltb s.current_retries s.max_retries ≡ false → NotResent (resend_outstanding v (stop_and_wait.retries_left s) out).answer
 spent s v out e =

@@ -1,4 +1,5 @@
 -- After any admissible list of export calls there is a resending by export calls, where there is room for it.
+use Rattle.std.specs.Prelude.{Some}
 use Prim.Native.Nat.{ℕ}
 use mathlib.Core.Path.{◌≡◌, refl, sym, ap, ◌∙◌, subst}
 use mathlib.Core.List.{List, flatten}
@@ -15,8 +16,6 @@ use Rattle.tallies.proofs.Laws.{some_resending}
 use Rattle.session.specs.declared.Timeout.{Timeout}
 use Rattle.session.specs.declared.Timeout.TheVariants as timeouts
 use Rattle.session.specs.Ends.{sender_of}
-use Rattle.host_words.specs.declared.HeldSender.{HeldSender}
-use Rattle.host_words.specs.declared.HeldSender.TheVariants as heldSenders
 use Rattle.host_words.specs.Words.{held_sender}
 use Rattle.host_delivery.specs.Host.{Setup, host_ends, window_of, made_ends, BothMade}
 use Rattle.host_delivery.specs.Room.{RoomToResend, RetryLeft}
@@ -34,7 +33,7 @@ timeout_for GoBackN w s all = record { by = timeouts.All; is = refl }
 timeout_for GoBackN w s earliest = record { by = timeouts.Earliest; is = refl }
 timeout_for SelectiveRepeat w s n = record { by = timeouts.Number n; is = refl }
 
-retry_left : (p : ProtocolType) (s : (ends p).Sender) → RetryLeft (heldSenders.Sender (sender_of p s).sender) → room.RetryLeft p s
+retry_left : (p : ProtocolType) (s : (ends p).Sender) → RetryLeft (Some (sender_of p s).sender) → room.RetryLeft p s
 retry_left StopAndWait s h = h
 retry_left GoBackN s h = tt
 retry_left SelectiveRepeat s h = tt

@@ -1,5 +1,5 @@
 -- Document 01, "Turned away": what a list of export calls has to keep to so that none of them is refused.
-use Rattle.std.specs.Prelude.{ℕ, ◌+◌, ◌*◌, ◌≤◌, ◌<◌, length}
+use Rattle.std.specs.Prelude.{ℕ, ◌+◌, ◌*◌, ◌≤◌, ◌<◌, length, None, Option, Some}
 use mathlib.Core.List.{List, [], ◌∷◌, flatten}
 use Rattle.bounds.specs.Bounds.{header_size, max_payload, max_datagram, seq_num_limit, count_limit}
 use Rattle.protocol.specs.declared.ProtocolType.{ProtocolType}
@@ -11,9 +11,8 @@ use Rattle.session.specs.declared.Timeout.{Timeout}
 use Rattle.session.specs.declared.Timeout.TheVariants as timeouts
 use Rattle.session.specs.declared.SenderState.{SenderState}
 use Rattle.session.specs.declared.SenderState.TheVariants as senderState
-use Rattle.host_words.specs.declared.HeldSender.{HeldSender}
-use Rattle.host_words.specs.declared.HeldSender.TheVariants as heldSenders
 use Rattle.host_delivery.specs.Host.{Setup, host_ends, window_of, made_ends}
+use Rattle.session.specs.declared.Sender.{Sender}
 
 -- how many datagrams a timeout sends at most, of a window of w
 abbrev pub resent_most : ProtocolType → ℕ → Timeout → ℕ
@@ -59,6 +58,6 @@ RetryLeftIn (senderState.GoBackN x) = Unit {0}
 RetryLeftIn (senderState.SelectiveRepeat x) = Unit {0}
 
 -- the retry limit isn't met by the sender that words hold
-abbrev pub RetryLeft : HeldSender → Type 0
-RetryLeft (heldSenders.Sender x) = RetryLeftIn x.state
-RetryLeft heldSenders.Broken = Unit {0}
+abbrev pub RetryLeft : Option Sender → Type 0
+RetryLeft (Some x) = RetryLeftIn x.state
+RetryLeft None = Unit {0}

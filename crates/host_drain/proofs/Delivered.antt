@@ -1,4 +1,5 @@
 -- Demand 3 with drains between the calls.
+use Rattle.std.specs.Prelude.{Err, Ok, Result}
 use Prim.Native.Nat.{ℕ, suc, ◌<◌}
 use mathlib.Core.Path.{◌≡◌, refl, sym, ap, ◌∙◌}
 use mathlib.Core.Bool.{true, false}
@@ -10,8 +11,6 @@ use lib.Dec.{ltb}
 use Rattle.bounds.specs.Bounds.{seq_num_limit, count_limit}
 use Rattle.refusal.specs.Clauses.{any_of}
 use Rattle.refusal.specs.Order.{verdict, decide, held_checks}
-use Rattle.refusal.specs.declared.CountAnswer.{CountAnswer}
-use Rattle.refusal.specs.declared.CountAnswer.TheVariants as count
 use Rattle.refusal.proofs.Laws.{none_of, either_answer, held_none}
 use Rattle.protocol.specs.declared.ProtocolType.{ProtocolType}
 use Rattle.protocol.specs.declared.ProtocolType.TheVariants.{StopAndWait, GoBackN, SelectiveRepeat}
@@ -38,6 +37,7 @@ use Rattle.host_drain.specs.declared.DrainResult.{DrainResult}
 use Rattle.host_drain.specs.Drain.{drain_result, emptied, drain_receiver}
 use Rattle.host_drain.specs.Calls.{drainable, DrainCall, DrainAdmissible, drain_run, DrainsDone, plain_after_drains, DrainClaim, emptied_end, drain_answer, is_drained, bytes_taken, draining, drain_fresh}
 use Rattle.host_drain.proofs.EveryList.{Emptied, drained_claim, start_drains, Counting, every_drain_done}
+use Rattle.refusal.specs.declared.Refusal.{Refusal}
 
 -- a fill mark of 0 is within any output
 mark_zero : (base filled : ℕ) (output next : List ℕ) → receiverState.state_broken base filled output ≡ false → receiverState.state_broken base 0 next ≡ false
@@ -78,17 +78,17 @@ nothing_present SelectiveRepeat r next = (refl, refl)
 -- the end after a drain is what the drain of the session's receiver leaves
 module _ (v : ReceiverEnd) (output : List ℕ) where
   abbrev AsDone : DrainResult → Type 0
-  AsDone x = is_drained x.answer ≡ true → x ≡ drain_result (emptied v.receiver) (count.Count (filled v.receiver))
+  AsDone x = is_drained x.answer ≡ true → x ≡ drain_result (emptied v.receiver) (Ok (filled v.receiver))
 
   drain_done : AsDone (drain_receiver v output)
   unfolding drain_receiver
   drain_done =
       either_answer AsDone (verdict (held_checks (broken_in v.receiver.state v.store output) (counts_broken_in v.receiver.state)))
-      (λ r. drain_result v.receiver (count.Refused r)) (drain_result (emptied v.receiver) (count.Count (filled v.receiver)))
+      (λ r. drain_result v.receiver (Err r)) (drain_result (emptied v.receiver) (Ok (filled v.receiver)))
       (λ r e. let z : ◌≡◌ {A = ℕ} 0 1 = cc in absurd (omega arith)) (λ e h. refl)
 
 pub drained_end : (p : ProtocolType) (store : List ℕ) (r : (ends p).Receiver) (next : List ℕ) → is_drained (drain_answer p r) ≡ true
-    → drain_receiver (receiver_of p store r) (output_of p r) ≡ drain_result (receiver_of p store (emptied_end p r next)).receiver (count.Count (filled (receiver_of p store r).receiver))
+    → drain_receiver (receiver_of p store r) (output_of p r) ≡ drain_result (receiver_of p store (emptied_end p r next)).receiver (Ok (filled (receiver_of p store r).receiver))
 unfolding drain_receiver
 drained_end StopAndWait store r next e = drain_done (receiver_of StopAndWait store r) r.output e
 drained_end GoBackN store r next e = drain_done (receiver_of GoBackN store r) r.output e
@@ -98,7 +98,7 @@ drained_end SelectiveRepeat store r next e = drain_done (receiver_of SelectiveRe
 taken_is : (p : ProtocolType) (r : (ends p).Receiver) → is_drained (drain_answer p r) ≡ true → bytes_taken (drain_answer p r) (output_of p r) ≡ (ends p).output r
 taken_is p r e =
     let counted = ap (λ (x : DrainResult). x.answer) (drained_end p [] r [] e) in
-    ap (λ (a : CountAnswer). bytes_taken a (output_of p r)) counted ∙ sym (output_is p [] r)
+    ap (λ (a : Result ℕ Refusal). bytes_taken a (output_of p r)) counted ∙ sym (output_is p [] r)
 
 empties : (p : ProtocolType) (w : ℕ) (r : (ends p).Receiver) (m : ReceiverState) (next : List ℕ) → (follows p w).ReceiverIs r m → (draining p).Asks r → (draining p).is_done r ≡ true
     → Emptied (ends p) (follows p w).ReceiverIs (draining p) r m next

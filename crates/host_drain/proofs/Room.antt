@@ -1,4 +1,5 @@
 -- After a drain an output of window × 1,400 bytes has room for all that one packet delivers.
+use Rattle.std.specs.Prelude.{None, Option, Some}
 use Prim.Native.Nat.{ℕ, zero, suc, ◌+◌, ◌-◌, ◌*◌, ◌%◌, ◌≤◌, ◌<◌}
 use mathlib.Core.Path.{◌≡◌, refl, sym, ap, ◌∙◌}
 use mathlib.Core.Bool.{Bool, true, false, cond, ◌&&◌, ◌||◌}
@@ -13,16 +14,14 @@ use Rattle.store.specs.Numbers.{marked_run, payloads_from}
 use Rattle.store.proofs.Laws.{run_within}
 use Rattle.receiver.specs.Receive.{Reception, no_room}
 use Rattle.receiver.specs.Reply.{ack_missing, room_missing}
-use Rattle.receiver.specs.declared.Reply.{Reply}
-use Rattle.receiver.specs.declared.Reply.TheVariants as reply
 use Rattle.receiver.specs.declared.PacketReading.{PacketReading}
 use Rattle.receiver.specs.declared.PacketReading.TheVariants as reading
 use Rattle.selective_repeat.specs.Receiver as sr
 use Rattle.selective_repeat.specs.declared.SelectiveRepeatDecision.{SelectiveRepeatDecision}
 
-ack_room : (r : Reply) (ack : List ℕ) → header_size ≤ length ack → ack_missing r ack ≡ false
-ack_room (reply.Ack n) ack h = le-ltb (length ack) header_size h
-ack_room reply.Silent ack h = refl
+ack_room : (r : Option ℕ) (ack : List ℕ) → header_size ≤ length ack → ack_missing r ack ≡ false
+ack_room (Some n) ack h = le-ltb (length ack) header_size h
+ack_room None ack h = refl
 
 and_false : (b : Bool) → (b && false) ≡ false
 and_false true = refl

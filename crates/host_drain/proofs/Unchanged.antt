@@ -1,4 +1,5 @@
 -- A refused drain changes nothing; the answer of one that is done is the fill mark, which the words hold as 0 then.
+use Rattle.std.specs.Prelude.{Err, None, Ok, Option, Some}
 use Prim.Native.Nat.{ℕ, ◌≤◌, ◌<◌}
 use mathlib.Core.Path.{◌≡◌, refl, sym, ap, subst, ◌∙◌}
 use mathlib.Core.Bool.{Bool, true, false}
@@ -7,7 +8,6 @@ use native.Mathlib.Omega.{arith}
 use borrow.Author.Tests.{ltb-false}
 use lib.ListN.{length}
 use Rattle.refusal.specs.Order.{verdict, held_checks}
-use Rattle.refusal.specs.declared.CountAnswer.TheVariants as count
 use Rattle.refusal.proofs.Laws.{either_answer, accepted_none_true, none_of}
 use Rattle.receiver.specs.State.{state_broken}
 use Rattle.selective_repeat.specs.Receiver.{receiving_broken}
@@ -19,8 +19,6 @@ use Rattle.session.specs.GoodReceiver.{broken_in, counts_broken_in}
 use Rattle.host_answer.specs.Answer.{packed, value_in, value_limit, refusal_answer, count_answer, Refusing}
 use Rattle.host_answer.specs.Exit.{WordsExit, words_exit}
 use Rattle.host_answer.proofs.Laws.{done_not_refusing, refusal_refusing, value_back}
-use Rattle.host_words.specs.declared.HeldReceiver.{HeldReceiver}
-use Rattle.host_words.specs.declared.HeldReceiver.TheVariants as heldReceivers
 use Rattle.host_words.specs.Words.{held_receiver, with_receiver}
 use Rattle.host_words.proofs.Words.{receiver_back}
 use Rattle.host_drain.specs.declared.DrainResult.{DrainResult}
@@ -33,7 +31,7 @@ drain_kept : (r : Receiver) (store output : List ℕ) → Kept r (drain_receiver
 unfolding drain_receiver count_answer
 drain_kept r store output =
     either_answer (Kept r) (verdict (held_checks (broken_in r.state store output) (counts_broken_in r.state)))
-    (λ s. drain_result r (count.Refused s)) (drain_result (emptied r) (count.Count (filled r))) (λ s h. refl) (λ e h. absurd (done_not_refusing _ h))
+    (λ s. drain_result r (Err s)) (drain_result (emptied r) (Ok (filled r))) (λ s h. refl) (λ e h. absurd (done_not_refusing _ h))
 
 -- 9: the fill mark is within the output
 mark_within : (x : ReceiverState) (store output : List ℕ) → broken_in x store output ≡ false → filled_in x ≤ length output
@@ -49,11 +47,11 @@ pub record Drained (state output : List ℕ) (r : Receiver) (x : WordsExit) : Ty
   pub words : x.words ≡ with_receiver state (emptied r).state
 
 module _ (state store output : List ℕ) where
-  drain_same : (held : HeldReceiver) → held_receiver state ≡ held → Refusing (drain_held held state store output).answer
+  drain_same : (held : Option Receiver) → held_receiver state ≡ held → Refusing (drain_held held state store output).answer
       → (drain_held held state store output).words ≡ state
   unfolding drain_held
-  drain_same (heldReceivers.Receiver r) e h = ap (λ (y : Receiver). with_receiver state y.state) (drain_kept r store output h) ∙ receiver_back state e
-  drain_same heldReceivers.Broken e h = refl
+  drain_same (Some r) e h = ap (λ (y : Receiver). with_receiver state y.state) (drain_kept r store output h) ∙ receiver_back state e
+  drain_same None e h = refl
 
   pub drain_refused : Refusing (drain state store output).answer → (drain state store output).words ≡ state
   drain_refused h = drain_same (held_receiver state) refl h
@@ -65,13 +63,13 @@ module _ (state store output : List ℕ) where
   unfolding drain_receiver count_answer
   done_as r small =
       either_answer (DoneAs r) (verdict (held_checks (broken_in r.state store output) (counts_broken_in r.state)))
-      (λ s. drain_result r (count.Refused s)) (drain_result (emptied r) (count.Count (filled r))) (λ s h. absurd (h (refusal_refusing s)))
+      (λ s. drain_result r (Err s)) (drain_result (emptied r) (Ok (filled r))) (λ s h. absurd (h (refusal_refusing s)))
       (λ e h.
       let within = mark_within r.state store output (accepted_none_true (held_checks (broken_in r.state store output) (counts_broken_in r.state)) e).0 in
       record { answer = value_back 0 (filled r) (omega arith) (omega arith); within = within; words = refl })
 
-  pub drain_done : {r : Receiver} → held_receiver state ≡ heldReceivers.Receiver r → length output < value_limit → (Refusing (drain state store output).answer → ⊥)
+  pub drain_done : {r : Receiver} → held_receiver state ≡ Some r → length output < value_limit → (Refusing (drain state store output).answer → ⊥)
       → Drained state output r (drain state store output)
   unfolding drain_held
   drain_done {r} e small =
-      subst (λ (held : HeldReceiver). (Refusing (drain_held held state store output).answer → ⊥) → Drained state output r (drain_held held state store output)) (sym e) (done_as r small)
+      subst (λ (held : Option Receiver). (Refusing (drain_held held state store output).answer → ⊥) → Drained state output r (drain_held held state store output)) (sym e) (done_as r small)

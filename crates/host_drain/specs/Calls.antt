@@ -1,9 +1,7 @@
 -- Document 01, demand 3, with drains between the calls: the bytes drained so far and the output up to its fill mark,
 -- joined, are S's first D chunks joined. The plain machine isn't fed a drain.
-use Rattle.std.specs.Prelude.{ℕ, ◌-◌, ◌≤◌, ◌≡◌, Bool, true, false, cond, length, take, drop}
+use Rattle.std.specs.Prelude.{ℕ, ◌-◌, ◌≤◌, ◌≡◌, Bool, true, false, cond, length, take, drop, Err, Ok, Result}
 use mathlib.Core.List.{List, [], ◌∷◌, ◌++◌, flatten}
-use Rattle.refusal.specs.declared.CountAnswer.{CountAnswer}
-use Rattle.refusal.specs.declared.CountAnswer.TheVariants as count
 use Rattle.protocol.specs.declared.ProtocolType.{ProtocolType}
 use Rattle.protocol.specs.declared.ProtocolType.TheVariants.{StopAndWait, GoBackN, SelectiveRepeat}
 use Rattle.protocol.specs.PlainMachine.{PlainState, plain_start, plain_run, Fed}
@@ -14,6 +12,7 @@ use Rattle.delivery.specs.Calls.{Call, Done, done, Ends, World, step, Allowed, f
 use Rattle.delivery.specs.Ends.{with_output, ends, fresh_ends}
 use Rattle.session.specs.Ends.{receiver_of, output_of}
 use Rattle.host_drain.specs.Drain.{drain_receiver}
+use Rattle.refusal.specs.declared.Refusal.{Refusal}
 
 -- a receiver, all bytes drained from it, joined, and the output as it was lent last
 pub record WithDrained (R : Type 0) : Type 0 where
@@ -127,17 +126,17 @@ emptied_end SelectiveRepeat r output =
     with_output (selective_repeat.receiver (selective_repeat.with_filled r.receiver.state 0) r.receiver.store)
     output
 
-abbrev pub drain_answer : (p : ProtocolType) → (ends p).Receiver → CountAnswer
+abbrev pub drain_answer : (p : ProtocolType) → (ends p).Receiver → Result ℕ Refusal
 drain_answer p r = (drain_receiver (receiver_of p [] r) (output_of p r)).answer
 
-abbrev pub is_drained : CountAnswer → Bool
-is_drained (count.Count n) = true
-is_drained (count.Refused r) = false
+abbrev pub is_drained : Result ℕ Refusal → Bool
+is_drained (Ok n) = true
+is_drained (Err r) = false
 
 -- as many bytes of the output as are answered
-abbrev pub bytes_taken : CountAnswer → List ℕ → List ℕ
-bytes_taken (count.Count n) output = take n output
-bytes_taken (count.Refused r) output = []
+abbrev pub bytes_taken : Result ℕ Refusal → List ℕ → List ℕ
+bytes_taken (Ok n) output = take n output
+bytes_taken (Err r) output = []
 
 abbrev pub draining : (p : ProtocolType) → Draining (ends p)
 draining p = record {

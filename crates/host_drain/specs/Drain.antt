@@ -1,9 +1,7 @@
 -- arq/*.rs, `drain_delivered`, on document 01's lent output: a drain answers the fill mark and sets it to 0, and
 -- nothing else changes. The bytes are the output's first, until a packet is received.
-use Rattle.std.specs.Prelude.{ℕ, List}
+use Rattle.std.specs.Prelude.{ℕ, List, Err, None, Ok, Option, Result, Some}
 use Rattle.refusal.specs.Order.{verdict, decide, held_checks}
-use Rattle.refusal.specs.declared.CountAnswer.{CountAnswer}
-use Rattle.refusal.specs.declared.CountAnswer.TheVariants as count
 use Rattle.stop_and_wait.specs.Receiver as stop_and_wait
 use Rattle.go_back_n.specs.Receiver as go_back_n
 use Rattle.selective_repeat.specs.Receiver as selective_repeat
@@ -14,12 +12,11 @@ use Rattle.session.specs.declared.ReceiverState.{ReceiverState}
 use Rattle.session.specs.declared.ReceiverState.TheVariants as receiverState
 use Rattle.host_answer.specs.Answer.{count_answer}
 use Rattle.host_answer.specs.Exit.{WordsExit, words_exit, broken_words}
-use Rattle.host_words.specs.declared.HeldReceiver.{HeldReceiver}
-use Rattle.host_words.specs.declared.HeldReceiver.TheVariants as heldReceivers
 use Rattle.host_words.specs.Words.{held_receiver, with_receiver}
 use Rattle.host_drain.specs.declared.DrainResult.{DrainResult}
+use Rattle.refusal.specs.declared.Refusal.{Refusal}
 
-abbrev pub drain_result : Receiver → CountAnswer → DrainResult
+abbrev pub drain_result : Receiver → Result ℕ Refusal → DrainResult
 drain_result r a = record { receiver = r; answer = a }
 
 -- the fill mark at 0
@@ -36,16 +33,16 @@ unfoldable pub drain_receiver : ReceiverEnd → List ℕ → DrainResult
 drain_receiver v output =
     decide
     (verdict (held_checks (broken_in v.receiver.state v.store output) (counts_broken_in v.receiver.state)))
-    (λ r. drain_result v.receiver (count.Refused r))
-    (drain_result (emptied v.receiver) (count.Count (filled v.receiver)))
+    (λ r. drain_result v.receiver (Err r))
+    (drain_result (emptied v.receiver) (Ok (filled v.receiver)))
 
 -- over words
 abbrev pub drained : List ℕ → DrainResult → WordsExit
 drained state x = words_exit (count_answer x.answer) (with_receiver state x.receiver.state)
 
-unfoldable pub drain_held : HeldReceiver → List ℕ → List ℕ → List ℕ → WordsExit
-drain_held (heldReceivers.Receiver r) state store output = drained state (drain_receiver (receiver_end r store) output)
-drain_held heldReceivers.Broken state store output = broken_words state
+unfoldable pub drain_held : Option Receiver → List ℕ → List ℕ → List ℕ → WordsExit
+drain_held (Some r) state store output = drained state (drain_receiver (receiver_end r store) output)
+drain_held None state store output = broken_words state
 
 abbrev pub drain : List ℕ → List ℕ → List ℕ → WordsExit
 drain state store output = drain_held (held_receiver state) state store output

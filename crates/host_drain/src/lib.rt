@@ -9,15 +9,14 @@ ghost use Rattle.session.specs.GoodReceiver.{broken_in, counts_broken_in};
 ghost use Rattle.host_answer.specs.Exit.{words_exit};
 ghost use Rattle.host_drain.specs.Drain.{emptied_in, drain_receiver, drain};
 
-use host_words::HeldReceiver;
-use refusal::{CountAnswer, Refusal, Verdict};
+use refusal::Refusal;
 use selective_repeat::SelectiveRepeatReceiver;
 use session::{Receiver, ReceiverState};
 
 #[derive(Clone, Copy)]
 pub struct DrainResult {
     pub receiver: Receiver,
-    pub answer: CountAnswer,
+    pub answer: Result<usize, Refusal>,
 }
 
 // Done with how many bytes at the output's start are delivered, or refused.
@@ -26,14 +25,14 @@ pub fn drain(state: &mut [u64], store: &[u8], output: &[u8]) -> u64
         ≡ drain state.old store.now output.now }
 {
     match host_words::held_receiver(state) {
-        HeldReceiver::Receiver(receiver) => {
+        Some(receiver) => {
             let result = drain_receiver(receiver, store, output);
             let receiver = result.receiver;
             let answer = result.answer;
             host_words::put_receiver_unchecked(state, receiver);
             host_answer::count_answer(answer)
         }
-        HeldReceiver::Broken => host_answer::refusal_answer(Refusal::State),
+        None => host_answer::refusal_answer(Refusal::State),
     }
 }
 
@@ -42,15 +41,15 @@ pub fn drain_receiver(receiver: Receiver, store: &[u8], output: &[u8]) -> DrainR
 {
     let held = receiver.state;
     match refusal::held_verdict(state_broken(held, store, output), counts_broken(held)) {
-        Verdict::Accepted => DrainResult {
+        Ok(()) => DrainResult {
             receiver: Receiver {
                 state: emptied(held),
             },
-            answer: CountAnswer::Count(receiver.filled()),
+            answer: Ok(receiver.filled()),
         },
-        Verdict::Refused(r) => DrainResult {
+        Err(r) => DrainResult {
             receiver: receiver,
-            answer: CountAnswer::Refused(r),
+            answer: Err(r),
         },
     }
 }

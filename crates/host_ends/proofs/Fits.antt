@@ -1,4 +1,5 @@
 -- The values of the answers survive the packing: a refusal's fit in 16 bits each, lengths and numbers in 56.
+use Rattle.std.specs.Prelude.{Err, None, Ok, Option, Result, Some}
 use Prim.Native.Nat.{ℕ, zero, suc, ◌+◌, ◌-◌, ◌≤◌, ◌<◌, min}
 use mathlib.Core.Path.{◌≡◌, refl}
 use mathlib.Core.Bool.{Bool, true, false, cond, not, ◌&&◌}
@@ -11,30 +12,18 @@ use Rattle.bounds.specs.Bounds.{header_size, max_payload}
 use Rattle.octets.specs.Octets.{Octets}
 use Rattle.refusal.specs.declared.Refusal.{Refusal}
 use Rattle.refusal.specs.declared.Refusal.TheVariants.{Counts, State}
-use Rattle.refusal.specs.declared.Verdict.{Verdict}
-use Rattle.refusal.specs.declared.Verdict.TheVariants.{Accepted, Refused}
-use Rattle.refusal.specs.declared.TestAnswer.TheVariants as test
-use Rattle.refusal.specs.declared.CountAnswer.TheVariants as count
 use Rattle.refusal.specs.Order.{check, verdict, decide, held_checks}
 use Rattle.refusal.proofs.Laws.{EachRefusal}
 use Rattle.packet.specs.Reading.{read_checks, header_of, payload_of, from_bytes, given_checks, read_datagram, reading_checks}
 use Rattle.packet.specs.Format.{matches}
 use Rattle.packet.specs.declared.Packet.{Packet}
-use Rattle.packet.specs.declared.PacketAnswer.{PacketAnswer}
-use Rattle.packet.specs.declared.PacketAnswer.TheVariants as packetAnswer
 use Rattle.packet.specs.declared.PacketType.{PacketType}
 use Rattle.packet.specs.declared.PacketType.TheVariants as packetType
 use Rattle.packet.specs.declared.DatagramReading.{DatagramReading}
 use Rattle.packet.specs.declared.DatagramReading.TheVariants as reading
 use Rattle.window.specs.declared.SendWindow.{SendWindow}
-use Rattle.window.specs.declared.SendAnswer.{SendAnswer}
-use Rattle.window.specs.declared.SendAnswer.TheVariants as sendAnswer
-use Rattle.window.specs.declared.AckAnswer.{AckAnswer}
-use Rattle.window.specs.declared.AckAnswer.TheVariants as ackAnswer
 use Rattle.window.specs.declared.AckDecision.{AckDecision}
 use Rattle.window.specs.declared.AckDecision.TheVariants as decision
-use Rattle.window.specs.declared.TimeoutAnswer.{TimeoutAnswer}
-use Rattle.window.specs.declared.TimeoutAnswer.TheVariants as timeoutAnswer
 use Rattle.window.specs.State.{outstanding, numbers_broken, state_broken, counts_broken}
 use Rattle.window.specs.Slots as slots
 use Rattle.window.specs.Outstanding as window
@@ -60,40 +49,40 @@ use Rattle.host_packet.proofs.Fits.{number_low, given_values}
 use Rattle.host_ends.specs.Sender.{number_in, number_of, can_send_in}
 
 -- ---- a datagram: its refusals, and the number of a valid one
-abbrev pub ReadingFits : DatagramReading → Type 0
-ReadingFits (reading.Valid p) = p.seq_num < value_limit
-ReadingFits (reading.Corrupted p) = Unit {0}
-ReadingFits (reading.Refused r) = ValuesFit r
+abbrev pub ReadingFits : Result DatagramReading Refusal → Type 0
+ReadingFits (Ok (reading.Valid p)) = p.seq_num < value_limit
+ReadingFits (Ok (reading.Corrupted p)) = Unit {0}
+ReadingFits (Err r) = ValuesFit r
 
-either_fits : (b : Bool) (p : Packet) → p.seq_num < value_limit → ReadingFits (cond b (reading.Valid p) (reading.Corrupted p))
+either_fits : (b : Bool) (p : Packet) → p.seq_num < value_limit → ReadingFits (cond b (Ok (reading.Valid p)) (Ok (reading.Corrupted p)))
 either_fits true p h = h
 either_fits false p h = tt
 
-reading_cases : (raw : List ℕ) → Octets raw → (v : Verdict) → verdict (given_checks raw) ≡ v
-    → ReadingFits (decide v reading.Refused (cond (matches (header_of raw) (payload_of raw)) (reading.Valid (header_of raw)) (reading.Corrupted (header_of raw))))
+reading_cases : (raw : List ℕ) → Octets raw → (v : Result Unit Refusal) → verdict (given_checks raw) ≡ v
+    → ReadingFits (decide v Err (cond (matches (header_of raw) (payload_of raw)) (Ok (reading.Valid (header_of raw))) (Ok (reading.Corrupted (header_of raw)))))
 unfolding decide
-reading_cases raw o Accepted e =
+reading_cases raw o (Ok tt) e =
     let low = number_low raw o in either_fits (matches (header_of raw) (payload_of raw)) (header_of raw) (omega (arith, low))
-reading_cases raw o (Refused r) e = given_values raw o r e
+reading_cases raw o (Err r) e = given_values raw o r e
 
 pub reading_fits : (raw : List ℕ) → Octets raw → ReadingFits (read_datagram raw)
 unfolding read_datagram
 reading_fits raw o = reading_cases raw o (verdict (given_checks raw)) refl
 
 -- ---- sending
-abbrev pub SendFits : SendAnswer → Type 0
-SendFits (sendAnswer.Sent n) = n < value_limit
-SendFits sendAnswer.WindowFull = Unit {0}
-SendFits (sendAnswer.Refused r) = ValuesFit r
+abbrev pub SendFits : Result (Option ℕ) Refusal → Type 0
+SendFits (Ok (Some n)) = n < value_limit
+SendFits (Ok None) = Unit {0}
+SendFits (Err r) = ValuesFit r
 
-sent_fits : (b : Bool) (v w : slots.Sender) (out o : List ℕ) (n : ℕ) → n < value_limit → SendFits (cond b (send_exit (sendAnswer.Sent n) w o) (send_exit sendAnswer.WindowFull v out)).answer
+sent_fits : (b : Bool) (v w : slots.Sender) (out o : List ℕ) (n : ℕ) → n < value_limit → SendFits (cond b (send_exit (Ok (Some n)) w o) (send_exit (Ok None) v out)).answer
 sent_fits true v w out o n h = h
 sent_fits false v w out o n h = tt
 
 window_fits : (selective : Bool) (v : slots.Sender) (payload out : List ℕ) → SendFits (sending.send_chunk selective v payload out).answer
 unfolding sending.send_chunk send_checks
 window_fits selective v payload out =
-    of_answer (λ (x : SendExit slots.Sender). SendFits x.answer) _ (λ r. send_exit (sendAnswer.Refused r) v out) _
+    of_answer (λ (x : SendExit slots.Sender). SendFits x.answer) _ (λ r. send_exit (Err r) v out) _
     (state_fits, (counts_fits, (long_fits, (numbers_fits, (full_fits, tt)))))
     (λ none. let short = ltb-false max_payload (length payload) none.1.1.0 in sent_fits (window_free v.window) v _ out _ (header_size + length payload) (omega (arith, short)))
 
@@ -107,26 +96,26 @@ unfolding send_chunk
 send_fits v payload out = send_fits_in v.sender.state v.store payload out
 
 -- ---- ACKs
-number_cases : (a : PacketAnswer) (raw : List ℕ) → Octets raw → from_bytes raw ≡ a → number_in a < value_limit
+number_cases : (a : Result Packet Refusal) (raw : List ℕ) → Octets raw → from_bytes raw ≡ a → number_in a < value_limit
 unfolding number_in from_bytes decide
-number_cases (packetAnswer.Refused r) raw o e = omega arith
-number_cases (packetAnswer.Packet p) raw o e = read_number (verdict (read_checks raw)) e where
-  read_number : (v : Verdict) → decide v packetAnswer.Refused (packetAnswer.Packet (header_of raw)) ≡ packetAnswer.Packet p → p.seq_num < value_limit
-  read_number Accepted f =
+number_cases (Err r) raw o e = omega arith
+number_cases (Ok p) raw o e = read_number (verdict (read_checks raw)) e where
+  read_number : (v : Result Unit Refusal) → decide v Err (Ok (header_of raw)) ≡ Ok p → p.seq_num < value_limit
+  read_number (Ok tt) f =
       let same : header_of raw ≡ p = cc in
       let low = number_low raw o in
       rw (← same) (omega (arith, low))
-  read_number (Refused r) f = let z : ◌≡◌ {A = ℕ} 0 1 = cc in absurd (omega arith)
+  read_number (Err r) f = let z : ◌≡◌ {A = ℕ} 0 1 = cc in absurd (omega arith)
 
 pub number_fits : (raw : List ℕ) → Octets raw → number_of raw < value_limit
 number_fits raw o = number_cases (from_bytes raw) raw o refl
 
-abbrev DecisionFits : AckDecision → Type 0
-DecisionFits (decision.Accept n base) = Unit {0}
-DecisionFits decision.NotAccepted = Unit {0}
-DecisionFits (decision.Refused r) = ValuesFit r
+abbrev DecisionFits : Result AckDecision Refusal → Type 0
+DecisionFits (Ok (decision.Accept n base)) = Unit {0}
+DecisionFits (Ok decision.NotAccepted) = Unit {0}
+DecisionFits (Err r) = ValuesFit r
 
-within_fits : (b : Bool) (n m : ℕ) → DecisionFits (cond b (decision.Accept n m) decision.NotAccepted)
+within_fits : (b : Bool) (n m : ℕ) → DecisionFits (cond b (Ok (decision.Accept n m)) (Ok decision.NotAccepted))
 within_fits true n m = tt
 within_fits false n m = tt
 
@@ -135,32 +124,32 @@ type_fits s packetType.Data n = tt
 type_fits s packetType.Ack n = within_fits (is_in_window s n) n (n + 1)
 type_fits s packetType.Fin n = tt
 
-by_reading_fits : (s : SendWindow) (x : DatagramReading) → ReadingFits x → DecisionFits (by_reading s x)
-by_reading_fits s (reading.Valid p) h = type_fits s p.pkt_type p.seq_num
-by_reading_fits s (reading.Corrupted p) h = tt
-by_reading_fits s (reading.Refused r) h = h
+by_reading_fits : (s : SendWindow) (x : Result DatagramReading Refusal) → ReadingFits x → DecisionFits (by_reading s x)
+by_reading_fits s (Ok (reading.Valid p)) h = type_fits s p.pkt_type p.seq_num
+by_reading_fits s (Ok (reading.Corrupted p)) h = tt
+by_reading_fits s (Err r) h = h
 
-checks_fit : (x : DatagramReading) (a b : Bool) → ReadingFits x → EachRefusal (λ r. DecisionFits (decision.Refused r)) (reading_checks x ++ held_checks a b)
-checks_fit (reading.Valid p) a b h = (state_fits, (counts_fits, tt))
-checks_fit (reading.Corrupted p) a b h = (state_fits, (counts_fits, tt))
-checks_fit (reading.Refused r) a b h = (h, (state_fits, (counts_fits, tt)))
+checks_fit : (x : Result DatagramReading Refusal) (a b : Bool) → ReadingFits x → EachRefusal (λ r. DecisionFits (Err r)) (reading_checks x ++ held_checks a b)
+checks_fit (Ok (reading.Valid p)) a b h = (state_fits, (counts_fits, tt))
+checks_fit (Ok (reading.Corrupted p)) a b h = (state_fits, (counts_fits, tt))
+checks_fit (Err r) a b h = (h, (state_fits, (counts_fits, tt)))
 
 decision_fits : (selective : Bool) (s : SendWindow) (store raw : List ℕ) → Octets raw → DecisionFits (ack_decision selective s store raw)
 unfolding ack_decision
 decision_fits selective s store raw o =
-    of_answer DecisionFits _ decision.Refused (by_reading s (read_datagram raw))
+    of_answer DecisionFits _ Err (by_reading s (read_datagram raw))
     (checks_fit (read_datagram raw) (state_broken selective s store) (counts_broken s) (reading_fits raw o)) (λ none. by_reading_fits s (read_datagram raw) (reading_fits raw o))
 
-abbrev pub AckFits : AckAnswer → Type 0
-AckFits ackAnswer.Accepted = Unit {0}
-AckFits ackAnswer.NotAccepted = Unit {0}
-AckFits (ackAnswer.Refused r) = ValuesFit r
+abbrev pub AckFits : Result Bool Refusal → Type 0
+AckFits (Ok true) = Unit {0}
+AckFits (Ok false) = Unit {0}
+AckFits (Err r) = ValuesFit r
 
-by_decision_fits : {S : Type 0} (d : AckDecision) (v : S) (accept : ℕ → S) → DecisionFits d → AckFits (by_decision d v accept).answer
+by_decision_fits : {S : Type 0} (d : Result AckDecision Refusal) (v : S) (accept : ℕ → S) → DecisionFits d → AckFits (by_decision d v accept).answer
 unfolding by_decision
-by_decision_fits (decision.Accept n base) v accept h = tt
-by_decision_fits decision.NotAccepted v accept h = tt
-by_decision_fits (decision.Refused r) v accept h = h
+by_decision_fits (Ok (decision.Accept n base)) v accept h = tt
+by_decision_fits (Ok decision.NotAccepted) v accept h = tt
+by_decision_fits (Err r) v accept h = h
 
 ack_fits_in : (x : SenderState) (store raw : List ℕ) → Octets raw → AckFits (handle_ack_in x store raw).answer
 ack_fits_in (senderState.StopAndWait s) store raw o = by_decision_fits _ _ _ (decision_fits false (stop_and_wait.window_of s) store raw o)
@@ -172,10 +161,10 @@ unfolding handle_ack
 ack_fits v raw o = ack_fits_in v.sender.state v.store raw o
 
 -- ---- timeouts
-abbrev pub TimeoutFits : TimeoutAnswer → Type 0
-TimeoutFits (timeoutAnswer.Resent n) = n < value_limit
-TimeoutFits timeoutAnswer.Nothing = Unit {0}
-TimeoutFits (timeoutAnswer.Refused r) = ValuesFit r
+abbrev pub TimeoutFits : Result (Option ℕ) Refusal → Type 0
+TimeoutFits (Ok (Some n)) = n < value_limit
+TimeoutFits (Ok None) = Unit {0}
+TimeoutFits (Err r) = ValuesFit r
 
 positive : (k : ℕ) → eqb k 0 ≡ false → 0 < k
 positive zero e = let z : ◌≡◌ {A = ℕ} 0 1 = cc in absurd (omega arith)
@@ -197,7 +186,7 @@ module _ (selective : Bool) (v : slots.Sender) (n k : ℕ) (out : List ℕ) wher
       omega arith
 
   count_fits : (b : Bool) → eqb k 0 ≡ b → state_broken selective v.window v.store ≡ false → (0 < k → Outstanding v.window n k)
-      → TimeoutFits (cond b (timeout_exit timeoutAnswer.Nothing v out) (timeout_exit (timeoutAnswer.Resent (length (sent_again v n k))) (mark_from v n k) (sent_again v n k ++ drop (length (sent_again v n k)) out))).answer
+      → TimeoutFits (cond b (timeout_exit (Ok None) v out) (timeout_exit (Ok (Some (length (sent_again v n k)))) (mark_from v n k) (sent_again v n k ++ drop (length (sent_again v n k)) out))).answer
   count_fits true e good within = tt
   count_fits false e good within = size_fits good (within (positive k e))
 
@@ -205,7 +194,7 @@ module _ (selective : Bool) (v : slots.Sender) (n k : ℕ) (out : List ℕ) wher
       → TimeoutFits (resend (state_broken selective v.window v.store) counts v n k out).answer
   unfolding resend
   resend_fits counts within =
-      of_answer (λ (x : TimeoutExit slots.Sender). TimeoutFits x.answer) _ (λ r. timeout_exit (timeoutAnswer.Refused r) v out) _
+      of_answer (λ (x : TimeoutExit slots.Sender). TimeoutFits x.answer) _ (λ r. timeout_exit (Err r) v out) _
       (state_fits, (counts_fits, (full_fits, tt))) (λ none. count_fits (eqb k 0) refl none.0 (within none.0))
 
 -- from base on, at most so many
@@ -256,9 +245,9 @@ few_fit s e =
 
 pub can_send_fits : (x : SenderState) → TestFits (can_send_in x)
 unfolding can_send_in
-can_send_fits (senderState.StopAndWait s) = unless_fits TestFits (stop_and_wait.window_of s) test.Refused _ state_fits counts_fits (λ e. tt)
-can_send_fits (senderState.GoBackN s) = unless_fits TestFits s.window test.Refused _ state_fits counts_fits (λ e. tt)
-can_send_fits (senderState.SelectiveRepeat s) = unless_fits TestFits s.window test.Refused _ state_fits counts_fits (λ e. tt)
+can_send_fits (senderState.StopAndWait s) = unless_fits TestFits (stop_and_wait.window_of s) Err _ state_fits counts_fits (λ e. tt)
+can_send_fits (senderState.GoBackN s) = unless_fits TestFits s.window Err _ state_fits counts_fits (λ e. tt)
+can_send_fits (senderState.SelectiveRepeat s) = unless_fits TestFits s.window Err _ state_fits counts_fits (λ e. tt)
 
 -- what a sender of each protocol counts, where the store isn't refused
 abbrev pub InFlightFits : SenderState → List ℕ → Type 0
@@ -268,11 +257,11 @@ InFlightFits (senderState.SelectiveRepeat s) store = CountFits (selective_repeat
 
 pub in_flight_fits : (x : SenderState) (store : List ℕ) → InFlightFits x store
 unfolding selective_repeat.in_flight_count
-in_flight_fits (senderState.StopAndWait s) store = unless_fits TestFits (stop_and_wait.window_of s) test.Refused _ state_fits counts_fits (λ e. tt)
-in_flight_fits (senderState.GoBackN s) store = unless_fits CountFits s.window count.Refused _ state_fits counts_fits (few_fit s.window)
+in_flight_fits (senderState.StopAndWait s) store = unless_fits TestFits (stop_and_wait.window_of s) Err _ state_fits counts_fits (λ e. tt)
+in_flight_fits (senderState.GoBackN s) store = unless_fits CountFits s.window Err _ state_fits counts_fits (few_fit s.window)
 in_flight_fits (senderState.SelectiveRepeat s) store =
     let w = s.window in
-    of_answer CountFits (held_checks (state_broken true w store) (counts_broken w)) count.Refused (count.Count (selective_repeat.in_flight_count_unchecked (slots.sender w store))) (state_fits, (counts_fits, tt))
+    of_answer CountFits (held_checks (state_broken true w store) (counts_broken w)) Err (Ok (selective_repeat.in_flight_count_unchecked (slots.sender w store))) (state_fits, (counts_fits, tt))
     (λ none.
     let most = count_within 1 store w.window_size w.send_base (outstanding w) in
     let low = few_fit w (numbers_not_broken w (sound_numbers (sound true w store none.0))) in

@@ -1,4 +1,5 @@
 -- A timeout of a number above 32 bits is that of any number that isn't outstanding.
+use Rattle.std.specs.Prelude.{None, Option, Some}
 use Prim.Native.Nat.{ℕ, ◌≤◌, min}
 use mathlib.Core.Path.{◌≡◌, refl, sym, ap, ◌∙◌}
 use mathlib.Core.Bool.{Bool, true, false, cond, and-false}
@@ -14,11 +15,10 @@ use Rattle.session.specs.declared.SenderState.{SenderState}
 use Rattle.session.specs.declared.SenderState.TheVariants as senderState
 use Rattle.session.specs.declared.Timeout.TheVariants as timeouts
 use Rattle.session.specs.Sending.{SenderEnd, sender_end, selective_repeat_end, window_in, timed_out_as, handle_timeout_in, handle_timeout}
-use Rattle.host_words.specs.declared.HeldSender.{HeldSender}
-use Rattle.host_words.specs.declared.HeldSender.TheVariants as heldSenders
 use Rattle.host_words.specs.Words.{held_sender}
 use Rattle.host_words.proofs.Words.{sender_next}
 use Rattle.host_ends.specs.Sender.{timed_out, timeout_held, timeout}
+use Rattle.session.specs.declared.Sender.{Sender}
 
 not_due : (v : slots.Sender) (n : ℕ) → v.window.next_seq_num ≤ n → selective_repeat.due v n ≡ false
 not_due v n h = rw (le-ltb n v.window.next_seq_num h, and-false (leb v.window.send_base n))
@@ -43,13 +43,13 @@ module _ (state store out : List ℕ) where
   same_in (senderState.SelectiveRepeat s) n m h k =
       ap (timed_out_as selective_repeat_end) (selective_same (slots.sender s.window store) n m out h k)
 
-  same_held : (x : HeldSender) (n m : ℕ) → held_sender state ≡ x → 4294967295 ≤ n → 4294967295 ≤ m
+  same_held : (x : Option Sender) (n m : ℕ) → held_sender state ≡ x → 4294967295 ≤ n → 4294967295 ≤ m
       → timeout_held x state store (timeouts.Number n) out ≡ timeout_held x state store (timeouts.Number m) out
   unfolding timeout_held handle_timeout
-  same_held (heldSenders.Sender s) n m e h k =
+  same_held (Some s) n m e h k =
       let low = sender_next state e in
       ap (timed_out state) (same_in s.state n m (omega (arith, low, h)) (omega (arith, low, k)))
-  same_held heldSenders.Broken n m e h k = refl
+  same_held None n m e h k = refl
 
   -- the greatest number of 32 bits stands for every greater one
   pub far_number : (n : ℕ) → timeout state store (timeouts.Number (min n 4294967295)) out ≡ timeout state store (timeouts.Number n) out

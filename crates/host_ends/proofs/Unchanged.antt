@@ -1,4 +1,5 @@
 -- A refused call changes nothing: where the status of an answer is 1 to 11, every list that was lent is as it was.
+use Rattle.std.specs.Prelude.{Err, None, Ok, Option, Result, Some}
 use Prim.Native.Nat.{ℕ, ◌≤◌, ◌<◌}
 use mathlib.Core.Path.{◌≡◌, refl, sym, ap, ◌∙◌}
 use mathlib.Core.Bool.{Bool, true, false, cond}
@@ -14,13 +15,8 @@ use Rattle.refusal.proofs.Laws.{either_answer}
 use Rattle.protocol.specs.declared.ProtocolType.{ProtocolType}
 use Rattle.protocol.specs.declared.ProtocolType.TheVariants as protocol
 use Rattle.window.specs.declared.SendWindow.{SendWindow}
-use Rattle.window.specs.declared.SendAnswer.{SendAnswer}
-use Rattle.window.specs.declared.SendAnswer.TheVariants as sendAnswer
-use Rattle.window.specs.declared.AckAnswer.TheVariants as ackAnswer
 use Rattle.window.specs.declared.AckDecision.{AckDecision}
 use Rattle.window.specs.declared.AckDecision.TheVariants as decision
-use Rattle.window.specs.declared.TimeoutAnswer.{TimeoutAnswer}
-use Rattle.window.specs.declared.TimeoutAnswer.TheVariants as timeoutAnswer
 use Rattle.window.specs.State.{store_short}
 use Rattle.window.specs.Slots as slots
 use Rattle.window.specs.Sending as window
@@ -30,9 +26,6 @@ use Rattle.window.specs.Resending.{TimeoutExit, timeout_exit, resend, sent_again
 use Rattle.receiver.specs.Receive as receiver
 use Rattle.receiver.specs.Receive.{ReceiveExit, receive_exit, Reception, receive_checks, refused_exit, received_exit}
 use Rattle.receiver.specs.Reply.{answer_of}
-use Rattle.receiver.specs.declared.Reply.{Reply}
-use Rattle.receiver.specs.declared.Reply.TheVariants as reply
-use Rattle.receiver.specs.declared.ReceiveAnswer.TheVariants as receiveAnswer
 use Rattle.stop_and_wait.specs.Sender as stop_and_wait
 use Rattle.stop_and_wait.specs.declared.StopAndWaitSender.{StopAndWaitSender}
 use Rattle.session.specs.declared.SenderState.{SenderState}
@@ -45,41 +38,39 @@ use Rattle.session.specs.Sending.{SenderEnd, sender_end, sender_in, stop_and_wai
 use Rattle.session.specs.Receiving.{ReceiverEnd, receiver_end, receiver_in, stop_and_wait_receiver_end, go_back_nReceiver_end, selective_repeat_receiver_end, received_as, handle_packet_in, handle_packet}
 use Rattle.host_answer.specs.Answer.{packed, refusal_answer, Refusing}
 use Rattle.host_answer.proofs.Laws.{done_not_refusing, ordinary_not_refusing}
-use Rattle.host_words.specs.declared.HeldSender.{HeldSender}
-use Rattle.host_words.specs.declared.HeldSender.TheVariants as heldSenders
-use Rattle.host_words.specs.declared.HeldReceiver.{HeldReceiver}
-use Rattle.host_words.specs.declared.HeldReceiver.TheVariants as heldReceivers
 use Rattle.host_words.specs.Words.{state_words, held_sender, held_receiver, with_receiver}
 use Rattle.host_words.proofs.Words.{sender_back, receiver_back}
 use Rattle.host_ends.specs.Answers.{CallExit, call_exit, send_code, ack_code, timeout_code, receive_code}
 use Rattle.host_ends.specs.Sender.{words_after, send_held, send, number_of, acknowledge_held, acknowledge, timeout_held, timeout}
 use Rattle.host_ends.specs.Receiver.{receive_held, receive}
 use Rattle.host_ends.specs.Making.{make_unless, made_exit, make_sender_of, make_receiver_of, by_protocol, make_sender, make_receiver}
+use Rattle.session.specs.declared.Receiver.{Receiver}
+use Rattle.session.specs.declared.Sender.{Sender}
 
 -- ---- sending
 abbrev SendKept : {S : Type 0} → S → List ℕ → SendExit S → Type 0
 SendKept v out x = Refusing (send_code x.answer) → x ≡ send_exit x.answer v out
 
-sent_kept : {S : Type 0} (v w : S) (out o : List ℕ) (n : ℕ) → SendKept v out (send_exit (sendAnswer.Sent n) w o)
+sent_kept : {S : Type 0} (v w : S) (out o : List ℕ) (n : ℕ) → SendKept v out (send_exit (Ok (Some n)) w o)
 unfolding send_code
 sent_kept v w out o n h = absurd (done_not_refusing n h)
 
-full_kept : {S : Type 0} (b : Bool) (v : S) (out : List ℕ) (x : SendExit S) → SendKept v out x → SendKept v out (cond b x (send_exit sendAnswer.WindowFull v out))
+full_kept : {S : Type 0} (b : Bool) (v : S) (out : List ℕ) (x : SendExit S) → SendKept v out x → SendKept v out (cond b x (send_exit (Ok None) v out))
 full_kept true v out x k = k
 full_kept false v out x k = λ h. refl
 
 window_kept : (selective : Bool) (v : slots.Sender) (payload out : List ℕ) → SendKept v out (window.send_chunk selective v payload out)
 unfolding window.send_chunk
 window_kept selective v payload out =
-    either_answer (SendKept v out) (verdict (send_checks selective v payload out)) (λ r. send_exit (sendAnswer.Refused r) v out)
-    (cond (window_free v.window) (window.send_chunk_unchecked v payload out) (send_exit sendAnswer.WindowFull v out)) (λ r h. refl)
+    either_answer (SendKept v out) (verdict (send_checks selective v payload out)) (λ r. send_exit (Err r) v out)
+    (cond (window_free v.window) (window.send_chunk_unchecked v payload out) (send_exit (Ok None) v out)) (λ r h. refl)
     (λ e. full_kept (window_free v.window) v out (window.send_chunk_unchecked v payload out) (sent_kept v _ out _ _))
 
-by_send_lem : (s : StopAndWaitSender) (a : SendAnswer) (w : SendWindow) → Refusing (send_code a) → stop_and_wait.by_send s a w ≡ s
+by_send_lem : (s : StopAndWaitSender) (a : Result (Option ℕ) Refusal) (w : SendWindow) → Refusing (send_code a) → stop_and_wait.by_send s a w ≡ s
 unfolding send_code
-by_send_lem s (sendAnswer.Sent n) w h = absurd (done_not_refusing n h)
-by_send_lem s sendAnswer.WindowFull w h = refl
-by_send_lem s (sendAnswer.Refused r) w h = refl
+by_send_lem s (Ok (Some n)) w h = absurd (done_not_refusing n h)
+by_send_lem s (Ok None) w h = refl
+by_send_lem s (Err r) w h = refl
 
 single_kept : (s : StopAndWaitSender) (store out : List ℕ) (t : SendExit slots.Sender) → SendKept (stop_and_wait.window_end (stop_and_wait.end_of s store)) out t
     → SendKept (stop_and_wait_end (stop_and_wait.end_of s store)) out (sent_as stop_and_wait_end (stop_and_wait.sent s t))
@@ -99,13 +90,13 @@ unfolding send_chunk
 send_kept v payload out = send_kept_in v.sender.state v.store payload out
 
 module _ (state store payload out : List ℕ) where
-  send_same : (held : HeldSender) → held_sender state ≡ held → Refusing (send_held held state store payload out).answer
+  send_same : (held : Option Sender) → held_sender state ≡ held → Refusing (send_held held state store payload out).answer
       → (send_held held state store payload out).lent ≡ state ∷ store ∷ out ∷ []
   unfolding send_held
-  send_same (heldSenders.Sender s) e h =
+  send_same (Some s) e h =
       ap (λ (y : SendExit SenderEnd). words_after state y.after ∷ y.after.store ∷ y.out ∷ []) (send_kept (sender_end s store) payload out h)
       ∙ ap (λ (t : List ℕ). t ∷ store ∷ out ∷ []) (sender_back state e)
-  send_same heldSenders.Broken e h = refl
+  send_same None e h = refl
 
   pub send_refused : Refusing (send state store payload out).answer → (send state store payload out).lent ≡ state ∷ store ∷ out ∷ []
   send_refused h = send_same (held_sender state) refl h
@@ -114,11 +105,11 @@ module _ (state store payload out : List ℕ) where
 abbrev AckKept : {S : Type 0} → ℕ → S → AckExit S → Type 0
 AckKept n v x = Refusing (ack_code n x.answer) → x ≡ ack_exit x.answer v
 
-decision_kept : {S : Type 0} (n : ℕ) (v : S) (accept : ℕ → S) (d : AckDecision) → AckKept n v (by_decision d v accept)
+decision_kept : {S : Type 0} (n : ℕ) (v : S) (accept : ℕ → S) (d : Result AckDecision Refusal) → AckKept n v (by_decision d v accept)
 unfolding by_decision ack_code
-decision_kept n v accept (decision.Accept m base) h = absurd (done_not_refusing n h)
-decision_kept n v accept decision.NotAccepted h = refl
-decision_kept n v accept (decision.Refused r) h = refl
+decision_kept n v accept (Ok (decision.Accept m base)) h = absurd (done_not_refusing n h)
+decision_kept n v accept (Ok decision.NotAccepted) h = refl
+decision_kept n v accept (Err r) h = refl
 
 ack_kept_in : (n : ℕ) (x : SenderState) (store raw : List ℕ) → AckKept n (sender_in x store) (handle_ack_in x store raw)
 ack_kept_in n (senderState.StopAndWait s) store raw = λ h. ap (acknowledged_as stop_and_wait_end) (decision_kept n (stop_and_wait.end_of s store) _ _ h)
@@ -131,13 +122,13 @@ unfolding handle_ack
 ack_kept n v raw = ack_kept_in n v.sender.state v.store raw
 
 module _ (state store raw : List ℕ) where
-  acknowledge_same : (held : HeldSender) → held_sender state ≡ held → Refusing (acknowledge_held held state store raw).answer
+  acknowledge_same : (held : Option Sender) → held_sender state ≡ held → Refusing (acknowledge_held held state store raw).answer
       → (acknowledge_held held state store raw).lent ≡ state ∷ store ∷ []
   unfolding acknowledge_held
-  acknowledge_same (heldSenders.Sender s) e h =
+  acknowledge_same (Some s) e h =
       ap (λ (y : AckExit SenderEnd). words_after state y.after ∷ y.after.store ∷ []) (ack_kept (number_of raw) (sender_end s store) raw h)
       ∙ ap (λ (t : List ℕ). t ∷ store ∷ []) (sender_back state e)
-  acknowledge_same heldSenders.Broken e h = refl
+  acknowledge_same None e h = refl
 
   pub acknowledge_refused : Refusing (acknowledge state store raw).answer → (acknowledge state store raw).lent ≡ state ∷ store ∷ []
   acknowledge_refused h = acknowledge_same (held_sender state) refl h
@@ -147,7 +138,7 @@ abbrev TimeoutKept : {S : Type 0} → S → List ℕ → TimeoutExit S → Type 
 TimeoutKept v out x = Refusing (timeout_code x.answer) → x ≡ timeout_exit x.answer v out
 
 resent_kept : (b : Bool) (v w : slots.Sender) (out o : List ℕ) (n : ℕ)
-    → TimeoutKept v out (cond b (timeout_exit timeoutAnswer.Nothing v out) (timeout_exit (timeoutAnswer.Resent n) w o))
+    → TimeoutKept v out (cond b (timeout_exit (Ok None) v out) (timeout_exit (Ok (Some n)) w o))
 unfolding timeout_code
 resent_kept true v w out o n h = refl
 resent_kept false v w out o n h = absurd (done_not_refusing n h)
@@ -157,16 +148,16 @@ unfolding resend
 resend_kept sb cb v n k out =
     let size = length (sent_again v n k) in
     either_answer (TimeoutKept v out) (verdict (check sb State ∷ check cb Counts ∷ check (ltb (length out) size) Full ∷ []))
-    (λ r. timeout_exit (timeoutAnswer.Refused r) v out)
-    (cond (eqb k 0) (timeout_exit timeoutAnswer.Nothing v out) (timeout_exit (timeoutAnswer.Resent size) (mark_from v n k) (sent_again v n k ++ drop size out)))
+    (λ r. timeout_exit (Err r) v out)
+    (cond (eqb k 0) (timeout_exit (Ok None) v out) (timeout_exit (Ok (Some size)) (mark_from v n k) (sent_again v n k ++ drop size out)))
     (λ r h. refl)
     (λ e. resent_kept (eqb k 0) v (mark_from v n k) out (sent_again v n k ++ drop size out) size)
 
-by_timeout_lem : (s : StopAndWaitSender) (a : TimeoutAnswer) (w : SendWindow) → Refusing (timeout_code a) → stop_and_wait.by_timeout s a w ≡ s
+by_timeout_lem : (s : StopAndWaitSender) (a : Result (Option ℕ) Refusal) (w : SendWindow) → Refusing (timeout_code a) → stop_and_wait.by_timeout s a w ≡ s
 unfolding timeout_code
-by_timeout_lem s (timeoutAnswer.Resent n) w h = absurd (done_not_refusing n h)
-by_timeout_lem s timeoutAnswer.Nothing w h = refl
-by_timeout_lem s (timeoutAnswer.Refused r) w h = refl
+by_timeout_lem s (Ok (Some n)) w h = absurd (done_not_refusing n h)
+by_timeout_lem s (Ok None) w h = refl
+by_timeout_lem s (Err r) w h = refl
 
 single_timeout_kept : (s : StopAndWaitSender) (store out : List ℕ) (t : TimeoutExit slots.Sender) → TimeoutKept (stop_and_wait.window_end (stop_and_wait.end_of s store)) out t
     → TimeoutKept (stop_and_wait_end (stop_and_wait.end_of s store)) out (timed_out_as stop_and_wait_end (stop_and_wait.timed_out s t))
@@ -191,13 +182,13 @@ unfolding handle_timeout
 timeout_kept v t out = timeout_kept_in v.sender.state v.store t out
 
 module _ (state store : List ℕ) (t : Timeout) (out : List ℕ) where
-  timeout_same : (held : HeldSender) → held_sender state ≡ held → Refusing (timeout_held held state store t out).answer
+  timeout_same : (held : Option Sender) → held_sender state ≡ held → Refusing (timeout_held held state store t out).answer
       → (timeout_held held state store t out).lent ≡ state ∷ store ∷ out ∷ []
   unfolding timeout_held
-  timeout_same (heldSenders.Sender s) e h =
+  timeout_same (Some s) e h =
       ap (λ (y : TimeoutExit SenderEnd). words_after state y.after ∷ y.after.store ∷ y.out ∷ []) (timeout_kept (sender_end s store) t out h)
       ∙ ap (λ (u : List ℕ). u ∷ store ∷ out ∷ []) (sender_back state e)
-  timeout_same heldSenders.Broken e h = refl
+  timeout_same None e h = refl
 
   pub timeout_refused : Refusing (timeout state store t out).answer → (timeout state store t out).lent ≡ state ∷ store ∷ out ∷ []
   timeout_refused h = timeout_same (held_sender state) refl h
@@ -206,15 +197,15 @@ module _ (state store : List ℕ) (t : Timeout) (out : List ℕ) where
 abbrev ReceiveKept : {R : Type 0} → R → List ℕ → List ℕ → ReceiveExit R → Type 0
 ReceiveKept v output ack x = Refusing (receive_code x.answer) → x ≡ receive_exit x.answer v output ack
 
-not_refused : (y : Reply) → Refusing (receive_code (answer_of y)) → ⊥
+not_refused : (y : Option ℕ) → Refusing (receive_code (answer_of y)) → ⊥
 unfolding receive_code
-not_refused (reply.Ack n) h = done_not_refusing n h
-not_refused reply.Silent h = ordinary_not_refusing 19 0 (omega arith) (omega arith) h
+not_refused (Some n) h = done_not_refusing n h
+not_refused None h = ordinary_not_refusing 19 0 (omega arith) (omega arith) h
 
 receive_kept : {R : Type 0} (x : Reception R) (raw output ack : List ℕ) → ReceiveKept x.state output ack (receiver.receive x raw output ack)
 unfolding receiver.receive
 receive_kept x raw output ack =
-    either_answer (ReceiveKept x.state output ack) (verdict (receive_checks x raw output ack)) (λ r. refused_exit x output ack (receiveAnswer.Refused r))
+    either_answer (ReceiveKept x.state output ack) (verdict (receive_checks x raw output ack)) (λ r. refused_exit x output ack (Err r))
     (received_exit x output ack) (λ r h. refl) (λ e h. absurd (not_refused x.decision.reply h))
 
 packet_kept_in : (x : ReceiverState) (store raw output ack : List ℕ) → ReceiveKept (receiver_in x store) output ack (handle_packet_in x store raw output ack)
@@ -230,13 +221,13 @@ unfolding handle_packet
 packet_kept v raw output ack = packet_kept_in v.receiver.state v.store raw output ack
 
 module _ (state store raw output ack : List ℕ) where
-  receive_same : (held : HeldReceiver) → held_receiver state ≡ held → Refusing (receive_held held state store raw output ack).answer
+  receive_same : (held : Option Receiver) → held_receiver state ≡ held → Refusing (receive_held held state store raw output ack).answer
       → (receive_held held state store raw output ack).lent ≡ state ∷ store ∷ output ∷ ack ∷ []
   unfolding receive_held
-  receive_same (heldReceivers.Receiver r) e h =
+  receive_same (Some r) e h =
       ap (λ (y : ReceiveExit ReceiverEnd). with_receiver state y.receiver.receiver.state ∷ y.receiver.store ∷ y.output ∷ y.ack ∷ []) (packet_kept (receiver_end r store) raw output ack h)
       ∙ ap (λ (t : List ℕ). t ∷ store ∷ output ∷ ack ∷ []) (receiver_back state e)
-  receive_same heldReceivers.Broken e h = refl
+  receive_same None e h = refl
 
   pub receive_refused : Refusing (receive state store raw output ack).answer → (receive state store raw output ack).lent ≡ state ∷ store ∷ output ∷ ack ∷ []
   receive_refused h = receive_same (held_receiver state) refl h

@@ -17,14 +17,13 @@ ghost use Rattle.host_answer.specs.Answer.{refusal_answer};
 ghost use Rattle.host_ends.specs.Making.{make_sender_of, make_receiver_of, make_sender, make_receiver};
 
 use go_back_n::GoBackNSender;
-use host_words::{HeldReceiver, HeldSender, Kind};
-use packet::{Packet, PacketAnswer};
+use host_words::Kind;
+use packet::Packet;
 use protocol::ProtocolType;
-use receiver::ReceiveAnswer;
-use refusal::{CountAnswer, Refusal, TestAnswer, Verdict};
+use refusal::Refusal;
 use selective_repeat::SelectiveRepeatSender;
 use session::{Receiver, ReceiverState, Sender, SenderState, Timeout};
-use window::{AckAnswer, SendAnswer, SendWindow, TimeoutAnswer, TimeoutDecision};
+use window::{SendWindow, TimeoutDecision};
 
 const MAX_U32: u64 = 4_294_967_295;
 
@@ -145,14 +144,14 @@ pub fn timeout(state: &mut [u64], store: &mut [u8], which: Timeout, out: &mut [u
         ≡ timeout state.old store.old which out.old }
 {
     match host_words::held_sender(state) {
-        HeldSender::Sender(sender) => {
+        Some(sender) => {
             let result = host_session::handle_timeout(sender, store, which, out);
             let sender = result.sender;
             let answer = result.answer;
             host_words::put_sender_unchecked(state, sender);
             timeout_code(answer)
         }
-        HeldSender::Broken => host_answer::refusal_answer(Refusal::State),
+        None => host_answer::refusal_answer(Refusal::State),
     }
 }
 
@@ -169,11 +168,11 @@ pub fn can_send(state: &[u64]) -> u64
     ensures { result ≡ can_send state.now }
 {
     match host_words::held_sender(state) {
-        HeldSender::Sender(sender) => {
+        Some(sender) => {
             let held = sender.state;
             host_answer::test_answer(can_send_in(held))
         }
-        HeldSender::Broken => host_answer::refusal_answer(Refusal::State),
+        None => host_answer::refusal_answer(Refusal::State),
     }
 }
 
@@ -182,11 +181,11 @@ pub fn in_flight(state: &[u64], store: &[u8]) -> u64
     ensures { result ≡ in_flight state.now store.now }
 {
     match host_words::held_sender(state) {
-        HeldSender::Sender(sender) => {
+        Some(sender) => {
             let held = sender.state;
             in_flight_in(held, store)
         }
-        HeldSender::Broken => host_answer::refusal_answer(Refusal::State),
+        None => host_answer::refusal_answer(Refusal::State),
     }
 }
 
@@ -195,8 +194,8 @@ pub fn is_retransmitted(state: &[u64], store: &[u8], seq_num: u64) -> u64
     ensures { result ≡ is_retransmitted state.now store.now seq_num }
 {
     match host_words::held_sender(state) {
-        HeldSender::Sender(sender) => is_retransmitted_in(sender, store, seq_num),
-        HeldSender::Broken => host_answer::refusal_answer(Refusal::State),
+        Some(sender) => is_retransmitted_in(sender, store, seq_num),
+        None => host_answer::refusal_answer(Refusal::State),
     }
 }
 
@@ -214,14 +213,14 @@ pub fn receive(
         ack.old }
 {
     match host_words::held_receiver(state) {
-        HeldReceiver::Receiver(receiver) => {
+        Some(receiver) => {
             let result = host_session::handle_packet(receiver, store, raw, output, ack);
             let receiver = result.receiver;
             let answer = result.answer;
             host_words::put_receiver_unchecked(state, receiver);
             receive_code(answer)
         }
-        HeldReceiver::Broken => host_answer::refusal_answer(Refusal::State),
+        None => host_answer::refusal_answer(Refusal::State),
     }
 }
 
@@ -230,11 +229,11 @@ pub fn buffered_count(state: &[u64], store: &[u8]) -> u64
     ensures { result ≡ buffered_count state.now store.now }
 {
     match host_words::held_receiver(state) {
-        HeldReceiver::Receiver(receiver) => {
+        Some(receiver) => {
             let held = receiver.state;
             host_answer::count_answer(buffered_count_in(held, store))
         }
-        HeldReceiver::Broken => host_answer::refusal_answer(Refusal::State),
+        None => host_answer::refusal_answer(Refusal::State),
     }
 }
 
@@ -312,7 +311,7 @@ fn receiver_slot_count(protocol: ProtocolType, window_size: usize) -> usize
     }
 }
 
-fn can_send_in(state: SenderState) -> TestAnswer
+fn can_send_in(state: SenderState) -> Result<bool, Refusal>
     ensures { result ≡ can_send_in state }
 {
     match state {
@@ -344,8 +343,8 @@ fn is_retransmitted_in(sender: Sender, store: &[u8], seq_num: u64) -> u64
 {
     let held = sender.state;
     match check_sender(held, store) {
-        Verdict::Accepted => sent_again(sender.window_unchecked(), store, seq_num),
-        Verdict::Refused(r) => host_answer::refusal_answer(r),
+        Ok(()) => sent_again(sender.window_unchecked(), store, seq_num),
+        Err(r) => host_answer::refusal_answer(r),
     }
 }
 
@@ -363,11 +362,11 @@ fn sent_again(window: SendWindow, store: &[u8], seq_num: u64) -> u64
     }
     let slot = seq_num as usize % window.window_size;
     let again = store::flags_unchecked(store, slot) % 2 == 1;
-    host_answer::test_answer(TestAnswer::Is(again))
+    host_answer::test_answer(Ok(again))
 }
 
 // Checks 9 and 8 of a sender and its store.
-fn check_sender(state: SenderState, store: &[u8]) -> Verdict
+fn check_sender(state: SenderState, store: &[u8]) -> Result<(), Refusal>
     ensures { result ≡ sender_verdict (sender_in state store.now) }
 {
     match state {
@@ -383,27 +382,27 @@ fn check_sender(state: SenderState, store: &[u8]) -> Verdict
     }
 }
 
-fn verdict_of(decision: TimeoutDecision) -> Verdict
+fn verdict_of(decision: Result<TimeoutDecision, Refusal>) -> Result<(), Refusal>
     ensures { result ≡ verdict_of decision }
 {
     match decision {
-        TimeoutDecision::Refused(r) => Verdict::Refused(r),
-        TimeoutDecision::Nothing => Verdict::Accepted,
-        TimeoutDecision::Resend { first: _, count: _ } => Verdict::Accepted,
+        Err(r) => Err(r),
+        Ok(TimeoutDecision::Nothing) => Ok(()),
+        Ok(TimeoutDecision::Resend { first: _, count: _ }) => Ok(()),
     }
 }
 
 // The answer, unless the state was refused.
-fn unless_refused(verdict: Verdict, answer: u64) -> u64
+fn unless_refused(verdict: Result<(), Refusal>, answer: u64) -> u64
     ensures { result ≡ decide verdict refusal_answer answer }
 {
     match verdict {
-        Verdict::Accepted => answer,
-        Verdict::Refused(r) => host_answer::refusal_answer(r),
+        Ok(()) => answer,
+        Err(r) => host_answer::refusal_answer(r),
     }
 }
 
-fn buffered_count_in(state: ReceiverState, store: &[u8]) -> CountAnswer
+fn buffered_count_in(state: ReceiverState, store: &[u8]) -> Result<usize, Refusal>
     ensures { result ≡ buffered_count_in state store.now }
 {
     match state {
@@ -423,12 +422,12 @@ fn buffered_count_in(state: ReceiverState, store: &[u8]) -> CountAnswer
     }
 }
 
-fn none_held(base: u32, counts_broken: bool) -> CountAnswer
+fn none_held(base: u32, counts_broken: bool) -> Result<usize, Refusal>
     ensures { result ≡ none_held base counts_broken }
 {
     match refusal::held_verdict(bounds::SEQ_NUM_LIMIT < base, counts_broken) {
-        Verdict::Accepted => CountAnswer::Count(0),
-        Verdict::Refused(r) => CountAnswer::Refused(r),
+        Ok(()) => Ok(0),
+        Err(r) => Err(r),
     }
 }
 
@@ -446,47 +445,47 @@ fn number_of(raw: &[u8]) -> u32
     ensures { result ≡ number_of raw.now }
 {
     match Packet::from_bytes(raw) {
-        PacketAnswer::Packet(p) => p.seq_num,
-        PacketAnswer::Refused(_) => 0,
+        Ok(p) => p.seq_num,
+        Err(_) => 0,
     }
 }
 
-fn send_code(a: SendAnswer) -> u64
+fn send_code(a: Result<Option<usize>, Refusal>) -> u64
     ensures { result ≡ send_code a }
 {
     match a {
-        SendAnswer::Sent(n) => host_answer::pack_unchecked(host_answer::DONE, n as u64),
-        SendAnswer::WindowFull => host_answer::pack_unchecked(host_answer::WINDOW_FULL, 0),
-        SendAnswer::Refused(r) => host_answer::refusal_answer(r),
+        Ok(Some(n)) => host_answer::pack_unchecked(host_answer::DONE, n as u64),
+        Ok(None) => host_answer::pack_unchecked(host_answer::WINDOW_FULL, 0),
+        Err(r) => host_answer::refusal_answer(r),
     }
 }
 
-fn ack_code(seq_num: u32, a: AckAnswer) -> u64
+fn ack_code(seq_num: u32, a: Result<bool, Refusal>) -> u64
     ensures { result ≡ ack_code seq_num a }
 {
     match a {
-        AckAnswer::Accepted => host_answer::pack_unchecked(host_answer::DONE, seq_num as u64),
-        AckAnswer::NotAccepted => host_answer::pack_unchecked(host_answer::NOT_ACCEPTED, 0),
-        AckAnswer::Refused(r) => host_answer::refusal_answer(r),
+        Ok(true) => host_answer::pack_unchecked(host_answer::DONE, seq_num as u64),
+        Ok(false) => host_answer::pack_unchecked(host_answer::NOT_ACCEPTED, 0),
+        Err(r) => host_answer::refusal_answer(r),
     }
 }
 
-fn timeout_code(a: TimeoutAnswer) -> u64
+fn timeout_code(a: Result<Option<usize>, Refusal>) -> u64
     ensures { result ≡ timeout_code a }
 {
     match a {
-        TimeoutAnswer::Resent(n) => host_answer::pack_unchecked(host_answer::DONE, n as u64),
-        TimeoutAnswer::Nothing => host_answer::pack_unchecked(host_answer::NOTHING, 0),
-        TimeoutAnswer::Refused(r) => host_answer::refusal_answer(r),
+        Ok(Some(n)) => host_answer::pack_unchecked(host_answer::DONE, n as u64),
+        Ok(None) => host_answer::pack_unchecked(host_answer::NOTHING, 0),
+        Err(r) => host_answer::refusal_answer(r),
     }
 }
 
-fn receive_code(a: ReceiveAnswer) -> u64
+fn receive_code(a: Result<Option<u32>, Refusal>) -> u64
     ensures { result ≡ receive_code a }
 {
     match a {
-        ReceiveAnswer::Ack(n) => host_answer::pack_unchecked(host_answer::DONE, n as u64),
-        ReceiveAnswer::Silent => host_answer::pack_unchecked(host_answer::SILENT, 0),
-        ReceiveAnswer::Refused(r) => host_answer::refusal_answer(r),
+        Ok(Some(n)) => host_answer::pack_unchecked(host_answer::DONE, n as u64),
+        Ok(None) => host_answer::pack_unchecked(host_answer::SILENT, 0),
+        Err(r) => host_answer::refusal_answer(r),
     }
 }

@@ -1,5 +1,6 @@
 -- What is known of words and doubles that hold an estimator; to put it back changes nothing, and what is put into them
 -- is what they hold.
+use Rattle.std.specs.Prelude.{None, Option, Some}
 use Prim.Native.Nat.{ℕ, zero, suc, ◌+◌, ◌≤◌}
 use mathlib.Core.Path.{◌≡◌, refl, sym, ap, ◌∙◌}
 use mathlib.Core.Bool.{Bool, true, false, cond, not}
@@ -13,14 +14,11 @@ use lib.Seq.{drop-cons, sets, sets-eq}
 use Rattle.refusal.specs.Clauses.{any_of}
 use Rattle.refusal.proofs.Laws.{none_of}
 use Rattle.rto.specs.declared.RtoEstimator.{RtoEstimator}
-use Rattle.rto.specs.declared.MaybeDuration.{MaybeDuration}
-use Rattle.rto.specs.declared.MaybeDuration.TheVariants.{Unset, Set}
-use Rattle.host_estimator.specs.declared.HeldEstimator.TheVariants as held
 use Rattle.host_estimator.specs.Words.{estimator_words, estimator_doubles, estimator_word, is_set, time_of, duration_of, duration_broken, estimator_in, numbers_broken, broken_at, durations_broken, held_estimator, first_words, second_words, third_words, words_of, doubles_of, with_words, with_doubles, Readable, Room}
 
 -- ---- durations that may be unset
 duration_words : (set time : ℕ) (b : Bool) → eqb set 1 ≡ b → cond b false (any_of (not (eqb set 0) ∷ not (eqb time 0) ∷ [])) ≡ false
-    → (is_set (cond b (Set time) Unset) ≡ set) × (time_of (cond b (Set time) Unset) ≡ time)
+    → (is_set (cond b (Some time) None) ≡ set) × (time_of (cond b (Some time) None) ≡ time)
 duration_words set time true e h = (sym (eqb-true set 1 e), refl)
 duration_words set time false e h =
     let none = none_of (not (eqb set 0) ∷ not (eqb time 0) ∷ []) h in
@@ -30,15 +28,15 @@ pub duration_back : (set time : ℕ) → duration_broken set time ≡ false → 
 unfolding duration_of duration_broken
 duration_back set time h = duration_words set time (eqb set 1) refl h
 
-pub duration_held : (m : MaybeDuration) → duration_of (is_set m) (time_of m) ≡ m
+pub duration_held : (m : Option ℕ) → duration_of (is_set m) (time_of m) ≡ m
 unfolding duration_of
-duration_held Unset = refl
-duration_held (Set d) = refl
+duration_held None = refl
+duration_held (Some d) = refl
 
-pub duration_sound : (m : MaybeDuration) → duration_broken (is_set m) (time_of m) ≡ false
+pub duration_sound : (m : Option ℕ) → duration_broken (is_set m) (time_of m) ≡ false
 unfolding duration_broken any_of
-duration_sound Unset = refl
-duration_sound (Set d) = refl
+duration_sound None = refl
+duration_sound (Some d) = refl
 
 -- a flag
 flag_back : (n : ℕ) → n ≤ 1 → (b : Bool) → eqb n 1 ≡ b → cond b 1 0 ≡ n
@@ -95,19 +93,19 @@ pub record Holds (s : List ℕ) (d : List Float) (x : RtoEstimator) : Type 0 whe
   pub is : estimator_in s d ≡ x
 
 module _ (s : List ℕ) (d : List Float) (x : RtoEstimator) where
-  durations_cases : Numbers s d → (b : Bool) → durations_broken s ≡ b → cond b held.Broken (held.Estimator (estimator_in s d)) ≡ held.Estimator x → Holds s d x
+  durations_cases : Numbers s d → (b : Bool) → durations_broken s ≡ b → cond b None (Some (estimator_in s d)) ≡ Some x → Holds s d x
   durations_cases n true e p = let z : ◌≡◌ {A = ℕ} 0 1 = cc in absurd (omega arith)
   durations_cases n false e p = let same : estimator_in s d ≡ x = cc in record { numbers = n; durations = durations_known s e; is = same }
 
-  numbers_cases : (b : Bool) → numbers_broken s d ≡ b → cond b held.Broken (cond (durations_broken s) held.Broken (held.Estimator (estimator_in s d))) ≡ held.Estimator x → Holds s d x
+  numbers_cases : (b : Bool) → numbers_broken s d ≡ b → cond b None (cond (durations_broken s) None (Some (estimator_in s d))) ≡ Some x → Holds s d x
   numbers_cases true e p = let z : ◌≡◌ {A = ℕ} 0 1 = cc in absurd (omega arith)
   numbers_cases false e p = durations_cases (numbers_known s d e) (durations_broken s) refl p
 
-pub holds : (s : List ℕ) (d : List Float) {x : RtoEstimator} → held_estimator s d ≡ held.Estimator x → Holds s d x
+pub holds : (s : List ℕ) (d : List Float) {x : RtoEstimator} → held_estimator s d ≡ Some x → Holds s d x
 unfolding held_estimator
 holds s d {x} e = numbers_cases s d x (numbers_broken s d) refl e
 
-pub held_room : (s : List ℕ) (d : List Float) {x : RtoEstimator} → held_estimator s d ≡ held.Estimator x → Room s d
+pub held_room : (s : List ℕ) (d : List Float) {x : RtoEstimator} → held_estimator s d ≡ Some x → Room s d
 held_room s d e = let r = (holds s d e).numbers.readable in record { words = r.words; doubles = r.doubles }
 
 -- ---- put back
@@ -121,7 +119,7 @@ unfolding elements
 elements_are a zero i l h = refl
 elements_are a (suc n) i l h = ap (λ (r : List _). get_or l i a ∷ r) (elements_are a n (suc i) l (omega arith)) ∙ sym (drop-cons l i a (omega arith))
 
-pub words_back : (s : List ℕ) (d : List Float) {x : RtoEstimator} → held_estimator s d ≡ held.Estimator x → with_words s x ≡ s
+pub words_back : (s : List ℕ) (d : List Float) {x : RtoEstimator} → held_estimator s d ≡ Some x → with_words s x ≡ s
 unfolding with_words elements
 words_back s d e =
     let h = holds s d e in
@@ -134,7 +132,7 @@ words_back s d e =
     rw (← h.is, ← n.word, srtt.0, srtt.1, rttvar.0, rttvar.1, flag_back (get_or s 11 0) n.flag (eqb (get_or s 11 0) 1) refl, least.0, least.1, most.0, most.1, latest.0, latest.1)
     (elements_are 0 24 0 s n.readable.words)
 
-pub doubles_back : (s : List ℕ) (d : List Float) {x : RtoEstimator} → held_estimator s d ≡ held.Estimator x → with_doubles d x ≡ d
+pub doubles_back : (s : List ℕ) (d : List Float) {x : RtoEstimator} → held_estimator s d ≡ Some x → with_doubles d x ≡ d
 unfolding with_doubles elements
 doubles_back s d e = let h = holds s d e in rw (← h.is) (elements_are nan 5 0 d h.numbers.readable.doubles)
 
@@ -143,7 +141,7 @@ pub record Fits (e : RtoEstimator) : Type 0 where
   pub consecutive : e.consecutive_timeouts ≤ 4294967295
   pub max_consecutive : e.stats.max_consecutive_timeouts ≤ 4294967295
 
-pub estimator_held : (s : List ℕ) (d : List Float) (e : RtoEstimator) → Fits e → held_estimator (with_words s e) (with_doubles d e) ≡ held.Estimator e
+pub estimator_held : (s : List ℕ) (d : List Float) (e : RtoEstimator) → Fits e → held_estimator (with_words s e) (with_doubles d e) ≡ Some e
 unfolding held_estimator numbers_broken durations_broken any_of with_words with_doubles
 estimator_held s d e f =
     let stats = e.stats in

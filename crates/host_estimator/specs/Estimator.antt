@@ -1,25 +1,18 @@
 -- The calls of the RTO estimator over lent words and doubles: the estimator's own on the one that they hold. 9 where
 -- they hold none; at making 4 the setup out of bounds, 5 too few words or doubles.
-use Rattle.std.specs.Prelude.{ℕ, List, [], ◌∷◌, Bool, cond, not, length, set, ltb, Float}
+use Rattle.std.specs.Prelude.{ℕ, List, [], ◌∷◌, Bool, cond, not, length, set, ltb, Float, Err, None, Ok, Option, Result, Some}
 use Rattle.refusal.specs.Clauses.{any_of}
 use Rattle.refusal.specs.declared.Refusal.TheVariants.{State, Setup, Full}
 use Rattle.refusal.specs.Order.{check, verdict, decide}
 use Rattle.rto.specs.Rto.{config_in_bounds, fresh, update_rtt, on_timeout, reset_backoff, has_exceeded_retry_limit, mean_rtt_ms}
 use Rattle.rto.specs.declared.RtoConfig.{RtoConfig}
 use Rattle.rto.specs.declared.RtoEstimator.{RtoEstimator}
-use Rattle.rto.specs.declared.UpdateAnswer.{UpdateAnswer}
-use Rattle.rto.specs.declared.UpdateAnswer.TheVariants as updateAnswer
 use Rattle.rto.specs.declared.UpdateResult.{UpdateResult}
-use Rattle.rto.specs.declared.RtoAnswer.{RtoAnswer}
-use Rattle.rto.specs.declared.RtoAnswer.TheVariants as rtoAnswer
 use Rattle.rto.specs.declared.TimeoutResult.{TimeoutResult}
 use Rattle.rto.specs.declared.ResetResult.{ResetResult}
-use Rattle.rto.specs.declared.MeanAnswer.{MeanAnswer}
-use Rattle.rto.specs.declared.MeanAnswer.TheVariants as meanAnswer
 use Rattle.host_answer.specs.Answer.{packed, done_status, refusal_answer, test_answer, done_answer}
-use Rattle.host_estimator.specs.declared.HeldEstimator.{HeldEstimator}
-use Rattle.host_estimator.specs.declared.HeldEstimator.TheVariants as held
 use Rattle.host_estimator.specs.Words.{estimator_words, estimator_doubles, held_estimator, with_words, with_doubles}
+use Rattle.refusal.specs.declared.Refusal.{Refusal}
 
 -- the answer, and the words and doubles when the call returns
 pub record EstimatorExit : Type 0 where
@@ -34,9 +27,9 @@ abbrev pub left : ℕ → List ℕ → List Float → RtoEstimator → Estimator
 left answer s d e = estimator_exit answer (with_words s e) (with_doubles d e)
 
 -- a call of the estimator that words and doubles hold
-unfoldable pub on_held : {A : Type 0} → HeldEstimator → (RtoEstimator → A) → A → A
-on_held (held.Estimator e) call broken = call e
-on_held held.Broken call broken = broken
+unfoldable pub on_held : {A : Type 0} → Option RtoEstimator → (RtoEstimator → A) → A → A
+on_held (Some e) call broken = call e
+on_held None call broken = broken
 
 abbrev pub changing : List ℕ → List Float → (RtoEstimator → EstimatorExit) → EstimatorExit
 changing s d call = on_held (held_estimator s d) call (estimator_exit (refusal_answer State) s d)
@@ -64,9 +57,9 @@ make_estimator s d c =
     (left (packed done_status 0) s d (fresh c))
 
 -- a sample: 1 where it was used, 0 where it was one of a datagram sent again
-unfoldable pub update_code : UpdateAnswer → ℕ
-update_code (updateAnswer.Accepted b) = packed done_status (cond b 1 0)
-update_code (updateAnswer.Refused r) = refusal_answer r
+unfoldable pub update_code : Result Bool Refusal → ℕ
+update_code (Ok b) = packed done_status (cond b 1 0)
+update_code (Err r) = refusal_answer r
 
 abbrev pub updated : List ℕ → List Float → UpdateResult → EstimatorExit
 updated s d x = left (update_code x.answer) s d x.estimator
@@ -75,9 +68,9 @@ abbrev pub update : List ℕ → List Float → ℕ → Bool → EstimatorExit
 update s d sample again = changing s d (λ e. updated s d (update_rtt e sample again))
 
 -- a timeout: the RTO
-unfoldable pub rto_code : RtoAnswer → ℕ
-rto_code (rtoAnswer.Rto n) = packed done_status n
-rto_code (rtoAnswer.Refused r) = refusal_answer r
+unfoldable pub rto_code : Result ℕ Refusal → ℕ
+rto_code (Ok n) = packed done_status n
+rto_code (Err r) = refusal_answer r
 
 abbrev pub timed_out : List ℕ → List Float → TimeoutResult → EstimatorExit
 timed_out s d x = left (rto_code x.answer) s d x.estimator
@@ -103,10 +96,10 @@ pub record MeanExit : Type 0 where
 abbrev pub mean_exit : ℕ → List Float → MeanExit
 mean_exit answer out = record { answer = answer; out = out }
 
-unfoldable pub mean_to : MeanAnswer → List Float → MeanExit
-mean_to (meanAnswer.Millis x) out =
+unfoldable pub mean_to : Result Float Refusal → List Float → MeanExit
+mean_to (Ok x) out =
     cond (ltb (length out) 1) (mean_exit (refusal_answer Full) out) (mean_exit (packed done_status 0) (set out 0 x))
-mean_to (meanAnswer.Refused r) out = mean_exit (refusal_answer r) out
+mean_to (Err r) out = mean_exit (refusal_answer r) out
 
 abbrev pub mean : List ℕ → List Float → List Float → MeanExit
 mean s d out = on_held (held_estimator s d) (λ e. mean_to (mean_rtt_ms e) out) (mean_exit (refusal_answer State) out)

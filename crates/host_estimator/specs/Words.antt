@@ -4,17 +4,13 @@
 -- sample_count, 14 karn_rejected_count, 15 timeout_count, 16 backoff_count, 17 and 18 min_rtt, 19 and 20 max_rtt, 21
 -- and 22 latest_rtt, 23 max_consecutive_timeouts. A duration that may be unset is 1 and the duration, or 0 and 0.
 -- Doubles: 0 alpha, 1 beta, 2 k, 3 rto_multiplier, 4 sum_rtt_millis.
-use Rattle.std.specs.Prelude.{ℕ, ◌+◌, ◌≤◌, List, [], ◌∷◌, ◌++◌, Bool, false, cond, not, length, get_or, drop, ltb, eqb, Float}
+use Rattle.std.specs.Prelude.{ℕ, ◌+◌, ◌≤◌, List, [], ◌∷◌, ◌++◌, Bool, false, cond, not, length, get_or, drop, ltb, eqb, Float, None, Option, Some}
 use Rattle.std.specs.Float.{nan}
 use Rattle.refusal.specs.Clauses.{any_of}
 use Rattle.rto.specs.declared.RtoConfig.{RtoConfig}
 use Rattle.rto.specs.declared.RtoStats.{RtoStats}
 use Rattle.rto.specs.declared.RtoEstimator.{RtoEstimator}
-use Rattle.rto.specs.declared.MaybeDuration.{MaybeDuration}
-use Rattle.rto.specs.declared.MaybeDuration.TheVariants.{Unset, Set}
 use Rattle.host_answer.specs.Exit.{wide}
-use Rattle.host_estimator.specs.declared.HeldEstimator.{HeldEstimator}
-use Rattle.host_estimator.specs.declared.HeldEstimator.TheVariants as held
 
 abbrev pub estimator_words : ℕ
 estimator_words = 24
@@ -26,22 +22,22 @@ abbrev pub estimator_word : ℕ
 estimator_word = 265
 
 -- a duration that may be unset, as two words
-abbrev pub is_set : MaybeDuration → ℕ
-is_set Unset = 0
-is_set (Set d) = 1
+abbrev pub is_set : Option ℕ → ℕ
+is_set None = 0
+is_set (Some d) = 1
 
-abbrev pub time_of : MaybeDuration → ℕ
-time_of Unset = 0
-time_of (Set d) = d
+abbrev pub time_of : Option ℕ → ℕ
+time_of None = 0
+time_of (Some d) = d
 
-unfoldable pub duration_of : ℕ → ℕ → MaybeDuration
-duration_of set time = cond (eqb set 1) (Set time) Unset
+unfoldable pub duration_of : ℕ → ℕ → Option ℕ
+duration_of set time = cond (eqb set 1) (Some time) None
 
 unfoldable pub duration_broken : ℕ → ℕ → Bool
 duration_broken set time = cond (eqb set 1) false (any_of (not (eqb set 0) ∷ not (eqb time 0) ∷ []))
 
 -- the estimator that words and doubles hold
-abbrev pub duration_at : List ℕ → ℕ → MaybeDuration
+abbrev pub duration_at : List ℕ → ℕ → Option ℕ
 duration_at s i = duration_of (get_or s i 0) (get_or s (i + 1) 0)
 
 abbrev pub config_in : List ℕ → List Float → RtoConfig
@@ -102,13 +98,13 @@ broken_at s i = duration_broken (get_or s i 0) (get_or s (i + 1) 0)
 unfoldable pub durations_broken : List ℕ → Bool
 durations_broken s = any_of (broken_at s 5 ∷ broken_at s 7 ∷ broken_at s 17 ∷ broken_at s 19 ∷ broken_at s 21 ∷ [])
 
-unfoldable pub held_estimator : List ℕ → List Float → HeldEstimator
+unfoldable pub held_estimator : List ℕ → List Float → Option RtoEstimator
 held_estimator s d =
-    cond (numbers_broken s d) held.Broken
-    (cond (durations_broken s) held.Broken (held.Estimator (estimator_in s d)))
+    cond (numbers_broken s d) None
+    (cond (durations_broken s) None (Some (estimator_in s d)))
 
 -- words and doubles with an estimator put into them
-abbrev pub first_words : RtoConfig → MaybeDuration → MaybeDuration → List ℕ
+abbrev pub first_words : RtoConfig → Option ℕ → Option ℕ → List ℕ
 first_words c srtt rttvar =
     estimator_word ∷ c.initial_rto ∷ c.min_rto ∷ c.max_rto ∷ c.granularity
     ∷ is_set srtt ∷ time_of srtt ∷ is_set rttvar ∷ time_of rttvar ∷ []

@@ -9,19 +9,12 @@ ghost use Rattle.host_estimator.specs.Words.{with_words, with_doubles, Room};
 ghost use Rattle.host_estimator.specs.Estimator.{estimator_exit, make_estimator, update_code, update, rto_code};
 ghost use Rattle.host_estimator.specs.Estimator.{timeout, reset, exceeded, mean_exit, mean_to, mean};
 
-use refusal::{Refusal, TestAnswer};
-use rto::{MeanAnswer, RtoAnswer, RtoConfig, RtoEstimator, UpdateAnswer};
+use refusal::Refusal;
+use rto::{RtoConfig, RtoEstimator};
 
 pub const ESTIMATOR_WORDS: usize = 24;
 
 pub const ESTIMATOR_DOUBLES: usize = 5;
-
-// What words and doubles hold.
-#[derive(Clone, Copy)]
-pub enum HeldEstimator {
-    Estimator(RtoEstimator),
-    Broken,
-}
 
 // An estimator without samples.
 pub fn make_estimator(state: &mut [u64], doubles: &mut [f64], config: RtoConfig) -> u64
@@ -55,14 +48,14 @@ pub fn update_rtt(state: &mut [u64], doubles: &mut [f64], sample: u64, retransmi
         ≡ update state.old doubles.old sample retransmitted }
 {
     match words::held_estimator(state, doubles) {
-        HeldEstimator::Estimator(e) => {
+        Some(e) => {
             let result = e.update_rtt(sample, retransmitted);
             let e = result.estimator;
             let answer = result.answer;
             words::put_estimator(state, doubles, e);
             update_code(answer)
         }
-        HeldEstimator::Broken => host_answer::refusal_answer(Refusal::State),
+        None => host_answer::refusal_answer(Refusal::State),
     }
 }
 
@@ -72,14 +65,14 @@ pub fn on_timeout(state: &mut [u64], doubles: &mut [f64]) -> u64
         ≡ timeout state.old doubles.old }
 {
     match words::held_estimator(state, doubles) {
-        HeldEstimator::Estimator(e) => {
+        Some(e) => {
             let result = e.on_timeout();
             let e = result.estimator;
             let answer = result.answer;
             words::put_estimator(state, doubles, e);
             rto_code(answer)
         }
-        HeldEstimator::Broken => host_answer::refusal_answer(Refusal::State),
+        None => host_answer::refusal_answer(Refusal::State),
     }
 }
 
@@ -89,14 +82,14 @@ pub fn reset_backoff(state: &mut [u64], doubles: &mut [f64]) -> u64
         ≡ reset state.old doubles.old }
 {
     match words::held_estimator(state, doubles) {
-        HeldEstimator::Estimator(e) => {
+        Some(e) => {
             let result = e.reset_backoff();
             let e = result.estimator;
             let answer = result.answer;
             words::put_estimator(state, doubles, e);
             host_answer::done_answer(answer)
         }
-        HeldEstimator::Broken => host_answer::refusal_answer(Refusal::State),
+        None => host_answer::refusal_answer(Refusal::State),
     }
 }
 
@@ -105,8 +98,8 @@ pub fn has_exceeded_retry_limit(state: &[u64], doubles: &[f64], max_retries: u64
     ensures { result ≡ exceeded state.now doubles.now max_retries }
 {
     match words::held_estimator(state, doubles) {
-        HeldEstimator::Estimator(e) => host_answer::test_answer(exceeded(e, max_retries)),
-        HeldEstimator::Broken => host_answer::refusal_answer(Refusal::State),
+        Some(e) => host_answer::test_answer(exceeded(e, max_retries)),
+        None => host_answer::refusal_answer(Refusal::State),
     }
 }
 
@@ -116,8 +109,8 @@ pub fn mean_rtt_ms(state: &[u64], doubles: &[f64], out: &mut [f64]) -> u64
         ≡ mean state.now doubles.now out.old }
 {
     match words::held_estimator(state, doubles) {
-        HeldEstimator::Estimator(e) => mean_to(e.mean_rtt_ms(), out),
-        HeldEstimator::Broken => host_answer::refusal_answer(Refusal::State),
+        Some(e) => mean_to(e.mean_rtt_ms(), out),
+        None => host_answer::refusal_answer(Refusal::State),
     }
 }
 
@@ -129,50 +122,50 @@ pub fn put_estimator_unchecked(state: &mut [u64], doubles: &mut [f64], e: RtoEst
     words::put_estimator(state, doubles, e);
 }
 
-fn update_code(a: UpdateAnswer) -> u64
+fn update_code(a: Result<bool, Refusal>) -> u64
     ensures { result ≡ update_code a }
 {
     match a {
-        UpdateAnswer::Accepted(b) => {
+        Ok(b) => {
             if b {
                 return host_answer::pack_unchecked(host_answer::DONE, 1);
             }
             host_answer::pack_unchecked(host_answer::DONE, 0)
         }
-        UpdateAnswer::Refused(r) => host_answer::refusal_answer(r),
+        Err(r) => host_answer::refusal_answer(r),
     }
 }
 
-fn rto_code(a: RtoAnswer) -> u64
+fn rto_code(a: Result<u64, Refusal>) -> u64
     ensures { result ≡ rto_code a }
 {
     match a {
-        RtoAnswer::Rto(n) => host_answer::pack_unchecked(host_answer::DONE, n),
-        RtoAnswer::Refused(r) => host_answer::refusal_answer(r),
+        Ok(n) => host_answer::pack_unchecked(host_answer::DONE, n),
+        Err(r) => host_answer::refusal_answer(r),
     }
 }
 
-fn mean_to(a: MeanAnswer, out: &mut [f64]) -> u64
+fn mean_to(a: Result<f64, Refusal>, out: &mut [f64]) -> u64
     ensures { mean_exit result out.new ≡ mean_to a out.old }
 {
     match a {
-        MeanAnswer::Millis(x) => {
+        Ok(x) => {
             if out.len() < 1 {
                 return host_answer::refusal_answer(Refusal::Full);
             }
             out[0] = x;
             host_answer::pack_unchecked(host_answer::DONE, 0)
         }
-        MeanAnswer::Refused(r) => host_answer::refusal_answer(r),
+        Err(r) => host_answer::refusal_answer(r),
     }
 }
 
 // The limit may have more than 32 bits: a count of timeouts is then below it.
-fn exceeded(e: RtoEstimator, max_retries: u64) -> TestAnswer
+fn exceeded(e: RtoEstimator, max_retries: u64) -> Result<bool, Refusal>
     ensures { result ≡ has_exceeded_retry_limit e max_retries }
 {
     match e.has_exceeded_retry_limit(0) {
-        TestAnswer::Is(_) => TestAnswer::Is(max_retries <= e.consecutive_timeouts as u64),
-        TestAnswer::Refused(r) => TestAnswer::Refused(r),
+        Ok(_) => Ok(max_retries <= e.consecutive_timeouts as u64),
+        Err(r) => Err(r),
     }
 }

@@ -6,24 +6,24 @@ ghost use Rattle.host_estimator.specs.Words.{stats_in, estimator_in, numbers_bro
 ghost use Rattle.host_estimator.specs.Words.{first_words, second_words, third_words, doubles_of, with_words};
 ghost use Rattle.host_estimator.specs.Words.{with_doubles, Readable, Room};
 
-use crate::{ESTIMATOR_DOUBLES, ESTIMATOR_WORDS, HeldEstimator};
-use rto::{MaybeDuration, RtoConfig, RtoEstimator, RtoStats};
+use crate::{ESTIMATOR_DOUBLES, ESTIMATOR_WORDS};
+use rto::{RtoConfig, RtoEstimator, RtoStats};
 
 // Word 0: the layout's version times 256 and the kind.
 const ESTIMATOR: u64 = 265;
 
 const MAX_U32: u64 = 4_294_967_295;
 
-pub fn held_estimator(state: &[u64], doubles: &[f64]) -> HeldEstimator
+pub fn held_estimator(state: &[u64], doubles: &[f64]) -> Option<RtoEstimator>
     ensures { result ≡ held_estimator state.now doubles.now }
 {
     if numbers_broken(state, doubles) {
-        return HeldEstimator::Broken;
+        return None;
     }
     if durations_broken(state) {
-        return HeldEstimator::Broken;
+        return None;
     }
-    HeldEstimator::Estimator(estimator_in(state, doubles))
+    Some(estimator_in(state, doubles))
 }
 
 pub fn put_estimator(state: &mut [u64], doubles: &mut [f64], e: RtoEstimator)
@@ -102,13 +102,13 @@ fn duration_broken(set: u64, time: u64) -> bool
     false
 }
 
-fn duration_of(set: u64, time: u64) -> MaybeDuration
+fn duration_of(set: u64, time: u64) -> Option<u64>
     ensures { result ≡ duration_of set time }
 {
     if set == 1 {
-        return MaybeDuration::Set(time);
+        return Some(time);
     }
-    MaybeDuration::Unset
+    None
 }
 
 fn estimator_in(state: &[u64], doubles: &[f64]) -> RtoEstimator
@@ -167,7 +167,7 @@ fn stats_in(state: &[u64], doubles: &[f64]) -> RtoStats
     }
 }
 
-fn put_first(state: &mut [u64], c: RtoConfig, srtt: MaybeDuration, rttvar: MaybeDuration)
+fn put_first(state: &mut [u64], c: RtoConfig, srtt: Option<u64>, rttvar: Option<u64>)
     requires { estimator_words ≤ length state.old }
     ensures { state.new ≡ sets state.old 0 (first_words c srtt rttvar) }
 {
@@ -237,21 +237,21 @@ fn put_doubles(doubles: &mut [f64], e: RtoEstimator)
     doubles[4] = stats.sum_rtt_millis;
 }
 
-fn set_word(d: MaybeDuration) -> u64
+fn set_word(d: Option<u64>) -> u64
     ensures { result ≡ is_set d }
 {
     match d {
-        MaybeDuration::Unset => 0,
-        MaybeDuration::Set(_) => 1,
+        None => 0,
+        Some(_) => 1,
     }
 }
 
-fn time_word(d: MaybeDuration) -> u64
+fn time_word(d: Option<u64>) -> u64
     ensures { result ≡ time_of d }
 {
     match d {
-        MaybeDuration::Unset => 0,
-        MaybeDuration::Set(t) => t,
+        None => 0,
+        Some(t) => t,
     }
 }
 

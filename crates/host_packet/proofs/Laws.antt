@@ -1,4 +1,5 @@
 -- Laws of packets for a host: a refused write changes nothing; what a header's value holds is read back.
+use Rattle.std.specs.Prelude.{Err, Ok, Result}
 use Prim.Native.Nat.{ℕ, ◌+◌, ◌*◌, ◌/◌, ◌%◌, ◌≤◌, ◌<◌, min}
 use mathlib.Core.Path.{◌≡◌, refl}
 use mathlib.Core.List.{List, [], ◌∷◌, ◌++◌}
@@ -16,12 +17,10 @@ use Rattle.packet.specs.Writing.{to_bytes}
 use Rattle.packet.specs.declared.Packet.{Packet}
 use Rattle.packet.specs.declared.PacketType.{PacketType}
 use Rattle.packet.specs.declared.PacketType.TheVariants.{Data, Ack, Fin}
-use Rattle.packet.specs.declared.PacketTypeAnswer.{PacketTypeAnswer}
-use Rattle.packet.specs.declared.PacketTypeAnswer.TheVariants as typeAnswer
-use Rattle.packet.specs.declared.LengthAnswer.TheVariants as lengthAnswer
 use Rattle.host_answer.specs.Answer.{value_limit, Refusing}
 use Rattle.host_answer.proofs.Laws.{done_not_refusing}
 use Rattle.host_packet.specs.Packet.{max_byte, header_value, length_code, packet_of, unwritable, write_of, write}
+use Rattle.refusal.specs.declared.Refusal.{Refusal}
 
 abbrev Kept : List ℕ → writing.Written → Type 0
 Kept out w = Refusing (length_code w.answer) → w.out ≡ out
@@ -30,15 +29,15 @@ bytes_kept : (p : Packet) (payload out : List ℕ) → Kept out (to_bytes p payl
 unfolding to_bytes length_code
 bytes_kept p payload out =
     let size = header_size + length payload in
-    either_answer (Kept out) (verdict (check_long payload ∷ check (ltb (length out) size) Full ∷ [])) (λ r. writing.written (lengthAnswer.Refused r) out)
-    (writing.written (lengthAnswer.Length size) (datagram p payload ++ drop size out)) (λ r h. refl) (λ e h. absurd (done_not_refusing size h))
+    either_answer (Kept out) (verdict (check_long payload ∷ check (ltb (length out) size) Full ∷ [])) (λ r. writing.written (Err r) out)
+    (writing.written (Ok size) (datagram p payload ++ drop size out)) (λ r h. refl) (λ e h. absurd (done_not_refusing size h))
 
-of_kept : (t : PacketTypeAnswer) (n flags : ℕ) (payload out : List ℕ) → Kept out (write_of t n flags payload out)
+of_kept : (t : Result PacketType Refusal) (n flags : ℕ) (payload out : List ℕ) → Kept out (write_of t n flags payload out)
 unfolding write_of length_code
-of_kept (typeAnswer.Type t) n flags payload out =
-    either_answer (Kept out) (verdict (check_long payload ∷ check (unwritable n flags) Numbers ∷ [])) (λ r. writing.written (lengthAnswer.Refused r) out)
+of_kept (Ok t) n flags payload out =
+    either_answer (Kept out) (verdict (check_long payload ∷ check (unwritable n flags) Numbers ∷ [])) (λ r. writing.written (Err r) out)
     (to_bytes (with_checksum (packet_of n t flags) payload) payload out) (λ r h. refl) (λ e. bytes_kept _ payload out)
-of_kept (typeAnswer.Refused r) n flags payload out = λ h. refl
+of_kept (Err r) n flags payload out = λ h. refl
 
 pub write_refused : (kind n flags : ℕ) (payload out : List ℕ) → Refusing (write kind n flags payload out).answer → (write kind n flags payload out).out ≡ out
 write_refused kind n flags payload out = of_kept (try_from (min kind max_byte)) n flags payload out

@@ -2,11 +2,10 @@
 #![tactic(auto)]
 
 ghost use Rattle.std.specs.Prelude.{◌≡◌, min};
-ghost use Rattle.packet.specs.declared.PacketTypeAnswer.TheVariants as typeAnswer;
 ghost use Rattle.host_packet.specs.Packet.{header_value, read, validate, payload_length, length_code, write_exit};
 ghost use Rattle.host_packet.specs.Packet.{written, max_byte, write_of, write};
 
-use packet::{LengthAnswer, Packet, PacketAnswer, PacketType, PacketTypeAnswer, ValidityAnswer};
+use packet::{Packet, PacketType};
 use refusal::Refusal;
 
 const MAX_U32: u64 = 4_294_967_295;
@@ -18,8 +17,8 @@ pub fn read(raw: &[u8]) -> u64
     ensures { result ≡ read raw.now }
 {
     match Packet::from_bytes(raw) {
-        PacketAnswer::Packet(p) => host_answer::pack_unchecked(host_answer::DONE, header_value(p)),
-        PacketAnswer::Refused(r) => host_answer::refusal_answer(r),
+        Ok(p) => host_answer::pack_unchecked(host_answer::DONE, header_value(p)),
+        Err(r) => host_answer::refusal_answer(r),
     }
 }
 
@@ -28,9 +27,9 @@ pub fn validate(raw: &[u8]) -> u64
     ensures { result ≡ validate raw.now }
 {
     match Packet::is_valid(raw) {
-        ValidityAnswer::Valid => host_answer::pack_unchecked(host_answer::DONE, 0),
-        ValidityAnswer::Invalid => host_answer::pack_unchecked(host_answer::INVALID, 0),
-        ValidityAnswer::Refused(r) => host_answer::refusal_answer(r),
+        Ok(true) => host_answer::pack_unchecked(host_answer::DONE, 0),
+        Ok(false) => host_answer::pack_unchecked(host_answer::INVALID, 0),
+        Err(r) => host_answer::refusal_answer(r),
     }
 }
 
@@ -39,11 +38,11 @@ pub fn payload_length(raw: &[u8]) -> u64
     ensures { result ≡ payload_length raw.now }
 {
     match Packet::from_bytes(raw) {
-        PacketAnswer::Packet(_) => {
+        Ok(_) => {
             let payload = Packet::payload(raw);
             host_answer::pack_unchecked(host_answer::DONE, payload.len() as u64)
         }
-        PacketAnswer::Refused(r) => host_answer::refusal_answer(r),
+        Err(r) => host_answer::refusal_answer(r),
     }
 }
 
@@ -53,8 +52,8 @@ pub fn write(kind: u64, seq_num: u64, flags: u64, payload: &[u8], out: &mut [u8]
         ≡ write kind seq_num flags payload.now out.old }
 {
     match PacketType::try_from(kind_byte(kind)) {
-        PacketTypeAnswer::Type(pkt_type) => write_packet(seq_num, pkt_type, flags, payload, out),
-        PacketTypeAnswer::Refused(r) => host_answer::refusal_answer(r),
+        Ok(pkt_type) => write_packet(seq_num, pkt_type, flags, payload, out),
+        Err(r) => host_answer::refusal_answer(r),
     }
 }
 
@@ -66,7 +65,7 @@ fn write_packet(
     out: &mut [u8],
 ) -> u64
     ensures { write_exit result out.new
-        ≡ written (write_of (typeAnswer.Type pkt_type) seq_num flags
+        ≡ written (write_of (Ok pkt_type) seq_num flags
         payload.now out.old) }
 {
     if Packet::MAX_PAYLOAD_SIZE < payload.len() {
@@ -97,12 +96,12 @@ fn kind_byte(kind: u64) -> u8
     kind as u8
 }
 
-fn length_code(a: LengthAnswer) -> u64
+fn length_code(a: Result<usize, Refusal>) -> u64
     ensures { result ≡ length_code a }
 {
     match a {
-        LengthAnswer::Length(n) => host_answer::pack_unchecked(host_answer::DONE, n as u64),
-        LengthAnswer::Refused(r) => host_answer::refusal_answer(r),
+        Ok(n) => host_answer::pack_unchecked(host_answer::DONE, n as u64),
+        Err(r) => host_answer::refusal_answer(r),
     }
 }
 

@@ -1,4 +1,5 @@
 -- Laws of the page for a host: a refused call changes nothing; one that is done answers the page's length.
+use Rattle.std.specs.Prelude.{Err, Ok, Result}
 use Prim.Native.Nat.{ℕ, ◌+◌, ◌*◌, ◌^◌, ◌≤◌, ◌<◌}
 use mathlib.Core.Path.{◌≡◌, refl, ap, subst, ◌∙◌}
 use mathlib.Core.Logic.{◌⊎◌, inl, inr}
@@ -10,8 +11,6 @@ use Rattle.refusal.specs.declared.Refusal.TheVariants.{Full}
 use Rattle.refusal.specs.Order.{verdict}
 use Rattle.refusal.proofs.Laws.{either_answer}
 use Rattle.text.specs.Place.{PlaceExit, written_at, place_exit, place}
-use Rattle.text.specs.declared.PlaceAnswer.{PlaceAnswer}
-use Rattle.text.specs.declared.PlaceAnswer.TheVariants.{Next, Refused}
 use Rattle.events.specs.Events.{events_of}
 use Rattle.lent_events.specs.Checks.{event_checks}
 use Rattle.report.specs.Page.{page, write_report}
@@ -20,9 +19,10 @@ use Rattle.report.proofs.Laws.{report_answered}
 use Rattle.host_answer.specs.Answer.{packed, done_status, Refusing}
 use Rattle.host_answer.proofs.Laws.{refusal_refusing, done_not_refusing}
 use Rattle.host_report.specs.Report.{report_exit, place_code, reported, report}
+use Rattle.refusal.specs.declared.Refusal.{Refusal}
 
 -- what the call answers, from the equations of the calls below it
-pub on_reported : {x : ℕ} {a : PlaceAnswer} {o : List ℕ} {w : PlaceExit} → x ≡ place_code a → place_exit o a ≡ w → report_exit x o ≡ reported w
+pub on_reported : {x : ℕ} {a : Result ℕ Refusal} {o : List ℕ} {w : PlaceExit} → x ≡ place_code a → place_exit o a ≡ w → report_exit x o ≡ reported w
 on_reported {x} {a} {o} {w} e f = ap (λ (y : ℕ). report_exit y o) e ∙ ap reported f
 
 abbrev Kept : List ℕ → PlaceExit → Type 0
@@ -32,24 +32,24 @@ place_kept : (out text : List ℕ) → Kept out (place out 0 text)
 unfolding place place_code
 place_kept out text = by_room (leb (0 + length text) (length out))
   where
-    by_room : (t : Bool) → Kept out (cond t (place_exit (written_at out 0 text) (Next (0 + length text))) (place_exit out (Refused Full)))
+    by_room : (t : Bool) → Kept out (cond t (place_exit (written_at out 0 text) (Ok (0 + length text))) (place_exit out (Err Full)))
     by_room true = λ h. absurd (done_not_refusing (0 + length text) h)
     by_room false = λ h. refl
 
 pub report_refused : (rows : List (List ℕ)) (count : ℕ) (out : List ℕ) → Refusing (report rows count out).answer → (report rows count out).out ≡ out
 unfolding write_report
 report_refused rows count out =
-    either_answer (Kept out) (verdict (event_checks count rows)) (λ r. place_exit out (Refused r)) (place out 0 (page (events_of count rows))) (λ r h. refl)
+    either_answer (Kept out) (verdict (event_checks count rows)) (λ r. place_exit out (Err r)) (place out 0 (page (events_of count rows))) (λ r h. refl)
     (λ e. place_kept out (page (events_of count rows)))
 
 -- refused, or done with the page's length, which the buffer has
 abbrev pub Sized : List ℕ → ℕ → ℕ → Type 0
 Sized out count answer = Refusing answer ⊎ ((answer ≡ packed done_status ((count + 2) * 73)) × ((count + 2) * 73 ≤ length out))
 
-sized : (out : List ℕ) (count : ℕ) (a : PlaceAnswer) (after : List ℕ) → Answered out count a after → Sized out count (place_code a)
+sized : (out : List ℕ) (count : ℕ) (a : Result ℕ Refusal) (after : List ℕ) → Answered out count a after → Sized out count (place_code a)
 unfolding place_code
-sized out count (Next n) after d = inr (ap (packed done_status) d.size, subst (λ (m : ℕ). m ≤ length out) d.size d.room)
-sized out count (Refused r) after d = inl (refusal_refusing r)
+sized out count (Ok n) after d = inr (ap (packed done_status) d.size, subst (λ (m : ℕ). m ≤ length out) d.size d.room)
+sized out count (Err r) after d = inl (refusal_refusing r)
 
 pub report_sized : (rows : List (List ℕ)) (count : ℕ) (out : List ℕ) → count < 2 ^ 64 → Sized out count (report rows count out).answer
 report_sized rows count out k =

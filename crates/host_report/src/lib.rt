@@ -5,7 +5,7 @@ ghost use Rattle.std.specs.Prelude.{◌≡◌};
 ghost use Rattle.host_report.specs.Report.{place_code, report_exit, report};
 
 use events::Event;
-use text::PlaceAnswer;
+use refusal::Refusal;
 
 // The page of the first `count` rows to the start of out: done with its length, or refused.
 pub fn report(rows: &[Event], count: usize, out: &mut [u8]) -> u64
@@ -14,11 +14,11 @@ pub fn report(rows: &[Event], count: usize, out: &mut [u8]) -> u64
     place_code(report::write_report(rows, count, out))
 }
 
-fn place_code(a: PlaceAnswer) -> u64
+fn place_code(a: Result<usize, Refusal>) -> u64
     ensures { result ≡ place_code a }
 {
     match a {
-        PlaceAnswer::Next(n) => host_answer::pack_unchecked(host_answer::DONE, n as u64),
-        PlaceAnswer::Refused(r) => host_answer::refusal_answer(r),
+        Ok(n) => host_answer::pack_unchecked(host_answer::DONE, n as u64),
+        Err(r) => host_answer::refusal_answer(r),
     }
 }

@@ -1,4 +1,5 @@
 -- What a run over words answers, from the equation of `run_transfer`; the stores of an outcome.
+use Rattle.std.specs.Prelude.{Err, Ok, Result}
 use Prim.Native.Nat.{ℕ, ◌≤◌}
 use mathlib.Core.Path.{◌≡◌, refl, sym, ap, ◌∙◌}
 use mathlib.Core.Bool.{Bool, true, false, cond}
@@ -12,7 +13,6 @@ use Rattle.refusal.specs.Clauses.{any_of}
 use Rattle.refusal.proofs.Laws.{none_of}
 use Rattle.refusal.specs.declared.Refusal.{Refusal}
 use Rattle.refusal.specs.declared.Refusal.TheVariants.{Full}
-use Rattle.refusal.specs.declared.Verdict.{Verdict}
 use Rattle.refusal.specs.Order.{verdict, decide}
 use Rattle.setup.specs.Setup.{start_checks}
 use Rattle.setup.specs.declared.TransferConfig.{TransferConfig}
@@ -22,14 +22,11 @@ use Rattle.step.specs.State.{Given, Lent}
 use Rattle.transfer.specs.Start.{start_of}
 use Rattle.transfer.specs.Transfer.{default_ceilings, RunExit, run_exit, run_transfer}
 use Rattle.transfer.specs.declared.Outcome.{Outcome}
-use Rattle.transfer.specs.declared.RunAnswer.{RunAnswer}
-use Rattle.transfer.specs.declared.RunAnswer.TheVariants as runAnswer
 use Rattle.host_answer.specs.Answer.{packed, refusal_answer}
 use Rattle.host_estimator.specs.Words.{estimator_words, estimator_doubles, with_words, with_doubles, Room}
 use Rattle.host_run.specs.Setup.{setup_numbers, setup_doubles, setup_short, read_setup, Long}
 use Rattle.host_run.specs.Outcome.{outcome_words, course_words, driver_words, sender_words, receiver_words, channel_words, words_of, with_outcome}
 use Rattle.host_run.specs.Run.{Results, results, with_results, results_short, host_run_exit, ended, ended_as, short_answer, run_with, run_read, run}
-use Rattle.host_run.specs.declared.SetupReading.TheVariants as reading
 
 pub long : (s : List ℕ) (d : List Float) → setup_short s d ≡ false → Long s d
 unfolding setup_short
@@ -58,33 +55,33 @@ unfolding with_outcome
 outcome_put s o h = sets-eq (words_of o) s 0 h
 
 module _ (x : Results) where
-  pub on_outcome : {a : RunAnswer} {o : Outcome} {n : ℕ} {words estimator : List ℕ} {doubles : List Float} → a ≡ runAnswer.Outcome o → words ≡ with_outcome x.words o
+  pub on_outcome : {a : Result Outcome Refusal} {o : Outcome} {n : ℕ} {words estimator : List ℕ} {doubles : List Float} → a ≡ Ok o → words ≡ with_outcome x.words o
       → estimator ≡ with_words x.estimator o.estimator → doubles ≡ with_doubles x.doubles o.estimator → n ≡ packed 0 (cond o.completed 1 0)
       → (l : Lent) → host_run_exit n l (results words estimator doubles) ≡ ended a l x
   unfolding ended
   on_outcome h p q r s l = rw (h, p, q, r, s) refl
 
-  pub on_run_refused : {a : RunAnswer} {r : Refusal} {n : ℕ} → a ≡ runAnswer.Refused r → n ≡ refusal_answer r → (l : Lent) → host_run_exit n l x ≡ ended a l x
+  pub on_run_refused : {a : Result Outcome Refusal} {r : Refusal} {n : ℕ} → a ≡ Err r → n ≡ refusal_answer r → (l : Lent) → host_run_exit n l x ≡ ended a l x
   unfolding ended
   on_run_refused h p l = rw (h, p) refl
 
 module _ (c : TransferConfig) (g : Given) (l : Lent) (x : Results) where
-  pub on_short : {v : Verdict} {n : ℕ} → results_short x ≡ true → v ≡ verdict (start_checks (start_of c g l)) → n ≡ decide v refusal_answer (refusal_answer Full)
+  pub on_short : {v : Result Unit Refusal} {n : ℕ} → results_short x ≡ true → v ≡ verdict (start_checks (start_of c g l)) → n ≡ decide v refusal_answer (refusal_answer Full)
       → host_run_exit n l x ≡ run_with c g l x
   unfolding run_with short_answer
   on_short h e p = rw (h, p, e) refl
 
-  pub on_run : {a : RunAnswer} {n : ℕ} {l' : Lent} {x' : Results} → results_short x ≡ false → run_exit a l' ≡ run_transfer default_ceilings c g l
+  pub on_run : {a : Result Outcome Refusal} {n : ℕ} {l' : Lent} {x' : Results} → results_short x ≡ false → run_exit a l' ≡ run_transfer default_ceilings c g l
       → ((k : Lent) → host_run_exit n k x' ≡ ended a k x) → host_run_exit n l' x' ≡ run_with c g l x
   unfolding run_with
   on_run {a} {n} {l'} h e p = rw h (p l' ∙ ap (λ (y : RunExit). ended_as x y) e)
 
 module _ (s : List ℕ) (d : List Float) (g : Given) (l : Lent) (x : Results) where
-  pub on_config : {c : TransferConfig} {n : ℕ} {l' : Lent} {x' : Results} → read_setup s d ≡ reading.Config c → host_run_exit n l' x' ≡ run_with c g l x
+  pub on_config : {c : TransferConfig} {n : ℕ} {l' : Lent} {x' : Results} → read_setup s d ≡ Ok c → host_run_exit n l' x' ≡ run_with c g l x
       → host_run_exit n l' x' ≡ run s d g l x
   unfolding run_read
   on_config h e = rw h e
 
-  pub on_setup_refused : {r : Refusal} {n : ℕ} → read_setup s d ≡ reading.Refused r → n ≡ refusal_answer r → host_run_exit n l x ≡ run s d g l x
+  pub on_setup_refused : {r : Refusal} {n : ℕ} → read_setup s d ≡ Err r → n ≡ refusal_answer r → host_run_exit n l x ≡ run s d g l x
   unfolding run_read
   on_setup_refused h p = rw (h, p) refl

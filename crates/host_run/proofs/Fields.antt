@@ -1,5 +1,6 @@
 -- What is read from numbers and doubles is the setup that they hold; every setup can be written; each word of an
 -- outcome is its field.
+use Rattle.std.specs.Prelude.{Err, Ok, Result}
 use Prim.Native.Nat.{ℕ, ◌≤◌, ◌<◌}
 use mathlib.Core.Path.{◌≡◌, refl, sym, ap, ◌∙◌, subst}
 use mathlib.Core.Bool.{Bool, true, false, cond}
@@ -26,16 +27,15 @@ use Rattle.host_words.specs.Words.{receiver_fields}
 use Rattle.host_run.specs.Setup.{setup_numbers, setup_doubles, channel_in, rto_in, config_in, by_clock, setup_short, read_setup}
 use Rattle.host_run.specs.Layout.{protocol_number, clock_number, SetupAt, numbers_of, doubles_of, SetupRead, config, few_numbers, few_doubles, no_protocol, no_clock, OutcomeAt}
 use Rattle.host_run.specs.Outcome.{with_outcome}
-use Rattle.host_run.specs.declared.SetupReading.{SetupReading}
-use Rattle.host_run.specs.declared.SetupReading.TheVariants as reading
+use Rattle.refusal.specs.declared.Refusal.{Refusal}
 
 -- ---- the setup
 module _ (s : List ℕ) (d : List Float) where
   -- what numbers and doubles that are enough say
-  abbrev by_protocol : SetupReading
+  abbrev by_protocol : Result TransferConfig Refusal
   by_protocol =
       cond (eqb (get_or s 0 0) 1) (by_clock s d protocol.StopAndWait)
-      (cond (eqb (get_or s 0 0) 2) (by_clock s d protocol.GoBackN) (cond (eqb (get_or s 0 0) 3) (by_clock s d protocol.SelectiveRepeat) (reading.Refused Setup)))
+      (cond (eqb (get_or s 0 0) 2) (by_clock s d protocol.GoBackN) (cond (eqb (get_or s 0 0) 3) (by_clock s d protocol.SelectiveRepeat) (Err Setup)))
 
   config_at : (p : ProtocolType) (k : ClockChoice) → setup_numbers ≤ length s → setup_doubles ≤ length d → get_or s 0 0 ≡ protocol_number p
       → get_or s 1 0 ≡ clock_number k → SetupAt (config_in s d p k) s d
@@ -76,7 +76,7 @@ module _ (s : List ℕ) (d : List Float) where
         unknown a b clock.Edition = eqb-false (get_or s 1 0) 2 b
 
         by_number_lem : (a : Bool) → eqb (get_or s 1 0) 1 ≡ a → (b : Bool) → eqb (get_or s 1 0) 2 ≡ b
-            → SetupRead s d (cond a (reading.Config (config_in s d p clock.Source)) (cond b (reading.Config (config_in s d p clock.Edition)) (reading.Refused Setup)))
+            → SetupRead s d (cond a (Ok (config_in s d p clock.Source)) (cond b (Ok (config_in s d p clock.Edition)) (Err Setup)))
         by_number_lem true x b y = config (config_in s d p clock.Source) (config_at p clock.Source numbers doubles e (eqb-true (get_or s 1 0) 1 x))
         by_number_lem false x true y = config (config_in s d p clock.Edition) (config_at p clock.Edition numbers doubles e (eqb-true (get_or s 1 0) 2 y))
         by_number_lem false x false y = no_clock numbers doubles (unknown x y)
@@ -87,7 +87,7 @@ module _ (s : List ℕ) (d : List Float) where
     unknown_protocol a b c protocol.SelectiveRepeat = eqb-false (get_or s 0 0) 3 c
 
     protocol_read : (a : Bool) → eqb (get_or s 0 0) 1 ≡ a → (b : Bool) → eqb (get_or s 0 0) 2 ≡ b → (c : Bool) → eqb (get_or s 0 0) 3 ≡ c
-        → SetupRead s d (cond a (by_clock s d protocol.StopAndWait) (cond b (by_clock s d protocol.GoBackN) (cond c (by_clock s d protocol.SelectiveRepeat) (reading.Refused Setup))))
+        → SetupRead s d (cond a (by_clock s d protocol.StopAndWait) (cond b (by_clock s d protocol.GoBackN) (cond c (by_clock s d protocol.SelectiveRepeat) (Err Setup))))
     protocol_read true x b y c z = clock_read protocol.StopAndWait (eqb-true (get_or s 0 0) 1 x)
     protocol_read false x true y c z = clock_read protocol.GoBackN (eqb-true (get_or s 0 0) 2 y)
     protocol_read false x false y true z = clock_read protocol.SelectiveRepeat (eqb-true (get_or s 0 0) 3 z)
@@ -98,17 +98,17 @@ module _ (s : List ℕ) (d : List Float) where
   unfolding read_setup setup_short any_of
   setup_read = by_length (ltb (length s) setup_numbers) refl (ltb (length d) setup_doubles) refl
     where
-      by_length : (a : Bool) → ltb (length s) setup_numbers ≡ a → (b : Bool) → ltb (length d) setup_doubles ≡ b → SetupRead s d (cond (any_of (a ∷ b ∷ [])) (reading.Refused State) by_protocol)
+      by_length : (a : Bool) → ltb (length s) setup_numbers ≡ a → (b : Bool) → ltb (length d) setup_doubles ≡ b → SetupRead s d (cond (any_of (a ∷ b ∷ [])) (Err State) by_protocol)
       by_length true x b y = few_numbers (ltb-true (length s) setup_numbers x)
       by_length false x true y = few_doubles (ltb-true (length d) setup_doubles y)
       by_length false x false y = protocol_read (ltb-false (length s) setup_numbers x) (ltb-false (length d) setup_doubles y) (eqb (get_or s 0 0) 1) refl (eqb (get_or s 0 0) 2) refl (eqb (get_or s 0 0) 3) refl
 
 -- a setup that is read is the one that they hold
-config_held : {s : List ℕ} {d : List Float} {c : TransferConfig} → SetupRead s d (reading.Config c) → SetupAt c s d
+config_held : {s : List ℕ} {d : List Float} {c : TransferConfig} → SetupRead s d (Ok c) → SetupAt c s d
 config_held (config c h) = h
 
-pub setup_held : (s : List ℕ) (d : List Float) {c : TransferConfig} → read_setup s d ≡ reading.Config c → SetupAt c s d
-setup_held s d {c} e = config_held (subst (λ (r : SetupReading). SetupRead s d r) e (setup_read s d))
+pub setup_held : (s : List ℕ) (d : List Float) {c : TransferConfig} → read_setup s d ≡ Ok c → SetupAt c s d
+setup_held s d {c} e = config_held (subst (λ (r : Result TransferConfig Refusal). SetupRead s d r) e (setup_read s d))
 
 -- and what they hold is read
 module _ {c : TransferConfig} {s : List ℕ} {d : List Float} (h : SetupAt c s d) where
@@ -125,7 +125,7 @@ module _ {c : TransferConfig} {s : List ℕ} {d : List Float} (h : SetupAt c s d
   unfolding setup_short any_of
   long_enough = simp (le-ltb (length s) setup_numbers h.numbers, le-ltb (length d) setup_doubles h.doubles)
 
-  clock_known : (p : ProtocolType) (k : ClockChoice) → get_or s 1 0 ≡ clock_number k → by_clock s d p ≡ reading.Config (config_in s d p k)
+  clock_known : (p : ProtocolType) (k : ClockChoice) → get_or s 1 0 ≡ clock_number k → by_clock s d p ≡ Ok (config_in s d p k)
   unfolding by_clock
   clock_known p clock.Source e = rw e
   clock_known p clock.Edition e = rw e
@@ -136,8 +136,8 @@ module _ {c : TransferConfig} {s : List ℕ} {d : List Float} (h : SetupAt c s d
   protocol_known protocol.GoBackN e = rw (long_enough, e)
   protocol_known protocol.SelectiveRepeat e = rw (long_enough, e)
 
-  pub held_read : read_setup s d ≡ reading.Config c
-  held_read = protocol_known c.protocol h.protocol ∙ clock_known c.protocol c.clock h.clock ∙ ap reading.Config config_is
+  pub held_read : read_setup s d ≡ Ok c
+  held_read = protocol_known c.protocol h.protocol ∙ clock_known c.protocol c.clock h.clock ∙ ap Ok config_is
 
 -- every setup can be written, with anything behind it
 pub setup_written : (c : TransferConfig) (s : List ℕ) (d : List Float) → SetupAt c (numbers_of c ++ s) (doubles_of c ++ d)

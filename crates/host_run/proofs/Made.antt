@@ -1,5 +1,6 @@
 -- A run for a host is done exactly where it can run, and then it is the run of `run_transfer`; where only the places of
 -- the outcome are too short it is a 5.
+use Rattle.std.specs.Prelude.{Err, Ok, Result}
 use Prim.Native.Nat.{ℕ, ◌≤◌}
 use mathlib.Core.Path.{◌≡◌, refl, sym, ap, ◌∙◌, subst}
 use mathlib.Core.Bool.{Bool, true, false, cond}
@@ -18,8 +19,6 @@ use Rattle.transfer.specs.Start.{start_of, plan_for, new_run}
 use Rattle.transfer.specs.Run as transferRun
 use Rattle.transfer.specs.Transfer.{default_ceilings, RunExit, run_exit, outcome_of, run_transfer}
 use Rattle.transfer.specs.declared.Outcome.{Outcome}
-use Rattle.transfer.specs.declared.RunAnswer.{RunAnswer}
-use Rattle.transfer.specs.declared.RunAnswer.TheVariants as runAnswer
 use Rattle.transfer.proofs.Laws.{accepted_is, outcome_starts}
 use Rattle.host_answer.specs.Answer.{done_status, packed, status_in, refusal_answer, Refusing}
 use Rattle.host_answer.proofs.Laws.{status_back, refusal_refusing}
@@ -27,8 +26,6 @@ use Rattle.host_run.specs.Setup.{read_setup}
 use Rattle.host_run.specs.Layout.{SetupAt}
 use Rattle.host_run.specs.Run.{Results, HostRunExit, host_run_exit, results_short, ended, ended_as, short_answer, run_with, run_read, run}
 use Rattle.host_run.specs.Made.{CanRun, RunMade, IsDone}
-use Rattle.host_run.specs.declared.SetupReading.{SetupReading}
-use Rattle.host_run.specs.declared.SetupReading.TheVariants as reading
 use Rattle.host_run.proofs.Fields.{setup_held, held_read, outcome_words}
 
 not_done : {n : ℕ} → Refusing n → status_in n ≡ done_status → ⊥
@@ -40,10 +37,10 @@ short_refusing c g l = either_answer Refusing (verdict (start_checks (start_of c
 
 module _ (s : List ℕ) (d : List Float) (g : Given) (l : Lent) (x : Results) where
   -- ---- what a done call is
-  ended_made : (c : TransferConfig) → SetupAt c s d → results_short x ≡ false → (a : RunAnswer) (m : Lent) → run_transfer default_ceilings c g l ≡ run_exit a m
+  ended_made : (c : TransferConfig) → SetupAt c s d → results_short x ≡ false → (a : Result Outcome Refusal) (m : Lent) → run_transfer default_ceilings c g l ≡ run_exit a m
       → IsDone (ended a m x) → RunMade s d g l x (ended a m x)
   unfolding ended
-  ended_made c setup room (runAnswer.Outcome o) m e h =
+  ended_made c setup room (Ok o) m e h =
       record {
         config = c;
         can_run = record { setup = setup; start = outcome_starts default_ceilings c g l (ap (λ (z : RunExit). z.answer) e); room = room };
@@ -54,35 +51,35 @@ module _ (s : List ℕ) (d : List Float) (g : Given) (l : Lent) (x : Results) wh
         estimator = refl;
         doubles = refl;
       }
-  ended_made c setup room (runAnswer.Refused r) m e h = absurd (not_done (refusal_refusing r) h)
+  ended_made c setup room (Err r) m e h = absurd (not_done (refusal_refusing r) h)
 
   with_made : (c : TransferConfig) → SetupAt c s d → (b : Bool) → results_short x ≡ b
       → (let y = cond b (host_run_exit (short_answer c g l) l x) (ended_as x (run_transfer default_ceilings c g l)) in IsDone y → RunMade s d g l x y)
   with_made c setup true e h = absurd (not_done (short_refusing c g l) h)
   with_made c setup false e h = let z = run_transfer default_ceilings c g l in ended_made c setup e z.answer z.lent refl h
 
-  read_made : (r : SetupReading) → read_setup s d ≡ r → IsDone (run_read r g l x) → RunMade s d g l x (run_read r g l x)
+  read_made : (r : Result TransferConfig Refusal) → read_setup s d ≡ r → IsDone (run_read r g l x) → RunMade s d g l x (run_read r g l x)
   unfolding run_read run_with
-  read_made (reading.Config c) e h = with_made c (setup_held s d e) (results_short x) refl h
-  read_made (reading.Refused r) e h = absurd (not_done (refusal_refusing r) h)
+  read_made (Ok c) e h = with_made c (setup_held s d e) (results_short x) refl h
+  read_made (Err r) e h = absurd (not_done (refusal_refusing r) h)
 
   pub run_made : IsDone (run s d g l x) → RunMade s d g l x (run s d g l x)
   run_made = read_made (read_setup s d) refl
 
   -- ---- what any other is
-  ended_else : (a : RunAnswer) (m : Lent) → (IsDone (ended a m x) → ⊥) → Refusing (ended a m x).answer
+  ended_else : (a : Result Outcome Refusal) (m : Lent) → (IsDone (ended a m x) → ⊥) → Refusing (ended a m x).answer
   unfolding ended
-  ended_else (runAnswer.Outcome o) m h = absurd (h (status_back 0 _ (omega arith)))
-  ended_else (runAnswer.Refused r) m h = refusal_refusing r
+  ended_else (Ok o) m h = absurd (h (status_back 0 _ (omega arith)))
+  ended_else (Err r) m h = refusal_refusing r
 
   with_else : (c : TransferConfig) (b : Bool) → (let y = cond b (host_run_exit (short_answer c g l) l x) (ended_as x (run_transfer default_ceilings c g l)) in (IsDone y → ⊥) → Refusing y.answer)
   with_else c true h = short_refusing c g l
   with_else c false h = let z = run_transfer default_ceilings c g l in ended_else z.answer z.lent h
 
-  read_else : (r : SetupReading) → (IsDone (run_read r g l x) → ⊥) → Refusing (run_read r g l x).answer
+  read_else : (r : Result TransferConfig Refusal) → (IsDone (run_read r g l x) → ⊥) → Refusing (run_read r g l x).answer
   unfolding run_read run_with
-  read_else (reading.Config c) h = with_else c (results_short x) h
-  read_else (reading.Refused r) h = refusal_refusing r
+  read_else (Ok c) h = with_else c (results_short x) h
+  read_else (Err r) h = refusal_refusing r
 
   pub run_else_refused : (IsDone (run s d g l x) → ⊥) → Refusing (run s d g l x).answer
   run_else_refused = read_else (read_setup s d)

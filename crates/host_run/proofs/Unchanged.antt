@@ -1,5 +1,6 @@
 -- A refused run changes nothing: where the status of its answer is 1 to 11, all that was lent is as it was. A 5 for the
 -- words of the outcome has its place among the checks of a start.
+use Rattle.std.specs.Prelude.{Err, Ok, Result}
 use Prim.Native.Nat.{ℕ}
 use mathlib.Core.Path.{◌≡◌, refl}
 use mathlib.Core.Bool.{Bool, true, false, cond}
@@ -15,13 +16,11 @@ use Rattle.transfer.specs.Start.{start_of, plan_for, new_run}
 use Rattle.transfer.specs.Run as transferRun
 use Rattle.transfer.specs.Transfer as transfer
 use Rattle.transfer.specs.Transfer.{default_ceilings, RunExit, run_exit, run_transfer}
-use Rattle.transfer.specs.declared.RunAnswer.TheVariants as runAnswer
 use Rattle.host_answer.specs.Answer.{refusal_answer, Refusing}
 use Rattle.host_answer.proofs.Laws.{done_not_refusing}
 use Rattle.host_run.specs.Setup.{read_setup}
 use Rattle.host_run.specs.Run.{Results, HostRunExit, host_run_exit, ended, ended_as, short_answer, results_short, run_with, run_read, run}
-use Rattle.host_run.specs.declared.SetupReading.{SetupReading}
-use Rattle.host_run.specs.declared.SetupReading.TheVariants as reading
+use Rattle.refusal.specs.declared.Refusal.{Refusal}
 
 module _ (g : Given) (l : Lent) (x : Results) where
   abbrev Same : HostRunExit → Type 0
@@ -30,7 +29,7 @@ module _ (g : Given) (l : Lent) (x : Results) where
   ended_same : (c : TransferConfig) → Same (ended_as x (run_transfer default_ceilings c g l))
   unfolding run_transfer ended
   ended_same c =
-      either_answer (λ (y : RunExit). Same (ended_as x y)) (verdict (start_checks (start_of c g l))) (λ r. run_exit (runAnswer.Refused r) l)
+      either_answer (λ (y : RunExit). Same (ended_as x y)) (verdict (start_checks (start_of c g l))) (λ r. run_exit (Err r) l)
       (transfer.ended (transferRun.run (plan_for default_ceilings c g) g (new_run default_ceilings c l))) (λ r h. refl) (λ v h. absurd (done_not_refusing _ h))
 
   with_cases : (c : TransferConfig) (b : Bool) → Same (cond b (host_run_exit (short_answer c g l) l x) (ended_as x (run_transfer default_ceilings c g l)))
@@ -41,10 +40,10 @@ module _ (g : Given) (l : Lent) (x : Results) where
   unfolding run_with
   with_same c = with_cases c (results_short x)
 
-  read_same : (s : SetupReading) → Same (run_read s g l x)
+  read_same : (s : Result TransferConfig Refusal) → Same (run_read s g l x)
   unfolding run_read
-  read_same (reading.Config c) h = with_same c h
-  read_same (reading.Refused r) h = refl
+  read_same (Ok c) h = with_same c h
+  read_same (Err r) h = refl
 
   pub run_refused : (numbers : List ℕ) (doubles : List Float) → Same (run numbers doubles g l x)
   run_refused numbers doubles = read_same (read_setup numbers doubles)

@@ -1,6 +1,6 @@
 -- Index by index: the setup that a host writes into numbers and doubles, and the outcome that it reads from words. The
 -- names of the indices are those of include/pindrelo.h.
-use Rattle.std.specs.Prelude.{ℕ, ◌≤◌, ◌<◌, ◌≡◌, cond, List, [], ◌∷◌, length, get_or, drop, Float}
+use Rattle.std.specs.Prelude.{ℕ, ◌≤◌, ◌<◌, ◌≡◌, cond, List, [], ◌∷◌, length, get_or, drop, Float, Err, Ok, Result}
 use Rattle.std.specs.Float.{nan}
 use Rattle.refusal.specs.declared.Refusal.TheVariants.{State, Setup}
 use Rattle.protocol.specs.declared.ProtocolType.{ProtocolType}
@@ -14,8 +14,7 @@ use Rattle.transfer.specs.declared.Outcome.{Outcome}
 use Rattle.host_words.specs.Words.{receiver_fields}
 use Rattle.host_run.specs.Setup.{setup_numbers, setup_doubles}
 use Rattle.host_run.specs.Outcome.{outcome_words, end_word}
-use Rattle.host_run.specs.declared.SetupReading.{SetupReading}
-use Rattle.host_run.specs.declared.SetupReading.TheVariants as reading
+use Rattle.refusal.specs.declared.Refusal.{Refusal}
 
 abbrev pub protocol_number : ProtocolType → ℕ
 protocol_number protocol.StopAndWait = 1
@@ -67,14 +66,14 @@ doubles_of c =
 
 -- What is read from numbers and doubles: the setup that they hold; a 9 where either are too few; a 4 where they are
 -- enough and number 0 is no protocol's, or number 1 no clock's.
-pub data SetupRead (s : List ℕ) (d : List Float) : SetupReading → Type 0 where
-  config : (c : TransferConfig) → SetupAt c s d → SetupRead s d (reading.Config c)
-  few_numbers : length s < setup_numbers → SetupRead s d (reading.Refused State)
-  few_doubles : length d < setup_doubles → SetupRead s d (reading.Refused State)
+pub data SetupRead (s : List ℕ) (d : List Float) : Result TransferConfig Refusal → Type 0 where
+  config : (c : TransferConfig) → SetupAt c s d → SetupRead s d (Ok c)
+  few_numbers : length s < setup_numbers → SetupRead s d (Err State)
+  few_doubles : length d < setup_doubles → SetupRead s d (Err State)
   no_protocol : setup_numbers ≤ length s → setup_doubles ≤ length d
-      → ((p : ProtocolType) → get_or s 0 0 ≡ protocol_number p → ⊥) → SetupRead s d (reading.Refused Setup)
+      → ((p : ProtocolType) → get_or s 0 0 ≡ protocol_number p → ⊥) → SetupRead s d (Err Setup)
   no_clock : setup_numbers ≤ length s → setup_doubles ≤ length d
-      → ((k : ClockChoice) → get_or s 1 0 ≡ clock_number k → ⊥) → SetupRead s d (reading.Refused Setup)
+      → ((k : ClockChoice) → get_or s 1 0 ≡ clock_number k → ⊥) → SetupRead s d (Err Setup)
 
 -- words that hold an outcome, and behind them what was there
 pub record OutcomeAt (o : Outcome) (before words : List ℕ) : Type 0 where

@@ -1,13 +1,12 @@
 -- A call of a run for a host that is done: the setup that was read, the run that `run_transfer` makes of it, and where
 -- its outcome stands.
-use Rattle.std.specs.Prelude.{ℕ, ◌≡◌, false, cond, List, Float}
+use Rattle.std.specs.Prelude.{ℕ, ◌≡◌, false, cond, List, Float, Ok}
 use Rattle.setup.specs.Setup.{CanStart}
 use Rattle.setup.specs.declared.TransferConfig.{TransferConfig}
 use Rattle.step.specs.State.{Given, Lent}
 use Rattle.transfer.specs.Start.{start_of}
 use Rattle.transfer.specs.Transfer.{default_ceilings, run_exit, run_transfer}
 use Rattle.transfer.specs.declared.Outcome.{Outcome}
-use Rattle.transfer.specs.declared.RunAnswer.TheVariants as runAnswer
 use Rattle.host_answer.specs.Answer.{packed, done_status, status_in}
 use Rattle.host_estimator.specs.Words.{with_words, with_doubles}
 use Rattle.host_run.specs.Layout.{SetupAt, OutcomeAt}
@@ -24,7 +23,7 @@ pub record RunMade (s : List ℕ) (d : List Float) (g : Given) (l : Lent) (x : R
   pub config : TransferConfig
   pub can_run : CanRun config s d g l x
   pub outcome : Outcome
-  pub ran : run_transfer default_ceilings config g l ≡ run_exit (runAnswer.Outcome outcome) y.lent
+  pub ran : run_transfer default_ceilings config g l ≡ run_exit (Ok outcome) y.lent
   pub answer : y.answer ≡ packed done_status (cond outcome.completed 1 0)
   pub words : OutcomeAt outcome x.words y.results.words
   pub estimator : y.results.estimator ≡ with_words x.estimator outcome.estimator

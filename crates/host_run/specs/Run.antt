@@ -1,7 +1,7 @@
 -- A run for a host: `run_transfer` with the setup that numbers and doubles hold; what it ends with goes to lent words,
 -- the estimator to words and doubles of its own. A 5 for these comes with the run's own checks, after 9, 11 and 4; a
 -- refused run writes nothing.
-use Rattle.std.specs.Prelude.{ℕ, List, [], ◌∷◌, Bool, cond, length, ltb, Float}
+use Rattle.std.specs.Prelude.{ℕ, List, [], ◌∷◌, Bool, cond, length, ltb, Float, Err, Ok, Result}
 use Rattle.refusal.specs.Clauses.{any_of}
 use Rattle.refusal.specs.declared.Refusal.{Refusal}
 use Rattle.refusal.specs.declared.Refusal.TheVariants.{Full}
@@ -12,14 +12,10 @@ use Rattle.step.specs.State.{Given, Lent}
 use Rattle.transfer.specs.Start.{start_of}
 use Rattle.transfer.specs.Transfer.{default_ceilings, RunExit, run_transfer}
 use Rattle.transfer.specs.declared.Outcome.{Outcome}
-use Rattle.transfer.specs.declared.RunAnswer.{RunAnswer}
-use Rattle.transfer.specs.declared.RunAnswer.TheVariants as runAnswer
 use Rattle.host_answer.specs.Answer.{packed, done_status, refusal_answer}
 use Rattle.host_estimator.specs.Words.{estimator_words, estimator_doubles, with_words, with_doubles}
 use Rattle.host_run.specs.Setup.{read_setup}
 use Rattle.host_run.specs.Outcome.{outcome_words, with_outcome}
-use Rattle.host_run.specs.declared.SetupReading.{SetupReading}
-use Rattle.host_run.specs.declared.SetupReading.TheVariants as reading
 
 -- what the outcome is written to
 pub record Results : Type 0 where
@@ -53,9 +49,9 @@ abbrev pub host_run_exit : ℕ → Lent → Results → HostRunExit
 host_run_exit answer l x = record { answer = answer; lent = l; results = x }
 
 -- done: 1 where the run completed, else 0
-unfoldable pub ended : RunAnswer → Lent → Results → HostRunExit
-ended (runAnswer.Outcome o) l x = host_run_exit (packed done_status (cond o.completed 1 0)) l (with_results x o)
-ended (runAnswer.Refused r) l x = host_run_exit (refusal_answer r) l x
+unfoldable pub ended : Result Outcome Refusal → Lent → Results → HostRunExit
+ended (Ok o) l x = host_run_exit (packed done_status (cond o.completed 1 0)) l (with_results x o)
+ended (Err r) l x = host_run_exit (refusal_answer r) l x
 
 abbrev pub ended_as : Results → RunExit → HostRunExit
 ended_as x y = ended y.answer y.lent x
@@ -68,9 +64,9 @@ unfoldable pub run_with : TransferConfig → Given → Lent → Results → Host
 run_with c g l x =
     cond (results_short x) (host_run_exit (short_answer c g l) l x) (ended_as x (run_transfer default_ceilings c g l))
 
-unfoldable pub run_read : SetupReading → Given → Lent → Results → HostRunExit
-run_read (reading.Config c) g l x = run_with c g l x
-run_read (reading.Refused r) g l x = host_run_exit (refusal_answer r) l x
+unfoldable pub run_read : Result TransferConfig Refusal → Given → Lent → Results → HostRunExit
+run_read (Ok c) g l x = run_with c g l x
+run_read (Err r) g l x = host_run_exit (refusal_answer r) l x
 
 abbrev pub run : List ℕ → List Float → Given → Lent → Results → HostRunExit
 run numbers doubles g l x = run_read (read_setup numbers doubles) g l x

@@ -3,7 +3,7 @@
 -- edition clock), 2 window_size, 3 chunk_size; of the channel 4 reorder_extra_ms, 5 base_delay_ms, 6 jitter_ms; of the
 -- estimator 7 initial_rto, 8 min_rto, 9 max_rto, 10 granularity; 11 max_virtual_time, 12 max_retransmissions.
 -- Doubles: 0 loss, 1 duplicate, 2 reorder, 3 corrupt, 4 alpha, 5 beta, 6 k, 7 rto_multiplier.
-use Rattle.std.specs.Prelude.{ℕ, ◌≤◌, List, [], ◌∷◌, Bool, cond, length, get_or, ltb, eqb, Float}
+use Rattle.std.specs.Prelude.{ℕ, ◌≤◌, List, [], ◌∷◌, Bool, cond, length, get_or, ltb, eqb, Float, Err, Ok, Result}
 use Rattle.std.specs.Float.{nan}
 use Rattle.refusal.specs.Clauses.{any_of}
 use Rattle.refusal.specs.declared.Refusal.TheVariants.{State, Setup}
@@ -14,8 +14,7 @@ use Rattle.rto.specs.declared.RtoConfig.{RtoConfig}
 use Rattle.setup.specs.declared.ClockChoice.{ClockChoice}
 use Rattle.setup.specs.declared.ClockChoice.TheVariants as clock
 use Rattle.setup.specs.declared.TransferConfig.{TransferConfig}
-use Rattle.host_run.specs.declared.SetupReading.{SetupReading}
-use Rattle.host_run.specs.declared.SetupReading.TheVariants as reading
+use Rattle.refusal.specs.declared.Refusal.{Refusal}
 
 abbrev pub setup_numbers : ℕ
 setup_numbers = 13
@@ -62,21 +61,21 @@ config_in s d p c =
     }
 
 -- by the clock's number
-unfoldable pub by_clock : List ℕ → List Float → ProtocolType → SetupReading
+unfoldable pub by_clock : List ℕ → List Float → ProtocolType → Result TransferConfig Refusal
 by_clock s d p =
-    cond (eqb (get_or s 1 0) 1) (reading.Config (config_in s d p clock.Source))
-    (cond (eqb (get_or s 1 0) 2) (reading.Config (config_in s d p clock.Edition)) (reading.Refused Setup))
+    cond (eqb (get_or s 1 0) 1) (Ok (config_in s d p clock.Source))
+    (cond (eqb (get_or s 1 0) 2) (Ok (config_in s d p clock.Edition)) (Err Setup))
 
 -- 9 too few numbers or doubles; then 4 an unknown protocol or clock
 unfoldable pub setup_short : List ℕ → List Float → Bool
 setup_short s d = any_of (ltb (length s) setup_numbers ∷ ltb (length d) setup_doubles ∷ [])
 
-unfoldable pub read_setup : List ℕ → List Float → SetupReading
+unfoldable pub read_setup : List ℕ → List Float → Result TransferConfig Refusal
 read_setup s d =
-    cond (setup_short s d) (reading.Refused State)
+    cond (setup_short s d) (Err State)
     (cond (eqb (get_or s 0 0) 1) (by_clock s d protocol.StopAndWait)
     (cond (eqb (get_or s 0 0) 2) (by_clock s d protocol.GoBackN)
-    (cond (eqb (get_or s 0 0) 3) (by_clock s d protocol.SelectiveRepeat) (reading.Refused Setup))))
+    (cond (eqb (get_or s 0 0) 3) (by_clock s d protocol.SelectiveRepeat) (Err Setup))))
 
 -- what the functions below the entry point ask
 pub record Long (s : List ℕ) (d : List Float) : Type 0 where

@@ -13,23 +13,15 @@ ghost use Rattle.host_run.specs.Run.{results, results_short, host_run_exit, run_
 
 use events::Event;
 use notes::Note;
-use refusal::{Refusal, Verdict};
+use refusal::Refusal;
 use schedule::ScheduledRow;
 use setup::TransferConfig;
-use transfer::RunAnswer;
 
 pub const SETUP_NUMBERS: usize = 13;
 
 pub const SETUP_DOUBLES: usize = 8;
 
 pub const OUTCOME_WORDS: usize = 31;
-
-// What numbers and doubles say.
-#[derive(Clone, Copy)]
-pub enum SetupReading {
-    Config(TransferConfig),
-    Refused(Refusal),
-}
 
 // Done with 1 where the run completed, else 0; or refused.
 pub fn run(
@@ -65,7 +57,7 @@ pub fn run(
         (results words.old estimator.old doubles.old) }
 {
     match setup_in::read_setup(numbers, reals) {
-        SetupReading::Config(config) => run_with(
+        Ok(config) => run_with(
             config,
             file,
             forward_rolls,
@@ -85,7 +77,7 @@ pub fn run(
             estimator,
             doubles,
         ),
-        SetupReading::Refused(r) => host_answer::refusal_answer(r),
+        Err(r) => host_answer::refusal_answer(r),
     }
 }
 
@@ -155,12 +147,12 @@ fn run_with(
     outcome::put_answer(answer, words, estimator, doubles)
 }
 
-fn short_answer(verdict: Verdict) -> u64
+fn short_answer(verdict: Result<(), Refusal>) -> u64
     ensures { result ≡ decide verdict refusal_answer (refusal_answer Full) }
 {
     match verdict {
-        Verdict::Refused(r) => host_answer::refusal_answer(r),
-        Verdict::Accepted => host_answer::refusal_answer(Refusal::Full),
+        Err(r) => host_answer::refusal_answer(r),
+        Ok(()) => host_answer::refusal_answer(Refusal::Full),
     }
 }
 

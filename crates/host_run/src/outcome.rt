@@ -9,13 +9,14 @@ ghost use Rattle.host_run.specs.Run.{results, results_short, host_run_exit, ende
 ghost use Rattle.step.specs.State.{Lent};
 
 use channel::ChannelStats;
+use refusal::Refusal;
 use session::{ReceiverState, SenderState};
 use step::End;
-use transfer::{DriverCounts, Outcome, RunAnswer};
+use transfer::{DriverCounts, Outcome};
 
 // The outcome to words, the estimator to its own; nothing of a refused run.
 pub fn put_answer(
-    answer: RunAnswer,
+    answer: Result<Outcome, Refusal>,
     words: &mut [u64],
     estimator: &mut [u64],
     doubles: &mut [f64],
@@ -26,13 +27,13 @@ pub fn put_answer(
         ≡ ended answer l (results words.old estimator.old doubles.old) }
 {
     match answer {
-        RunAnswer::Outcome(o) => {
+        Ok(o) => {
             put_outcome(words, o);
             let e = o.estimator;
             host_estimator::put_estimator_unchecked(estimator, doubles, e);
             host_answer::pack_unchecked(host_answer::DONE, flag(o.completed))
         }
-        RunAnswer::Refused(r) => host_answer::refusal_answer(r),
+        Err(r) => host_answer::refusal_answer(r),
     }
 }
 

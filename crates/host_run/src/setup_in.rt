@@ -2,18 +2,18 @@
 ghost use Rattle.std.specs.Prelude.{◌≡◌};
 ghost use Rattle.host_run.specs.Setup.{channel_in, rto_in, config_in, by_clock, setup_short, read_setup, Long};
 
-use crate::{SETUP_DOUBLES, SETUP_NUMBERS, SetupReading};
+use crate::{SETUP_DOUBLES, SETUP_NUMBERS};
 use channel::ChannelConfig;
 use protocol::ProtocolType;
 use refusal::Refusal;
 use rto::RtoConfig;
 use setup::{ClockChoice, TransferConfig};
 
-pub fn read_setup(numbers: &[u64], reals: &[f64]) -> SetupReading
+pub fn read_setup(numbers: &[u64], reals: &[f64]) -> Result<TransferConfig, Refusal>
     ensures { result ≡ read_setup numbers.now reals.now }
 {
     if setup_short(numbers, reals) {
-        return SetupReading::Refused(Refusal::State);
+        return Err(Refusal::State);
     }
     let protocol = numbers[0];
     if protocol == 1 {
@@ -25,7 +25,7 @@ pub fn read_setup(numbers: &[u64], reals: &[f64]) -> SetupReading
     if protocol == 3 {
         return by_clock(numbers, reals, ProtocolType::SelectiveRepeat);
     }
-    SetupReading::Refused(Refusal::Setup)
+    Err(Refusal::Setup)
 }
 
 fn setup_short(numbers: &[u64], reals: &[f64]) -> bool
@@ -40,18 +40,22 @@ fn setup_short(numbers: &[u64], reals: &[f64]) -> bool
     false
 }
 
-fn by_clock(numbers: &[u64], reals: &[f64], protocol: ProtocolType) -> SetupReading
+fn by_clock(
+    numbers: &[u64],
+    reals: &[f64],
+    protocol: ProtocolType,
+) -> Result<TransferConfig, Refusal>
     requires { Long numbers.now reals.now }
     ensures { result ≡ by_clock numbers.now reals.now protocol }
 {
     let clock = numbers[1];
     if clock == 1 {
-        return SetupReading::Config(config_in(numbers, reals, protocol, ClockChoice::Source));
+        return Ok(config_in(numbers, reals, protocol, ClockChoice::Source));
     }
     if clock == 2 {
-        return SetupReading::Config(config_in(numbers, reals, protocol, ClockChoice::Edition));
+        return Ok(config_in(numbers, reals, protocol, ClockChoice::Edition));
     }
-    SetupReading::Refused(Refusal::Setup)
+    Err(Refusal::Setup)
 }
 
 fn config_in(

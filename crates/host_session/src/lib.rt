@@ -9,20 +9,20 @@ ghost use Rattle.session.specs.Sending.{sender_end, go_back_nTimeout, timeout_nu
 ghost use Rattle.session.specs.Receiving.{receiver_end, handle_packet};
 
 use go_back_n::{GoBackNSender, GoBackNTimeoutResult};
-use receiver::ReceiveAnswer;
+use refusal::Refusal;
 use session::{Receiver, ReceiverState, Sender, SenderState, Timeout};
-use window::{SendWindow, TimeoutAnswer};
+use window::SendWindow;
 
 #[derive(Clone, Copy)]
 pub struct TimeoutResult {
     pub sender: Sender,
-    pub answer: TimeoutAnswer,
+    pub answer: Result<Option<usize>, Refusal>,
 }
 
 #[derive(Clone, Copy)]
 pub struct ReceiveResult {
     pub receiver: Receiver,
-    pub answer: ReceiveAnswer,
+    pub answer: Result<Option<u32>, Refusal>,
 }
 
 pub fn handle_timeout(

@@ -1,22 +1,15 @@
 -- The retransmission timer for a host: its state in lent words, four at least: 0 the version of this layout times 256
 -- and the kind 8, 1 whether a deadline is set, 1 or 0, 2 the deadline, 0 where none is set, 3 the generation.
-use Rattle.std.specs.Prelude.{ℕ, List, [], ◌∷◌, Bool, cond, not, length, get_or, set, ltb, eqb}
+use Rattle.std.specs.Prelude.{ℕ, List, [], ◌∷◌, Bool, cond, not, length, get_or, set, ltb, eqb, Err, None, Ok, Option, Result, Some}
 use Rattle.refusal.specs.Clauses.{any_of}
 use Rattle.refusal.specs.declared.Refusal.TheVariants.{State, Full}
 use Rattle.refusal.specs.Order.{check, verdict, decide}
 use Rattle.timer.specs.Timer.{timer, new_timer, started_at, cancelled, is_active, remaining_at, is_expired_at, is_expired_for_at}
-use Rattle.timer.specs.declared.Deadline.{Deadline}
-use Rattle.timer.specs.declared.Deadline.TheVariants.{Unset, At}
 use Rattle.timer.specs.declared.RetransmissionTimer.{RetransmissionTimer}
-use Rattle.timer.specs.declared.TimerAnswer.{TimerAnswer}
-use Rattle.timer.specs.declared.TimerAnswer.TheVariants as timerAnswer
 use Rattle.timer.specs.declared.TimerResult.{TimerResult}
-use Rattle.timer.specs.declared.Remaining.{Remaining}
-use Rattle.timer.specs.declared.Remaining.TheVariants as remainingAnswer
 use Rattle.host_answer.specs.Answer.{packed, done_status, nothing_status, refusal_answer, test_answer}
 use Rattle.host_answer.specs.Exit.{WordsExit, words_exit, broken_words}
-use Rattle.host_single_timer.specs.declared.HeldTimer.{HeldTimer}
-use Rattle.host_single_timer.specs.declared.HeldTimer.TheVariants as held
+use Rattle.refusal.specs.declared.Refusal.{Refusal}
 
 abbrev pub timer_words : ℕ
 timer_words = 4
@@ -31,20 +24,20 @@ unreadable s = any_of (ltb (length s) timer_words ∷ not (eqb (get_or s 0 0) ti
 unfoldable pub not_unset : List ℕ → Bool
 not_unset s = any_of (not (eqb (get_or s 1 0) 0) ∷ not (eqb (get_or s 2 0) 0) ∷ [])
 
-unfoldable pub held_timer : List ℕ → HeldTimer
+unfoldable pub held_timer : List ℕ → Option RetransmissionTimer
 held_timer s =
-    cond (unreadable s) held.Broken
+    cond (unreadable s) None
     (cond (eqb (get_or s 1 0) 1)
-    (held.Timer (timer (At (get_or s 2 0)) (get_or s 3 0)))
-    (cond (not_unset s) held.Broken (held.Timer (timer Unset (get_or s 3 0)))))
+    (Some (timer (Some (get_or s 2 0)) (get_or s 3 0)))
+    (cond (not_unset s) None (Some (timer None (get_or s 3 0)))))
 
-abbrev pub is_set : Deadline → ℕ
-is_set Unset = 0
-is_set (At d) = 1
+abbrev pub is_set : Option ℕ → ℕ
+is_set None = 0
+is_set (Some d) = 1
 
-abbrev pub time_of : Deadline → ℕ
-time_of Unset = 0
-time_of (At d) = d
+abbrev pub time_of : Option ℕ → ℕ
+time_of None = 0
+time_of (Some d) = d
 
 unfoldable pub with_timer : List ℕ → RetransmissionTimer → List ℕ
 with_timer s t = set (set (set (set s 0 timer_word) 1 (is_set t.deadline)) 2 (time_of t.deadline)) 3 t.generation
@@ -57,14 +50,14 @@ make_timer state =
     (words_exit (packed done_status 0) (with_timer state new_timer))
 
 -- a call of the timer that words hold
-unfoldable pub on_held : {A : Type 0} → HeldTimer → (RetransmissionTimer → A) → A → A
-on_held (held.Timer t) call broken = call t
-on_held held.Broken call broken = broken
+unfoldable pub on_held : {A : Type 0} → Option RetransmissionTimer → (RetransmissionTimer → A) → A → A
+on_held (Some t) call broken = call t
+on_held None call broken = broken
 
 -- the generation is word 3
-unfoldable pub timer_code : TimerAnswer → ℕ
-timer_code (timerAnswer.Id g) = packed done_status 0
-timer_code (timerAnswer.Refused r) = refusal_answer r
+unfoldable pub timer_code : Result ℕ Refusal → ℕ
+timer_code (Ok g) = packed done_status 0
+timer_code (Err r) = refusal_answer r
 
 abbrev pub changed : List ℕ → TimerResult → WordsExit
 changed state x = words_exit (timer_code x.answer) (with_timer state x.timer)
@@ -83,10 +76,10 @@ reading state read = on_held (held_timer state) read (refusal_answer State)
 abbrev pub active : List ℕ → ℕ
 active state = reading state (λ t. test_answer (is_active t))
 
-unfoldable pub remaining_code : Remaining → ℕ
-remaining_code remainingAnswer.Inactive = packed nothing_status 0
-remaining_code (remainingAnswer.For d) = packed done_status d
-remaining_code (remainingAnswer.Refused r) = refusal_answer r
+unfoldable pub remaining_code : Result (Option ℕ) Refusal → ℕ
+remaining_code (Ok None) = packed nothing_status 0
+remaining_code (Ok (Some d)) = packed done_status d
+remaining_code (Err r) = refusal_answer r
 
 abbrev pub remaining : List ℕ → ℕ → ℕ
 remaining state now = reading state (λ t. remaining_code (remaining_at t now))

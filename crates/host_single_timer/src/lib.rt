@@ -8,19 +8,12 @@ ghost use Rattle.host_single_timer.specs.SingleTimer.{timer_code, start, cancel,
 ghost use Rattle.host_single_timer.specs.SingleTimer.{expired, expired_for};
 
 use refusal::Refusal;
-use timer::{Deadline, Remaining, RetransmissionTimer, TimerAnswer};
+use timer::RetransmissionTimer;
 
 // Word 0: the layout's version times 256 and the kind.
 const TIMER: u64 = 264;
 
 pub const TIMER_WORDS: usize = 4;
-
-// What the words of a timer hold.
-#[derive(Clone, Copy)]
-pub enum HeldTimer {
-    Timer(RetransmissionTimer),
-    Broken,
-}
 
 // A timer that doesn't run.
 pub fn make_timer(state: &mut [u64]) -> u64
@@ -38,14 +31,14 @@ pub fn start(state: &mut [u64], now: u64, duration: u64) -> u64
     ensures { words_exit result state.new ≡ start state.old now duration }
 {
     match held_timer(state) {
-        HeldTimer::Timer(t) => {
+        Some(t) => {
             let result = t.started_at(now, duration);
             let t = result.timer;
             let answer = result.answer;
             put_timer(state, t);
             timer_code(answer)
         }
-        HeldTimer::Broken => host_answer::refusal_answer(Refusal::State),
+        None => host_answer::refusal_answer(Refusal::State),
     }
 }
 
@@ -54,14 +47,14 @@ pub fn cancel(state: &mut [u64]) -> u64
     ensures { words_exit result state.new ≡ cancel state.old }
 {
     match held_timer(state) {
-        HeldTimer::Timer(t) => {
+        Some(t) => {
             let result = t.cancelled();
             let t = result.timer;
             let answer = result.answer;
             put_timer(state, t);
             timer_code(answer)
         }
-        HeldTimer::Broken => host_answer::refusal_answer(Refusal::State),
+        None => host_answer::refusal_answer(Refusal::State),
     }
 }
 
@@ -70,8 +63,8 @@ pub fn is_active(state: &[u64]) -> u64
     ensures { result ≡ active state.now }
 {
     match held_timer(state) {
-        HeldTimer::Timer(t) => host_answer::test_answer(t.is_active()),
-        HeldTimer::Broken => host_answer::refusal_answer(Refusal::State),
+        Some(t) => host_answer::test_answer(t.is_active()),
+        None => host_answer::refusal_answer(Refusal::State),
     }
 }
 
@@ -80,8 +73,8 @@ pub fn remaining(state: &[u64], now: u64) -> u64
     ensures { result ≡ remaining state.now now }
 {
     match held_timer(state) {
-        HeldTimer::Timer(t) => remaining_code(t.remaining_at(now)),
-        HeldTimer::Broken => host_answer::refusal_answer(Refusal::State),
+        Some(t) => remaining_code(t.remaining_at(now)),
+        None => host_answer::refusal_answer(Refusal::State),
     }
 }
 
@@ -90,8 +83,8 @@ pub fn is_expired(state: &[u64], now: u64) -> u64
     ensures { result ≡ expired state.now now }
 {
     match held_timer(state) {
-        HeldTimer::Timer(t) => host_answer::test_answer(t.is_expired_at(now)),
-        HeldTimer::Broken => host_answer::refusal_answer(Refusal::State),
+        Some(t) => host_answer::test_answer(t.is_expired_at(now)),
+        None => host_answer::refusal_answer(Refusal::State),
     }
 }
 
@@ -100,53 +93,53 @@ pub fn is_expired_for(state: &[u64], expected: u64, now: u64) -> u64
     ensures { result ≡ expired_for state.now expected now }
 {
     match held_timer(state) {
-        HeldTimer::Timer(t) => host_answer::test_answer(t.is_expired_for_at(expected, now)),
-        HeldTimer::Broken => host_answer::refusal_answer(Refusal::State),
+        Some(t) => host_answer::test_answer(t.is_expired_for_at(expected, now)),
+        None => host_answer::refusal_answer(Refusal::State),
     }
 }
 
-fn timer_code(a: TimerAnswer) -> u64
+fn timer_code(a: Result<u64, Refusal>) -> u64
     ensures { result ≡ timer_code a }
 {
     match a {
-        TimerAnswer::Id(_) => host_answer::pack_unchecked(host_answer::DONE, 0),
-        TimerAnswer::Refused(r) => host_answer::refusal_answer(r),
+        Ok(_) => host_answer::pack_unchecked(host_answer::DONE, 0),
+        Err(r) => host_answer::refusal_answer(r),
     }
 }
 
-fn remaining_code(a: Remaining) -> u64
+fn remaining_code(a: Result<Option<u64>, Refusal>) -> u64
     ensures { result ≡ remaining_code a }
 {
     match a {
-        Remaining::Inactive => host_answer::pack_unchecked(host_answer::NOTHING, 0),
-        Remaining::For(d) => host_answer::pack_unchecked(host_answer::DONE, d),
-        Remaining::Refused(r) => host_answer::refusal_answer(r),
+        Ok(None) => host_answer::pack_unchecked(host_answer::NOTHING, 0),
+        Ok(Some(d)) => host_answer::pack_unchecked(host_answer::DONE, d),
+        Err(r) => host_answer::refusal_answer(r),
     }
 }
 
-fn held_timer(state: &[u64]) -> HeldTimer
+fn held_timer(state: &[u64]) -> Option<RetransmissionTimer>
     ensures { result ≡ held_timer state.now }
 {
     if state.len() < TIMER_WORDS {
-        return HeldTimer::Broken;
+        return None;
     }
     if state[0] != TIMER {
-        return HeldTimer::Broken;
+        return None;
     }
     if state[1] == 1 {
-        return HeldTimer::Timer(RetransmissionTimer {
-            deadline: Deadline::At(state[2]),
+        return Some(RetransmissionTimer {
+            deadline: Some(state[2]),
             generation: state[3],
         });
     }
     if state[1] != 0 {
-        return HeldTimer::Broken;
+        return None;
     }
     if state[2] != 0 {
-        return HeldTimer::Broken;
+        return None;
     }
-    HeldTimer::Timer(RetransmissionTimer {
-        deadline: Deadline::Unset,
+    Some(RetransmissionTimer {
+        deadline: None,
         generation: state[3],
     })
 }
@@ -164,20 +157,20 @@ fn put_timer(state: &mut [u64], t: RetransmissionTimer)
     state[3] = t.generation;
 }
 
-fn set_word(d: Deadline) -> u64
+fn set_word(d: Option<u64>) -> u64
     ensures { result ≡ is_set d }
 {
     match d {
-        Deadline::Unset => 0,
-        Deadline::At(_) => 1,
+        None => 0,
+        Some(_) => 1,
     }
 }
 
-fn time_word(d: Deadline) -> u64
+fn time_word(d: Option<u64>) -> u64
     ensures { result ≡ time_of d }
 {
     match d {
-        Deadline::Unset => 0,
-        Deadline::At(t) => t,
+        None => 0,
+        Some(t) => t,
     }
 }

@@ -1,4 +1,5 @@
 -- The values of the answers survive the packing: a deadline and a count of keys fit in 56 bits; no refusal has values.
+use Rattle.std.specs.Prelude.{Err, None, Ok, Option, Result, Some}
 use Prim.Native.Nat.{ℕ, zero, suc, ◌+◌, ◌≤◌, ◌<◌}
 use mathlib.Core.Path.{◌≡◌, refl, ◌∙◌}
 use mathlib.Core.Bool.{Bool, true, false, cond, ◌&&◌}
@@ -15,19 +16,16 @@ use Rattle.multi_timer.specs.MultiTimer.{used, held_checks, pop_checks, any_late
 use Rattle.multi_timer.specs.Map.{Entry, entry, entries_of, keys_of, deadlines_of, ascending_from, keep, due, due_keys, min_of, earliest}
 use Rattle.multi_timer.proofs.Laws.{keep_ascending, used_ascending, used_times}
 use Rattle.multi_timer.specs.declared.MultiTimer.{MultiTimer}
-use Rattle.multi_timer.specs.declared.PopAnswer.{PopAnswer}
-use Rattle.multi_timer.specs.declared.PopAnswer.TheVariants as popAnswer
 use Rattle.multi_timer.specs.declared.PopResult.{PopResult}
-use Rattle.multi_timer.specs.declared.EarliestAnswer.{EarliestAnswer}
-use Rattle.multi_timer.specs.declared.EarliestAnswer.TheVariants as earliestAnswers
 use Rattle.host_answer.specs.Answer.{value_limit, ValuesFit}
 use Rattle.host_answer.proofs.Laws.{of_answer, state_fits, time_fits, full_fits}
+use Rattle.refusal.specs.declared.Refusal.{Refusal}
 
 -- ---- the earliest deadline
-abbrev pub EarliestFits : EarliestAnswer → Type 0
-EarliestFits earliestAnswers.Nothing = Unit {0}
-EarliestFits (earliestAnswers.At d) = d < value_limit
-EarliestFits (earliestAnswers.Refused r) = ValuesFit r
+abbrev pub EarliestFits : Result (Option ℕ) Refusal → Type 0
+EarliestFits (Ok None) = Unit {0}
+EarliestFits (Ok (Some d)) = d < value_limit
+EarliestFits (Err r) = ValuesFit r
 
 least : (d : ℕ) (ds : List ℕ) → min_of d ds ≤ d
 unfolding min_of
@@ -45,13 +43,13 @@ in_time (d ∷ ds) e =
 pub earliest_fits : (t : MultiTimer) (ks ds : List ℕ) → EarliestFits (earliest_deadline t ks ds)
 unfolding earliest_deadline
 earliest_fits t ks ds =
-    of_answer EarliestFits (held_checks t ks ds) earliestAnswers.Refused (earliest_answer (earliest (deadlines_of (used t ks ds)))) (state_fits, (time_fits, tt))
+    of_answer EarliestFits (held_checks t ks ds) Err (earliest_answer (earliest (deadlines_of (used t ks ds)))) (state_fits, (time_fits, tt))
     (λ none. in_time (deadlines_of (used t ks ds)) (used_times t ks ds none.0 ∙ none.1.0))
 
 -- ---- how many keys are due: they ascend, and each is of 32 bits
-abbrev pub PopFits : PopAnswer → Type 0
-PopFits (popAnswer.Keys n) = n < value_limit
-PopFits (popAnswer.Refused r) = ValuesFit r
+abbrev pub PopFits : Result ℕ Refusal → Type 0
+PopFits (Ok n) = n < value_limit
+PopFits (Err r) = ValuesFit r
 
 abbrev AllBelow : ℕ → List ℕ → Type 0
 AllBelow n [] = Unit {0}
@@ -88,7 +86,7 @@ taken_below n (suc m) (k ∷ ks) pos h (suc i) = taken_below n m ks pos (λ j. h
 pub pop_fits : (t : MultiTimer) (ks ds : List ℕ) (now : ℕ) (out : List ℕ) → Below 4294967296 ks → PopFits (pop_expired_at t ks ds now out).rest.answer.answer
 unfolding pop_expired_at
 pop_fits t ks ds now out low =
-    of_answer (λ (x : PopExit PopResult). PopFits x.rest.answer.answer) (pop_checks t ks ds now (length out)) (λ r. pop_exit (timers_exit (pop_result t (popAnswer.Refused r)) ks ds) out)
+    of_answer (λ (x : PopExit PopResult). PopFits x.rest.answer.answer) (pop_checks t ks ds now (length out)) (λ r. pop_exit (timers_exit (pop_result t (Err r)) ks ds) out)
     (multi.popped (length (due_keys now (used t ks ds))) (pop_expired_at_unchecked t ks ds now out)) (state_fits, (time_fits, (full_fits, tt)))
     (λ none.
     let below = kept_below 4294967296 (due now) (take t.count ks) (take t.count ds) (taken_below 4294967296 t.count ks (omega arith) (λ i. low.at i)) in

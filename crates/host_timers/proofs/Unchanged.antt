@@ -1,4 +1,5 @@
 -- A refused call changes nothing: where the status of an answer is 1 to 11, words, keys and deadlines are as they were.
+use Rattle.std.specs.Prelude.{Err, None, Option, Some}
 use Prim.Native.Nat.{ℕ, ◌+◌}
 use mathlib.Core.Path.{◌≡◌, refl, ap, ◌∙◌}
 use mathlib.Core.Bool.{Bool, true, false, cond, not}
@@ -12,19 +13,13 @@ use Rattle.multi_timer.specs.MultiTimer.{TimersExit, timers_exit, answering, new
 use Rattle.multi_timer.specs.MultiTimer as multi
 use Rattle.multi_timer.specs.Map.{is_some, lookup, due_keys}
 use Rattle.multi_timer.specs.declared.MultiTimer.{MultiTimer}
-use Rattle.multi_timer.specs.declared.StartAnswer.TheVariants as startAnswer
 use Rattle.multi_timer.specs.declared.StartResult.{StartResult}
-use Rattle.multi_timer.specs.declared.CancelAnswer.TheVariants as cancelAnswer
 use Rattle.multi_timer.specs.declared.CancelResult.{CancelResult}
-use Rattle.multi_timer.specs.declared.PopAnswer.TheVariants as popAnswer
 use Rattle.multi_timer.specs.declared.PopResult.{PopResult}
 use Rattle.multi_timer.specs.declared.ClearResult.{ClearResult}
-use Rattle.refusal.specs.declared.DoneAnswer.TheVariants as doneAnswers
 use Rattle.host_answer.specs.Answer.{refusal_answer, done_answer, Refusing}
 use Rattle.host_answer.proofs.Laws.{done_not_refusing}
 use Rattle.host_answer.specs.Exit.{WordsExit, words_exit, wide}
-use Rattle.host_timers.specs.declared.HeldTimers.{HeldTimers}
-use Rattle.host_timers.specs.declared.HeldTimers.TheVariants as held
 use Rattle.host_timers.specs.Timers as host
 use Rattle.host_timers.specs.Timers.{timers_words, held_timers, made, make_timers, start_code, start_held, start, cancel_code, cancel_held, cancel, pop_code, pop_held, pop, clear_held, clear}
 use Rattle.host_timers.proofs.Calls.{timers_back}
@@ -46,14 +41,14 @@ module _ (state ks ds : List ℕ) where
   start_kept : (t : MultiTimer) (key now duration : ℕ) → StartKept t (start_timer_at t ks ds key now duration)
   unfolding start_timer_at start_code
   start_kept t key now duration =
-      either_answer (StartKept t) (verdict (start_checks t ks ds key now duration)) (λ r. timers_exit (start_result t (startAnswer.Refused r)) ks ds)
+      either_answer (StartKept t) (verdict (start_checks t ks ds key now duration)) (λ r. timers_exit (start_result t (Err r)) ks ds)
       (answering started (start_timer_at_unchecked t ks ds key (now + duration))) (λ r h. refl) (λ e h. absurd (done_not_refusing 0 h))
 
-  start_same : (h : HeldTimers) (key now duration : ℕ) → held_timers state ≡ h → Same state ks ds (start_held h state ks ds key now duration)
+  start_same : (h : Option MultiTimer) (key now duration : ℕ) → held_timers state ≡ h → Same state ks ds (start_held h state ks ds key now duration)
   unfolding start_held
-  start_same (held.Timers t) key now duration e r =
+  start_same (Some t) key now duration e r =
       ap (answering (host.started state)) (start_kept t key now duration r) ∙ ap (λ (w : List ℕ). timers_exit (words_exit (start_code (start_timer_at t ks ds key now duration).answer.answer) w) ks ds) (timers_back state e)
-  start_same held.Broken key now duration e r = refl
+  start_same None key now duration e r = refl
 
   either_same : (b : Bool) (answer : ℕ) (x : TimersExit WordsExit) → Same state ks ds x → Same state ks ds (cond b (timers_exit (words_exit answer state) ks ds) x)
   either_same true answer x k h = refl
@@ -68,14 +63,14 @@ module _ (state ks ds : List ℕ) where
   cancel_kept : (t : MultiTimer) (key : ℕ) → CancelKept t (cancel_timer t ks ds key)
   unfolding cancel_timer cancel_code
   cancel_kept t key =
-      either_answer (CancelKept t) (verdict (held_checks t ks ds)) (λ r. timers_exit (cancel_result t (cancelAnswer.Refused r)) ks ds)
+      either_answer (CancelKept t) (verdict (held_checks t ks ds)) (λ r. timers_exit (cancel_result t (Err r)) ks ds)
       (answering (cancelled (is_some (lookup key (used t ks ds)))) (cancel_timer_unchecked t ks ds key)) (λ r h. refl) (λ e h. absurd (done_not_refusing _ h))
 
-  cancel_same : (h : HeldTimers) (key : ℕ) → held_timers state ≡ h → Same state ks ds (cancel_held h state ks ds key)
+  cancel_same : (h : Option MultiTimer) (key : ℕ) → held_timers state ≡ h → Same state ks ds (cancel_held h state ks ds key)
   unfolding cancel_held
-  cancel_same (held.Timers t) key e r =
+  cancel_same (Some t) key e r =
       ap (answering (host.cancelled state)) (cancel_kept t key r) ∙ ap (λ (w : List ℕ). timers_exit (words_exit (cancel_code (cancel_timer t ks ds key).answer.answer) w) ks ds) (timers_back state e)
-  cancel_same held.Broken key e r = refl
+  cancel_same None key e r = refl
 
   pub cancel_refused : (key : ℕ) → Same state ks ds (cancel state ks ds key)
   cancel_refused key = either_same (wide key) _ _ (cancel_same (held_timers state) key refl)
@@ -86,18 +81,18 @@ module _ (state ks ds : List ℕ) where
   pop_kept : (t : MultiTimer) (now : ℕ) (out : List ℕ) → PopKept t out (pop_expired_at t ks ds now out)
   unfolding pop_expired_at pop_code
   pop_kept t now out =
-      either_answer (PopKept t out) (verdict (pop_checks t ks ds now (length out))) (λ r. pop_exit (timers_exit (pop_result t (popAnswer.Refused r)) ks ds) out)
+      either_answer (PopKept t out) (verdict (pop_checks t ks ds now (length out))) (λ r. pop_exit (timers_exit (pop_result t (Err r)) ks ds) out)
       (multi.popped (length (due_keys now (used t ks ds))) (pop_expired_at_unchecked t ks ds now out)) (λ r h. refl) (λ e h. absurd (done_not_refusing _ h))
 
   -- of a pop the slice for the keys too
   abbrev PopSame : List ℕ → PopExit WordsExit → Type 0
   PopSame out x = Refusing x.rest.answer.answer → x ≡ pop_exit (timers_exit (words_exit x.rest.answer.answer state) ks ds) out
 
-  pop_same : (h : HeldTimers) (now : ℕ) (out : List ℕ) → held_timers state ≡ h → PopSame out (pop_held h state ks ds now out)
+  pop_same : (h : Option MultiTimer) (now : ℕ) (out : List ℕ) → held_timers state ≡ h → PopSame out (pop_held h state ks ds now out)
   unfolding pop_held
-  pop_same (held.Timers t) now out e r =
+  pop_same (Some t) now out e r =
       ap (host.popped_exit state) (pop_kept t now out r) ∙ ap (λ (w : List ℕ). pop_exit (timers_exit (words_exit (pop_code (pop_expired_at t ks ds now out).rest.answer.answer) w) ks ds) out) (timers_back state e)
-  pop_same held.Broken now out e r = refl
+  pop_same None now out e r = refl
 
   pub pop_refused : (now : ℕ) (out : List ℕ) → PopSame out (pop state ks ds now out)
   pop_refused now out = pop_same (held_timers state) now out refl
@@ -108,14 +103,14 @@ module _ (state ks ds : List ℕ) where
   clear_kept : (t : MultiTimer) → ClearKept t (clear_timers t ks ds)
   unfolding clear_timers done_answer
   clear_kept t =
-      either_answer (ClearKept t) (verdict (held_checks t ks ds)) (λ r. timers_exit (clear_result t (doneAnswers.Refused r)) ks ds)
+      either_answer (ClearKept t) (verdict (held_checks t ks ds)) (λ r. timers_exit (clear_result t (Err r)) ks ds)
       (answering multi.cleared (clear_unchecked t ks ds)) (λ r h. refl) (λ e h. absurd (done_not_refusing 0 h))
 
-  clear_same : (h : HeldTimers) → held_timers state ≡ h → Same state ks ds (clear_held h state ks ds)
+  clear_same : (h : Option MultiTimer) → held_timers state ≡ h → Same state ks ds (clear_held h state ks ds)
   unfolding clear_held
-  clear_same (held.Timers t) e r =
+  clear_same (Some t) e r =
       ap (answering (host.cleared state)) (clear_kept t r) ∙ ap (λ (w : List ℕ). timers_exit (words_exit (done_answer (clear_timers t ks ds).answer.answer) w) ks ds) (timers_back state e)
-  clear_same held.Broken e r = refl
+  clear_same None e r = refl
 
   pub clear_refused : Same state ks ds (clear state ks ds)
   clear_refused = clear_same (held_timers state) refl

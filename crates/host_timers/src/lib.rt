@@ -9,8 +9,8 @@ ghost use Rattle.host_timers.specs.Timers.{start_code, start_key, start_wide, st
 ghost use Rattle.host_timers.specs.Timers.{cancel_wide, cancel, pop_code, pop, earliest_code, earliest, clear};
 ghost use Rattle.host_timers.specs.Internal.{none_ran};
 
-use multi_timer::{CancelAnswer, EarliestAnswer, MultiTimer, PopAnswer, StartAnswer};
-use refusal::{Refusal, TestAnswer};
+use multi_timer::MultiTimer;
+use refusal::Refusal;
 
 // Word 0: the layout's version times 256 and the kind.
 const TIMERS: u64 = 263;
@@ -18,13 +18,6 @@ const TIMERS: u64 = 263;
 pub const TIMERS_WORDS: usize = 3;
 
 const MAX_U32: u64 = 4_294_967_295;
-
-// What the words of a timer set hold.
-#[derive(Clone, Copy)]
-pub enum HeldTimers {
-    Timers(MultiTimer),
-    Broken,
-}
 
 // An empty set in two slices of one length.
 pub fn make_timers(state: &mut [u64], keys: &mut [u32], deadlines: &mut [u64]) -> u64
@@ -72,14 +65,14 @@ fn start_key(
         ≡ start_key state.old keys.old deadlines.old key now duration }
 {
     match held_timers(state) {
-        HeldTimers::Timers(t) => {
+        Some(t) => {
             let result = t.start_timer_at(keys, deadlines, key, now, duration);
             let t = result.timers;
             let answer = result.answer;
             put_timers(state, t);
             start_code(answer)
         }
-        HeldTimers::Broken => host_answer::refusal_answer(Refusal::State),
+        None => host_answer::refusal_answer(Refusal::State),
     }
 }
 
@@ -88,22 +81,22 @@ fn start_wide(state: &[u64], keys: &[u32], deadlines: &[u64], now: u64, duration
         now duration }
 {
     match held_timers(state) {
-        HeldTimers::Timers(t) => refuse_start(t, keys, deadlines, now, duration),
-        HeldTimers::Broken => host_answer::refusal_answer(Refusal::State),
+        Some(t) => refuse_start(t, keys, deadlines, now, duration),
+        None => host_answer::refusal_answer(Refusal::State),
     }
 }
 
 fn refuse_start(t: MultiTimer, keys: &[u32], deadlines: &[u64], now: u64, duration: u64) -> u64
-    ensures { result ≡ start_wide (HeldTimers.Timers t) keys.now deadlines.now now duration }
+    ensures { result ≡ start_wide (Some t) keys.now deadlines.now now duration }
 {
     match t.is_expired_at(keys, deadlines, 0, now) {
-        TestAnswer::Is(_) => {
+        Ok(_) => {
             if duration::start_late(now, duration) {
                 return host_answer::refusal_answer(Refusal::Time);
             }
             host_answer::refusal_answer(Refusal::Full)
         }
-        TestAnswer::Refused(r) => host_answer::refusal_answer(r),
+        Err(r) => host_answer::refusal_answer(r),
     }
 }
 
@@ -122,8 +115,8 @@ fn cancel_wide(state: &[u64], keys: &[u32], deadlines: &[u64]) -> u64
     ensures { result ≡ cancel_wide (held_timers state.now) keys.now deadlines.now }
 {
     match held_timers(state) {
-        HeldTimers::Timers(t) => none_ran(t.earliest_deadline(keys, deadlines)),
-        HeldTimers::Broken => host_answer::refusal_answer(Refusal::State),
+        Some(t) => none_ran(t.earliest_deadline(keys, deadlines)),
+        None => host_answer::refusal_answer(Refusal::State),
     }
 }
 
@@ -132,14 +125,14 @@ fn cancel_key(state: &mut [u64], keys: &mut [u32], deadlines: &mut [u64], key: u
         ≡ cancel_key state.old keys.old deadlines.old key }
 {
     match held_timers(state) {
-        HeldTimers::Timers(t) => {
+        Some(t) => {
             let result = t.cancel_timer(keys, deadlines, key);
             let t = result.timers;
             let answer = result.answer;
             put_timers(state, t);
             cancel_code(answer)
         }
-        HeldTimers::Broken => host_answer::refusal_answer(Refusal::State),
+        None => host_answer::refusal_answer(Refusal::State),
     }
 }
 
@@ -156,14 +149,14 @@ pub fn pop(
         ≡ pop state.old keys.old deadlines.old now out.old }
 {
     match held_timers(state) {
-        HeldTimers::Timers(t) => {
+        Some(t) => {
             let result = t.pop_expired_at(keys, deadlines, now, out);
             let t = result.timers;
             let answer = result.answer;
             put_timers(state, t);
             pop_code(answer)
         }
-        HeldTimers::Broken => host_answer::refusal_answer(Refusal::State),
+        None => host_answer::refusal_answer(Refusal::State),
     }
 }
 
@@ -172,8 +165,8 @@ pub fn earliest(state: &[u64], keys: &[u32], deadlines: &[u64]) -> u64
     ensures { result ≡ earliest state.now keys.now deadlines.now }
 {
     match held_timers(state) {
-        HeldTimers::Timers(t) => earliest_code(t.earliest_deadline(keys, deadlines)),
-        HeldTimers::Broken => host_answer::refusal_answer(Refusal::State),
+        Some(t) => earliest_code(t.earliest_deadline(keys, deadlines)),
+        None => host_answer::refusal_answer(Refusal::State),
     }
 }
 
@@ -183,79 +176,79 @@ pub fn clear(state: &mut [u64], keys: &mut [u32], deadlines: &mut [u64]) -> u64
         ≡ clear state.old keys.old deadlines.old }
 {
     match held_timers(state) {
-        HeldTimers::Timers(t) => {
+        Some(t) => {
             let result = t.clear(keys, deadlines);
             let t = result.timers;
             let answer = result.answer;
             put_timers(state, t);
             host_answer::done_answer(answer)
         }
-        HeldTimers::Broken => host_answer::refusal_answer(Refusal::State),
+        None => host_answer::refusal_answer(Refusal::State),
     }
 }
 
-fn start_code(a: StartAnswer) -> u64
+fn start_code(a: Result<u64, Refusal>) -> u64
     ensures { result ≡ start_code a }
 {
     match a {
-        StartAnswer::Id(_) => host_answer::pack_unchecked(host_answer::DONE, 0),
-        StartAnswer::Refused(r) => host_answer::refusal_answer(r),
+        Ok(_) => host_answer::pack_unchecked(host_answer::DONE, 0),
+        Err(r) => host_answer::refusal_answer(r),
     }
 }
 
-fn cancel_code(a: CancelAnswer) -> u64
+fn cancel_code(a: Result<bool, Refusal>) -> u64
     ensures { result ≡ cancel_code a }
 {
     match a {
-        CancelAnswer::Existed(b) => {
+        Ok(b) => {
             if b {
                 return host_answer::pack_unchecked(host_answer::DONE, 1);
             }
             host_answer::pack_unchecked(host_answer::DONE, 0)
         }
-        CancelAnswer::Refused(r) => host_answer::refusal_answer(r),
+        Err(r) => host_answer::refusal_answer(r),
     }
 }
 
-fn none_ran(a: EarliestAnswer) -> u64
+fn none_ran(a: Result<Option<u64>, Refusal>) -> u64
     ensures { result ≡ none_ran a }
 {
     match a {
-        EarliestAnswer::Nothing => host_answer::pack_unchecked(host_answer::DONE, 0),
-        EarliestAnswer::At(_) => host_answer::pack_unchecked(host_answer::DONE, 0),
-        EarliestAnswer::Refused(r) => host_answer::refusal_answer(r),
+        Ok(None) => host_answer::pack_unchecked(host_answer::DONE, 0),
+        Ok(Some(_)) => host_answer::pack_unchecked(host_answer::DONE, 0),
+        Err(r) => host_answer::refusal_answer(r),
     }
 }
 
-fn pop_code(a: PopAnswer) -> u64
+fn pop_code(a: Result<usize, Refusal>) -> u64
     ensures { result ≡ pop_code a }
 {
     match a {
-        PopAnswer::Keys(n) => host_answer::pack_unchecked(host_answer::DONE, n as u64),
-        PopAnswer::Refused(r) => host_answer::refusal_answer(r),
+        Ok(n) => host_answer::pack_unchecked(host_answer::DONE, n as u64),
+        Err(r) => host_answer::refusal_answer(r),
     }
 }
 
-fn earliest_code(a: EarliestAnswer) -> u64
+fn earliest_code(a: Result<Option<u64>, Refusal>) -> u64
     ensures { result ≡ earliest_code a }
 {
     match a {
-        EarliestAnswer::Nothing => host_answer::pack_unchecked(host_answer::NOTHING, 0),
-        EarliestAnswer::At(d) => host_answer::pack_unchecked(host_answer::DONE, d),
-        EarliestAnswer::Refused(r) => host_answer::refusal_answer(r),
+        Ok(None) => host_answer::pack_unchecked(host_answer::NOTHING, 0),
+        Ok(Some(d)) => host_answer::pack_unchecked(host_answer::DONE, d),
+        Err(r) => host_answer::refusal_answer(r),
     }
 }
 
-fn held_timers(state: &[u64]) -> HeldTimers
+fn held_timers(state: &[u64]) -> Option<MultiTimer>
     ensures { result ≡ held_timers state.now }
 {
     if state.len() < TIMERS_WORDS {
-        return HeldTimers::Broken;
+        return None;
     }
     if state[0] != TIMERS {
-        return HeldTimers::Broken;
+        return None;
     }
-    HeldTimers::Timers(MultiTimer {
+    Some(MultiTimer {
         count: state[1] as usize,
         global_generation: state[2],
     })

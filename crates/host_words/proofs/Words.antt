@@ -1,4 +1,5 @@
 -- What is known of words that hold an end; and to put back what words hold changes no word.
+use Rattle.std.specs.Prelude.{None, Option, Some}
 use Prim.Native.Nat.{ℕ, ◌+◌, ◌≤◌, ◌<◌}
 use mathlib.Core.Path.{◌≡◌, refl, sym, ap, ◌∙◌, subst}
 use mathlib.Core.Bool.{Bool, true, false, cond, not, ◌&&◌}
@@ -21,10 +22,6 @@ use Rattle.session.specs.declared.SenderState.TheVariants as senderState
 use Rattle.session.specs.declared.ReceiverState.{ReceiverState}
 use Rattle.session.specs.declared.ReceiverState.TheVariants as receiverState
 use Rattle.host_words.specs.declared.Kind.{Kind}
-use Rattle.host_words.specs.declared.HeldSender.{HeldSender}
-use Rattle.host_words.specs.declared.HeldSender.TheVariants as heldSenders
-use Rattle.host_words.specs.declared.HeldReceiver.{HeldReceiver}
-use Rattle.host_words.specs.declared.HeldReceiver.TheVariants as heldReceivers
 use Rattle.host_words.specs.Words.{state_words, sender_word, receiver_word, window_in, stop_and_wait_in, sender_unreadable, not_single, held, held_sender, with_window, with_stop_and_wait, with_sender, selective_repeat_receiver_in, go_back_nReceiver_in, stop_and_wait_receiver_in, receiver_unreadable, held_by, held_receiver, with_fields, receiver_fields, with_receiver, SenderReadable, RetriesReadable, SenderAs, ReceiverReadable}
 
 pub sender_readable : (s : List ℕ) → sender_unreadable s ≡ false → SenderReadable s
@@ -48,9 +45,9 @@ pub sender_as : (s : List ℕ) {k l : Kind} → k ≡ l → SenderAs s k → Sen
 sender_as s e known = subst (SenderAs s) e known
 
 -- the words with the sender put back that they held
-abbrev put_back : List ℕ → HeldSender → List ℕ
-put_back s (heldSenders.Sender x) = with_sender s x.state
-put_back s heldSenders.Broken = s
+abbrev put_back : List ℕ → Option Sender → List ℕ
+put_back s (Some x) = with_sender s x.state
+put_back s None = s
 
 window_back : (s : List ℕ) → with_window s (window_in s) ≡ s
 unfolding with_window
@@ -73,7 +70,7 @@ unfolding with_stop_and_wait
 single_back s e = rw (single_window s e, window_back s, set-get_or s 6 0, set-get_or s 7 0)
 
 sender_cases : (s : List ℕ) (a b c d t : Bool) → not_single s ≡ t
-    → put_back s (cond a heldSenders.Broken (cond b (held (senderState.SelectiveRepeat (record { window = window_in s }))) (cond c (held (senderState.GoBackN (record { window = window_in s }))) (cond d (cond t heldSenders.Broken (held (senderState.StopAndWait (stop_and_wait_in s)))) heldSenders.Broken)))) ≡ s
+    → put_back s (cond a None (cond b (held (senderState.SelectiveRepeat (record { window = window_in s }))) (cond c (held (senderState.GoBackN (record { window = window_in s }))) (cond d (cond t None (held (senderState.StopAndWait (stop_and_wait_in s)))) None)))) ≡ s
 unfolding with_sender
 sender_cases s true b c d t e = refl
 sender_cases s false true c d t e = window_back s
@@ -87,28 +84,28 @@ unfolding held_sender
 sender_put_back s = sender_cases s (sender_unreadable s) (eqb (get_or s 0 0) (sender_word protocol.SelectiveRepeat)) (eqb (get_or s 0 0) (sender_word protocol.GoBackN)) (eqb (get_or s 0 0) (sender_word protocol.StopAndWait)) (not_single s) refl
 
 -- to put back the sender that words hold changes no word
-pub sender_back : (s : List ℕ) {x : Sender} → held_sender s ≡ heldSenders.Sender x → with_sender s x.state ≡ s
+pub sender_back : (s : List ℕ) {x : Sender} → held_sender s ≡ Some x → with_sender s x.state ≡ s
 sender_back s e = sym (ap (put_back s) e) ∙ sender_put_back s
 
-not_broken : (x : Sender) → heldSenders.Broken ≡ heldSenders.Sender x → ⊥
+not_broken : (x : Sender) → None ≡ Some x → ⊥
 not_broken x e = let z : ◌≡◌ {A = ℕ} 0 1 = cc in omega arith
 
-held_readable : (s : List ℕ) (t : Bool) (x : Sender) (other : HeldSender) → sender_unreadable s ≡ t → cond t heldSenders.Broken other ≡ heldSenders.Sender x → SenderReadable s
+held_readable : (s : List ℕ) (t : Bool) (x : Sender) (other : Option Sender) → sender_unreadable s ≡ t → cond t None other ≡ Some x → SenderReadable s
 held_readable s true x other e p = absurd (not_broken x p)
 held_readable s false x other e p = sender_readable s e
 
 -- words that hold a sender are eight at least
-pub sender_long : (s : List ℕ) {x : Sender} → held_sender s ≡ heldSenders.Sender x → state_words ≤ length s
+pub sender_long : (s : List ℕ) {x : Sender} → held_sender s ≡ Some x → state_words ≤ length s
 unfolding held_sender
 sender_long s {x} e = (held_readable s (sender_unreadable s) x _ refl e).long
 
 -- the window of the sender that words hold is the one in them
-abbrev WindowIs : List ℕ → HeldSender → Type 0
-WindowIs s (heldSenders.Sender x) = session.window_of x ≡ window_in s
-WindowIs s heldSenders.Broken = Unit {0}
+abbrev WindowIs : List ℕ → Option Sender → Type 0
+WindowIs s (Some x) = session.window_of x ≡ window_in s
+WindowIs s None = Unit {0}
 
 window_cases : (s : List ℕ) (a b c d t : Bool) → not_single s ≡ t
-    → WindowIs s (cond a heldSenders.Broken (cond b (held (senderState.SelectiveRepeat (record { window = window_in s }))) (cond c (held (senderState.GoBackN (record { window = window_in s }))) (cond d (cond t heldSenders.Broken (held (senderState.StopAndWait (stop_and_wait_in s)))) heldSenders.Broken))))
+    → WindowIs s (cond a None (cond b (held (senderState.SelectiveRepeat (record { window = window_in s }))) (cond c (held (senderState.GoBackN (record { window = window_in s }))) (cond d (cond t None (held (senderState.StopAndWait (stop_and_wait_in s)))) None))))
 window_cases s true b c d t e = tt
 window_cases s false true c d t e = refl
 window_cases s false false true d t e = refl
@@ -116,12 +113,12 @@ window_cases s false false false true true e = tt
 window_cases s false false false true false e = single_window s e
 window_cases s false false false false t e = tt
 
-pub sender_window : (s : List ℕ) {x : Sender} → held_sender s ≡ heldSenders.Sender x → session.window_of x ≡ window_in s
+pub sender_window : (s : List ℕ) {x : Sender} → held_sender s ≡ Some x → session.window_of x ≡ window_in s
 unfolding held_sender
 sender_window s e = subst (WindowIs s) e (window_cases s (sender_unreadable s) (eqb (get_or s 0 0) (sender_word protocol.SelectiveRepeat)) (eqb (get_or s 0 0) (sender_word protocol.GoBackN)) (eqb (get_or s 0 0) (sender_word protocol.StopAndWait)) (not_single s) refl)
 
 -- its next number is of 32 bits
-pub sender_next : (s : List ℕ) {x : Sender} → held_sender s ≡ heldSenders.Sender x → (session.window_of x).next_seq_num ≤ 4294967295
+pub sender_next : (s : List ℕ) {x : Sender} → held_sender s ≡ Some x → (session.window_of x).next_seq_num ≤ 4294967295
 unfolding held_sender
 sender_next s {x} e = subst (λ (w : SendWindow). w.next_seq_num ≤ 4294967295) (sym (sender_window s e)) (held_readable s (sender_unreadable s) x _ refl e).next
 
@@ -132,9 +129,9 @@ sender_length s (senderState.GoBackN w) = simp length-set
 sender_length s (senderState.SelectiveRepeat w) = simp length-set
 
 -- ---- a receiver
-abbrev put_receiver_back : List ℕ → HeldReceiver → List ℕ
-put_receiver_back s (heldReceivers.Receiver x) = with_receiver s x.state
-put_receiver_back s heldReceivers.Broken = s
+abbrev put_receiver_back : List ℕ → Option Receiver → List ℕ
+put_receiver_back s (Some x) = with_receiver s x.state
+put_receiver_back s None = s
 
 fields_back : (s : List ℕ) → with_fields s (record { window = get_or s 1 0; base = get_or s 2 0; filled = get_or s 3 0; received = get_or s 4 0; second = get_or s 5 0; third = get_or s 6 0 }) ≡ s
 unfolding with_fields
@@ -145,7 +142,7 @@ in_order_back s e =
     ap (λ (n : ℕ). with_fields s (record { window = n; base = get_or s 2 0; filled = get_or s 3 0; received = get_or s 4 0; second = get_or s 5 0; third = get_or s 6 0 })) (sym e) ∙ fields_back s
 
 receiver_cases : (s : List ℕ) (a b one c d : Bool) → eqb (get_or s 1 0) 1 ≡ one
-    → put_receiver_back s (cond a heldReceivers.Broken (cond b (held_by (receiverState.SelectiveRepeat (selective_repeat_receiver_in s))) (cond (not one) heldReceivers.Broken (cond c (held_by (receiverState.GoBackN (go_back_nReceiver_in s))) (cond d (held_by (receiverState.StopAndWait (stop_and_wait_receiver_in s))) heldReceivers.Broken))))) ≡ s
+    → put_receiver_back s (cond a None (cond b (held_by (receiverState.SelectiveRepeat (selective_repeat_receiver_in s))) (cond (not one) None (cond c (held_by (receiverState.GoBackN (go_back_nReceiver_in s))) (cond d (held_by (receiverState.StopAndWait (stop_and_wait_receiver_in s))) None))))) ≡ s
 unfolding receiver_fields
 receiver_cases s true b one c d e = refl
 receiver_cases s false true one c d e = fields_back s
@@ -158,27 +155,27 @@ receiver_put_back : (s : List ℕ) → put_receiver_back s (held_receiver s) ≡
 unfolding held_receiver
 receiver_put_back s = receiver_cases s (receiver_unreadable s) (eqb (get_or s 0 0) (receiver_word protocol.SelectiveRepeat)) (eqb (get_or s 1 0) 1) (eqb (get_or s 0 0) (receiver_word protocol.GoBackN)) (eqb (get_or s 0 0) (receiver_word protocol.StopAndWait)) refl
 
-pub receiver_back : (s : List ℕ) {x : Receiver} → held_receiver s ≡ heldReceivers.Receiver x → with_receiver s x.state ≡ s
+pub receiver_back : (s : List ℕ) {x : Receiver} → held_receiver s ≡ Some x → with_receiver s x.state ≡ s
 receiver_back s e = sym (ap (put_receiver_back s) e) ∙ receiver_put_back s
 
-receiver_not_broken : (x : Receiver) → heldReceivers.Broken ≡ heldReceivers.Receiver x → ⊥
+receiver_not_broken : (x : Receiver) → None ≡ Some x → ⊥
 receiver_not_broken x e = let z : ◌≡◌ {A = ℕ} 0 1 = cc in omega arith
 
-held_receiver_readable : (s : List ℕ) (t : Bool) (x : Receiver) (other : HeldReceiver) → receiver_unreadable s ≡ t → cond t heldReceivers.Broken other ≡ heldReceivers.Receiver x → ReceiverReadable s
+held_receiver_readable : (s : List ℕ) (t : Bool) (x : Receiver) (other : Option Receiver) → receiver_unreadable s ≡ t → cond t None other ≡ Some x → ReceiverReadable s
 held_receiver_readable s true x other e p = absurd (receiver_not_broken x p)
 held_receiver_readable s false x other e p = receiver_readable s e
 
-pub receiver_long : (s : List ℕ) {x : Receiver} → held_receiver s ≡ heldReceivers.Receiver x → state_words ≤ length s
+pub receiver_long : (s : List ℕ) {x : Receiver} → held_receiver s ≡ Some x → state_words ≤ length s
 unfolding held_receiver
 receiver_long s {x} e = (held_receiver_readable s (receiver_unreadable s) x _ refl e).long
 
 -- base and fill mark of the receiver that words hold are the ones in them
-abbrev PlacesAre : List ℕ → HeldReceiver → Type 0
-PlacesAre s (heldReceivers.Receiver x) = (receiving.base x ≡ get_or s 2 0) × (receiving.filled x ≡ get_or s 3 0)
-PlacesAre s heldReceivers.Broken = Unit {0}
+abbrev PlacesAre : List ℕ → Option Receiver → Type 0
+PlacesAre s (Some x) = (receiving.base x ≡ get_or s 2 0) × (receiving.filled x ≡ get_or s 3 0)
+PlacesAre s None = Unit {0}
 
 place_cases : (s : List ℕ) (a b one c d : Bool)
-    → PlacesAre s (cond a heldReceivers.Broken (cond b (held_by (receiverState.SelectiveRepeat (selective_repeat_receiver_in s))) (cond (not one) heldReceivers.Broken (cond c (held_by (receiverState.GoBackN (go_back_nReceiver_in s))) (cond d (held_by (receiverState.StopAndWait (stop_and_wait_receiver_in s))) heldReceivers.Broken)))))
+    → PlacesAre s (cond a None (cond b (held_by (receiverState.SelectiveRepeat (selective_repeat_receiver_in s))) (cond (not one) None (cond c (held_by (receiverState.GoBackN (go_back_nReceiver_in s))) (cond d (held_by (receiverState.StopAndWait (stop_and_wait_receiver_in s))) None)))))
 place_cases s true b one c d = tt
 place_cases s false true one c d = (refl, refl)
 place_cases s false false false c d = tt
@@ -186,7 +183,7 @@ place_cases s false false true true d = (refl, refl)
 place_cases s false false true false true = (refl, refl)
 place_cases s false false true false false = tt
 
-pub receiver_places : (s : List ℕ) {x : Receiver} → held_receiver s ≡ heldReceivers.Receiver x → (receiving.base x ≡ get_or s 2 0) × (receiving.filled x ≡ get_or s 3 0)
+pub receiver_places : (s : List ℕ) {x : Receiver} → held_receiver s ≡ Some x → (receiving.base x ≡ get_or s 2 0) × (receiving.filled x ≡ get_or s 3 0)
 unfolding held_receiver
 receiver_places s e = subst (PlacesAre s) e (place_cases s (receiver_unreadable s) (eqb (get_or s 0 0) (receiver_word protocol.SelectiveRepeat)) (eqb (get_or s 1 0) 1) (eqb (get_or s 0 0) (receiver_word protocol.GoBackN)) (eqb (get_or s 0 0) (receiver_word protocol.StopAndWait)))
 

@@ -4,7 +4,7 @@
 -- max_retries, 7 current_retries.
 -- A receiver: 1 window_size, Stop-and-Wait's and Go-Back-N's 1, 2 the number expected or base, 3 the fill mark, 4
 -- total_received, 5 and 6 its other two counters in the source's order.
-use Rattle.std.specs.Prelude.{ℕ, ◌+◌, ◌*◌, ◌≤◌, ◌≡◌, List, [], ◌∷◌, Bool, cond, not, ◌&&◌, length, get_or, set, ltb, eqb}
+use Rattle.std.specs.Prelude.{ℕ, ◌+◌, ◌*◌, ◌≤◌, ◌≡◌, List, [], ◌∷◌, Bool, cond, not, ◌&&◌, length, get_or, set, ltb, eqb, None, Option, Some}
 use Rattle.refusal.specs.Clauses.{any_of}
 use Rattle.protocol.specs.declared.ProtocolType.{ProtocolType}
 use Rattle.protocol.specs.declared.ProtocolType.TheVariants as protocol
@@ -23,11 +23,9 @@ use Rattle.session.specs.declared.ReceiverState.TheVariants as receiverState
 use Rattle.host_answer.specs.Exit.{wide}
 use Rattle.host_words.specs.declared.Kind.{Kind}
 use Rattle.host_words.specs.declared.Kind.TheVariants as kinds
-use Rattle.host_words.specs.declared.HeldSender.{HeldSender}
-use Rattle.host_words.specs.declared.HeldSender.TheVariants as heldSenders
-use Rattle.host_words.specs.declared.HeldReceiver.{HeldReceiver}
-use Rattle.host_words.specs.declared.HeldReceiver.TheVariants as heldReceivers
 use Rattle.host_words.specs.declared.ReceiverFields.{ReceiverFields}
+use Rattle.session.specs.declared.Receiver.{Receiver}
+use Rattle.session.specs.declared.Sender.{Sender}
 
 abbrev pub state_words : ℕ
 state_words = 8
@@ -90,20 +88,20 @@ not_single s =
     ∷ (not (eqb (get_or s 2 0) (get_or s 3 0)) && not (eqb (get_or s 2 0 + 1) (get_or s 3 0)))
     ∷ [])
 
-abbrev pub held : SenderState → HeldSender
-held s = heldSenders.Sender (record { state = s })
+abbrev pub held : SenderState → Option Sender
+held s = Some (record { state = s })
 
-unfoldable pub held_sender : List ℕ → HeldSender
+unfoldable pub held_sender : List ℕ → Option Sender
 held_sender s =
     cond (sender_unreadable s)
-    heldSenders.Broken
+    None
     (cond (eqb (get_or s 0 0) (sender_word protocol.SelectiveRepeat))
     (held (senderState.SelectiveRepeat (record { window = window_in s })))
     (cond (eqb (get_or s 0 0) (sender_word protocol.GoBackN))
     (held (senderState.GoBackN (record { window = window_in s })))
     (cond (eqb (get_or s 0 0) (sender_word protocol.StopAndWait))
-    (cond (not_single s) heldSenders.Broken (held (senderState.StopAndWait (stop_and_wait_in s))))
-    heldSenders.Broken)))
+    (cond (not_single s) None (held (senderState.StopAndWait (stop_and_wait_in s))))
+    None)))
 
 -- words with a sender put into them; the others as they were
 unfoldable pub with_window : List ℕ → SendWindow → List ℕ
@@ -142,22 +140,22 @@ selective_repeat_receiver_in s =
 unfoldable pub receiver_unreadable : List ℕ → Bool
 receiver_unreadable s = any_of (ltb (length s) state_words ∷ wide (get_or s 2 0) ∷ [])
 
-abbrev pub held_by : ReceiverState → HeldReceiver
-held_by r = heldReceivers.Receiver (record { state = r })
+abbrev pub held_by : ReceiverState → Option Receiver
+held_by r = Some (record { state = r })
 
-unfoldable pub held_receiver : List ℕ → HeldReceiver
+unfoldable pub held_receiver : List ℕ → Option Receiver
 held_receiver s =
     cond (receiver_unreadable s)
-    heldReceivers.Broken
+    None
     (cond (eqb (get_or s 0 0) (receiver_word protocol.SelectiveRepeat))
     (held_by (receiverState.SelectiveRepeat (selective_repeat_receiver_in s)))
     (cond (not (eqb (get_or s 1 0) 1))
-    heldReceivers.Broken
+    None
     (cond (eqb (get_or s 0 0) (receiver_word protocol.GoBackN))
     (held_by (receiverState.GoBackN (go_back_nReceiver_in s)))
     (cond (eqb (get_or s 0 0) (receiver_word protocol.StopAndWait))
     (held_by (receiverState.StopAndWait (stop_and_wait_receiver_in s)))
-    heldReceivers.Broken))))
+    None))))
 
 -- words with a receiver put into them: window, base, fill mark, its three counters
 unfoldable pub with_fields : List ℕ → ReceiverFields → List ℕ
@@ -212,7 +210,7 @@ SenderAs s kinds.GoBackN =
     SenderReadable s × (held_sender s ≡ held (senderState.GoBackN (record { window = window_in s })))
 SenderAs s kinds.SelectiveRepeat =
     SenderReadable s × (held_sender s ≡ held (senderState.SelectiveRepeat (record { window = window_in s })))
-SenderAs s kinds.Broken = held_sender s ≡ heldSenders.Broken
+SenderAs s kinds.Broken = held_sender s ≡ None
 
 pub record ReceiverReadable (s : List ℕ) : Type 0 where
   pub long : state_words ≤ length s

@@ -42,20 +42,6 @@ pub enum Kind {
     Broken,
 }
 
-// What the words of a sender hold.
-#[derive(Clone, Copy)]
-pub enum HeldSender {
-    Sender(Sender),
-    Broken,
-}
-
-// What the words of a receiver hold.
-#[derive(Clone, Copy)]
-pub enum HeldReceiver {
-    Receiver(Receiver),
-    Broken,
-}
-
 // Words that a receiver is put into.
 #[derive(Clone, Copy)]
 pub struct ReceiverFields {
@@ -89,58 +75,58 @@ pub fn sender_kind(state: &[u64]) -> Kind
     Kind::Broken
 }
 
-pub fn held_sender(state: &[u64]) -> HeldSender
+pub fn held_sender(state: &[u64]) -> Option<Sender>
     ensures { result ≡ held_sender state.now }
 {
     match sender_kind(state) {
         Kind::StopAndWait => {
             let sender = stop_and_wait_in_unchecked(state);
-            HeldSender::Sender(Sender {
+            Some(Sender {
                 state: SenderState::StopAndWait(sender),
             })
         }
         Kind::GoBackN => {
             let window = window_in_unchecked(state);
-            HeldSender::Sender(Sender {
+            Some(Sender {
                 state: SenderState::GoBackN(GoBackNSender { window }),
             })
         }
         Kind::SelectiveRepeat => {
             let window = window_in_unchecked(state);
-            HeldSender::Sender(Sender {
+            Some(Sender {
                 state: SenderState::SelectiveRepeat(SelectiveRepeatSender { window }),
             })
         }
-        Kind::Broken => HeldSender::Broken,
+        Kind::Broken => None,
     }
 }
 
-pub fn held_receiver(state: &[u64]) -> HeldReceiver
+pub fn held_receiver(state: &[u64]) -> Option<Receiver>
     ensures { result ≡ held_receiver state.now }
 {
     if receiver_unreadable(state) {
-        return HeldReceiver::Broken;
+        return None;
     }
     let kind = state[0];
     if kind == SELECTIVE_REPEAT_RECEIVER {
-        return HeldReceiver::Receiver(Receiver {
+        return Some(Receiver {
             state: ReceiverState::SelectiveRepeat(selective_repeat_receiver_in(state)),
         });
     }
     if state[1] != 1 {
-        return HeldReceiver::Broken;
+        return None;
     }
     if kind == GO_BACK_N_RECEIVER {
-        return HeldReceiver::Receiver(Receiver {
+        return Some(Receiver {
             state: ReceiverState::GoBackN(go_back_n_receiver_in(state)),
         });
     }
     if kind == STOP_AND_WAIT_RECEIVER {
-        return HeldReceiver::Receiver(Receiver {
+        return Some(Receiver {
             state: ReceiverState::StopAndWait(stop_and_wait_receiver_in(state)),
         });
     }
-    HeldReceiver::Broken
+    None
 }
 
 pub fn put_kind_unchecked(state: &mut [u64], word: u64)

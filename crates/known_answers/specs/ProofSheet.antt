@@ -1,6 +1,6 @@
 -- Document 01, "Proof sheet": its rows in its order, each a call of an entry point's definition with all that it
 -- answers and leaves behind.
-use Rattle.std.specs.Prelude.{ℕ, ◌*◌, ◌≡◌, true, false, List, [], ◌∷◌, ◌++◌, replicate, pos, negsuc, Float}
+use Rattle.std.specs.Prelude.{ℕ, ◌*◌, ◌≡◌, true, false, List, [], ◌∷◌, ◌++◌, replicate, pos, negsuc, Float, Err, None, Ok, Option, Some}
 use Rattle.std.specs.Float.{fin}
 use Rattle.bounds.specs.Bounds.{header_size, max_payload, slot_size}
 use Rattle.refusal.specs.declared.Refusal.TheVariants.{Short, Kind, Cut}
@@ -8,25 +8,16 @@ use Rattle.packet.specs.Format.{new_packet, made}
 use Rattle.packet.specs.Reading.{from_bytes, payload_of, validity}
 use Rattle.packet.specs.Writing.{compute_checksum}
 use Rattle.packet.specs.declared.PacketType.TheVariants.{Data, Ack}
-use Rattle.packet.specs.declared.PacketAnswer.TheVariants as read
-use Rattle.packet.specs.declared.ChecksumAnswer.TheVariants.{Checksum}
-use Rattle.packet.specs.declared.ValidityAnswer.TheVariants.{Valid}
 use Rattle.schedule.specs.declared.Deliveries.TheVariants.{One}
 use Rattle.channel.specs.Process.{stats6, channel_of, process_exit, process}
 use Rattle.channel.specs.declared.ChannelConfig.{ChannelConfig}
 use Rattle.channel.specs.declared.Rolls.{Rolls}
-use Rattle.channel.specs.declared.ProcessAnswer.TheVariants.{Delivered}
 use Rattle.rtt.specs.Rtt.{zero64, one64, eighth64, quarter64, four64}
 use Rattle.rto.specs.Rto.{fresh, update_result, update_rtt, timeout_result, on_timeout}
 use Rattle.rto.specs.declared.RtoConfig.{RtoConfig}
 use Rattle.rto.specs.declared.RtoEstimator.{RtoEstimator}
 use Rattle.rto.specs.declared.RtoStats.{RtoStats}
-use Rattle.rto.specs.declared.MaybeDuration.{MaybeDuration}
-use Rattle.rto.specs.declared.MaybeDuration.TheVariants.{Unset, Set}
-use Rattle.rto.specs.declared.UpdateAnswer.TheVariants.{Accepted}
-use Rattle.rto.specs.declared.RtoAnswer.TheVariants.{Rto}
 use Rattle.receiver.specs.Receive.{ReceiveExit, receive_exit}
-use Rattle.receiver.specs.declared.ReceiveAnswer.TheVariants as answer
 use Rattle.selective_repeat.specs.Receiver as selective_repeat
 use Rattle.selective_repeat.specs.declared.SelectiveRepeatReceiver.{SelectiveRepeatReceiver}
 use Rattle.go_back_n.specs.Receiver as go_back_n
@@ -77,7 +68,7 @@ limits lo hi =
     }
 
 -- an estimator that has sampled this once, or nothing, and timed out so often
-abbrev pub stats : MaybeDuration → ℕ → Float → ℕ → RtoStats
+abbrev pub stats : Option ℕ → ℕ → Float → ℕ → RtoStats
 stats rtt samples sum timeouts =
     record {
       sample_count = samples;
@@ -96,13 +87,13 @@ abbrev pub sampled100 : RtoConfig → ℕ → RtoEstimator
 sampled100 c rto =
     record {
       config = c;
-      srtt = Set 100000000;
-      rttvar = Set 50000000;
+      srtt = Some 100000000;
+      rttvar = Some 50000000;
       current_rto = rto;
       base_rto = rto;
       in_backoff = false;
       consecutive_timeouts = 0;
-      stats = stats (Set 100000000) 1 (fin false 25 (pos 2)) 0;
+      stats = stats (Some 100000000) 1 (fin false 25 (pos 2)) 0;
     }
 
 -- R2: the estimator at 300 ms, and after the timeout
@@ -110,26 +101,26 @@ abbrev pub at300 : RtoConfig → RtoEstimator
 at300 c =
     record {
       config = c;
-      srtt = Unset;
-      rttvar = Unset;
+      srtt = None;
+      rttvar = None;
       current_rto = 300000000;
       base_rto = 300000000;
       in_backoff = false;
       consecutive_timeouts = 0;
-      stats = stats Unset 0 zero64 0;
+      stats = stats None 0 zero64 0;
     }
 
 abbrev pub backed_off : RtoConfig → ℕ → RtoEstimator
 backed_off c rto =
     record {
       config = c;
-      srtt = Unset;
-      rttvar = Unset;
+      srtt = None;
+      rttvar = None;
       current_rto = rto;
       base_rto = 300000000;
       in_backoff = true;
       consecutive_timeouts = 1;
-      stats = stats Unset 0 zero64 1;
+      stats = stats None 0 zero64 1;
     }
 
 -- S1 to S3: Data with one byte, the buffer for an ACK, and the ACK that is written to it
@@ -166,34 +157,34 @@ handed base n =
 
 -- the table. K5 and K6 hold whatever the other bytes are
 pub record ProofSheet : Type 0 where
-  pub K1 : compute_checksum (new_packet 0 Data) [] ≡ Checksum 0xFEFF
-  pub K2 : compute_checksum (new_packet 0 Data) (0x41 ∷ []) ≡ Checksum 0xBDFE
-  pub K3 : compute_checksum (new_packet 0xFFFFFFFF Data) [] ≡ Checksum 0xFEFF
-  pub K4 : (validity (k4 0) ≡ Valid) × (payload_of (k4 0) ≡ [])
-      × (validity (k4 2) ≡ Valid) × (payload_of (k4 2) ≡ 0xFF ∷ 0xFD ∷ [])
+  pub K1 : compute_checksum (new_packet 0 Data) [] ≡ Ok 0xFEFF
+  pub K2 : compute_checksum (new_packet 0 Data) (0x41 ∷ []) ≡ Ok 0xBDFE
+  pub K3 : compute_checksum (new_packet 0xFFFFFFFF Data) [] ≡ Ok 0xFEFF
+  pub K4 : (validity (k4 0) ≡ Ok true) × (payload_of (k4 0) ≡ [])
+      × (validity (k4 2) ≡ Ok true) × (payload_of (k4 2) ≡ 0xFF ∷ 0xFD ∷ [])
   pub K5 : ((a b c d e f g h i : ℕ)
-      → from_bytes (a ∷ b ∷ c ∷ d ∷ e ∷ f ∷ g ∷ h ∷ i ∷ []) ≡ read.Refused (Short 9))
+      → from_bytes (a ∷ b ∷ c ∷ d ∷ e ∷ f ∷ g ∷ h ∷ i ∷ []) ≡ Err (Short 9))
       × ((a b c d f i j : ℕ)
-      → from_bytes (a ∷ b ∷ c ∷ d ∷ 4 ∷ f ∷ 255 ∷ 255 ∷ i ∷ j ∷ []) ≡ read.Refused (Kind 4))
-  pub K6 : (a b c d f i j : ℕ) → from_bytes (a ∷ b ∷ c ∷ d ∷ 1 ∷ f ∷ 0 ∷ 1 ∷ i ∷ j ∷ []) ≡ read.Refused (Cut 1 0)
+      → from_bytes (a ∷ b ∷ c ∷ d ∷ 4 ∷ f ∷ 255 ∷ 255 ∷ i ∷ j ∷ []) ≡ Err (Kind 4))
+  pub K6 : (a b c d f i j : ℕ) → from_bytes (a ∷ b ∷ c ∷ d ∷ 1 ∷ f ∷ 0 ∷ 1 ∷ i ∷ j ∷ []) ≡ Err (Cut 1 0)
   pub J1 : process (channel_of jitter_two (stats6 0 0 0 0 0 0)) (0x41 ∷ []) j1_rolls (0 ∷ [])
       ≡ process_exit (0x41 ∷ [])
-      (record { channel = channel_of jitter_two (stats6 1 0 0 0 0 1); answer = Delivered (One 2) })
+      (record { channel = channel_of jitter_two (stats6 1 0 0 0 0 1); answer = Ok (One 2) })
   pub R1 : (update_rtt (fresh (limits 1000000 60000000000)) 100000000 false
-      ≡ update_result (sampled100 (limits 1000000 60000000000) 300000000) (Accepted true))
+      ≡ update_result (sampled100 (limits 1000000 60000000000) 300000000) (Ok true))
       × (update_rtt (fresh (limits 1000000000 60000000000)) 100000000 false
-      ≡ update_result (sampled100 (limits 1000000000 60000000000) 1000000000) (Accepted true))
+      ≡ update_result (sampled100 (limits 1000000000 60000000000) 1000000000) (Ok true))
   pub R2 : on_timeout (at300 (limits 1000000 500000000))
-      ≡ timeout_result (backed_off (limits 1000000 500000000) 500000000) (Rto 500000000)
+      ≡ timeout_result (backed_off (limits 1000000 500000000) 500000000) (Ok 500000000)
   pub S1 : (handed 0 3
-      ≡ receive_exit (answer.Ack 3) (selective_repeat.receiver (window_four 0 1 1 0) three_held) [] (ack_of 3))
+      ≡ receive_exit (Ok (Some 3)) (selective_repeat.receiver (window_four 0 1 1 0) three_held) [] (ack_of 3))
       × (handed 0 4
-      ≡ receive_exit answer.Silent (selective_repeat.receiver (window_four 0 1 0 0) empty_store) [] no_ack)
+      ≡ receive_exit (Ok None) (selective_repeat.receiver (window_four 0 1 0 0) empty_store) [] no_ack)
   pub S2 : (handed 6 2
-      ≡ receive_exit (answer.Ack 2) (selective_repeat.receiver (window_four 6 1 0 1) empty_store) [] (ack_of 2))
+      ≡ receive_exit (Ok (Some 2)) (selective_repeat.receiver (window_four 6 1 0 1) empty_store) [] (ack_of 2))
       × (handed 6 1
-      ≡ receive_exit answer.Silent (selective_repeat.receiver (window_four 6 1 0 0) empty_store) [] no_ack)
+      ≡ receive_exit (Ok None) (selective_repeat.receiver (window_four 6 1 0 0) empty_store) [] no_ack)
   pub S3 : (go_back_n.handle_packet go_back_n.new_receiver (data_of 1) [] no_ack
-      ≡ receive_exit answer.Silent (go_back_n.state 0 0 1 1 0) [] no_ack)
+      ≡ receive_exit (Ok None) (go_back_n.state 0 0 1 1 0) [] no_ack)
       × (stop_and_wait.handle_packet stop_and_wait.new_receiver (data_of 1) [] no_ack
-      ≡ receive_exit (answer.Ack 0) (stop_and_wait.state 0 0 1 0 0) [] (ack_of 0))
+      ≡ receive_exit (Ok (Some 0)) (stop_and_wait.state 0 0 1 0 0) [] (ack_of 0))

@@ -1,4 +1,5 @@
 -- Rows looked at one after another, for the functions' proofs.
+use Rattle.std.specs.Prelude.{Err}
 use Prim.Native.Nat.{ℕ, zero, suc, ◌+◌, ◌≤◌, ◌<◌}
 use mathlib.Core.Path.{◌≡◌, refl, sym, ap, ◌∙◌}
 use mathlib.Core.Bool.{Bool, true, false, ◌||◌}
@@ -12,20 +13,20 @@ use Rattle.refusal.specs.Clauses.{any_of}
 use Rattle.refusal.specs.Order.{check, order, or_else, numbered, first_of, verdict}
 use Rattle.refusal.specs.declared.Refusal.TheVariants.{State, Time}
 use Rattle.refusal.proofs.Laws.{accepted_none_true, or_false}
-use Rattle.refusal.specs.declared.Verdict.TheVariants.{Accepted, Refused}
 use Rattle.events.specs.Events.{of_copies}
 use Rattle.lent_events.specs.Checks.{max_seq_num, max_copies, max_fold, any_above, is_no_event, is_late, row_checks, event_checks}
+use Rattle.refusal.specs.Order.{passed}
 
 -- the verdict by what the two checks say
-pub on_state : (late : Bool) → verdict (check true State ∷ check late Time ∷ []) ≡ Refused State
+pub on_state : (late : Bool) → verdict (check true State ∷ check late Time ∷ []) ≡ Err State
 unfolding verdict first_of numbered or_else order
 on_state late = refl
 
-pub on_time : verdict (check false State ∷ check true Time ∷ []) ≡ Refused Time
+pub on_time : verdict (check false State ∷ check true Time ∷ []) ≡ Err Time
 unfolding verdict first_of numbered or_else order
 on_time = refl
 
-pub on_neither : verdict (check false State ∷ check false Time ∷ []) ≡ Accepted
+pub on_neither : verdict (check false State ∷ check false Time ∷ []) ≡ passed
 unfolding verdict first_of numbered or_else order
 on_neither = refl
 
@@ -68,7 +69,7 @@ pub passed_first : (rows : List (List ℕ)) → Passed rows 0 false
 passed_first rows = record { events = refl; delays = refl }
 
 module _ (rows : List (List ℕ)) {i : ℕ} {late : Bool} (h : Passed rows i late) where
-  pub passed_refused : {b : Bool} → i < length rows → b ≡ is_no_event (get_or rows i []) → b ≡ true → Refused State ≡ verdict (row_checks false rows)
+  pub passed_refused : {b : Bool} → i < length rows → b ≡ is_no_event (get_or rows i []) → b ≡ true → Err State ≡ verdict (row_checks false rows)
   unfolding any_of
   passed_refused k e t =
       let n : any_from is_no_event rows 0 ≡ true = h.events ∙ any_step is_no_event rows i k ∙ ap (λ (x : Bool). x || any_from is_no_event rows (i + 1)) (sym e ∙ t) in
@@ -89,16 +90,16 @@ module _ (rows : List (List ℕ)) {i : ℕ} {late : Bool} (h : Passed rows i lat
   all_late : length rows ≤ i → any_from is_late rows 0 ≡ late
   all_late k = h.delays ∙ ap (λ (x : Bool). late || x) (any_end is_late rows i k) ∙ or_none late
 
-  pub passed_late : length rows ≤ i → late ≡ true → Refused Time ≡ verdict (row_checks false rows)
+  pub passed_late : length rows ≤ i → late ≡ true → Err Time ≡ verdict (row_checks false rows)
   unfolding any_of
   passed_late k e = sym (rw (none_broken k, all_late k, e) on_time)
 
-  pub passed_end : length rows ≤ i → late ≡ false → Accepted ≡ verdict (row_checks false rows)
+  pub passed_end : length rows ≤ i → late ≡ false → passed ≡ verdict (row_checks false rows)
   unfolding any_of
   passed_end k e = sym (rw (none_broken k, all_late k, e) on_neither)
 
 -- too few rows, and enough
-pub few_rows : (count : ℕ) (rows : List (List ℕ)) → length rows < count → Refused State ≡ verdict (event_checks count rows)
+pub few_rows : (count : ℕ) (rows : List (List ℕ)) → length rows < count → Err State ≡ verdict (event_checks count rows)
 unfolding event_checks any_of
 few_rows count rows h = sym (rw (lt-ltb (length rows) count h) (on_state _))
 
@@ -107,14 +108,14 @@ unfolding event_checks
 enough_rows count rows h = rw (le-ltb (length rows) count h)
 
 -- what is let through: as many rows as were asked for, and each of them passes
-module _ (count : ℕ) (rows : List (List ℕ)) (e : verdict (event_checks count rows) ≡ Accepted) where
+module _ (count : ℕ) (rows : List (List ℕ)) (e : verdict (event_checks count rows) ≡ passed) where
   pub accepted_count : count ≤ length rows
   unfolding event_checks any_of
   accepted_count =
       let n = accepted_none_true (row_checks (ltb (length rows) count) (take count rows)) e in
       ltb-false (length rows) count (or_false (ltb (length rows) count) (any_of (map is_no_event (take count rows))) n.0).0
 
-  pub accepted_rows : verdict (row_checks false (take count rows)) ≡ Accepted
+  pub accepted_rows : verdict (row_checks false (take count rows)) ≡ passed
   accepted_rows = ap verdict (sym (enough_rows count rows accepted_count)) ∙ e
 
 -- a row's copies against a bound

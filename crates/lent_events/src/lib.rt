@@ -7,7 +7,7 @@ ghost use Rattle.refusal.specs.Order.{verdict};
 ghost use Rattle.lent_events.specs.Checks.{any_above, is_no_event, is_late, row_checks, event_checks};
 
 use events::Event;
-use refusal::{Refusal, Verdict};
+use refusal::Refusal;
 
 // The largest number of 32 bits; copies at most; the largest sum of bytes in 16 bits.
 const MAX_SEQ_NUM: u64 = 4_294_967_295;
@@ -32,31 +32,31 @@ pub const FIRST_FOLD: usize = 5;
 pub const SECOND_FOLD: usize = 6;
 
 // Checks 9 and 10 of the first `count` rows.
-pub fn check_events(rows: &[Event], count: usize) -> Verdict
+pub fn check_events(rows: &[Event], count: usize) -> Result<(), Refusal>
     ensures { result ≡ verdict (event_checks count rows.now) }
 {
     if rows.len() < count {
-        return Verdict::Refused(Refusal::State);
+        return Err(Refusal::State);
     }
     check_rows(&rows[..count])
 }
 
-fn check_rows(rows: &[Event]) -> Verdict
+fn check_rows(rows: &[Event]) -> Result<(), Refusal>
     ensures { result ≡ verdict (row_checks false rows.now) }
 {
     let mut late = false;
     for row in rows {
         if is_no_event(*row) {
-            return Verdict::Refused(Refusal::State);
+            return Err(Refusal::State);
         }
         if is_late(*row) {
             late = true;
         }
     }
     if late {
-        return Verdict::Refused(Refusal::Time);
+        return Err(Refusal::Time);
     }
-    Verdict::Accepted
+    Ok(())
 }
 
 fn is_no_event(row: Event) -> bool

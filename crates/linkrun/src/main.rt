@@ -3,7 +3,6 @@
 
 use std::io;
 use std::io::Write;
-use text::PlaceAnswer;
 
 fn main(rt: HostRuntime) -> io::Result<()> {
     // One byte more than a file may have.
@@ -11,8 +10,8 @@ fn main(rt: HostRuntime) -> io::Result<()> {
     let mut text = [0u8; 10240];
     let n = replay_io::read_full(&mut rt.stdin(), &mut file)?;
     match linkrun_text::write_linkrun(&file[..n], &mut text) {
-        PlaceAnswer::Next(end) => Write::write_all(&mut rt.stdout(), &text[..end]),
+        Ok(end) => Write::write_all(&mut rt.stdout(), &text[..end]),
         // Where the text is longer than the buffer nothing is printed; of at most 256 events it never is.
-        PlaceAnswer::Refused(_) => Ok(()),
+        Err(_) => Ok(()),
     }
 }

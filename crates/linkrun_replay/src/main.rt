@@ -10,8 +10,6 @@ use replay_io::{Fields, Lines};
 use std::io;
 use std::io::Write;
 use step::End;
-use text::PlaceAnswer;
-use transfer::RunAnswer;
 
 fn main(rt: HostRuntime) -> io::Result<()> {
     let mut writer = rt.stdout();
@@ -54,8 +52,8 @@ fn run(writer: &mut impl Write, f: Fields, file: &[u8]) -> io::Result<()> {
 fn print_text(writer: &mut impl Write, file: &[u8]) -> io::Result<()> {
     let mut text = [0u8; 10240];
     match linkrun_text::write_linkrun(file, &mut text) {
-        PlaceAnswer::Next(end) => print_answer(writer, &text[..end]),
-        PlaceAnswer::Refused(r) => replay_io::print_refusal(writer, r),
+        Ok(end) => print_answer(writer, &text[..end]),
+        Err(r) => replay_io::print_refusal(writer, r),
     }
 }
 
@@ -73,36 +71,36 @@ fn print_run(writer: &mut impl Write, file: &[u8]) -> io::Result<()> {
     }
     let mut events = [[0u64; 7]; 256];
     match linkrun_text::run_file_unchecked(file, &mut events) {
-        RunAnswer::Outcome(o) => {
+        Ok(o) => {
             let end = o.end;
             replay_io::print_test(writer, o.completed)?;
             print_end(writer, end)
         }
-        RunAnswer::Refused(r) => replay_io::print_refusal(writer, r),
+        Err(r) => replay_io::print_refusal(writer, r),
     }
 }
 
 fn print_report(writer: &mut impl Write, file: &[u8]) -> io::Result<()> {
     let mut events = [[0u64; 7]; 256];
     match linkrun_text::run_file_unchecked(file, &mut events) {
-        RunAnswer::Outcome(o) => {
+        Ok(o) => {
             let driver = o.driver;
             print_page(writer, &events, driver.events)
         }
-        RunAnswer::Refused(r) => replay_io::print_refusal(writer, r),
+        Err(r) => replay_io::print_refusal(writer, r),
     }
 }
 
 fn print_page(writer: &mut impl Write, events: &[Event], count: usize) -> io::Result<()> {
     let mut page = [0u8; 20480];
     match report::write_report(events, count, &mut page) {
-        PlaceAnswer::Next(end) => {
+        Ok(end) => {
             let text = replay_io::prefix(&page, end);
             print_answer(writer, text)?;
             replay_io::print(writer, b"\n")?;
             replay_io::print(writer, text)
         }
-        PlaceAnswer::Refused(r) => replay_io::print_refusal(writer, r),
+        Err(r) => replay_io::print_refusal(writer, r),
     }
 }
 

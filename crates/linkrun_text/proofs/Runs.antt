@@ -1,4 +1,5 @@
 -- The rows of a run and the cases of the text.
+use Rattle.std.specs.Prelude.{Err, Ok, Result}
 use Prim.Native.Nat.{ℕ, suc, ◌≤◌, ◌<◌}
 use mathlib.Core.Path.{◌≡◌, refl, sym, ap, ◌∙◌}
 use mathlib.Core.Bool.{Bool, true, false, cond}
@@ -20,10 +21,9 @@ use Rattle.trace.proofs.Laws.{write_placed}
 use Rattle.transfer.specs.Transfer.{default_ceilings, RunExit, run_exit, run_transfer}
 use Rattle.refusal.specs.declared.Refusal.{Refusal}
 use Rattle.transfer.specs.declared.Outcome as outcome
-use Rattle.transfer.specs.declared.RunAnswer.{RunAnswer}
-use Rattle.transfer.specs.declared.RunAnswer.TheVariants.{Outcome, Refused}
 use Rattle.linkrun_text.specs.Linkrun.{max_file, linkrun_setup, linkrun_rolls, linkrun_lent, linkrun_run, answered_events, run_events, file_events, linkrun_text}
 use Rattle.linkrun_text.specs.Internal.{rows_written, HoldsRun}
+use Rattle.transfer.specs.declared.Outcome.{Outcome}
 
 capped : (n : ℕ) (rows : List (List ℕ)) → length rows ≡ max_file → (t : Bool) → ltb max_file n ≡ t
     → events_of (cond t max_file n) rows ≡ events_of n rows
@@ -37,20 +37,20 @@ none : (rows : List (List ℕ)) → events_of 0 rows ≡ []
 unfolding events_of
 none rows = refl
 
-pub rows_events : (answer : RunAnswer) (rows : List (List ℕ)) → length rows ≡ max_file → events_of (rows_written answer) rows ≡ answered_events answer rows
+pub rows_events : (answer : Result Outcome Refusal) (rows : List (List ℕ)) → length rows ≡ max_file → events_of (rows_written answer) rows ≡ answered_events answer rows
 unfolding rows_written
-rows_events (Outcome o) rows e = capped o.driver.events rows e (ltb max_file o.driver.events) refl
-rows_events (Refused r) rows e = none rows
+rows_events (Ok o) rows e = capped o.driver.events rows e (ltb max_file o.driver.events) refl
+rows_events (Err r) rows e = none rows
 
-pub all_rows : {answer : RunAnswer} {o : outcome.Outcome} → answer ≡ Outcome o → max_file < o.driver.events → max_file ≡ rows_written answer
+pub all_rows : {answer : Result Outcome Refusal} {o : outcome.Outcome} → answer ≡ Ok o → max_file < o.driver.events → max_file ≡ rows_written answer
 unfolding rows_written
 all_rows {answer} {o} e h = rw (e, lt-ltb max_file o.driver.events h)
 
-pub some_rows : {answer : RunAnswer} {o : outcome.Outcome} → answer ≡ Outcome o → o.driver.events ≤ max_file → o.driver.events ≡ rows_written answer
+pub some_rows : {answer : Result Outcome Refusal} {o : outcome.Outcome} → answer ≡ Ok o → o.driver.events ≤ max_file → o.driver.events ≡ rows_written answer
 unfolding rows_written
 some_rows {answer} {o} e h = rw (e, le-ltb max_file o.driver.events h)
 
-pub no_rows : {answer : RunAnswer} {r : Refusal} → answer ≡ Refused r → 0 ≡ rows_written answer
+pub no_rows : {answer : Result Outcome Refusal} {r : Refusal} → answer ≡ Err r → 0 ≡ rows_written answer
 unfolding rows_written
 no_rows e = rw e
 
@@ -58,10 +58,10 @@ within : (n : ℕ) (t : Bool) → ltb max_file n ≡ t → cond t max_file n ≤
 within n true h = omega arith
 within n false h = ltb-false max_file n h
 
-pub rows_within : (answer : RunAnswer) → rows_written answer ≤ max_file
+pub rows_within : (answer : Result Outcome Refusal) → rows_written answer ≤ max_file
 unfolding rows_written
-rows_within (Outcome o) = within o.driver.events (ltb max_file o.driver.events) refl
-rows_within (Refused r) = omega arith
+rows_within (Ok o) = within o.driver.events (ltb max_file o.driver.events) refl
+rows_within (Err r) = omega arith
 
 -- what the run is lent, by the rows for its events
 abbrev pub lent_with : List (List ℕ) → Lent
@@ -74,7 +74,7 @@ unfolding linkrun_lent
 lent_zeros e = rw e
 
 -- what the call of `run_transfer` leaves is the run's
-pub run_holds : (file : List ℕ) {answer : RunAnswer} {l : Lent} {events : List (List ℕ)} {config : TransferConfig}
+pub run_holds : (file : List ℕ) {answer : Result Outcome Refusal} {l : Lent} {events : List (List ℕ)} {config : TransferConfig}
     → run_exit answer l ≡ run_transfer default_ceilings config (given file linkrun_rolls linkrun_rolls) (lent_with events) → config ≡ linkrun_setup
     → events ≡ replicate max_file vacant → length l.events ≡ length events → HoldsRun file l.events answer
 unfolding linkrun_run
@@ -87,7 +87,7 @@ run_holds file {answer} {l} {events} e s z k =
       size = sym size;
     }
 
-pub rows_hold : {file : List ℕ} {rows : List (List ℕ)} {answer : RunAnswer} {count : ℕ} → HoldsRun file rows answer → count ≡ rows_written answer
+pub rows_hold : {file : List ℕ} {rows : List (List ℕ)} {answer : Result Outcome Refusal} {count : ℕ} → HoldsRun file rows answer → count ≡ rows_written answer
     → (events_of count rows ≡ run_events (linkrun_run file)) × (count ≤ length rows)
 unfolding run_events
 rows_hold {file} {rows} {answer} {count} h n =

@@ -1,5 +1,5 @@
 -- The program `linkrun` (document 01, at its end): its built-in setup, and what it prints for a file.
-use Rattle.std.specs.Prelude.{ℕ, ◌*◌, ◌≡◌, true, cond, List, [], ◌∷◌, ltb, length, replicate, Float}
+use Rattle.std.specs.Prelude.{ℕ, ◌*◌, ◌≡◌, true, cond, List, [], ◌∷◌, ltb, length, replicate, Float, Err, Ok, Result}
 use Rattle.bounds.specs.Bounds.{slot_size, place_size}
 use Rattle.refusal.specs.Refusal.{ascii}
 use Rattle.protocol.specs.declared.ProtocolType.TheVariants.{SelectiveRepeat}
@@ -13,9 +13,9 @@ use Rattle.step.specs.State.{given, Lent, lent}
 use Rattle.step.specs.declared.End.TheVariants.{Ended}
 use Rattle.transfer.specs.Transfer.{default_ceilings, RunExit, run_transfer}
 use Rattle.transfer.specs.declared.Outcome.{Outcome as RunOutcome}
-use Rattle.transfer.specs.declared.RunAnswer.{RunAnswer}
-use Rattle.transfer.specs.declared.RunAnswer.TheVariants.{Outcome, Refused}
 use Rattle.trace.specs.Text.{events_text}
+use Rattle.transfer.specs.declared.Outcome.{Outcome}
+use Rattle.refusal.specs.declared.Refusal.{Refusal}
 
 -- the longest file that is run
 abbrev pub max_file : ℕ
@@ -71,7 +71,7 @@ linkrun_run file = run_transfer default_ceilings linkrun_setup (given file linkr
 -- the run of a file was not refused
 pub record Ran (file : List ℕ) : Type 0 where
   pub outcome : RunOutcome
-  pub answered : (linkrun_run file).answer ≡ Outcome outcome
+  pub answered : (linkrun_run file).answer ≡ Ok outcome
 
 -- and ended by itself, with all delivered
 pub record Completes (file : List ℕ) : Type 0 where
@@ -80,9 +80,9 @@ pub record Completes (file : List ℕ) : Type 0 where
   pub completed : ran.outcome.completed ≡ true
 
 -- the events of a run; of a refused one none
-abbrev pub answered_events : RunAnswer → List (List ℕ) → List ForwardEvent
-answered_events (Outcome o) events = events_of o.driver.events events
-answered_events (Refused r) events = []
+abbrev pub answered_events : Result Outcome Refusal → List (List ℕ) → List ForwardEvent
+answered_events (Ok o) events = events_of o.driver.events events
+answered_events (Err r) events = []
 
 unfoldable pub run_events : RunExit → List ForwardEvent
 run_events x = answered_events x.answer x.lent.events

@@ -10,16 +10,15 @@ ghost use Rattle.linkrun_text.specs.Internal.{rows_written, HoldsRun};
 use channel::ChannelConfig;
 use events::Event;
 use protocol::ProtocolType;
+use refusal::Refusal;
 use rto::RtoConfig;
 use setup::{ClockChoice, TransferConfig};
-use text::PlaceAnswer;
-use transfer::RunAnswer;
 
 // The longest file that is run.
 pub const MAX_FILE: usize = 256;
 
 // Writes what `linkrun` prints for a file to the front of a lent buffer.
-pub fn write_linkrun(file: &[u8], out: &mut [u8]) -> PlaceAnswer
+pub fn write_linkrun(file: &[u8], out: &mut [u8]) -> Result<usize, Refusal>
     ensures { place_exit out.new result ≡ place out.old 0 (linkrun_text file.now) }
 {
     if MAX_FILE < file.len() {
@@ -35,7 +34,7 @@ pub fn write_linkrun(file: &[u8], out: &mut [u8]) -> PlaceAnswer
 }
 
 // Runs a file with the built-in setup; the events go to lent rows of zeros.
-pub fn run_file_unchecked(file: &[u8], events: &mut [Event; 256]) -> RunAnswer
+pub fn run_file_unchecked(file: &[u8], events: &mut [Event; 256]) -> Result<Outcome, Refusal>
     requires { events.old ≡ replicate max_file vacant }
     ensures { HoldsRun file.now events.new result }
 {
@@ -71,11 +70,11 @@ pub fn run_file_unchecked(file: &[u8], events: &mut [Event; 256]) -> RunAnswer
 
 // How many of the rows hold events: none where the run is refused. A run writes no more rows than it is lent, but no
 // law below this crate says so; it is looked at.
-fn events_written(answer: RunAnswer) -> usize
+fn events_written(answer: Result<Outcome, Refusal>) -> usize
     ensures { result ≡ rows_written answer }
 {
     match answer {
-        RunAnswer::Outcome(o) => {
+        Ok(o) => {
             let driver = o.driver;
             let count = driver.events;
             if MAX_FILE < count {
@@ -83,7 +82,7 @@ fn events_written(answer: RunAnswer) -> usize
             }
             count
         }
-        RunAnswer::Refused(_) => 0,
+        Err(_) => 0,
     }
 }
 

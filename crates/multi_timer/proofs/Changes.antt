@@ -1,4 +1,5 @@
 -- What the functions below the entry points leave, as the definitions have it.
+use Rattle.std.specs.Prelude.{Err, None, Ok, Some}
 use Rattle.std.proofs.Common.{◌≡◌, ℕ, suc, ◌+◌, ◌-◌, ◌<◌, ◌≤◌, min, max, Bool, true, false, cond, not, ◌&&◌, leb, List, [], ◌∷◌, ◌++◌, length, get_or, take, drop, set, replicate, sym, refl, ap, ◌∙◌, subst, ap₂, true≢false, zero-le, le_trans, arith, drop-drop, take_at, drop_at, leb-false}
 use Rattle.std.specs.List.{count_by, fold}
 use Rattle.std.proofs.lemmas.List.Sums.{sum_by-cons}
@@ -8,8 +9,6 @@ use Rattle.multi_timer.specs.Map.{Entry, keys_of, deadlines_of, ascending, looku
 use Rattle.multi_timer.specs.Internal.{search_in, inserted_at, removed_at, cleared_in, due_in, Partitioned}
 use Rattle.multi_timer.specs.MultiTimer.{used, replaced, timers_exit, TimersExit, pop_exit, timers, next_generation, broken, start_full, start_timer_at_unchecked, cancel_timer_unchecked, pop_expired_at_unchecked, clear_unchecked, earliest_answer, earliest_deadline_unchecked}
 use Rattle.multi_timer.specs.declared.MultiTimer.{MultiTimer}
-use Rattle.multi_timer.specs.declared.KeyPosition.TheVariants.{At, Absent}
-use Rattle.multi_timer.specs.declared.EarliestAnswer as Ea
 use Rattle.multi_timer.proofs.Verdicts.{Good, good_of, in_order_lem}
 use Rattle.multi_timer.proofs.Lists.{rest, rest_cons}
 use Rattle.multi_timer.proofs.Sorted.{length_keys, length_deadlines, keys_entries, deadlines_entries}
@@ -55,35 +54,35 @@ module _ (t : MultiTimer) (ks ds : List ℕ) (b : broken t.count ks ds ≡ false
   pub due_used : (now : ℕ) → length (due_keys now (used t ks ds)) ≡ due_in now (take t.count ds)
   due_used now = length_keys (keep (due now) (used t ks ds)) ∙ due_length now (take t.count ks) (take t.count ds) used_one_length
 
-  pub earliest_none : t.count ≡ 0 → Ea.TheVariants.Nothing ≡ earliest_deadline_unchecked t ks ds
+  pub earliest_none : t.count ≡ 0 → Ok None ≡ earliest_deadline_unchecked t ks ds
   unfolding earliest
   earliest_none z = sym (ap (λ (xs : List ℕ). earliest_answer (earliest xs)) (used_deadlines ∙ ap (λ (n : ℕ). take n ds) z))
 
-  pub earliest_at : (d : ℕ) → some d ≡ earliest (take t.count ds) → Ea.TheVariants.At d ≡ earliest_deadline_unchecked t ks ds
+  pub earliest_at : (d : ℕ) → some d ≡ earliest (take t.count ds) → Ok (Some d) ≡ earliest_deadline_unchecked t ks ds
   earliest_at d e = ap earliest_answer e ∙ sym (ap (λ (xs : List ℕ). earliest_answer (earliest xs)) used_deadlines)
 
-  pub started_at : (key d p next : ℕ) (ds' : List ℕ) → At p ≡ search_in key (take t.count ks) → next ≡ next_generation t.global_generation → ds' ≡ set ds p d → timers_exit (timers t.count next) ks ds' ≡ start_timer_at_unchecked t ks ds key d
+  pub started_at : (key d p next : ℕ) (ds' : List ℕ) → Ok p ≡ search_in key (take t.count ks) → next ≡ next_generation t.global_generation → ds' ≡ set ds p d → timers_exit (timers t.count next) ks ds' ≡ start_timer_at_unchecked t ks ds key d
   unfolding start_timer_at_unchecked
   started_at key d p next ds' e n q =
-      let w = put_found t.count ks ds g key d (At p) e in
+      let w = put_found t.count ks ds g key d (Ok p) e in
       same_after _ _ ks _ ds' _ (ap₂ timers (sym (kept_count t.count ks ds g key p d e)) n) (sym (same_is t.count ks _ count_fits w.keys)) (q ∙ sym (set_is t.count ds _ count_fits_deadlines p d (at_bound t.count ks ds g key p e) w.deadlines))
 
-  pub started_absent : (key d p next : ℕ) (ks' ds' : List ℕ) → Absent p ≡ search_in key (take t.count ks) → next ≡ next_generation t.global_generation → ks' ≡ inserted_at p t.count key ks → ds' ≡ inserted_at p t.count d ds
+  pub started_absent : (key d p next : ℕ) (ks' ds' : List ℕ) → Err p ≡ search_in key (take t.count ks) → next ≡ next_generation t.global_generation → ks' ≡ inserted_at p t.count key ks → ds' ≡ inserted_at p t.count d ds
       → timers_exit (timers (t.count + 1) next) ks' ds' ≡ start_timer_at_unchecked t ks ds key d
   unfolding start_timer_at_unchecked
   started_absent key d p next ks' ds' e n q r =
-      let w = put_found t.count ks ds g key d (Absent p) e in
+      let w = put_found t.count ks ds g key d (Err p) e in
       let h = absent_bound t.count ks ds g key p e in
       same_after _ _ ks' _ ds' _ (ap₂ timers (sym (inserted_count t.count ks ds g key p d e)) n) (q ∙ sym (inserted_is t.count ks _ count_fits p key h w.keys)) (r ∙ sym (inserted_is t.count ds _ count_fits_deadlines p d h w.deadlines))
 
-  pub place_at : (key p : ℕ) → At p ≡ search_in key (take t.count ks) → p < t.count
+  pub place_at : (key p : ℕ) → Ok p ≡ search_in key (take t.count ks) → p < t.count
   place_at key p e = at_bound t.count ks ds g key p e
 
-  pub place_absent : (key p : ℕ) → Absent p ≡ search_in key (take t.count ks) → p ≤ t.count
+  pub place_absent : (key p : ℕ) → Err p ≡ search_in key (take t.count ks) → p ≤ t.count
   place_absent key p e = absent_bound t.count ks ds g key p e
 
   -- a new key has an unused entry
-  pub unused : (key p : ℕ) → Absent p ≡ search_in key (take t.count ks) → start_full t ks ds key ≡ false → t.count < length ks
+  pub unused : (key p : ℕ) → Err p ≡ search_in key (take t.count ks) → start_full t ks ds key ≡ false → t.count < length ks
   unused key p e f = go (leb (length ks) t.count) (is_some (lookup key (used t ks ds))) (leb-false _ _) (ap is_some (absent_lookup t.count ks ds g key p e)) f
     where
       go : (a h : Bool) → (a ≡ false → t.count < length ks) → h ≡ false → (a && not h) ≡ false → t.count < length ks
@@ -91,20 +90,20 @@ module _ (t : MultiTimer) (ks ds : List ℕ) (b : broken t.count ks ds ≡ false
       go true true p q r = absurd (true≢false q)
       go true false p q r = absurd (true≢false r)
 
-  pub unused_deadline : (key p : ℕ) → Absent p ≡ search_in key (take t.count ks) → start_full t ks ds key ≡ false → t.count < length ds
+  pub unused_deadline : (key p : ℕ) → Err p ≡ search_in key (take t.count ks) → start_full t ks ds key ≡ false → t.count < length ds
   unused_deadline key p e f = subst (λ (m : ℕ). t.count < m) g.same (unused key p e f)
 
-  pub cancelled_at : (key p n : ℕ) (ks' ds' : List ℕ) → At p ≡ search_in key (take t.count ks) → n ≡ t.count - 1 → ks' ≡ removed_at p t.count ks → ds' ≡ removed_at p t.count ds → timers_exit (timers n t.global_generation) ks' ds' ≡ cancel_timer_unchecked t ks ds key
+  pub cancelled_at : (key p n : ℕ) (ks' ds' : List ℕ) → Ok p ≡ search_in key (take t.count ks) → n ≡ t.count - 1 → ks' ≡ removed_at p t.count ks → ds' ≡ removed_at p t.count ds → timers_exit (timers n t.global_generation) ks' ds' ≡ cancel_timer_unchecked t ks ds key
   unfolding cancel_timer_unchecked
   cancelled_at key p n ks' ds' e m q r =
-      let w = remove_found t.count ks ds g key (At p) e in
+      let w = remove_found t.count ks ds g key (Ok p) e in
       let h = at_bound t.count ks ds g key p e in
       same_after _ _ ks' _ ds' _ (ap (λ (k : ℕ). timers k t.global_generation) (m ∙ sym (removed_count t.count ks ds g key p e))) (q ∙ sym (removed_is t.count ks _ count_fits p h w.keys)) (r ∙ sym (removed_is t.count ds _ count_fits_deadlines p h w.deadlines))
 
-  pub cancelled_absent : (key p : ℕ) → Absent p ≡ search_in key (take t.count ks) → timers_exit t ks ds ≡ cancel_timer_unchecked t ks ds key
+  pub cancelled_absent : (key p : ℕ) → Err p ≡ search_in key (take t.count ks) → timers_exit t ks ds ≡ cancel_timer_unchecked t ks ds key
   unfolding cancel_timer_unchecked
   cancelled_absent key p e =
-      let w = remove_found t.count ks ds g key (Absent p) e in
+      let w = remove_found t.count ks ds g key (Err p) e in
       same_after _ _ ks _ ds _ (ap (λ (k : ℕ). timers k t.global_generation) (sym (same_count t.count ks ds g key p e))) (sym (same_is t.count ks _ count_fits w.keys)) (sym (same_is t.count ds _ count_fits_deadlines w.deadlines))
 
   pub cleared_all : (ks' ds' : List ℕ) → ks' ≡ cleared_in 0 t.count ks → ds' ≡ cleared_in 0 t.count ds → timers_exit (timers 0 t.global_generation) ks' ds' ≡ clear_unchecked t ks ds

@@ -1,5 +1,6 @@
 -- The due keys from a key on. A walk by a cursor over the expired keys meets those that were due when it began: a start or a cancel of
 -- a key below the cursor changes nothing from the cursor on.
+use Rattle.std.specs.Prelude.{Err, None, Ok, Result, Some}
 use Rattle.std.proofs.Common.{◌≡◌, ℕ, suc, ◌+◌, ◌<◌, ◌≤◌, Bool, true, false, cond, not, ◌&&◌, eqb, ltb, leb, List, [], ◌∷◌, length, get_or, take, drop, sym, refl, ap, ◌∙◌, le_trans, le_of_eq, le_refl, one-add, arith, ltb-false, ltb-true, eq-eqb, ne_eqb, eqb-true, le-leb, leb-true}
 use mathlib.Core.Option.{some}
 use native.Mathlib.Nat.{suc_inj}
@@ -8,9 +9,6 @@ use Rattle.multi_timer.specs.Map.{Entry, entry, entries_of, keys_of, ascending_f
 use Rattle.multi_timer.specs.Internal.{search_in, later, index_of, next_due}
 use Rattle.multi_timer.specs.MultiTimer.{broken, next_key, next_expired_unchecked}
 use Rattle.multi_timer.specs.declared.MultiTimer.{MultiTimer}
-use Rattle.multi_timer.specs.declared.NextKey.TheVariants.{Key, Nothing}
-use Rattle.multi_timer.specs.declared.KeyPosition.{KeyPosition}
-use Rattle.multi_timer.specs.declared.KeyPosition.TheVariants.{At, Absent}
 use Rattle.multi_timer.proofs.Verdicts.{good_of}
 use Rattle.multi_timer.proofs.Lists.{rest_cons, rest_nil}
 use Rattle.multi_timer.proofs.Sorted.{first_key, other_keys, keys_entries}
@@ -148,21 +146,21 @@ due_from_first from now low k ks (x ∷ es) a e = go (leb from x.key) (leb x.dea
     go false d f g h i = later_on h (i h)
 
 -- what an answer says of the due keys
-pub next_key_lem : (ks : List ℕ) (k : ℕ) → next_key ks ≡ Key k → (rest : List ℕ) × (ks ≡ k ∷ rest)
+pub next_key_lem : (ks : List ℕ) (k : ℕ) → next_key ks ≡ Some k → (rest : List ℕ) × (ks ≡ k ∷ rest)
 next_key_lem [] k e = let z : ◌≡◌ {A = ℕ} 0 1 = cc in absurd (omega arith)
 next_key_lem (x ∷ ks) k e = (ks, ap (λ (y : ℕ). y ∷ ks) (same e))
   where
-    same : Key x ≡ Key k → x ≡ k
+    same : Some x ≡ Some k → x ≡ k
     same e = cc
 
-pub next_nothing : (ks : List ℕ) → next_key ks ≡ Nothing → ks ≡ []
+pub next_nothing : (ks : List ℕ) → next_key ks ≡ None → ks ≡ []
 next_nothing [] e = refl
 next_nothing (x ∷ ks) e = let z : ◌≡◌ {A = ℕ} 0 1 = cc in absurd (omega arith)
 
 -- ---- where a search for the cursor stops, the due keys begin
-index_later : (p : KeyPosition) → index_of (later 1 p) ≡ suc (index_of p)
-index_later (At p) = one-add p
-index_later (Absent p) = one-add p
+index_later : (p : Result ℕ ℕ) → index_of (later 1 p) ≡ suc (index_of p)
+index_later (Ok p) = one-add p
+index_later (Err p) = one-add p
 
 due_from_position : (from now low : ℕ) (ks ds : List ℕ) → length ks ≡ length ds → ascending_from low ks ≡ true
     → due_keys_from from now (entries_of ks ds) ≡ due_keys now (entries_of (drop (index_of (search_in from ks)) ks) (drop (index_of (search_in from ks)) ds))
@@ -172,14 +170,14 @@ due_from_position from now low [] (d ∷ ds) e a = absurd (omega arith)
 due_from_position from now low (k ∷ ks) [] e a = absurd (omega arith)
 due_from_position from now low (k ∷ ks) (d ∷ ds) e a = go (ltb k from) (eqb k from) (ltb-true _ _) (ltb-false _ _) (due_from_position from now (suc k) ks ds (suc_inj e) (other_keys low k ks a))
   where
-    Stands : KeyPosition → Type 0
+    Stands : Result ℕ ℕ → Type 0
     Stands p = due_keys_from from now (entry k d ∷ entries_of ks ds) ≡ due_keys now (entries_of (drop (index_of p) (k ∷ ks)) (drop (index_of p) (d ∷ ds)))
 
     first : from ≤ k → due_keys_from from now (entry k d ∷ entries_of ks ds) ≡ due_keys now (entry k d ∷ entries_of ks ds)
     first h = due_from_all from now k (entries_of (k ∷ ks) (d ∷ ds)) (ap (ascending_from k) (keys_entries (k ∷ ks) (d ∷ ds) e) ∙ ascending_cons k k ks (le_refl k) (other_keys low k ks a)) h
 
     go : (b c : Bool) → (b ≡ true → k < from) → (b ≡ false → from ≤ k) → due_keys_from from now (entries_of ks ds) ≡ due_keys now (entries_of (drop (index_of (search_in from ks)) ks) (drop (index_of (search_in from ks)) ds))
-        → Stands (cond b (later 1 (search_in from ks)) (cond c (At 0) (Absent 0)))
+        → Stands (cond b (later 1 (search_in from ks)) (cond c (Ok 0) (Err 0)))
     go true c f g i = rw (index_later (search_in from ks)) (below_head from now (entry k d) (entries_of ks ds) (f refl) ∙ i)
     go false true f g i = first (g refl)
     go false false f g i = first (g refl)
@@ -189,7 +187,7 @@ next_expired t ks ds from now b = ap next_key (sym (due_from_position from now 0
 
 -- ---- one turn of the loop
 module _ (n i now : ℕ) (ks ds : List ℕ) (hk : n ≤ length ks) (hd : n ≤ length ds) where
-  pub next_found : i < n → get_or ds i 0 ≤ now → Key (get_or ks i 0) ≡ next_due n i now ks ds
+  pub next_found : i < n → get_or ds i 0 ≤ now → Some (get_or ks i 0) ≡ next_due n i now ks ds
   unfolding entries_of keep keys_of
   next_found h d = rw (rest_cons n i ks h hk, rest_cons n i ds h hd, le-leb _ _ d)
 
@@ -197,6 +195,6 @@ module _ (n i now : ℕ) (ks ds : List ℕ) (hk : n ≤ length ks) (hd : n ≤ l
   unfolding entries_of keep
   next_step h d = rw (rest_cons n i ks h hk, rest_cons n i ds h hd, lt-leb _ _ d)
 
-  pub next_end : n ≤ i → Nothing ≡ next_due n i now ks ds
+  pub next_end : n ≤ i → None ≡ next_due n i now ks ds
   unfolding entries_of keep keys_of
   next_end h = rw (rest_nil n i ks h hk)

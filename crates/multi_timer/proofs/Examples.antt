@@ -1,11 +1,10 @@
 -- One closed list of calls in slices of one entry, by computation: while key 7 is set key 9 finds no entry unused and key 7 restarts, and a pop with key 7 due is refused if the lent slice is empty and else writes key 7.
+use Rattle.std.specs.Prelude.{Ok, Some}
 use Rattle.std.proofs.Common.{◌≡◌, true, List, [], ◌∷◌, refl}
 use mathlib.Core.Option.{some}
 use Rattle.multi_timer.specs.Map.{keys_of, deadlines_of, lookup, keep, put, min_of, earliest}
 use Rattle.multi_timer.specs.MultiTimer.{used, is_expired_at, pop_expired_at, earliest_deadline}
 use Rattle.multi_timer.specs.History.{Call, start, pop, after_calls, is_refused, entries_after, deadline_of, turned_away, accepted}
-use Rattle.refusal.specs.declared.TestAnswer.TheVariants.{Is}
-use Rattle.multi_timer.specs.declared.EarliestAnswer.TheVariants.{At}
 use Rattle.multi_timer.proofs.History.{Popped, deadlines_are, expired_is, earliest_is, pop_is, history, refused_are}
 
 abbrev calls : List Call
@@ -23,11 +22,11 @@ pub deadline_held : lookup 7 (used (after_calls 1 calls).answer (after_calls 1 c
 unfolding accepted turned_away entries_after deadline_of keep put keys_of
 deadline_held = deadlines_are 1 (accepted 1 calls) (after_calls 1 calls) (history 1 calls) 7
 
-pub earliest_held : earliest_deadline (after_calls 1 calls).answer (after_calls 1 calls).keys (after_calls 1 calls).deadlines ≡ At 8
+pub earliest_held : earliest_deadline (after_calls 1 calls).answer (after_calls 1 calls).keys (after_calls 1 calls).deadlines ≡ Ok (Some 8)
 unfolding accepted turned_away entries_after deadline_of keep put keys_of deadlines_of earliest min_of
 earliest_held = earliest_is 1 (accepted 1 calls) (after_calls 1 calls) (history 1 calls)
 
-pub expired_at_deadline : is_expired_at (after_calls 1 calls).answer (after_calls 1 calls).keys (after_calls 1 calls).deadlines 7 8 ≡ Is true
+pub expired_at_deadline : is_expired_at (after_calls 1 calls).answer (after_calls 1 calls).keys (after_calls 1 calls).deadlines 7 8 ≡ Ok true
 unfolding accepted turned_away entries_after deadline_of keep put keys_of
 expired_at_deadline = expired_is 1 (accepted 1 calls) (after_calls 1 calls) (history 1 calls) 7 8 refl
 

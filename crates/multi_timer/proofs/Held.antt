@@ -1,4 +1,5 @@
 -- What the calls below the entry points leave: checks 9 and 10 of the next call are false of it, so that calls can follow one another.
+use Rattle.std.specs.Prelude.{Err, Ok, Result}
 use Rattle.std.proofs.Common.{◌≡◌, ℕ, suc, ◌+◌, ◌≤◌, Bool, true, false, cond, List, [], ◌∷◌, length, take, replicate, sym, refl, ap, ◌∙◌, subst, zero-le, le_trans, le_of_eq, arith, le-ltb, eq-eqb}
 use lib.ListN.{length-replicate}
 use Rattle.bounds.specs.Bounds.{max_duration, max_time}
@@ -7,8 +8,6 @@ use Rattle.multi_timer.specs.Map.{Entry, entries_of, keys_of, deadlines_of, asce
 use Rattle.multi_timer.specs.Internal.{search_in}
 use Rattle.multi_timer.specs.MultiTimer.{used, TimersExit, next_generation, holding, broken, any_late, held_too_late, read_too_late, start_too_late, start_full, new_unchecked, start_timer_at_unchecked, cancel_timer_unchecked, pop_expired_at_unchecked, clear_unchecked}
 use Rattle.multi_timer.specs.declared.MultiTimer.{MultiTimer}
-use Rattle.multi_timer.specs.declared.KeyPosition.{KeyPosition}
-use Rattle.multi_timer.specs.declared.KeyPosition.TheVariants.{At, Absent}
 use Rattle.multi_timer.proofs.Verdicts.{Good, good_of}
 use Rattle.multi_timer.proofs.Sorted.{length_keys, length_deadlines}
 use Rattle.multi_timer.proofs.Places.{kept_count, inserted_count}
@@ -55,9 +54,9 @@ module _ (t : MultiTimer) (ks ds : List ℕ) (b : broken t.count ks ds ≡ false
       next : {a m n : ℕ} → a ≡ m + 1 → suc m ≤ n → a ≤ n
       next e h = omega arith
 
-      go : (p : KeyPosition) → p ≡ search_in key (take t.count ks) → length (put key d (used t ks ds)) ≤ length ks
-      go (At p) e = le_trans (le_of_eq (kept_count t.count ks ds g key p d e)) g.within
-      go (Absent p) e = next (inserted_count t.count ks ds g key p d e) (unused t ks ds b key p e f)
+      go : (p : Result ℕ ℕ) → p ≡ search_in key (take t.count ks) → length (put key d (used t ks ds)) ≤ length ks
+      go (Ok p) e = le_trans (le_of_eq (kept_count t.count ks ds g key p d e)) g.within
+      go (Err p) e = next (inserted_count t.count ks ds g key p d e) (unused t ks ds b key p e f)
 
   pub used_times : any_late (deadlines_of (used t ks ds)) ≡ held_too_late t.count ds
   used_times = ap any_late (used_deadlines t ks ds b)

@@ -1,4 +1,5 @@
 -- After any list of calls from a fresh set, the set is the map that the accepted calls say, and the next call meets no 9 and no deadline above its bound.
+use Rattle.std.specs.Prelude.{Ok}
 use Rattle.std.proofs.Common.{◌≡◌, ℕ, suc, ◌+◌, ◌%◌, ◌^◌, Bool, true, false, cond, not, ◌&&◌, ◌||◌, eqb, ltb, leb, List, [], ◌∷◌, ◌++◌, length, drop, replicate, sym, refl, ap, ◌∙◌, subst, true≢false, zero-le, arith, le-ltb, eq-eqb}
 use mathlib.Core.Option.{Option, none, some}
 use lib.ListN.{length-replicate}
@@ -13,11 +14,8 @@ use Rattle.multi_timer.specs.Map.{Entry, entries_of, keys_of, deadlines_of, asce
 use Rattle.multi_timer.specs.MultiTimer.{used, replaced, TimersExit, timers_exit, timers, next_generation, broken, any_late, held_too_late, held_checks, start_full, start_timer_at_unchecked, cancel_timer_unchecked, pop_expired_at_unchecked, clear_unchecked, new_unchecked, new_timers, start_timer_at, cancel_timer, is_expired_at, PopExit, pop_expired_at, earliest_answer, earliest_deadline, clear_timers, answering}
 use Rattle.multi_timer.specs.History.{Call, start, cancel, pop, clear, fresh, step, after_calls, start_refused, cancel_refused, pop_refused, clear_refused, is_refused, entries_after, deadline_of, earliest_of, due_keys_of, starts, turned_away, accepted}
 use Rattle.multi_timer.specs.declared.MultiTimer.{MultiTimer}
-use Rattle.multi_timer.specs.declared.MultiTimerAnswer.TheVariants.{Made}
 use Rattle.multi_timer.specs.declared.StartResult.{StartResult}
 use Rattle.multi_timer.specs.declared.CancelResult.{CancelResult}
-use Rattle.refusal.specs.declared.TestAnswer.TheVariants.{Is}
-use Rattle.multi_timer.specs.declared.PopAnswer.TheVariants.{Keys}
 use Rattle.multi_timer.specs.declared.PopResult.{PopResult}
 use Rattle.multi_timer.specs.declared.ClearResult.{ClearResult}
 use Rattle.multi_timer.proofs.Changes.{front, used_length}
@@ -69,7 +67,7 @@ pub record Kept (n : ℕ) (xs : List Call) (s : TimersExit MultiTimer) : Type 0 
 
 -- a pop answers how many keys it takes; they go to the front of the lent slice, and the rest of it stays
 pub record Popped (keys out : List ℕ) (z : PopExit PopResult) : Type 0 where
-  pub answered : z.rest.answer.answer ≡ Keys (length keys)
+  pub answered : z.rest.answer.answer ≡ Ok (length keys)
   pub written : z.out ≡ keys ++ drop (length keys) out
 
 -- the tests of a call on a set that check 9 lets pass and that holds no late deadline: refused, or the other answer
@@ -90,8 +88,8 @@ module _ (n : ℕ) (xs : List Call) (s : TimersExit MultiTimer) (k : Kept n xs s
   deadlines_are key = ap (lookup key) k.entries_are ∙ lookup_entries key xs
 
   -- ---- what the calls that only read answer, and what a pop writes
-  pub expired_is : (key now : ℕ) → ltb max_time now ≡ false → is_expired_at s.answer s.keys s.deadlines key now ≡ Is (due_at now (deadline_of key xs))
-  expired_is key now h = expired_accepted s.answer s.keys s.deadlines key now (none_true_accepted _ (k.state, (simp (k.times, h), tt))) ∙ ap (λ (o : Option ℕ). Is (due_at now o)) (deadlines_are key)
+  pub expired_is : (key now : ℕ) → ltb max_time now ≡ false → is_expired_at s.answer s.keys s.deadlines key now ≡ Ok (due_at now (deadline_of key xs))
+  expired_is key now h = expired_accepted s.answer s.keys s.deadlines key now (none_true_accepted _ (k.state, (simp (k.times, h), tt))) ∙ ap (λ (o : Option ℕ). Ok (due_at now o)) (deadlines_are key)
 
   pub earliest_is : earliest_deadline s.answer s.keys s.deadlines ≡ earliest_answer (earliest_of xs)
   earliest_is = earliest_accepted s.answer s.keys s.deadlines (none_true_accepted _ (k.state, (k.times, tt))) ∙ ap (λ (z : List Entry). earliest_answer (earliest (deadlines_of z))) k.entries_are
@@ -104,7 +102,7 @@ module _ (n : ℕ) (xs : List Call) (s : TimersExit MultiTimer) (k : Kept n xs s
       (by_tests (λ (z : PopExit PopResult) (b : Bool). b ≡ false → Popped (due_keys_of now xs) out z) _ _ _ _ _ _ k.state k.times (λ r e. absurd (true≢false e))
       (λ t f e.
       record {
-        answered = ap (λ (z : List Entry). Keys (length (due_keys now z))) k.entries_are;
+        answered = ap (λ (z : List Entry). Ok (length (due_keys now z))) k.entries_are;
         written = ap (λ (z : List Entry). replaced (due_keys now z) 0 out) k.entries_are ∙ front (due_keys_of now xs) out;
       }))
 
@@ -159,9 +157,9 @@ module _ (n : ℕ) (xs : List Call) (s : TimersExit MultiTimer) (k : Kept n xs s
       no_check (λ (z : TimersExit ClearResult). Kept n (clear ∷ xs) (answering (λ r. r.timers) z) × (clear_refused z.answer.answer ≡ false)) _ _ (held (clear ∷ xs) [] _ (clear_holds s.answer s.keys s.deadlines k.state) refl refl k.generation_is, refl)
 
 -- a set is made so
-pub new_fresh : (ks ds : List ℕ) → length ks ≡ length ds → new_timers ks ds ≡ answering Made (fresh (length ks))
+pub new_fresh : (ks ds : List ℕ) → length ks ≡ length ds → new_timers ks ds ≡ answering Ok (fresh (length ks))
 unfolding new_unchecked fresh
-new_fresh ks ds e = new_accepted ks ds (none_true_accepted _ (simp (eq-eqb (length ks) (length ds) e), tt)) ∙ ap (λ (m : ℕ). timers_exit (Made (timers 0 0)) (replicate (length ks) 0) (replicate m 0)) (sym e)
+new_fresh ks ds e = new_accepted ks ds (none_true_accepted _ (simp (eq-eqb (length ks) (length ds) e), tt)) ∙ ap (λ (m : ℕ). timers_exit (Ok (timers 0 0)) (replicate (length ks) 0) (replicate m 0)) (sym e)
 
 fresh_kept : (n : ℕ) → Kept n [] (fresh n)
 unfolding fresh entries_after starts entries_of ascending_from any_late

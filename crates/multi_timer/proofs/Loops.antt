@@ -1,12 +1,11 @@
 -- One turn of each reading loop: what is left to read gives what the whole gives.
+use Rattle.std.specs.Prelude.{Err, Ok, Result}
 use Rattle.std.proofs.Common.{◌≡◌, ℕ, zero, suc, ◌+◌, ◌-◌, ◌<◌, ◌≤◌, Bool, true, false, ◌&&◌, ◌||◌, ltb, List, [], ◌∷◌, length, get_or, take, sym, refl, ap, subst, zero-le, le_of_eq, not-suc-le-zero, add-zero, add_assoc, zero-add, arith, length-take-le, get_or-take, le-ltb, lt-ltb, eq-eqb, ne_eqb, le-leb}
 use Rattle.std.specs.List.{list_any}
 use Rattle.bounds.specs.Bounds.{max_time}
 use Rattle.multi_timer.specs.Map.{ascending, ascending_from}
 use Rattle.multi_timer.specs.MultiTimer.{any_late}
 use Rattle.multi_timer.specs.Internal.{search_in, later}
-use Rattle.multi_timer.specs.declared.KeyPosition.{KeyPosition}
-use Rattle.multi_timer.specs.declared.KeyPosition.TheVariants.{At, Absent}
 use Rattle.multi_timer.proofs.Lists.{rest, rest_cons, rest_nil}
 use Rattle.multi_timer.proofs.Sorted.{search_behind}
 
@@ -32,25 +31,25 @@ module _ (n i : ℕ) (xs : List ℕ) where
       alone false = refl
 
   -- ---- the search
-  pub search_at : (key : ℕ) → i < n → n ≤ length xs → get_or xs i 0 ≡ key → At i ≡ later i (search_in key (rest n i xs))
+  pub search_at : (key : ℕ) → i < n → n ≤ length xs → get_or xs i 0 ≡ key → Ok i ≡ later i (search_in key (rest n i xs))
   unfolding search_in
-  search_at key h l e = rw (rest_cons n i xs h l) (simp (le-ltb _ _ (le_of_eq (sym e)), eq-eqb _ _ e) (ap At (sym (add-zero i))))
+  search_at key h l e = rw (rest_cons n i xs h l) (simp (le-ltb _ _ (le_of_eq (sym e)), eq-eqb _ _ e) (ap Ok (sym (add-zero i))))
 
-  pub search_absent : (key : ℕ) → i < n → n ≤ length xs → key ≤ get_or xs i 0 → (get_or xs i 0 ≡ key → ⊥) → Absent i ≡ later i (search_in key (rest n i xs))
+  pub search_absent : (key : ℕ) → i < n → n ≤ length xs → key ≤ get_or xs i 0 → (get_or xs i 0 ≡ key → ⊥) → Err i ≡ later i (search_in key (rest n i xs))
   unfolding search_in
-  search_absent key h l k e = rw (rest_cons n i xs h l) (simp (le-ltb _ _ k, ne_eqb _ _ e) (ap Absent (sym (add-zero i))))
+  search_absent key h l k e = rw (rest_cons n i xs h l) (simp (le-ltb _ _ k, ne_eqb _ _ e) (ap Err (sym (add-zero i))))
 
-  later_twice : (p : KeyPosition) → later (i + 1) p ≡ later i (later 1 p)
-  later_twice (At p) = ap At (add_assoc i 1 p)
-  later_twice (Absent p) = ap Absent (add_assoc i 1 p)
+  later_twice : (p : Result ℕ ℕ) → later (i + 1) p ≡ later i (later 1 p)
+  later_twice (Ok p) = ap Ok (add_assoc i 1 p)
+  later_twice (Err p) = ap Err (add_assoc i 1 p)
 
   pub search_step : (key : ℕ) → i < n → n ≤ length xs → get_or xs i 0 < key → later (i + 1) (search_in key (rest n (i + 1) xs)) ≡ later i (search_in key (rest n i xs))
   unfolding search_in
   search_step key h l k = rw (rest_cons n i xs h l) (simp (lt-ltb _ _ k) (later_twice (search_in key (rest n (i + 1) xs))))
 
-  pub search_end : (key : ℕ) → n ≤ i → n ≤ length xs → Absent i ≡ later i (search_in key (rest n i xs))
+  pub search_end : (key : ℕ) → n ≤ i → n ≤ length xs → Err i ≡ later i (search_in key (rest n i xs))
   unfolding search_in
-  search_end key h l = rw (rest_nil n i xs h l) (ap Absent (sym (add-zero i)))
+  search_end key h l = rw (rest_nil n i xs h l) (ap Err (sym (add-zero i)))
 
 -- ---- late
 pub late_any : (ds : List ℕ) → any_late ds ≡ list_any (λ d. ltb max_time d) ds
@@ -71,6 +70,6 @@ ascending_start zero xs h = refl
 ascending_start (suc n) [] h = absurd (not-suc-le-zero h)
 ascending_start (suc n) (x ∷ xs) h = simp (le-leb 0 x zero-le)
 
-pub later_none : (p : KeyPosition) → later 0 p ≡ p
-later_none (At p) = ap At (zero-add p)
-later_none (Absent p) = ap Absent (zero-add p)
+pub later_none : (p : Result ℕ ℕ) → later 0 p ≡ p
+later_none (Ok p) = ap Ok (zero-add p)
+later_none (Err p) = ap Err (zero-add p)

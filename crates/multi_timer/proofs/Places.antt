@@ -1,4 +1,5 @@
 -- The slices after a change at a place that a search found.
+use Rattle.std.specs.Prelude.{Err, Ok, Result}
 use Rattle.std.proofs.Common.{◌≡◌, ℕ, zero, suc, ◌+◌, ◌-◌, ◌<◌, ◌≤◌, max, List, [], ◌∷◌, ◌++◌, length, get_or, take, drop, set, replicate, sym, refl, ap, ◌∙◌, subst, ap₂, append_assoc, le_of_suc-le-suc, le_of_lt, add-one, arith, length-append, length-drop, length-set, take-append-drop, length-take-le, get_or-take, take-take, drop-drop}
 use mathlib.Core.Option.{none, some}
 use native.Mathlib.Nat.{sub-zero, suc-sub-suc}
@@ -8,8 +9,6 @@ use Rattle.octets.proofs.Laws.{tail_is, tail_back}
 use Rattle.multi_timer.specs.Map.{entries_of, lookup, put, remove}
 use Rattle.multi_timer.specs.Internal.{search_in, inserted_at, removed_at, cleared_in}
 use Rattle.multi_timer.specs.MultiTimer.{replaced}
-use Rattle.multi_timer.specs.declared.KeyPosition.{KeyPosition}
-use Rattle.multi_timer.specs.declared.KeyPosition.TheVariants.{At, Absent}
 use Rattle.multi_timer.proofs.Verdicts.{Good}
 use Rattle.multi_timer.proofs.Sorted.{PutIs, put_is, RemoveIs, remove_is, LookupIs, lookup_is, length_keys}
 
@@ -136,39 +135,39 @@ module _ (n : ℕ) (ks ds : List ℕ) (g : Good n ks ds) where
   one_length = length-take-le n ks g.within ∙ sym (length-take-le n ds within)
 
   module _ (key : ℕ) where
-    pub put_found : (d : ℕ) (q : KeyPosition) → q ≡ search_in key K → PutIs q K D key d (put key d (entries_of K D))
-    put_found d q e = subst (λ (z : KeyPosition). PutIs z K D key d (put key d (entries_of K D))) (sym e) (put_is key d K D one_length)
+    pub put_found : (d : ℕ) (q : Result ℕ ℕ) → q ≡ search_in key K → PutIs q K D key d (put key d (entries_of K D))
+    put_found d q e = subst (λ (z : Result ℕ ℕ). PutIs z K D key d (put key d (entries_of K D))) (sym e) (put_is key d K D one_length)
 
-    pub remove_found : (q : KeyPosition) → q ≡ search_in key K → RemoveIs q K D (remove key (entries_of K D))
-    remove_found q e = subst (λ (z : KeyPosition). RemoveIs z K D (remove key (entries_of K D))) (sym e) (remove_is key 0 K D one_length g.sorted)
+    pub remove_found : (q : Result ℕ ℕ) → q ≡ search_in key K → RemoveIs q K D (remove key (entries_of K D))
+    remove_found q e = subst (λ (z : Result ℕ ℕ). RemoveIs z K D (remove key (entries_of K D))) (sym e) (remove_is key 0 K D one_length g.sorted)
 
-    pub lookup_found : (q : KeyPosition) → q ≡ search_in key K → LookupIs q D (lookup key (entries_of K D))
-    lookup_found q e = subst (λ (z : KeyPosition). LookupIs z D (lookup key (entries_of K D))) (sym e) (lookup_is key 0 K D one_length g.sorted)
+    pub lookup_found : (q : Result ℕ ℕ) → q ≡ search_in key K → LookupIs q D (lookup key (entries_of K D))
+    lookup_found q e = subst (λ (z : Result ℕ ℕ). LookupIs z D (lookup key (entries_of K D))) (sym e) (lookup_is key 0 K D one_length g.sorted)
 
     module _ (p : ℕ) where
-      pub at_bound : At p ≡ search_in key K → p < n
-      at_bound e = subst (λ (m : ℕ). p < m) (length-take-le n ds within) (lookup_found (At p) e).0
+      pub at_bound : Ok p ≡ search_in key K → p < n
+      at_bound e = subst (λ (m : ℕ). p < m) (length-take-le n ds within) (lookup_found (Ok p) e).0
 
-      pub at_lookup : At p ≡ search_in key K → lookup key (entries_of K D) ≡ some (get_or ds p 0)
-      at_lookup e = (lookup_found (At p) e).1 ∙ ap some (get_or-take n ds p 0 (at_bound e))
+      pub at_lookup : Ok p ≡ search_in key K → lookup key (entries_of K D) ≡ some (get_or ds p 0)
+      at_lookup e = (lookup_found (Ok p) e).1 ∙ ap some (get_or-take n ds p 0 (at_bound e))
 
-      pub absent_lookup : Absent p ≡ search_in key K → lookup key (entries_of K D) ≡ none
-      absent_lookup e = lookup_found (Absent p) e
+      pub absent_lookup : Err p ≡ search_in key K → lookup key (entries_of K D) ≡ none
+      absent_lookup e = lookup_found (Err p) e
 
-      pub absent_bound : Absent p ≡ search_in key K → p ≤ n
-      absent_bound e = subst (λ (m : ℕ). p ≤ m) (length-take-le n ks g.within) (put_found 0 (Absent p) e).bound
+      pub absent_bound : Err p ≡ search_in key K → p ≤ n
+      absent_bound e = subst (λ (m : ℕ). p ≤ m) (length-take-le n ks g.within) (put_found 0 (Err p) e).bound
 
-      pub kept_count : (d : ℕ) → At p ≡ search_in key K → length (put key d (entries_of K D)) ≡ n
-      kept_count d e = sym (length_keys _) ∙ ap length (put_found d (At p) e).keys ∙ length-take-le n ks g.within
+      pub kept_count : (d : ℕ) → Ok p ≡ search_in key K → length (put key d (entries_of K D)) ≡ n
+      kept_count d e = sym (length_keys _) ∙ ap length (put_found d (Ok p) e).keys ∙ length-take-le n ks g.within
 
-      pub inserted_count : (d : ℕ) → Absent p ≡ search_in key K → length (put key d (entries_of K D)) ≡ n + 1
-      inserted_count d e = sym (length_keys _) ∙ inserted_length n ks _ g.within p key (absent_bound e) (put_found d (Absent p) e).keys
+      pub inserted_count : (d : ℕ) → Err p ≡ search_in key K → length (put key d (entries_of K D)) ≡ n + 1
+      inserted_count d e = sym (length_keys _) ∙ inserted_length n ks _ g.within p key (absent_bound e) (put_found d (Err p) e).keys
 
-      pub removed_count : At p ≡ search_in key K → length (remove key (entries_of K D)) ≡ n - 1
-      removed_count e = sym (length_keys _) ∙ fewer (removed_length n ks _ g.within p (at_bound e) (remove_found (At p) e).keys)
+      pub removed_count : Ok p ≡ search_in key K → length (remove key (entries_of K D)) ≡ n - 1
+      removed_count e = sym (length_keys _) ∙ fewer (removed_length n ks _ g.within p (at_bound e) (remove_found (Ok p) e).keys)
         where
           fewer : {m : ℕ} → suc m ≡ n → m ≡ n - 1
           fewer e = omega arith
 
-      pub same_count : Absent p ≡ search_in key K → length (remove key (entries_of K D)) ≡ n
-      same_count e = sym (length_keys _) ∙ ap length (remove_found (Absent p) e).keys ∙ length-take-le n ks g.within
+      pub same_count : Err p ≡ search_in key K → length (remove key (entries_of K D)) ≡ n
+      same_count e = sym (length_keys _) ∙ ap length (remove_found (Err p) e).keys ∙ length-take-le n ks g.within

@@ -1,4 +1,5 @@
 -- Entries by ascending key, and the place that a search finds in them.
+use Rattle.std.specs.Prelude.{Err, Ok, Result}
 use Rattle.std.proofs.Common.{◌≡◌, ℕ, zero, suc, ◌<◌, ◌≤◌, Bool, true, false, cond, not, eqb, ltb, leb, List, [], ◌∷◌, ◌++◌, length, get_or, take, drop, set, sym, refl, ap, ◌∙◌, subst, ap₂, suc-le-suc, zero-le, le_of_suc-le-suc, not-suc-le-zero, zero-lt-suc, one-add, arith, ltb-false, ltb-true, lt-ltb, ne_eqb, eqb-true, leb-true}
 use mathlib.Core.Bool.{and-eq-true_iff}
 use mathlib.Core.Option.{Option, none, some}
@@ -6,8 +7,6 @@ use native.Mathlib.Nat.{suc_inj}
 use borrow.Author.Tests.{eqb-false}
 use Rattle.multi_timer.specs.Map.{Entry, entry, entries_of, keys_of, deadlines_of, ascending_from, lookup, keep, put, other}
 use Rattle.multi_timer.specs.Internal.{search_in, later}
-use Rattle.multi_timer.specs.declared.KeyPosition.{KeyPosition}
-use Rattle.multi_timer.specs.declared.KeyPosition.TheVariants.{At, Absent}
 
 -- the first key is at least low, and the others are above it
 pub first_key : (low k : ℕ) (ks : List ℕ) → ascending_from low (k ∷ ks) ≡ true → low ≤ k
@@ -40,9 +39,9 @@ search_behind key low (suc p) (k ∷ ks) a h l =
     below : {m : ℕ} → suc k ≤ m → m < key → k < key
     below f g = omega arith
 
-    later_suc : (n : ℕ) (q : KeyPosition) → later (suc n) q ≡ later 1 (later n q)
-    later_suc n (At q) = ap At (omega arith)
-    later_suc n (Absent q) = ap Absent (omega arith)
+    later_suc : (n : ℕ) (q : Result ℕ ℕ) → later (suc n) q ≡ later 1 (later n q)
+    later_suc n (Ok q) = ap Ok (omega arith)
+    later_suc n (Err q) = ap Err (omega arith)
 
 -- ---- the entries of two lists of one length
 pub keys_entries : (ks ds : List ℕ) → length ks ≡ length ds → keys_of (entries_of ks ds) ≡ ks
@@ -104,16 +103,16 @@ pub record Inserted (p : ℕ) (ks ds : List ℕ) (key d : ℕ) (es : List Entry)
   pub keys : keys_of es ≡ take p ks ++ key ∷ drop p ks
   pub deadlines : deadlines_of es ≡ take p ds ++ d ∷ drop p ds
 
-abbrev pub PutIs : KeyPosition → List ℕ → List ℕ → ℕ → ℕ → List Entry → Type 0
-PutIs (At p) ks ds key d es = Kept p ks ds d es
-PutIs (Absent p) ks ds key d es = Inserted p ks ds key d es
+abbrev pub PutIs : Result ℕ ℕ → List ℕ → List ℕ → ℕ → ℕ → List Entry → Type 0
+PutIs (Ok p) ks ds key d es = Kept p ks ds d es
+PutIs (Err p) ks ds key d es = Inserted p ks ds key d es
 
-put_later : (q : KeyPosition) (k d0 : ℕ) (ks ds : List ℕ) (key d : ℕ) (es : List Entry) → PutIs q ks ds key d es → PutIs (later 1 q) (k ∷ ks) (d0 ∷ ds) key d (entry k d0 ∷ es)
+put_later : (q : Result ℕ ℕ) (k d0 : ℕ) (ks ds : List ℕ) (key d : ℕ) (es : List Entry) → PutIs q ks ds key d es → PutIs (later 1 q) (k ∷ ks) (d0 ∷ ds) key d (entry k d0 ∷ es)
 unfolding keys_of deadlines_of
-put_later (At p) k d0 ks ds key d es r =
+put_later (Ok p) k d0 ks ds key d es r =
     subst (λ (n : ℕ). Kept n (k ∷ ks) (d0 ∷ ds) d (entry k d0 ∷ es)) (sym (one-add p))
     (record { bound = suc-le-suc r.bound; keys = ap (λ (t : List ℕ). k ∷ t) r.keys; deadlines = ap (λ (t : List ℕ). d0 ∷ t) r.deadlines })
-put_later (Absent p) k d0 ks ds key d es r =
+put_later (Err p) k d0 ks ds key d es r =
     subst (λ (n : ℕ). Inserted n (k ∷ ks) (d0 ∷ ds) key d (entry k d0 ∷ es)) (sym (one-add p))
     (record { bound = suc-le-suc r.bound; keys = ap (λ (t : List ℕ). k ∷ t) r.keys; deadlines = ap (λ (t : List ℕ). d0 ∷ t) r.deadlines })
 
@@ -125,7 +124,7 @@ put_is key d (k ∷ ks) [] e = absurd (omega arith)
 put_is key d (k ∷ ks) (y ∷ ds) e = go (ltb k key) (eqb k key) (eqb-true k key) (put_is key d ks ds (suc_inj e))
   where
     go : (a b : Bool) → (b ≡ true → k ≡ key) → PutIs (search_in key ks) ks ds key d (put key d (entries_of ks ds))
-        → PutIs (cond a (later 1 (search_in key ks)) (cond b (At 0) (Absent 0))) (k ∷ ks) (y ∷ ds) key d (cond a (entry k y ∷ put key d (entries_of ks ds)) (cond b (entry key d ∷ entries_of ks ds) (entry key d ∷ entry k y ∷ entries_of ks ds)))
+        → PutIs (cond a (later 1 (search_in key ks)) (cond b (Ok 0) (Err 0))) (k ∷ ks) (y ∷ ds) key d (cond a (entry k y ∷ put key d (entries_of ks ds)) (cond b (entry key d ∷ entries_of ks ds) (entry key d ∷ entry k y ∷ entries_of ks ds)))
     go true b h r = put_later (search_in key ks) k y ks ds key d (put key d (entries_of ks ds)) r
     go false true h r =
         record {
@@ -149,16 +148,16 @@ pub record Same (ks ds : List ℕ) (es : List Entry) : Type 0 where
   pub keys : keys_of es ≡ ks
   pub deadlines : deadlines_of es ≡ ds
 
-abbrev pub RemoveIs : KeyPosition → List ℕ → List ℕ → List Entry → Type 0
-RemoveIs (At p) ks ds es = Dropped p ks ds es
-RemoveIs (Absent p) ks ds es = Same ks ds es
+abbrev pub RemoveIs : Result ℕ ℕ → List ℕ → List ℕ → List Entry → Type 0
+RemoveIs (Ok p) ks ds es = Dropped p ks ds es
+RemoveIs (Err p) ks ds es = Same ks ds es
 
-remove_later : (q : KeyPosition) (k d0 : ℕ) (ks ds : List ℕ) (es : List Entry) → RemoveIs q ks ds es → RemoveIs (later 1 q) (k ∷ ks) (d0 ∷ ds) (entry k d0 ∷ es)
+remove_later : (q : Result ℕ ℕ) (k d0 : ℕ) (ks ds : List ℕ) (es : List Entry) → RemoveIs q ks ds es → RemoveIs (later 1 q) (k ∷ ks) (d0 ∷ ds) (entry k d0 ∷ es)
 unfolding keys_of deadlines_of
-remove_later (At p) k d0 ks ds es r =
+remove_later (Ok p) k d0 ks ds es r =
     subst (λ (n : ℕ). Dropped n (k ∷ ks) (d0 ∷ ds) (entry k d0 ∷ es)) (sym (one-add p))
     (record { bound = suc-le-suc r.bound; keys = ap (λ (t : List ℕ). k ∷ t) r.keys; deadlines = ap (λ (t : List ℕ). d0 ∷ t) r.deadlines })
-remove_later (Absent p) k d0 ks ds es r = record { keys = ap (λ (t : List ℕ). k ∷ t) r.keys; deadlines = ap (λ (t : List ℕ). d0 ∷ t) r.deadlines }
+remove_later (Err p) k d0 ks ds es r = record { keys = ap (λ (t : List ℕ). k ∷ t) r.keys; deadlines = ap (λ (t : List ℕ). d0 ∷ t) r.deadlines }
 
 pub remove_is : (key low : ℕ) (ks ds : List ℕ) → length ks ≡ length ds → ascending_from low ks ≡ true → RemoveIs (search_in key ks) ks ds (keep (other key) (entries_of ks ds))
 unfolding entries_of keep search_in keys_of deadlines_of
@@ -171,7 +170,7 @@ remove_is key low (k ∷ ks) (y ∷ ds) e a = go (ltb k key) (eqb k key) (ltb-tr
     behind = entries_ascending (suc k) ks ds (suc_inj e) (other_keys low k ks a)
 
     go : (a b : Bool) → (a ≡ true → k < key) → (a ≡ false → key ≤ k) → (b ≡ true → k ≡ key) → (b ≡ false → k ≡ key → ⊥) → RemoveIs (search_in key ks) ks ds (keep (other key) (entries_of ks ds))
-        → RemoveIs (cond a (later 1 (search_in key ks)) (cond b (At 0) (Absent 0))) (k ∷ ks) (y ∷ ds) (cond (not b) (entry k y ∷ keep (other key) (entries_of ks ds)) (keep (other key) (entries_of ks ds)))
+        → RemoveIs (cond a (later 1 (search_in key ks)) (cond b (Ok 0) (Err 0))) (k ∷ ks) (y ∷ ds) (cond (not b) (entry k y ∷ keep (other key) (entries_of ks ds)) (keep (other key) (entries_of ks ds)))
     go true true p q r s ih = absurd (apart (p refl) (r refl))
       where
         apart : k < key → k ≡ key → ⊥
@@ -197,13 +196,13 @@ remove_is key low (k ∷ ks) (y ∷ ds) e a = go (ltb k key) (eqb k key) (ltb-tr
         near : key ≤ k → key < suc k
         near h = omega arith
 
-abbrev pub LookupIs : KeyPosition → List ℕ → Option ℕ → Type 0
-LookupIs (At p) ds o = (p < length ds) × (o ≡ some (get_or ds p 0))
-LookupIs (Absent p) ds o = o ≡ none
+abbrev pub LookupIs : Result ℕ ℕ → List ℕ → Option ℕ → Type 0
+LookupIs (Ok p) ds o = (p < length ds) × (o ≡ some (get_or ds p 0))
+LookupIs (Err p) ds o = o ≡ none
 
-lookup_later : (q : KeyPosition) (y : ℕ) (ds : List ℕ) (o : Option ℕ) → LookupIs q ds o → LookupIs (later 1 q) (y ∷ ds) o
-lookup_later (At p) y ds o r = subst (λ (n : ℕ). (n < suc (length ds)) × (o ≡ some (get_or (y ∷ ds) n 0))) (sym (one-add p)) (suc-le-suc r.0, r.1)
-lookup_later (Absent p) y ds o r = r
+lookup_later : (q : Result ℕ ℕ) (y : ℕ) (ds : List ℕ) (o : Option ℕ) → LookupIs q ds o → LookupIs (later 1 q) (y ∷ ds) o
+lookup_later (Ok p) y ds o r = subst (λ (n : ℕ). (n < suc (length ds)) × (o ≡ some (get_or (y ∷ ds) n 0))) (sym (one-add p)) (suc-le-suc r.0, r.1)
+lookup_later (Err p) y ds o r = r
 
 pub lookup_is : (key low : ℕ) (ks ds : List ℕ) → length ks ≡ length ds → ascending_from low ks ≡ true → LookupIs (search_in key ks) ds (lookup key (entries_of ks ds))
 unfolding entries_of lookup search_in
@@ -212,7 +211,7 @@ lookup_is key low (k ∷ ks) [] e a = absurd (omega arith)
 lookup_is key low (k ∷ ks) (y ∷ ds) e a = go (ltb k key) (eqb k key) (ltb-true k key) (ltb-false k key) (eqb-true k key) (lookup_is key (suc k) ks ds (suc_inj e) (other_keys low k ks a))
   where
     go : (a b : Bool) → (a ≡ true → k < key) → (a ≡ false → key ≤ k) → (b ≡ true → k ≡ key) → LookupIs (search_in key ks) ds (lookup key (entries_of ks ds))
-        → LookupIs (cond a (later 1 (search_in key ks)) (cond b (At 0) (Absent 0))) (y ∷ ds) (cond b (some y) (lookup key (entries_of ks ds)))
+        → LookupIs (cond a (later 1 (search_in key ks)) (cond b (Ok 0) (Err 0))) (y ∷ ds) (cond b (some y) (lookup key (entries_of ks ds)))
     go true true p q r ih = absurd (apart (p refl) (r refl))
       where
         apart : k < key → k ≡ key → ⊥

@@ -1,23 +1,24 @@
 -- The checks of the entry points: their order, and what a state is that check 9 lets pass.
+use Rattle.std.specs.Prelude.{Err}
 use Rattle.std.proofs.Common.{◌≡◌, ℕ, ◌<◌, ◌≤◌, Bool, true, false, cond, not, ◌||◌, eqb, ltb, List, [], ◌∷◌, length, take, refl, true≢false, ltb-false, le-ltb, lt-ltb, eq-eqb, ne_eqb, eqb-true}
 use Rattle.refusal.specs.Order.{check, verdict, first_of, numbered, or_else, order}
 use Rattle.refusal.specs.declared.Refusal.TheVariants.{State, Time, Full}
-use Rattle.refusal.specs.declared.Verdict.TheVariants.{Accepted, Refused}
 use Rattle.multi_timer.specs.Map.{ascending}
 use Rattle.multi_timer.specs.MultiTimer.{broken}
+use Rattle.refusal.specs.Order.{passed}
 
-pub one_check : (s : Bool) → verdict (check s State ∷ []) ≡ cond s (Refused State) Accepted
+pub one_check : (s : Bool) → verdict (check s State ∷ []) ≡ cond s (Err State) passed
 unfolding verdict first_of numbered or_else order
 one_check true = refl
 one_check false = refl
 
-pub two_checks : (s t : Bool) → verdict (check s State ∷ check t Time ∷ []) ≡ cond s (Refused State) (cond t (Refused Time) Accepted)
+pub two_checks : (s t : Bool) → verdict (check s State ∷ check t Time ∷ []) ≡ cond s (Err State) (cond t (Err Time) passed)
 unfolding verdict first_of numbered or_else order
 two_checks true t = refl
 two_checks false true = refl
 two_checks false false = refl
 
-pub three_checks : (s t u : Bool) → verdict (check s State ∷ check t Time ∷ check u Full ∷ []) ≡ cond s (Refused State) (cond t (Refused Time) (cond u (Refused Full) Accepted))
+pub three_checks : (s t u : Bool) → verdict (check s State ∷ check t Time ∷ check u Full ∷ []) ≡ cond s (Err State) (cond t (Err Time) (cond u (Err Full) passed))
 unfolding verdict first_of numbered or_else order
 three_checks true t u = refl
 three_checks false true u = refl

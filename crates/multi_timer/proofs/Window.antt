@@ -1,4 +1,5 @@
 -- Keys in a window of numbers, from low up to high: there are at most high - low of them, so a start there never meets a 5.
+use Rattle.std.specs.Prelude.{Err, Ok, Result}
 use Rattle.std.proofs.Common.{◌≡◌, ℕ, suc, ◌+◌, ◌-◌, ◌<◌, ◌≤◌, Bool, true, false, cond, ◌&&◌, eqb, ltb, leb, List, [], ◌∷◌, length, take, sym, refl, ap, ◌∙◌, true≢false, zero-le, le_trans, arith, ltb-false, ltb-true, eq-eqb, eqb-true}
 use mathlib.Core.Option.{Option, none, some}
 use borrow.Author.Tests.{lt-leb}
@@ -6,8 +7,6 @@ use Rattle.multi_timer.specs.Map.{Entry, keys_of, ascending, ascending_from, loo
 use Rattle.multi_timer.specs.Internal.{search_in}
 use Rattle.multi_timer.specs.MultiTimer.{used, broken, start_full}
 use Rattle.multi_timer.specs.declared.MultiTimer.{MultiTimer}
-use Rattle.multi_timer.specs.declared.KeyPosition.{KeyPosition}
-use Rattle.multi_timer.specs.declared.KeyPosition.TheVariants.{At, Absent}
 use Rattle.multi_timer.proofs.Verdicts.{Good, good_of}
 use Rattle.multi_timer.proofs.Sorted.{first_key, other_keys}
 use Rattle.multi_timer.proofs.Places.{at_lookup, inserted_count}
@@ -107,6 +106,6 @@ start_full_within t ks ds low high key b w l h r = go (search_in key (take t.cou
     either true = refl
     either false = refl
 
-    go : (p : KeyPosition) → p ≡ search_in key (take t.count ks) → start_full t ks ds key ≡ false
-    go (At p) e = rw (at_lookup t.count ks ds g key p e) (either (leb (length ks) t.count))
-    go (Absent p) e = rw (lt-leb (length ks) t.count (room (inserted_count t.count ks ds g key p 0 e) most))
+    go : (p : Result ℕ ℕ) → p ≡ search_in key (take t.count ks) → start_full t ks ds key ≡ false
+    go (Ok p) e = rw (at_lookup t.count ks ds g key p e) (either (leb (length ks) t.count))
+    go (Err p) e = rw (lt-leb (length ks) t.count (room (inserted_count t.count ks ds g key p 0 e) most))

@@ -1,18 +1,15 @@
 -- What the accepted calls of any list say of the timer set. The latest call stands first; calls that only read change
 -- nothing and are left out.
-use Rattle.std.specs.Prelude.{ℕ, suc, ◌+◌, Bool, true, false, cond, not, ◌&&◌, ◌||◌, List, [], ◌∷◌, length, replicate, ◌==◌, nat_le, nat_lt}
+use Rattle.std.specs.Prelude.{ℕ, suc, ◌+◌, Bool, true, false, cond, not, ◌&&◌, ◌||◌, List, [], ◌∷◌, length, replicate, ◌==◌, nat_le, nat_lt, Err, Ok, Result}
 use Rattle.std.proofs.Math.Option.{Option, none, some}
 use Rattle.bounds.specs.Bounds.{max_time}
 use Rattle.duration.specs.Bounds.{start_late}
 use Rattle.multi_timer.specs.declared.MultiTimer.{MultiTimer}
-use Rattle.multi_timer.specs.declared.StartAnswer as St
-use Rattle.multi_timer.specs.declared.CancelAnswer as Ca
-use Rattle.multi_timer.specs.declared.PopAnswer as Po
-use Rattle.refusal.specs.declared.DoneAnswer as Cl
 use Rattle.multi_timer.specs.Map.{Entry, deadlines_of, is_some, keep, put, remove}
 use Rattle.multi_timer.specs.Map.{due_keys, pending, still_set, earliest}
 use Rattle.multi_timer.specs.MultiTimer.{TimersExit, timers_exit, timers, answering}
 use Rattle.multi_timer.specs.MultiTimer.{start_timer_at, cancel_timer, pop_expired_at, clear_timers}
+use Rattle.refusal.specs.declared.Refusal.{Refusal}
 
 -- `start_timer_at` with key, time and duration, `cancel_timer` with the key, `pop_expired_at` with the time and the
 -- lent slice, `clear`
@@ -39,21 +36,21 @@ after_calls n [] = fresh n
 after_calls n (x ∷ xs) = step (after_calls n xs) x
 
 -- whether an answer is a refusal
-abbrev pub start_refused : St.StartAnswer → Bool
-start_refused (St.TheVariants.Id g) = false
-start_refused (St.TheVariants.Refused r) = true
+abbrev pub start_refused : Result ℕ Refusal → Bool
+start_refused (Ok g) = false
+start_refused (Err r) = true
 
-abbrev pub cancel_refused : Ca.CancelAnswer → Bool
-cancel_refused (Ca.TheVariants.Existed b) = false
-cancel_refused (Ca.TheVariants.Refused r) = true
+abbrev pub cancel_refused : Result Bool Refusal → Bool
+cancel_refused (Ok b) = false
+cancel_refused (Err r) = true
 
-abbrev pub pop_refused : Po.PopAnswer → Bool
-pop_refused (Po.TheVariants.Keys n) = false
-pop_refused (Po.TheVariants.Refused r) = true
+abbrev pub pop_refused : Result ℕ Refusal → Bool
+pop_refused (Ok n) = false
+pop_refused (Err r) = true
 
-abbrev pub clear_refused : Cl.DoneAnswer → Bool
-clear_refused Cl.TheVariants.Done = false
-clear_refused (Cl.TheVariants.Refused r) = true
+abbrev pub clear_refused : Result Unit Refusal → Bool
+clear_refused (Ok tt) = false
+clear_refused (Err r) = true
 
 unfoldable pub is_refused : TimersExit MultiTimer → Call → Bool
 is_refused s (start key now duration) =

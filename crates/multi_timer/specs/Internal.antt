@@ -1,25 +1,22 @@
 -- What only contracts below the entry points cite. Where a key stands among ascending keys, or where it would stand.
-use Rattle.std.specs.Prelude.{◌≡◌, ℕ, suc, ◌+◌, ◌-◌, cond, List, [], ◌∷◌, ◌++◌, length, take, drop, replicate, ◌==◌, nat_le, nat_lt}
+use Rattle.std.specs.Prelude.{◌≡◌, ℕ, suc, ◌+◌, ◌-◌, cond, List, [], ◌∷◌, ◌++◌, length, take, drop, replicate, ◌==◌, nat_le, nat_lt, Err, Ok, Option, Result}
 use Rattle.multi_timer.specs.Map.{Entry, entries_of, keys_of, deadlines_of, keep, due, due_keys, pending}
 use Rattle.multi_timer.specs.MultiTimer.{next_key}
-use Rattle.multi_timer.specs.declared.KeyPosition.{KeyPosition}
-use Rattle.multi_timer.specs.declared.KeyPosition.TheVariants.{At, Absent}
-use Rattle.multi_timer.specs.declared.NextKey.{NextKey}
 
-abbrev pub later : ℕ → KeyPosition → KeyPosition
-later i (At p) = At (i + p)
-later i (Absent p) = Absent (i + p)
+abbrev pub later : ℕ → Result ℕ ℕ → Result ℕ ℕ
+later i (Ok p) = Ok (i + p)
+later i (Err p) = Err (i + p)
 
-unfoldable pub search_in : ℕ → List ℕ → KeyPosition
-search_in k [] = Absent 0
-search_in k (x ∷ xs) = cond (nat_lt x k) (later 1 (search_in k xs)) (cond (x == k) (At 0) (Absent 0))
+unfoldable pub search_in : ℕ → List ℕ → Result ℕ ℕ
+search_in k [] = Err 0
+search_in k (x ∷ xs) = cond (nat_lt x k) (later 1 (search_in k xs)) (cond (x == k) (Ok 0) (Err 0))
 
-abbrev pub index_of : KeyPosition → ℕ
-index_of (At p) = p
-index_of (Absent p) = p
+abbrev pub index_of : Result ℕ ℕ → ℕ
+index_of (Ok p) = p
+index_of (Err p) = p
 
 -- of the first n entries, the first due key from i on
-abbrev pub next_due : ℕ → ℕ → ℕ → List ℕ → List ℕ → NextKey
+abbrev pub next_due : ℕ → ℕ → ℕ → List ℕ → List ℕ → Option ℕ
 next_due n i now ks ds = next_key (due_keys now (entries_of (drop i (take n ks)) (drop i (take n ds))))
 
 -- how many deadlines are due

@@ -1,30 +1,20 @@
 -- Document 01, "What the Rust forms turn into", `timing/timer.rs` and "Turned away", checks 9, 10 and 5; the
 -- reference's MultiTimer.
-use Rattle.std.specs.Prelude.{ℕ, ◌+◌, ◌-◌, ◌%◌, ◌^◌, max, Bool, false, not, ◌&&◌, ◌||◌, List, [], ◌∷◌, ◌++◌, length, take, drop, replicate, ◌==◌, nat_le, nat_lt}
+use Rattle.std.specs.Prelude.{ℕ, ◌+◌, ◌-◌, ◌%◌, ◌^◌, max, Bool, false, not, ◌&&◌, ◌||◌, List, [], ◌∷◌, ◌++◌, length, take, drop, replicate, ◌==◌, nat_le, nat_lt, Err, None, Ok, Result, Some}
 use Rattle.std.proofs.Math.Option.{Option, none, some}
 use Rattle.bounds.specs.Bounds.{max_time}
 use Rattle.duration.specs.Bounds.{start_late}
 use Rattle.refusal.specs.Order.{Check, check, verdict, decide}
 use Rattle.refusal.specs.declared.Refusal.TheVariants.{State, Time, Full}
 use Rattle.multi_timer.specs.declared.MultiTimer.{MultiTimer}
-use Rattle.multi_timer.specs.declared.MultiTimerAnswer as Mk
-use Rattle.multi_timer.specs.declared.MultiTimerAnswer.{MultiTimerAnswer}
-use Rattle.multi_timer.specs.declared.StartAnswer as St
 use Rattle.multi_timer.specs.declared.StartResult.{StartResult}
-use Rattle.multi_timer.specs.declared.CancelAnswer as Ca
 use Rattle.multi_timer.specs.declared.CancelResult.{CancelResult}
-use Rattle.refusal.specs.declared.TestAnswer as Ex
-use Rattle.refusal.specs.declared.TestAnswer.{TestAnswer}
-use Rattle.multi_timer.specs.declared.PopAnswer as Po
 use Rattle.multi_timer.specs.declared.PopResult.{PopResult}
-use Rattle.multi_timer.specs.declared.EarliestAnswer as Ea
-use Rattle.multi_timer.specs.declared.EarliestAnswer.{EarliestAnswer}
-use Rattle.multi_timer.specs.declared.NextKey.{NextKey}
-use Rattle.multi_timer.specs.declared.NextKey.TheVariants.{Key, Nothing}
-use Rattle.refusal.specs.declared.DoneAnswer as Cl
 use Rattle.multi_timer.specs.declared.ClearResult.{ClearResult}
 use Rattle.multi_timer.specs.Map.{Entry, entries_of, keys_of, deadlines_of, ascending, lookup, is_some}
 use Rattle.multi_timer.specs.Map.{keep, put, remove, due_keys, due_keys_from, pending, due_at, earliest}
+use Rattle.refusal.specs.declared.Refusal.{Refusal}
+use Rattle.refusal.specs.Order.{passed}
 
 -- ---- the lent slices
 abbrev pub used : MultiTimer → List ℕ → List ℕ → List Entry
@@ -100,21 +90,21 @@ pop_checks t ks ds now size =
 unfoldable pub new_unchecked : List ℕ → List ℕ → TimersExit MultiTimer
 new_unchecked ks ds = timers_exit (timers 0 0) (replicate (length ks) 0) (replicate (length ds) 0)
 
-unfoldable pub new_timers : List ℕ → List ℕ → TimersExit MultiTimerAnswer
+unfoldable pub new_timers : List ℕ → List ℕ → TimersExit (Result MultiTimer Refusal)
 new_timers ks ds =
     decide (verdict (check (not (length ks == length ds)) State ∷ []))
-    (λ r. timers_exit (Mk.TheVariants.Refused r) ks ds)
-    (answering Mk.TheVariants.Made (new_unchecked ks ds))
+    (λ r. timers_exit (Err r) ks ds)
+    (answering Ok (new_unchecked ks ds))
 
 -- one more at a start, not at a cancel; after 2 ^ 64 - 1 comes 0
 abbrev pub next_generation : ℕ → ℕ
 next_generation g = (g + 1) % 2 ^ 64
 
-abbrev pub start_result : MultiTimer → St.StartAnswer → StartResult
+abbrev pub start_result : MultiTimer → Result ℕ Refusal → StartResult
 start_result t a = record { timers = t; answer = a }
 
 abbrev pub started : MultiTimer → StartResult
-started t = start_result t (St.TheVariants.Id t.global_generation)
+started t = start_result t (Ok t.global_generation)
 
 unfoldable pub start_timer_at_unchecked : MultiTimer → List ℕ → List ℕ → ℕ → ℕ → TimersExit MultiTimer
 start_timer_at_unchecked t ks ds key deadline =
@@ -123,14 +113,14 @@ start_timer_at_unchecked t ks ds key deadline =
 unfoldable pub start_timer_at : MultiTimer → List ℕ → List ℕ → ℕ → ℕ → ℕ → TimersExit StartResult
 start_timer_at t ks ds key now duration =
     decide (verdict (start_checks t ks ds key now duration))
-    (λ r. timers_exit (start_result t (St.TheVariants.Refused r)) ks ds)
+    (λ r. timers_exit (start_result t (Err r)) ks ds)
     (answering started (start_timer_at_unchecked t ks ds key (now + duration)))
 
-abbrev pub cancel_result : MultiTimer → Ca.CancelAnswer → CancelResult
+abbrev pub cancel_result : MultiTimer → Result Bool Refusal → CancelResult
 cancel_result t a = record { timers = t; answer = a }
 
 abbrev pub cancelled : Bool → MultiTimer → CancelResult
-cancelled existed t = cancel_result t (Ca.TheVariants.Existed existed)
+cancelled existed t = cancel_result t (Ok existed)
 
 unfoldable pub cancel_timer_unchecked : MultiTimer → List ℕ → List ℕ → ℕ → TimersExit MultiTimer
 cancel_timer_unchecked t ks ds key = holding t.global_generation t (remove key (used t ks ds)) ks ds
@@ -138,24 +128,24 @@ cancel_timer_unchecked t ks ds key = holding t.global_generation t (remove key (
 unfoldable pub cancel_timer : MultiTimer → List ℕ → List ℕ → ℕ → TimersExit CancelResult
 cancel_timer t ks ds key =
     decide (verdict (held_checks t ks ds))
-    (λ r. timers_exit (cancel_result t (Ca.TheVariants.Refused r)) ks ds)
+    (λ r. timers_exit (cancel_result t (Err r)) ks ds)
     (answering (cancelled (is_some (lookup key (used t ks ds)))) (cancel_timer_unchecked t ks ds key))
 
 abbrev pub is_expired_at_unchecked : MultiTimer → List ℕ → List ℕ → ℕ → ℕ → Bool
 is_expired_at_unchecked t ks ds key now = due_at now (lookup key (used t ks ds))
 
-unfoldable pub is_expired_at : MultiTimer → List ℕ → List ℕ → ℕ → ℕ → TestAnswer
+unfoldable pub is_expired_at : MultiTimer → List ℕ → List ℕ → ℕ → ℕ → Result Bool Refusal
 is_expired_at t ks ds key now =
-    decide (verdict (read_checks t ks ds now)) Ex.TheVariants.Refused
-    (Ex.TheVariants.Is (is_expired_at_unchecked t ks ds key now))
+    decide (verdict (read_checks t ks ds now)) Err
+    (Ok (is_expired_at_unchecked t ks ds key now))
 
 -- the first of keys
-abbrev pub next_key : List ℕ → NextKey
-next_key [] = Nothing
-next_key (k ∷ ks) = Key k
+abbrev pub next_key : List ℕ → Option ℕ
+next_key [] = None
+next_key (k ∷ ks) = Some k
 
 -- below the entry points alone
-abbrev pub next_expired_unchecked : MultiTimer → List ℕ → List ℕ → ℕ → ℕ → NextKey
+abbrev pub next_expired_unchecked : MultiTimer → List ℕ → List ℕ → ℕ → ℕ → Option ℕ
 next_expired_unchecked t ks ds from now = next_key (due_keys_from from now (used t ks ds))
 
 -- the expired keys, ascending, go to the front of the lent slice `out`
@@ -166,11 +156,11 @@ pub record PopExit (A : Type 0) : Type 0 where
 abbrev pub pop_exit : {A : Type 0} → TimersExit A → List ℕ → PopExit A
 pop_exit a out = record { rest = a; out = out }
 
-abbrev pub pop_result : MultiTimer → Po.PopAnswer → PopResult
+abbrev pub pop_result : MultiTimer → Result ℕ Refusal → PopResult
 pop_result t a = record { timers = t; answer = a }
 
 abbrev pub popped : ℕ → PopExit MultiTimer → PopExit PopResult
-popped n w = pop_exit (answering (λ u. pop_result u (Po.TheVariants.Keys n)) w.rest) w.out
+popped n w = pop_exit (answering (λ u. pop_result u (Ok n)) w.rest) w.out
 
 unfoldable pub pop_expired_at_unchecked : MultiTimer → List ℕ → List ℕ → ℕ → List ℕ → PopExit MultiTimer
 pop_expired_at_unchecked t ks ds now out =
@@ -180,25 +170,25 @@ pop_expired_at_unchecked t ks ds now out =
 unfoldable pub pop_expired_at : MultiTimer → List ℕ → List ℕ → ℕ → List ℕ → PopExit PopResult
 pop_expired_at t ks ds now out =
     decide (verdict (pop_checks t ks ds now (length out)))
-    (λ r. pop_exit (timers_exit (pop_result t (Po.TheVariants.Refused r)) ks ds) out)
+    (λ r. pop_exit (timers_exit (pop_result t (Err r)) ks ds) out)
     (popped (length (due_keys now (used t ks ds))) (pop_expired_at_unchecked t ks ds now out))
 
-abbrev pub earliest_answer : Option ℕ → EarliestAnswer
-earliest_answer none = Ea.TheVariants.Nothing
-earliest_answer (some d) = Ea.TheVariants.At d
+abbrev pub earliest_answer : Option ℕ → Result (Option ℕ) Refusal
+earliest_answer none = Ok None
+earliest_answer (some d) = Ok (Some d)
 
-abbrev pub earliest_deadline_unchecked : MultiTimer → List ℕ → List ℕ → EarliestAnswer
+abbrev pub earliest_deadline_unchecked : MultiTimer → List ℕ → List ℕ → Result (Option ℕ) Refusal
 earliest_deadline_unchecked t ks ds = earliest_answer (earliest (deadlines_of (used t ks ds)))
 
-unfoldable pub earliest_deadline : MultiTimer → List ℕ → List ℕ → EarliestAnswer
+unfoldable pub earliest_deadline : MultiTimer → List ℕ → List ℕ → Result (Option ℕ) Refusal
 earliest_deadline t ks ds =
-    decide (verdict (held_checks t ks ds)) Ea.TheVariants.Refused (earliest_deadline_unchecked t ks ds)
+    decide (verdict (held_checks t ks ds)) Err (earliest_deadline_unchecked t ks ds)
 
-abbrev pub clear_result : MultiTimer → Cl.DoneAnswer → ClearResult
+abbrev pub clear_result : MultiTimer → Result Unit Refusal → ClearResult
 clear_result t a = record { timers = t; answer = a }
 
 abbrev pub cleared : MultiTimer → ClearResult
-cleared t = clear_result t Cl.TheVariants.Done
+cleared t = clear_result t passed
 
 unfoldable pub clear_unchecked : MultiTimer → List ℕ → List ℕ → TimersExit MultiTimer
 clear_unchecked t ks ds = holding t.global_generation t [] ks ds
@@ -206,5 +196,5 @@ clear_unchecked t ks ds = holding t.global_generation t [] ks ds
 unfoldable pub clear_timers : MultiTimer → List ℕ → List ℕ → TimersExit ClearResult
 clear_timers t ks ds =
     decide (verdict (held_checks t ks ds))
-    (λ r. timers_exit (clear_result t (Cl.TheVariants.Refused r)) ks ds)
+    (λ r. timers_exit (clear_result t (Err r)) ks ds)
     (answering cleared (clear_unchecked t ks ds))

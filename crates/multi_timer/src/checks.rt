@@ -6,36 +6,41 @@ ghost use Rattle.multi_timer.specs.Internal.{due_in};
 ghost use Rattle.multi_timer.specs.MultiTimer.{used, broken, held_too_late, read_too_late, start_too_late, start_full};
 ghost use Rattle.multi_timer.specs.MultiTimer.{held_checks, read_checks, start_checks, pop_checks};
 
+use super::MultiTimer;
 use super::entries::search;
-use super::{KeyPosition, MultiTimer};
 use bounds::MAX_TIME;
-use refusal::{Refusal, Verdict};
+use refusal::Refusal;
 
 // Of a call that is given no time.
-pub(crate) fn check_held(timers: MultiTimer, keys: &[u32], deadlines: &[u64]) -> Verdict
+pub(crate) fn check_held(timers: MultiTimer, keys: &[u32], deadlines: &[u64]) -> Result<(), Refusal>
     ensures { result ≡ verdict (held_checks timers keys.now deadlines.now) }
 {
     let count = timers.count;
     if is_broken(count, keys, deadlines) {
-        return Verdict::Refused(Refusal::State);
+        return Err(Refusal::State);
     }
     if any_late(count, deadlines) {
-        return Verdict::Refused(Refusal::Time);
+        return Err(Refusal::Time);
     }
-    Verdict::Accepted
+    Ok(())
 }
 
-pub(crate) fn check_read(timers: MultiTimer, keys: &[u32], deadlines: &[u64], time: u64) -> Verdict
+pub(crate) fn check_read(
+    timers: MultiTimer,
+    keys: &[u32],
+    deadlines: &[u64],
+    time: u64,
+) -> Result<(), Refusal>
     ensures { result ≡ verdict (read_checks timers keys.now deadlines.now time) }
 {
     let count = timers.count;
     if is_broken(count, keys, deadlines) {
-        return Verdict::Refused(Refusal::State);
+        return Err(Refusal::State);
     }
     if read_too_late(count, deadlines, time) {
-        return Verdict::Refused(Refusal::Time);
+        return Err(Refusal::Time);
     }
-    Verdict::Accepted
+    Ok(())
 }
 
 pub(crate) fn check_start(
@@ -45,21 +50,21 @@ pub(crate) fn check_start(
     key: u32,
     time: u64,
     duration: u64,
-) -> Verdict
+) -> Result<(), Refusal>
     ensures { result
         ≡ verdict (start_checks timers keys.now deadlines.now key time duration) }
 {
     let count = timers.count;
     if is_broken(count, keys, deadlines) {
-        return Verdict::Refused(Refusal::State);
+        return Err(Refusal::State);
     }
     if start_too_late(count, deadlines, time, duration) {
-        return Verdict::Refused(Refusal::Time);
+        return Err(Refusal::Time);
     }
     if start_full(timers, keys, deadlines, key) {
-        return Verdict::Refused(Refusal::Full);
+        return Err(Refusal::Full);
     }
-    Verdict::Accepted
+    Ok(())
 }
 
 // For a slice of size keys that the pop writes to.
@@ -69,20 +74,20 @@ pub(crate) fn check_pop(
     deadlines: &[u64],
     time: u64,
     size: usize,
-) -> Verdict
+) -> Result<(), Refusal>
     ensures { result ≡ verdict (pop_checks timers keys.now deadlines.now time size) }
 {
     let count = timers.count;
     if is_broken(count, keys, deadlines) {
-        return Verdict::Refused(Refusal::State);
+        return Err(Refusal::State);
     }
     if read_too_late(count, deadlines, time) {
-        return Verdict::Refused(Refusal::Time);
+        return Err(Refusal::Time);
     }
     if size < due_count(count, deadlines, time) {
-        return Verdict::Refused(Refusal::Full);
+        return Err(Refusal::Full);
     }
-    Verdict::Accepted
+    Ok(())
 }
 
 fn is_broken(count: usize, keys: &[u32], deadlines: &[u64]) -> bool
@@ -152,8 +157,8 @@ fn has_key(timers: MultiTimer, keys: &[u32], deadlines: &[u64], key: u32) -> boo
 {
     let position = search(timers.count, keys, key);
     match position {
-        KeyPosition::At(_) => true,
-        KeyPosition::Absent(_) => false,
+        Ok(_) => true,
+        Err(_) => false,
     }
 }
 

@@ -5,9 +5,7 @@ ghost use Rattle.multi_timer.specs.Map.{ascending, earliest};
 ghost use Rattle.multi_timer.specs.Internal.{search_in, later, index_of, next_due, due_in, Partitioned};
 ghost use Rattle.multi_timer.specs.Internal.{inserted_at, inserted_first, removed_at, removed_first, cleared_in};
 
-use super::{KeyPosition, NextKey};
-
-pub(crate) fn search(count: usize, keys: &[u32], key: u32) -> KeyPosition
+pub(crate) fn search(count: usize, keys: &[u32], key: u32) -> Result<usize, usize>
     requires { (count ≤ length keys.now) × (ascending (take count keys.now) ≡ true) }
     ensures { result ≡ search_in key (take count keys.now) }
 {
@@ -16,12 +14,12 @@ pub(crate) fn search(count: usize, keys: &[u32], key: u32) -> KeyPosition
         let k = keys[i];
         if k >= key {
             if k == key {
-                return KeyPosition::At(i);
+                return Ok(i);
             }
-            return KeyPosition::Absent(i);
+            return Err(i);
         }
     }
-    KeyPosition::Absent(count)
+    Err(count)
 }
 
 // Passes by four keys at a time while the last of them is below key.
@@ -42,12 +40,12 @@ fn skip_below(count: usize, keys: &[u32], key: u32) -> usize
 }
 
 // The index of a position, of a key that is there or is not.
-pub(crate) fn position_index(position: KeyPosition) -> usize
+pub(crate) fn position_index(position: Result<usize, usize>) -> usize
     ensures { result ≡ index_of position }
 {
     match position {
-        KeyPosition::At(i) => i,
-        KeyPosition::Absent(i) => i,
+        Ok(i) => i,
+        Err(i) => i,
     }
 }
 
@@ -58,16 +56,16 @@ pub(crate) fn next_due(
     deadlines: &[u64],
     from: usize,
     time: u64,
-) -> NextKey
+) -> Option<u32>
     requires { (count ≤ length keys.now) × (count ≤ length deadlines.now) }
     ensures { result ≡ next_due count from time keys.now deadlines.now }
 {
     for i in from..count {
         if time >= deadlines[i] {
-            return NextKey::Key(keys[i]);
+            return Some(keys[i]);
         }
     }
-    NextKey::Nothing
+    None
 }
 
 pub(crate) fn insert_at(

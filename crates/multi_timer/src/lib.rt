@@ -6,7 +6,7 @@ ghost use Rattle.multi_timer.specs.MultiTimer.{timers_exit, pop_exit, new_timers
 ghost use Rattle.multi_timer.specs.MultiTimer.{is_expired_at, pop_expired_at, earliest_deadline, clear_timers};
 
 use checks::{check_held, check_pop, check_read, check_start};
-use refusal::{DoneAnswer, Refusal, TestAnswer, Verdict};
+use refusal::Refusal;
 
 mod checks;
 mod entries;
@@ -20,85 +20,38 @@ pub struct MultiTimer {
 }
 
 #[derive(Clone, Copy)]
-pub enum MultiTimerAnswer {
-    Made(MultiTimer),
-    Refused(Refusal),
-}
-
-#[derive(Clone, Copy)]
-pub enum StartAnswer {
-    Id(u64),
-    Refused(Refusal),
-}
-
-#[derive(Clone, Copy)]
 pub struct StartResult {
     pub timers: MultiTimer,
-    pub answer: StartAnswer,
-}
-
-#[derive(Clone, Copy)]
-pub enum CancelAnswer {
-    // Whether the key had a timer.
-    Existed(bool),
-    Refused(Refusal),
+    pub answer: Result<u64, Refusal>,
 }
 
 #[derive(Clone, Copy)]
 pub struct CancelResult {
     pub timers: MultiTimer,
-    pub answer: CancelAnswer,
-}
-
-#[derive(Clone, Copy)]
-pub enum PopAnswer {
-    // How many expired keys stand in the lent slice.
-    Keys(usize),
-    Refused(Refusal),
+    pub answer: Result<bool, Refusal>,
 }
 
 #[derive(Clone, Copy)]
 pub struct PopResult {
     pub timers: MultiTimer,
-    pub answer: PopAnswer,
-}
-
-#[derive(Clone, Copy)]
-pub enum EarliestAnswer {
-    Nothing,
-    At(u64),
-    Refused(Refusal),
+    pub answer: Result<usize, Refusal>,
 }
 
 #[derive(Clone, Copy)]
 pub struct ClearResult {
     pub timers: MultiTimer,
-    pub answer: DoneAnswer,
-}
-
-// Where a key stands, or where it would.
-#[derive(Clone, Copy)]
-pub enum KeyPosition {
-    At(usize),
-    Absent(usize),
-}
-
-// The lowest key of those looked for.
-#[derive(Clone, Copy)]
-pub enum NextKey {
-    Key(u32),
-    Nothing,
+    pub answer: Result<(), Refusal>,
 }
 
 // Makes an empty set in two slices of one length.
-pub fn new_timers(keys: &mut [u32], deadlines: &mut [u64]) -> MultiTimerAnswer
+pub fn new_timers(keys: &mut [u32], deadlines: &mut [u64]) -> Result<MultiTimer, Refusal>
     ensures { timers_exit result keys.new deadlines.new
         ≡ new_timers keys.old deadlines.old }
 {
     if keys.len() != deadlines.len() {
-        return MultiTimerAnswer::Refused(Refusal::State);
+        return Err(Refusal::State);
     }
-    MultiTimerAnswer::Made(MultiTimer::new_unchecked(keys, deadlines))
+    Ok(MultiTimer::new_unchecked(keys, deadlines))
 }
 
 impl MultiTimer {
@@ -128,16 +81,16 @@ impl MultiTimer {
     {
         let verdict = check_start(self, keys, deadlines, key, now, duration);
         match verdict {
-            Verdict::Accepted => {
+            Ok(()) => {
                 let t = self.start_timer_at_unchecked(keys, deadlines, key, now + duration);
                 StartResult {
                     timers: t,
-                    answer: StartAnswer::Id(t.global_generation),
+                    answer: Ok(t.global_generation),
                 }
             }
-            Verdict::Refused(r) => StartResult {
+            Err(r) => StartResult {
                 timers: self,
-                answer: StartAnswer::Refused(r),
+                answer: Err(r),
             },
         }
     }
@@ -148,29 +101,33 @@ impl MultiTimer {
     {
         let verdict = check_held(self, keys, deadlines);
         match verdict {
-            Verdict::Accepted => {
+            Ok(()) => {
                 let t = self.cancel_timer_unchecked(keys, deadlines, key);
                 CancelResult {
                     timers: t,
-                    answer: CancelAnswer::Existed(t.count < self.count),
+                    answer: Ok(t.count < self.count),
                 }
             }
-            Verdict::Refused(r) => CancelResult {
+            Err(r) => CancelResult {
                 timers: self,
-                answer: CancelAnswer::Refused(r),
+                answer: Err(r),
             },
         }
     }
 
-    pub fn is_expired_at(self, keys: &[u32], deadlines: &[u64], key: u32, now: u64) -> TestAnswer
+    pub fn is_expired_at(
+        self,
+        keys: &[u32],
+        deadlines: &[u64],
+        key: u32,
+        now: u64,
+    ) -> Result<bool, Refusal>
         ensures { result ≡ is_expired_at self keys.now deadlines.now key now }
     {
         let verdict = check_read(self, keys, deadlines, now);
         match verdict {
-            Verdict::Accepted => TestAnswer::Is(self.is_expired_at_unchecked(
-                keys, deadlines, key, now,
-            )),
-            Verdict::Refused(r) => TestAnswer::Refused(r),
+            Ok(()) => Ok(self.is_expired_at_unchecked(keys, deadlines, key, now)),
+            Err(r) => Err(r),
         }
     }
 
@@ -187,27 +144,27 @@ impl MultiTimer {
     {
         let verdict = check_pop(self, keys, deadlines, now, out.len());
         match verdict {
-            Verdict::Accepted => {
+            Ok(()) => {
                 let t = self.pop_expired_at_unchecked(keys, deadlines, now, out);
                 PopResult {
                     timers: t,
-                    answer: PopAnswer::Keys(self.count - t.count),
+                    answer: Ok(self.count - t.count),
                 }
             }
-            Verdict::Refused(r) => PopResult {
+            Err(r) => PopResult {
                 timers: self,
-                answer: PopAnswer::Refused(r),
+                answer: Err(r),
             },
         }
     }
 
-    pub fn earliest_deadline(self, keys: &[u32], deadlines: &[u64]) -> EarliestAnswer
+    pub fn earliest_deadline(self, keys: &[u32], deadlines: &[u64]) -> Result<Option<u64>, Refusal>
         ensures { result ≡ earliest_deadline self keys.now deadlines.now }
     {
         let verdict = check_held(self, keys, deadlines);
         match verdict {
-            Verdict::Accepted => self.earliest_deadline_unchecked(keys, deadlines),
-            Verdict::Refused(r) => EarliestAnswer::Refused(r),
+            Ok(()) => self.earliest_deadline_unchecked(keys, deadlines),
+            Err(r) => Err(r),
         }
     }
 
@@ -217,13 +174,13 @@ impl MultiTimer {
     {
         let verdict = check_held(self, keys, deadlines);
         match verdict {
-            Verdict::Accepted => ClearResult {
+            Ok(()) => ClearResult {
                 timers: self.clear_unchecked(keys, deadlines),
-                answer: DoneAnswer::Done,
+                answer: Ok(()),
             },
-            Verdict::Refused(r) => ClearResult {
+            Err(r) => ClearResult {
                 timers: self,
-                answer: DoneAnswer::Refused(r),
+                answer: Err(r),
             },
         }
     }

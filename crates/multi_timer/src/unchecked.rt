@@ -6,11 +6,12 @@ ghost use Rattle.multi_timer.specs.MultiTimer.{start_timer_at_unchecked, cancel_
 ghost use Rattle.multi_timer.specs.MultiTimer.{pop_expired_at_unchecked, clear_unchecked, is_expired_at_unchecked};
 ghost use Rattle.multi_timer.specs.MultiTimer.{next_expired_unchecked, earliest_deadline_unchecked};
 
+use super::MultiTimer;
 use super::entries::{
     clear_deadlines_in, clear_keys_in, insert_at, min_deadline, next_due, partition,
     position_index, remove_at, search, set_deadline,
 };
-use super::{EarliestAnswer, KeyPosition, MultiTimer, NextKey};
+use refusal::Refusal;
 
 impl MultiTimer {
     // Makes an empty set in two slices of one length.
@@ -43,14 +44,14 @@ impl MultiTimer {
         let next = std::num::wrapping_add_u64(self.global_generation, 1);
         let position = search(count, keys, key);
         match position {
-            KeyPosition::At(i) => {
+            Ok(i) => {
                 set_deadline(deadlines, i, deadline);
                 MultiTimer {
                     count,
                     global_generation: next,
                 }
             }
-            KeyPosition::Absent(i) => {
+            Err(i) => {
                 insert_at(keys, deadlines, i, count, key, deadline);
                 MultiTimer {
                     count: count + 1,
@@ -73,14 +74,14 @@ impl MultiTimer {
         let count = self.count;
         let position = search(count, keys, key);
         match position {
-            KeyPosition::At(i) => {
+            Ok(i) => {
                 remove_at(keys, deadlines, i, count);
                 MultiTimer {
                     count: count - 1,
                     global_generation: self.global_generation,
                 }
             }
-            KeyPosition::Absent(_) => self,
+            Err(_) => self,
         }
     }
 
@@ -96,8 +97,8 @@ impl MultiTimer {
     {
         let position = search(self.count, keys, key);
         match position {
-            KeyPosition::At(i) => time >= deadlines[i],
-            KeyPosition::Absent(_) => false,
+            Ok(i) => time >= deadlines[i],
+            Err(_) => false,
         }
     }
 
@@ -108,7 +109,7 @@ impl MultiTimer {
         deadlines: &[u64],
         from: u32,
         time: u64,
-    ) -> NextKey
+    ) -> Option<u32>
         requires { broken self.count keys.now deadlines.now ≡ false }
         ensures { result ≡ next_expired_unchecked self keys.now deadlines.now from time }
     {
@@ -141,15 +142,19 @@ impl MultiTimer {
     }
 
     // The keys are lent for the contract alone.
-    pub fn earliest_deadline_unchecked(self, keys: &[u32], deadlines: &[u64]) -> EarliestAnswer
+    pub fn earliest_deadline_unchecked(
+        self,
+        keys: &[u32],
+        deadlines: &[u64],
+    ) -> Result<Option<u64>, Refusal>
         requires { broken self.count keys.now deadlines.now ≡ false }
         ensures { result ≡ earliest_deadline_unchecked self keys.now deadlines.now }
     {
         let count = self.count;
         if count == 0 {
-            return EarliestAnswer::Nothing;
+            return Ok(None);
         }
-        EarliestAnswer::At(min_deadline(count, deadlines))
+        Ok(Some(min_deadline(count, deadlines)))
     }
 
     pub fn clear_unchecked(self, keys: &mut [u32], deadlines: &mut [u64]) -> MultiTimer

@@ -1,11 +1,11 @@
 -- What crates above may cite of the notes.
+use Rattle.std.specs.Prelude.{None, Some}
 use Prim.Native.Nat.{ℕ, ◌≤◌, ◌<◌}
 use mathlib.Core.Path.{◌≡◌, refl}
 use mathlib.Core.Bool.{false}
 use borrow.Author.Tests.{lt-ltb, le-ltb}
 use Rattle.notes.specs.SegMeta.{SegMeta, seg_meta, note_row, premature}
 use Rattle.notes.specs.Notes.{SegMetas, meta_at, is_premature, rto_at_send, deadline_of, expiry}
-use Rattle.notes.specs.declared.Expiry.TheVariants.{At, Nothing}
 pub use Rattle.notes.proofs.Marks.{marked_length, mark_same, marked_at, marked_above}
 pub use Rattle.notes.proofs.Updates.{update_notes, update_length, update_none, update_at, update_other, update_cases, new_length, new_count, sent_is, sent_length, sent_count, sent_at, sent_other, again_is, dropped_is, mark_one, mark_rows_are, mark_length, mark_count, mark_covers, mark_above, sample_first, sample_again, sample_none, sample_cases, sample_notes, sample_length}
 pub use Rattle.notes.proofs.Times.{timely_later, timely_new, timely_update, timely_again, timely_dropped, timely_sent, timely_mark, timely_sample, rto_within, ExpiryWithin, expiry_within, sample_within}
@@ -26,7 +26,7 @@ module _ (m : SegMetas) (seq : ℕ) where
     unfolding rto_at_send
     rto_noted current = rw (lt-ltb _ _ h)
 
-    pub expiry_noted : expiry m seq ≡ At (deadline_of (meta_at m seq))
+    pub expiry_noted : expiry m seq ≡ Some (deadline_of (meta_at m seq))
     unfolding expiry
     expiry_noted = rw (lt-ltb _ _ h)
 
@@ -39,6 +39,6 @@ module _ (m : SegMetas) (seq : ℕ) where
     unfolding rto_at_send
     rto_none current = rw (le-ltb _ _ h)
 
-    pub expiry_none : expiry m seq ≡ Nothing
+    pub expiry_none : expiry m seq ≡ None
     unfolding expiry
     expiry_none = rw (le-ltb _ _ h)

@@ -1,4 +1,5 @@
 -- `Timely` is kept by every call, and what it says of samples and deadlines.
+use Rattle.std.specs.Prelude.{None, Some}
 use Prim.Native.Nat.{ℕ, ◌+◌, ◌-◌, ◌≤◌, ◌<◌, min, zero-le}
 use mathlib.Core.Path.{◌≡◌, refl, sym, ap, ◌∙◌, subst}
 use mathlib.Core.Bool.{Bool, true, false, cond}
@@ -13,9 +14,6 @@ use borrow.Author.Tests.{ltb-true, ltb-false, eqb-true, eqb-false}
 use Rattle.bounds.specs.Bounds.{max_duration, max_time}
 use Rattle.notes.specs.SegMeta.{SegMeta, seg_meta, note_row, first_sent, with_sending, with_dropped, with_ack_scheduled, with_rtt_sampled}
 use Rattle.notes.specs.Notes.{SegMetas, seg_metas, meta_at, is_noted, update, new_notes, sent, sent_again, set_dropped, mark_ack_scheduled, rto_at_send, deadline_of, expiry, SampleExit, sample_of, take_sample, TimelyMeta, Timely}
-use Rattle.notes.specs.declared.Sample.TheVariants.{Rtt}
-use Rattle.notes.specs.declared.Sample.TheVariants.{Nothing as None}
-use Rattle.notes.specs.declared.Expiry.TheVariants.{At, Nothing}
 use Rattle.notes.proofs.Updates.{update_notes, update_length, update_cases, sample_cases, mark_length, mark_covers, mark_above}
 
 meta_later : {x : SegMeta} {now later : ℕ} → now ≤ later → TimelyMeta x now → TimelyMeta x later
@@ -108,28 +106,28 @@ pub record ExpiryWithin (now deadline : ℕ) : Type 0 where
   pub ahead : deadline - now ≤ max_duration
   pub time : deadline ≤ max_time
 
-pub expiry_within : (m : SegMetas) (seq now deadline : ℕ) → Timely m now → expiry m seq ≡ At deadline → ExpiryWithin now deadline
+pub expiry_within : (m : SegMetas) (seq now deadline : ℕ) → Timely m now → expiry m seq ≡ Some deadline → ExpiryWithin now deadline
 unfolding expiry
 expiry_within m seq now deadline t = go (is_noted m seq) (ltb-true _ _)
   where
     ends : (x : SegMeta) → TimelyMeta x now → deadline_of x ≡ deadline → ExpiryWithin now deadline
     ends x w e = let h = t.within in let a = w.last in let b = w.rto in record { ahead = omega arith; time = omega arith }
 
-    go : (b : Bool) → (b ≡ true → seq < m.notes.count) → cond b (At (deadline_of (meta_at m seq))) Nothing ≡ At deadline → ExpiryWithin now deadline
+    go : (b : Bool) → (b ≡ true → seq < m.notes.count) → cond b (Some (deadline_of (meta_at m seq))) None ≡ Some deadline → ExpiryWithin now deadline
     go true y e = ends (meta_at m seq) (t.at seq (y refl)) cc
     go false y e = let z : ◌≡◌ {A = ℕ} 0 1 = cc in absurd (omega arith)
 
 -- a sample is no longer than the run
-pub sample_within : (m : SegMetas) (seq now sample : ℕ) (retransmitted : Bool) → (take_sample m seq now).sample ≡ Rtt sample retransmitted → sample ≤ now
+pub sample_within : (m : SegMetas) (seq now sample : ℕ) (retransmitted : Bool) → (take_sample m seq now).sample ≡ Some (sample, retransmitted) → sample ≤ now
 sample_within m seq now sample retransmitted e =
-    ⊎_elim (λ p. let q : None ≡ Rtt sample retransmitted = sym (ap (λ (x : SampleExit). x.sample) p) ∙ e in none q)
-    (λ p. let q : sample_of (meta_at m seq) now ≡ Rtt sample retransmitted = sym (ap (λ (x : SampleExit). x.sample) p) ∙ e in past (meta_at m seq).original_send_at (same q))
+    ⊎_elim (λ p. let q : None ≡ Some (sample, retransmitted) = sym (ap (λ (x : SampleExit). x.sample) p) ∙ e in none q)
+    (λ p. let q : sample_of (meta_at m seq) now ≡ Some (sample, retransmitted) = sym (ap (λ (x : SampleExit). x.sample) p) ∙ e in past (meta_at m seq).original_send_at (same q))
     (sample_cases m seq now)
   where
-    none : None ≡ Rtt sample retransmitted → sample ≤ now
+    none : None ≡ Some (sample, retransmitted) → sample ≤ now
     none q = let z : ◌≡◌ {A = ℕ} 0 1 = cc in absurd (omega arith)
 
-    same : sample_of (meta_at m seq) now ≡ Rtt sample retransmitted → now - (meta_at m seq).original_send_at ≡ sample
+    same : sample_of (meta_at m seq) now ≡ Some (sample, retransmitted) → now - (meta_at m seq).original_send_at ≡ sample
     same q = cc
 
     past : (at : ℕ) → now - at ≡ sample → sample ≤ now

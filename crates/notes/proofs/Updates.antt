@@ -1,4 +1,5 @@
 -- What each call leaves: the number of rows, the counts, the row that it is about, and every other row as it was.
+use Rattle.std.specs.Prelude.{None}
 use Prim.Native.Nat.{ℕ, ◌+◌, ◌≤◌, ◌<◌, min}
 use mathlib.Core.Path.{◌≡◌, refl, sym, ap, ◌∙◌}
 use mathlib.Core.Bool.{Bool, true, false, not, cond, ◌&&◌}
@@ -13,7 +14,6 @@ use Rattle.rows.specs.Rows.{vacant, is_set}
 use Rattle.rows.proofs.Laws.{set_cases}
 use Rattle.notes.specs.SegMeta.{SegMeta, seg_meta, note_row, first_sent, with_sending, with_dropped, with_ack_scheduled, with_rtt_sampled}
 use Rattle.notes.specs.Notes.{SegMetas, seg_metas, notes, meta_at, is_noted, update, new_notes, sent, sent_again, set_dropped, mark_ack_scheduled, marked_below, sample_exit, sample_of, take_sample}
-use Rattle.notes.specs.declared.Sample.TheVariants.{Nothing}
 use Rattle.notes.proofs.Marks.{marked_length, marked_at, marked_above}
 
 -- ---- one segment's note is changed
@@ -137,24 +137,24 @@ module _ (m : SegMetas) (seq now : ℕ) where
   unfolding take_sample
   sample_first h e = rw (lt-ltb _ _ h, e)
 
-  pub sample_again : is_set (meta_at m seq).rtt_sampled ≡ true → take_sample m seq now ≡ sample_exit m Nothing
+  pub sample_again : is_set (meta_at m seq).rtt_sampled ≡ true → take_sample m seq now ≡ sample_exit m None
   unfolding take_sample
   sample_again e = rw e (go (is_noted m seq))
     where
-      go : (b : Bool) → cond (b && false) (sample_exit (update m seq with_rtt_sampled) (sample_of (meta_at m seq) now)) (sample_exit m Nothing) ≡ sample_exit m Nothing
+      go : (b : Bool) → cond (b && false) (sample_exit (update m seq with_rtt_sampled) (sample_of (meta_at m seq) now)) (sample_exit m None) ≡ sample_exit m None
       go true = refl
       go false = refl
 
-  pub sample_none : m.notes.count ≤ seq → take_sample m seq now ≡ sample_exit m Nothing
+  pub sample_none : m.notes.count ≤ seq → take_sample m seq now ≡ sample_exit m None
   unfolding take_sample
   sample_none h = rw (le-ltb _ _ h)
 
-  pub sample_cases : (take_sample m seq now ≡ sample_exit m Nothing) ⊎ (take_sample m seq now ≡ sample_exit (update m seq with_rtt_sampled) (sample_of (meta_at m seq) now))
+  pub sample_cases : (take_sample m seq now ≡ sample_exit m None) ⊎ (take_sample m seq now ≡ sample_exit (update m seq with_rtt_sampled) (sample_of (meta_at m seq) now))
   unfolding take_sample
   sample_cases = go (is_noted m seq && not (is_set (meta_at m seq).rtt_sampled))
     where
-      go : (b : Bool) → (cond b (sample_exit (update m seq with_rtt_sampled) (sample_of (meta_at m seq) now)) (sample_exit m Nothing) ≡ sample_exit m Nothing)
-          ⊎ (cond b (sample_exit (update m seq with_rtt_sampled) (sample_of (meta_at m seq) now)) (sample_exit m Nothing) ≡ sample_exit (update m seq with_rtt_sampled) (sample_of (meta_at m seq) now))
+      go : (b : Bool) → (cond b (sample_exit (update m seq with_rtt_sampled) (sample_of (meta_at m seq) now)) (sample_exit m None) ≡ sample_exit m None)
+          ⊎ (cond b (sample_exit (update m seq with_rtt_sampled) (sample_of (meta_at m seq) now)) (sample_exit m None) ≡ sample_exit (update m seq with_rtt_sampled) (sample_of (meta_at m seq) now))
       go true = inr refl
       go false = inl refl
 

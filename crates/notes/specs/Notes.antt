@@ -1,15 +1,11 @@
 -- The reference's `meta: Vec<SegMeta>` and what its driver does with it (`app/transfer.rs`, `submit`,
 -- `mark_ack_scheduled`, `is_premature`, `arm_oldest`, `sample_rtt`), in lent rows.
-use Rattle.std.specs.Prelude.{ℕ, zero, suc, ◌+◌, ◌-◌, ◌≤◌, ◌<◌, min, max, ◌≡◌, Bool, not, cond, ◌&&◌, List, [], ◌∷◌, ltb, eqb, length, get_or, set, replicate}
+use Rattle.std.specs.Prelude.{ℕ, zero, suc, ◌+◌, ◌-◌, ◌≤◌, ◌<◌, min, max, ◌≡◌, Bool, not, cond, ◌&&◌, List, [], ◌∷◌, ltb, eqb, length, get_or, set, replicate, None, Option, Some}
 use Rattle.bounds.specs.Bounds.{max_duration}
 use Rattle.rows.specs.Rows.{vacant, is_set}
 use Rattle.notes.specs.SegMeta.{SegMeta, seg_meta, note_row, first_sent, with_sending, with_dropped}
 use Rattle.notes.specs.SegMeta.{with_ack_scheduled, with_rtt_sampled, premature}
 use Rattle.notes.specs.declared.Notes.{Notes}
-use Rattle.notes.specs.declared.Sample as sample
-use Rattle.notes.specs.declared.Sample.{Sample}
-use Rattle.notes.specs.declared.Expiry as expiration
-use Rattle.notes.specs.declared.Expiry.{Expiry}
 
 -- the notes: the first `count` rows are in use
 pub record SegMetas : Type 0 where
@@ -88,27 +84,27 @@ rto_at_send m seq current = cond (is_noted m seq) (meta_at m seq).rto_at_send cu
 abbrev pub deadline_of : SegMeta → ℕ
 deadline_of x = x.last_send_at + x.rto_at_send
 
-unfoldable pub expiry : SegMetas → ℕ → Expiry
+unfoldable pub expiry : SegMetas → ℕ → Option ℕ
 expiry m seq =
-    cond (is_noted m seq) (expiration.TheVariants.At (deadline_of (meta_at m seq))) expiration.TheVariants.Nothing
+    cond (is_noted m seq) (Some (deadline_of (meta_at m seq))) None
 
 -- ---- `sample_rtt`: of a segment that has given no sample yet
 pub record SampleExit : Type 0 where
   pub metas : SegMetas
-  pub sample : Sample
+  pub sample : Option (ℕ × Bool)
 
-abbrev pub sample_exit : SegMetas → Sample → SampleExit
+abbrev pub sample_exit : SegMetas → Option (ℕ × Bool) → SampleExit
 sample_exit m s = record { metas = m; sample = s }
 
-abbrev pub sample_of : SegMeta → ℕ → Sample
-sample_of x now = sample.TheVariants.Rtt (now - x.original_send_at) (is_set x.ever_retransmitted)
+abbrev pub sample_of : SegMeta → ℕ → Option (ℕ × Bool)
+sample_of x now = Some (now - x.original_send_at, is_set x.ever_retransmitted)
 
 unfoldable pub take_sample : SegMetas → ℕ → ℕ → SampleExit
 take_sample m seq now =
     let x = meta_at m seq in
     cond (is_noted m seq && not (is_set x.rtt_sampled))
     (sample_exit (update m seq with_rtt_sampled) (sample_of x now))
-    (sample_exit m sample.TheVariants.Nothing)
+    (sample_exit m None)
 
 -- ---- times at a moment of the run
 pub record TimelyMeta (x : SegMeta) (now : ℕ) : Type 0 where

@@ -36,20 +36,6 @@ pub struct Notes {
     pub scheduled: usize,
 }
 
-#[derive(Clone, Copy)]
-pub enum Sample {
-    // The RTT sample of a segment's first ACK, and whether the segment was sent more than once.
-    Rtt(u64, bool),
-    Nothing,
-}
-
-// When a segment's timer runs out.
-#[derive(Clone, Copy)]
-pub enum Expiry {
-    At(u64),
-    Nothing,
-}
-
 impl Notes {
     pub fn new(rows: &mut [Note]) -> Notes
         ensures { seg_metas result rows.new ≡ new_notes rows.old }
@@ -169,37 +155,37 @@ impl Notes {
         note[RTO_AT_SEND]
     }
 
-    pub fn expiry_unchecked(self, rows: &[Note], seq: u32) -> Expiry
+    pub fn expiry_unchecked(self, rows: &[Note], seq: u32) -> Option<u64>
         requires { Timely (seg_metas self rows.now) max_duration }
         ensures { result ≡ expiry (seg_metas self rows.now) seq }
     {
         let at = seq as usize;
         if self.count <= at {
-            return Expiry::Nothing;
+            return None;
         }
         let note = rows[at];
-        Expiry::At(note[LAST_SEND_AT] + note[RTO_AT_SEND])
+        Some(note[LAST_SEND_AT] + note[RTO_AT_SEND])
     }
 
     // The sample of a segment that has given none yet.
-    pub fn take_sample_unchecked(self, rows: &mut [Note], seq: u32, now: u64) -> Sample
+    pub fn take_sample_unchecked(self, rows: &mut [Note], seq: u32, now: u64) -> Option<(u64, bool)>
         requires { self.count ≤ length rows.old }
         ensures { sample_exit (seg_metas self rows.new) result
             ≡ take_sample (seg_metas self rows.old) seq now }
     {
         let at = seq as usize;
         if self.count <= at {
-            return Sample::Nothing;
+            return None;
         }
         let note = rows[at];
         if note[RTT_SAMPLED] == 1 {
-            return Sample::Nothing;
+            return None;
         }
         rows[at] = with_rtt_sampled(note);
-        Sample::Rtt(
+        Some((
             now.saturating_sub(note[ORIGINAL_SEND_AT]),
             note[EVER_RETRANSMITTED] == 1,
-        )
+        ))
     }
 }
 

@@ -1,4 +1,5 @@
 -- One bit of a datagram turned over.
+use Rattle.std.specs.Prelude.{Err, Ok}
 use Prim.Native.Nat.{ℕ, ◌+◌, ◌-◌, ◌*◌, ◌/◌, ◌%◌, ◌^◌, ◌≤◌, ◌<◌}
 use mathlib.Core.Path.{◌≡◌, refl, sym, ap, ◌∙◌}
 use mathlib.Core.Bool.{Bool, true, false}
@@ -21,8 +22,6 @@ use Rattle.refusal.proofs.Laws.{decide_accepted, on_accepted, on_refused}
 use Rattle.packet.specs.Format.{header_bytes, datagram, with_checksum, made}
 use Rattle.packet.specs.Reading.{declared, present, read_checks, header_of, from_bytes, payload_of, validity}
 use Rattle.packet.specs.declared.Packet.{Packet}
-use Rattle.packet.specs.declared.PacketAnswer.TheVariants as packetAnswer
-use Rattle.packet.specs.declared.ValidityAnswer.TheVariants as validityAnswer
 use Rattle.packet.proofs.Types.{byte_is_type}
 use Rattle.packet.proofs.Header.{Fits, two_bytes, header_octets, checksum_lt}
 use Rattle.packet.proofs.Read.{read_cut}
@@ -30,14 +29,14 @@ use Rattle.packet.proofs.RoundTrip.{with_length, with_length_read, with_length_p
 use Rattle.packet.proofs.ReceiverCheck.{valid_all_ones}
 
 -- a valid datagram can be read
-valid_read : (raw : List ℕ) → validity raw ≡ validityAnswer.Valid → from_bytes raw ≡ packetAnswer.Packet (header_of raw)
+valid_read : (raw : List ℕ) → validity raw ≡ Ok true → from_bytes raw ≡ Ok (header_of raw)
 unfolding validity from_bytes
 valid_read raw e =
-    on_accepted packetAnswer.Refused (packetAnswer.Packet (header_of raw))
-    (decide_accepted (verdict (read_checks raw)) validityAnswer.Refused _ e (λ r f. let z : ◌≡◌ {A = ℕ} 0 1 = cc in omega arith))
+    on_accepted Err (Ok (header_of raw))
+    (decide_accepted (verdict (read_checks raw)) Err _ e (λ r f. let z : ◌≡◌ {A = ℕ} 0 1 = cc in omega arith))
 
 -- the sum of a valid datagram that ends with its payload
-whole_all_ones : (raw : List ℕ) → Octets raw → 10 + declared raw ≡ length raw → validity raw ≡ validityAnswer.Valid → ones_sum (words raw) ≡ 65535
+whole_all_ones : (raw : List ℕ) → Octets raw → 10 + declared raw ≡ length raw → validity raw ≡ Ok true → ones_sum (words raw) ≡ 65535
 whole_all_ones raw o n e =
     ap (λ (l : List ℕ). ones_sum (words l)) (sym (take_all (10 + declared raw) raw (omega arith)))
     ∙ valid_all_ones raw (header_of raw) o (valid_read raw e) e
@@ -48,13 +47,13 @@ flip_declared raw i b six seven n =
     rw (get_or-set_other raw i 6 _ 0 (λ e. six (sym e)), get_or-set_other raw i 7 _ 0 (λ e. seven (sym e)), length-set) n
 
 -- Outside bytes 6 and 7 a valid datagram that ends with its payload is no longer valid.
-pub flip_caught : (raw : List ℕ) (i b : ℕ) → Octets raw → 10 + declared raw ≡ length raw → validity raw ≡ validityAnswer.Valid
-    → b < 8 → i < length raw → (i ≡ 6 → ⊥) → (i ≡ 7 → ⊥) → validity (flip raw i b) ≡ validityAnswer.Valid → ⊥
+pub flip_caught : (raw : List ℕ) (i b : ℕ) → Octets raw → 10 + declared raw ≡ length raw → validity raw ≡ Ok true
+    → b < 8 → i < length raw → (i ≡ 6 → ⊥) → (i ≡ 7 → ⊥) → validity (flip raw i b) ≡ Ok true → ⊥
 flip_caught raw i b o n v h k six seven w =
     flip_changes_sum raw i b o h k
     (whole_all_ones (flip raw i b) (flip_octets raw i b h o) (flip_declared raw i b six seven n) w ∙ sym (whole_all_ones raw o n v))
 
-pub made_valid : (p : Packet) (payload : List ℕ) → validity (made p payload) ≡ validityAnswer.Valid
+pub made_valid : (p : Packet) (payload : List ℕ) → validity (made p payload) ≡ Ok true
 made_valid p payload = sym (ap validity (append-nil (made p payload))) ∙ valid_back p payload []
 
 made_octets : (p : Packet) (payload : List ℕ) → Fits p → Octets payload → length payload ≤ 65535 → Octets (made p payload)
@@ -72,25 +71,25 @@ made_length p payload = omega arith
 
 -- the datagrams that this layer makes
 pub made_flip_caught : (p : Packet) (payload : List ℕ) (i b : ℕ) → Fits p → Octets payload → length payload ≤ 1400
-    → b < 8 → i < 10 + length payload → (i ≡ 6 → ⊥) → (i ≡ 7 → ⊥) → validity (flip (made p payload) i b) ≡ validityAnswer.Valid → ⊥
+    → b < 8 → i < 10 + length payload → (i ≡ 6 → ⊥) → (i ≡ 7 → ⊥) → validity (flip (made p payload) i b) ≡ Ok true → ⊥
 made_flip_caught p payload i b f o n h k six seven =
     flip_caught (made p payload) i b (made_octets p payload f o (omega arith)) (made_declared p payload) (made_valid p payload) h
     (omega (arith, made_length p payload)) six seven
 
 -- In bytes 6 and 7 the copy is cut, or reads as the same packet with a proper prefix of the payload.
 pub record Prefix (raw : List ℕ) (p : Packet) (payload : List ℕ) : Type 0 where
-  pub packet : from_bytes raw ≡ packetAnswer.Packet p
+  pub packet : from_bytes raw ≡ Ok p
   pub prefix : payload_of raw ≡ take (declared raw) payload
   pub proper : declared raw < length payload
 
 abbrev pub CutOrPrefix : List ℕ → Packet → List ℕ → Type 0
-CutOrPrefix raw p payload = (from_bytes raw ≡ packetAnswer.Refused (Cut (declared raw) (length payload))) ⊎ Prefix raw p payload
+CutOrPrefix raw p payload = (from_bytes raw ≡ Err (Cut (declared raw) (length payload))) ⊎ Prefix raw p payload
 
-with_length_cut : (p : Packet) (hi lo : ℕ) (l : List ℕ) → length l < hi * 256 + lo → from_bytes (with_length p hi lo l) ≡ packetAnswer.Refused (Cut (hi * 256 + lo) (length l))
+with_length_cut : (p : Packet) (hi lo : ℕ) (l : List ℕ) → length l < hi * 256 + lo → from_bytes (with_length p hi lo l) ≡ Err (Cut (hi * 256 + lo) (length l))
 unfolding from_bytes
 with_length_cut p hi lo l h =
-    on_refused packetAnswer.Refused (packetAnswer.Packet (header_of (with_length p hi lo l))) (read_cut (with_length p hi lo l) (omega arith) (byte_is_type p.pkt_type) (omega arith))
-    ∙ let n : present (with_length p hi lo l) ≡ length l = omega arith in ap (λ (m : ℕ). packetAnswer.Refused (Cut (hi * 256 + lo) m)) n
+    on_refused Err (Ok (header_of (with_length p hi lo l))) (read_cut (with_length p hi lo l) (omega arith) (byte_is_type p.pkt_type) (omega arith))
+    ∙ let n : present (with_length p hi lo l) ≡ length l = omega arith in ap (λ (m : ℕ). Err (Cut (hi * 256 + lo) m)) n
 
 by_length : (p : Packet) (hi lo : ℕ) (l : List ℕ) (t : Bool) → ltb (length l) (hi * 256 + lo) ≡ t → (hi * 256 + lo ≡ length l → ⊥) → CutOrPrefix (with_length p hi lo l) p l
 by_length p hi lo l true e n = inl (with_length_cut p hi lo l (ltb-true _ _ e))

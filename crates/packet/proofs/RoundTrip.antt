@@ -1,4 +1,5 @@
 -- What is written is read back, and what is read is written back.
+use Rattle.std.specs.Prelude.{Err, Ok}
 use Prim.Native.Nat.{ℕ, ◌+◌, ◌*◌, ◌/◌, ◌%◌, ◌≤◌, ◌<◌}
 use mathlib.Core.Path.{◌≡◌, refl, sym, ap, ◌∙◌}
 use mathlib.Core.Bool.{true}
@@ -14,9 +15,6 @@ use Rattle.packet.specs.Format.{byte_of, header_bytes, datagram, checksum_of, wi
 use Rattle.packet.specs.Reading.{declared, header_of, from_bytes, payload_of, validity}
 use Rattle.packet.specs.Writing.{Written, to_bytes, written}
 use Rattle.packet.specs.declared.Packet.{Packet}
-use Rattle.packet.specs.declared.LengthAnswer.TheVariants.{Length, Refused}
-use Rattle.packet.specs.declared.PacketAnswer.TheVariants as packetAnswer
-use Rattle.packet.specs.declared.ValidityAnswer.TheVariants.{Valid}
 use Rattle.packet.proofs.Types.{type_byte, byte_type, byte_is_type}
 use Rattle.packet.proofs.Header.{two_bytes, high_half, low_half}
 use Rattle.packet.proofs.Read.{Readable, read_accepted, accepted_readable, read_packet, read_header, payload_is, payload_length, validity_is}
@@ -36,17 +34,17 @@ with_length_header p hi lo l = rw (be32_is p.seq_num, type_byte p.pkt_type, two_
 with_length_readable : (p : Packet) (hi lo : ℕ) (l : List ℕ) → hi * 256 + lo ≤ length l → Readable (with_length p hi lo l)
 with_length_readable p hi lo l h = record { long = omega arith; known = byte_is_type p.pkt_type; whole = omega arith }
 
-pub with_length_read : (p : Packet) (hi lo : ℕ) (l : List ℕ) → hi * 256 + lo ≤ length l → from_bytes (with_length p hi lo l) ≡ packetAnswer.Packet p
+pub with_length_read : (p : Packet) (hi lo : ℕ) (l : List ℕ) → hi * 256 + lo ≤ length l → from_bytes (with_length p hi lo l) ≡ Ok p
 unfolding from_bytes
 with_length_read p hi lo l h =
-    on_accepted packetAnswer.Refused (packetAnswer.Packet (header_of (with_length p hi lo l))) (read_accepted (with_length p hi lo l) (with_length_readable p hi lo l h))
-    ∙ ap packetAnswer.Packet (with_length_header p hi lo l)
+    on_accepted Err (Ok (header_of (with_length p hi lo l))) (read_accepted (with_length p hi lo l) (with_length_readable p hi lo l h))
+    ∙ ap Ok (with_length_header p hi lo l)
 
 pub with_length_payload : (p : Packet) (hi lo : ℕ) (l : List ℕ) → hi * 256 + lo ≤ length l → payload_of (with_length p hi lo l) ≡ take (hi * 256 + lo) l
 with_length_payload p hi lo l h = payload_is (with_length p hi lo l) (read_accepted (with_length p hi lo l) (with_length_readable p hi lo l h))
 
 -- what is written is read as the same packet, whatever follows it
-pub read_back : (p : Packet) (payload rest : List ℕ) → from_bytes (datagram p payload ++ rest) ≡ packetAnswer.Packet p
+pub read_back : (p : Packet) (payload rest : List ℕ) → from_bytes (datagram p payload ++ rest) ≡ Ok p
 unfolding datagram header_bytes
 read_back p payload rest = with_length_read p (length payload / 256) (length payload % 256) (payload ++ rest) (omega (arith, two_bytes (length payload), length-append payload rest))
 
@@ -60,18 +58,18 @@ checksum_kept : (p : Packet) (payload : List ℕ) → matches (with_checksum p p
 unfolding matches checksum_of header_bytes
 checksum_kept p payload = eq-eqb (checksum_of p payload) (checksum_of p payload) refl
 
-pub valid_back : (p : Packet) (payload rest : List ℕ) → validity (datagram (with_checksum p payload) payload ++ rest) ≡ Valid
+pub valid_back : (p : Packet) (payload rest : List ℕ) → validity (datagram (with_checksum p payload) payload ++ rest) ≡ Ok true
 valid_back p payload rest =
     validity_is _ (with_checksum p payload) (read_back (with_checksum p payload) payload rest)
     ∙ rw (payload_back (with_checksum p payload) payload rest, checksum_kept p payload)
 
 -- the same of what the writer leaves in a buffer
-pub written_read : (p : Packet) (payload out : List ℕ) (n : ℕ) (left : List ℕ) → to_bytes p payload out ≡ written (Length n) left
-    → (from_bytes left ≡ packetAnswer.Packet p) × (payload_of left ≡ payload)
+pub written_read : (p : Packet) (payload out : List ℕ) (n : ℕ) (left : List ℕ) → to_bytes p payload out ≡ written (Ok n) left
+    → (from_bytes left ≡ Ok p) × (payload_of left ≡ payload)
 unfolding to_bytes
 written_read p payload out n left e =
-    let v = decide_accepted _ _ _ e (λ r f. let g : Refused r ≡ Length n = ap (λ (w : Written). w.answer) f in let z : ◌≡◌ {A = ℕ} 0 1 = cc in omega arith) in
-    let f : written (Length (10 + length payload)) (datagram p payload ++ drop (10 + length payload) out) ≡ written (Length n) left = sym (on_accepted _ _ v) ∙ e in
+    let v = decide_accepted _ _ _ e (λ r f. let g : Err r ≡ Ok n = ap (λ (w : Written). w.answer) f in let z : ◌≡◌ {A = ℕ} 0 1 = cc in omega arith) in
+    let f : written (Ok (10 + length payload)) (datagram p payload ++ drop (10 + length payload) out) ≡ written (Ok n) left = sym (on_accepted _ _ v) ∙ e in
     let g : datagram p payload ++ drop (10 + length payload) out ≡ left = ap (λ (w : Written). w.out) f in
     (rw (← g) (read_back p payload (drop (10 + length payload) out)), rw (← g) (payload_back p payload (drop (10 + length payload) out)))
 
@@ -103,7 +101,7 @@ written_header raw o r n e =
     let e3 : number % 256 ≡ get_or raw 3 0 = omega arith in
     rw (e0, e1, e2, e3, byte_type (get_or raw 4 0) r.known, high_of _ _ n (o.at 7) e, low_of _ _ n (o.at 7) e, high_of _ _ (get_or raw 8 0 * 256 + get_or raw 9 0) (o.at 9) refl, low_of _ _ (get_or raw 8 0 * 256 + get_or raw 9 0) (o.at 9) refl)
 
-pub written_again : (raw : List ℕ) (p : Packet) → Octets raw → from_bytes raw ≡ packetAnswer.Packet p → datagram p (payload_of raw) ≡ take (10 + declared raw) raw
+pub written_again : (raw : List ℕ) (p : Packet) → Octets raw → from_bytes raw ≡ Ok p → datagram p (payload_of raw) ≡ take (10 + declared raw) raw
 unfolding datagram
 written_again raw p o e =
     let v = read_packet raw p e in
@@ -114,8 +112,8 @@ written_again raw p o e =
     ∙ sym (ap (take (10 + declared raw)) (first_ten_lem raw r.long) ∙ take-append-add (first_ten raw) (drop 10 raw) (declared raw))
 
 -- the same, by the writer
-pub written_again_by_to_bytes : (raw : List ℕ) (p : Packet) (out : List ℕ) → Octets raw → from_bytes raw ≡ packetAnswer.Packet p → declared raw ≤ 1400 → 10 + declared raw ≤ length out
-    → to_bytes p (payload_of raw) out ≡ written (Length (10 + declared raw)) (take (10 + declared raw) raw ++ drop (10 + declared raw) out)
+pub written_again_by_to_bytes : (raw : List ℕ) (p : Packet) (out : List ℕ) → Octets raw → from_bytes raw ≡ Ok p → declared raw ≤ 1400 → 10 + declared raw ≤ length out
+    → to_bytes p (payload_of raw) out ≡ written (Ok (10 + declared raw)) (take (10 + declared raw) raw ++ drop (10 + declared raw) out)
 unfolding to_bytes verdict first_of numbered or_else order decide
 written_again_by_to_bytes raw p out o e h k =
     simp (written_again raw p o e, payload_length raw (read_packet raw p e), le-ltb _ _ h, le-ltb _ _ k)

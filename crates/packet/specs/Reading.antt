@@ -1,6 +1,6 @@
 -- Document 01, `packet.rs` and "Turned away" 1, 2, 3: what a datagram reads as. Bytes after the declared payload are
 -- ignored.
-use Rattle.std.specs.Prelude.{ℕ, ◌+◌, ◌-◌, ◌*◌, List, [], ◌∷◌, Bool, true, false, cond, not, length, get_or, take, drop, ltb, leb, eqb}
+use Rattle.std.specs.Prelude.{ℕ, ◌+◌, ◌-◌, ◌*◌, List, [], ◌∷◌, Bool, true, false, cond, not, length, get_or, take, drop, ltb, leb, eqb, Err, Ok, Result}
 use Rattle.bounds.specs.Bounds.{header_size}
 use Rattle.refusal.specs.declared.Refusal.TheVariants.{Short, Kind, Cut}
 use Rattle.refusal.specs.Order.{Check, check, verdict, decide}
@@ -8,14 +8,9 @@ use Rattle.packet.specs.Format.{matches, check_long}
 use Rattle.packet.specs.declared.PacketType.{PacketType}
 use Rattle.packet.specs.declared.PacketType.TheVariants.{Data, Ack, Fin}
 use Rattle.packet.specs.declared.Packet.{Packet}
-use Rattle.packet.specs.declared.PacketTypeAnswer.{PacketTypeAnswer}
-use Rattle.packet.specs.declared.PacketTypeAnswer.TheVariants as typeAnswer
-use Rattle.packet.specs.declared.PacketAnswer.{PacketAnswer}
-use Rattle.packet.specs.declared.PacketAnswer.TheVariants as packetAnswer
-use Rattle.packet.specs.declared.ValidityAnswer.{ValidityAnswer}
-use Rattle.packet.specs.declared.ValidityAnswer.TheVariants as validityAnswer
 use Rattle.packet.specs.declared.DatagramReading.{DatagramReading}
 use Rattle.packet.specs.declared.DatagramReading.TheVariants as reading
+use Rattle.refusal.specs.declared.Refusal.{Refusal}
 
 abbrev pub is_type : ℕ → Bool
 is_type b = cond (leb 1 b) (leb b 3) false
@@ -26,8 +21,8 @@ type_of b = cond (eqb b 1) Data (cond (eqb b 2) Ack Fin)
 abbrev pub check_type : ℕ → Check
 check_type b = check (not (is_type b)) (Kind b)
 
-unfoldable pub try_from : ℕ → PacketTypeAnswer
-try_from b = decide (verdict (check_type b ∷ [])) typeAnswer.Refused (typeAnswer.Type (type_of b))
+unfoldable pub try_from : ℕ → Result PacketType Refusal
+try_from b = decide (verdict (check_type b ∷ [])) Err (Ok (type_of b))
 
 -- the payload length that the header declares, and the bytes that follow the header
 abbrev pub declared : List ℕ → ℕ
@@ -52,29 +47,29 @@ header_of raw = record {
 unfoldable pub payload_part : List ℕ → List ℕ
 payload_part raw = take (declared raw) (drop header_size raw)
 
-unfoldable pub from_bytes : List ℕ → PacketAnswer
-from_bytes raw = decide (verdict (read_checks raw)) packetAnswer.Refused (packetAnswer.Packet (header_of raw))
+unfoldable pub from_bytes : List ℕ → Result Packet Refusal
+from_bytes raw = decide (verdict (read_checks raw)) Err (Ok (header_of raw))
 
 -- empty where reading is refused
 unfoldable pub payload_of : List ℕ → List ℕ
 payload_of raw = decide (verdict (read_checks raw)) (λ r. []) (payload_part raw)
 
-unfoldable pub validity : List ℕ → ValidityAnswer
+unfoldable pub validity : List ℕ → Result Bool Refusal
 validity raw =
-    decide (verdict (read_checks raw)) validityAnswer.Refused
-    (cond (matches (header_of raw) (payload_part raw)) validityAnswer.Valid validityAnswer.Invalid)
+    decide (verdict (read_checks raw)) Err
+    (cond (matches (header_of raw) (payload_part raw)) (Ok true) (Ok false))
 
 -- given to a sender or a receiver, its payload is at most 1,400 bytes long too
 abbrev pub given_checks : List ℕ → List Check
 given_checks raw = check_long (payload_of raw) ∷ read_checks raw
 
-unfoldable pub read_datagram : List ℕ → DatagramReading
+unfoldable pub read_datagram : List ℕ → Result DatagramReading Refusal
 read_datagram raw =
-    decide (verdict (given_checks raw)) reading.Refused
-    (cond (matches (header_of raw) (payload_of raw)) (reading.Valid (header_of raw)) (reading.Corrupted (header_of raw)))
+    decide (verdict (given_checks raw)) Err
+    (cond (matches (header_of raw) (payload_of raw)) (Ok (reading.Valid (header_of raw))) (Ok (reading.Corrupted (header_of raw))))
 
 -- a refused reading, as a check among those of the call that is given the datagram
-abbrev pub reading_checks : DatagramReading → List Check
-reading_checks (reading.Valid p) = []
-reading_checks (reading.Corrupted p) = []
-reading_checks (reading.Refused r) = check true r ∷ []
+abbrev pub reading_checks : Result DatagramReading Refusal → List Check
+reading_checks (Ok (reading.Valid p)) = []
+reading_checks (Ok (reading.Corrupted p)) = []
+reading_checks (Err r) = check true r ∷ []

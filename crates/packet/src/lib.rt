@@ -29,31 +29,6 @@ pub struct Packet {
     pub checksum: u16,
 }
 
-#[derive(Clone, Copy)]
-pub enum PacketTypeAnswer {
-    Type(PacketType),
-    Refused(Refusal),
-}
-
-#[derive(Clone, Copy)]
-pub enum PacketAnswer {
-    Packet(Packet),
-    Refused(Refusal),
-}
-
-#[derive(Clone, Copy)]
-pub enum ChecksumAnswer {
-    Checksum(u16),
-    Refused(Refusal),
-}
-
-#[derive(Clone, Copy)]
-pub enum ValidityAnswer {
-    Valid,
-    Invalid,
-    Refused(Refusal),
-}
-
 // What a datagram given to a sender or a receiver is.
 #[derive(Clone, Copy)]
 pub enum DatagramReading {
@@ -61,14 +36,6 @@ pub enum DatagramReading {
     Valid(Packet),
     // It doesn't.
     Corrupted(Packet),
-    Refused(Refusal),
-}
-
-// How many bytes were written.
-#[derive(Clone, Copy)]
-pub enum LengthAnswer {
-    Length(usize),
-    Refused(Refusal),
 }
 
 impl PacketType {
@@ -83,19 +50,19 @@ impl PacketType {
         }
     }
 
-    pub fn try_from(byte: u8) -> PacketTypeAnswer
+    pub fn try_from(byte: u8) -> Result<PacketType, Refusal>
         ensures { result ≡ try_from byte }
     {
         if byte == 1 {
-            return PacketTypeAnswer::Type(PacketType::Data);
+            return Ok(PacketType::Data);
         }
         if byte == 2 {
-            return PacketTypeAnswer::Type(PacketType::Ack);
+            return Ok(PacketType::Ack);
         }
         if byte == 3 {
-            return PacketTypeAnswer::Type(PacketType::Fin);
+            return Ok(PacketType::Fin);
         }
-        PacketTypeAnswer::Refused(Refusal::Kind(byte))
+        Err(Refusal::Kind(byte))
     }
 }
 
@@ -151,72 +118,72 @@ impl Packet {
     }
 
     // The checksum over header and payload, its own field counted as 0.
-    pub fn compute_checksum(self, payload: &[u8]) -> ChecksumAnswer
+    pub fn compute_checksum(self, payload: &[u8]) -> Result<u16, Refusal>
         ensures { result ≡ compute_checksum self payload.now }
     {
         if Packet::MAX_PAYLOAD_SIZE < payload.len() {
-            return ChecksumAnswer::Refused(Refusal::Long);
+            return Err(Refusal::Long);
         }
-        ChecksumAnswer::Checksum(self.compute_checksum_unchecked(payload))
+        Ok(self.compute_checksum_unchecked(payload))
     }
 
-    pub fn compute_and_set_checksum(self, payload: &[u8]) -> PacketAnswer
+    pub fn compute_and_set_checksum(self, payload: &[u8]) -> Result<Packet, Refusal>
         ensures { result ≡ compute_and_set_checksum self payload.now }
     {
         if Packet::MAX_PAYLOAD_SIZE < payload.len() {
-            return PacketAnswer::Refused(Refusal::Long);
+            return Err(Refusal::Long);
         }
-        PacketAnswer::Packet(self.compute_and_set_checksum_unchecked(payload))
+        Ok(self.compute_and_set_checksum_unchecked(payload))
     }
 
     // Whether a datagram's checksum matches.
-    pub fn is_valid(raw: &[u8]) -> ValidityAnswer
+    pub fn is_valid(raw: &[u8]) -> Result<bool, Refusal>
         ensures { result ≡ validity raw.now }
     {
         match Packet::from_bytes(raw) {
-            PacketAnswer::Packet(p) => {
+            Ok(p) => {
                 if p.is_valid_unchecked(Packet::payload_unchecked(raw)) {
-                    ValidityAnswer::Valid
+                    Ok(true)
                 } else {
-                    ValidityAnswer::Invalid
+                    Ok(false)
                 }
             }
-            PacketAnswer::Refused(r) => ValidityAnswer::Refused(r),
+            Err(r) => Err(r),
         }
     }
 
     // Writes the datagram, with the checksum field as it stands, to the start of out.
-    pub fn to_bytes(self, payload: &[u8], out: &mut [u8]) -> LengthAnswer
+    pub fn to_bytes(self, payload: &[u8], out: &mut [u8]) -> Result<usize, Refusal>
         ensures { written result out.new ≡ to_bytes self payload.now out.old }
     {
         let n = payload.len();
         if Packet::MAX_PAYLOAD_SIZE < n {
-            return LengthAnswer::Refused(Refusal::Long);
+            return Err(Refusal::Long);
         }
         if out.len() < Packet::HEADER_SIZE + n {
-            return LengthAnswer::Refused(Refusal::Full);
+            return Err(Refusal::Full);
         }
         self.to_bytes_unchecked(payload, out);
-        LengthAnswer::Length(Packet::HEADER_SIZE + n)
+        Ok(Packet::HEADER_SIZE + n)
     }
 
     // The packet of a datagram; bytes after the declared payload are ignored.
-    pub fn from_bytes(raw: &[u8]) -> PacketAnswer
+    pub fn from_bytes(raw: &[u8]) -> Result<Packet, Refusal>
         ensures { result ≡ from_bytes raw.now }
     {
         if raw.len() < Packet::HEADER_SIZE {
-            return PacketAnswer::Refused(Refusal::Short(raw.len()));
+            return Err(Refusal::Short(raw.len()));
         }
         let byte = raw[4];
-        let PacketTypeAnswer::Type(pkt_type) = PacketType::try_from(byte) else {
-            return PacketAnswer::Refused(Refusal::Kind(byte));
+        let Ok(pkt_type) = PacketType::try_from(byte) else {
+            return Err(Refusal::Kind(byte));
         };
         let declared = octets::be16(raw[6], raw[7]);
         let present = raw.len() - Packet::HEADER_SIZE;
         if present < declared as usize {
-            return PacketAnswer::Refused(Refusal::Cut { declared, present });
+            return Err(Refusal::Cut { declared, present });
         }
-        PacketAnswer::Packet(Packet {
+        Ok(Packet {
             seq_num: octets::be32(raw[0], raw[1], raw[2], raw[3]),
             pkt_type,
             flags: raw[5],
@@ -229,29 +196,29 @@ impl Packet {
         ensures { result.now ≡ payload_of raw.now }
     {
         match Packet::from_bytes(raw) {
-            PacketAnswer::Packet(_) => Packet::payload_unchecked(raw),
-            PacketAnswer::Refused(_) => &raw[..0],
+            Ok(_) => Packet::payload_unchecked(raw),
+            Err(_) => &raw[..0],
         }
     }
 
     // What a datagram given to a sender or a receiver is: refused by 1, 2, 3 or 6, else its packet and whether its
     // checksum matches.
-    pub fn read_datagram(raw: &[u8]) -> DatagramReading
+    pub fn read_datagram(raw: &[u8]) -> Result<DatagramReading, Refusal>
         ensures { result ≡ read_datagram raw.now }
     {
         match Packet::from_bytes(raw) {
-            PacketAnswer::Packet(p) => {
+            Ok(p) => {
                 let payload = Packet::payload_unchecked(raw);
                 if Packet::MAX_PAYLOAD_SIZE < payload.len() {
-                    return DatagramReading::Refused(Refusal::Long);
+                    return Err(Refusal::Long);
                 }
                 if p.is_valid_unchecked(payload) {
-                    DatagramReading::Valid(p)
+                    Ok(DatagramReading::Valid(p))
                 } else {
-                    DatagramReading::Corrupted(p)
+                    Ok(DatagramReading::Corrupted(p))
                 }
             }
-            PacketAnswer::Refused(r) => DatagramReading::Refused(r),
+            Err(r) => Err(r),
         }
     }
 

@@ -8,10 +8,8 @@
 // A packet is answered by number, kind, flags and checksum, a refusal by `refused`, its number and its values.
 #![tactic(auto)]
 
-use packet::{
-    ChecksumAnswer, LengthAnswer, Packet, PacketAnswer, PacketType, PacketTypeAnswer,
-    ValidityAnswer,
-};
+use packet::{Packet, PacketType};
+use refusal::Refusal;
 use replay_io::{Fields, Lines};
 use std::io;
 use std::io::Write;
@@ -68,13 +66,17 @@ fn read_case(writer: &mut impl Write, raw: &[u8]) -> io::Result<()> {
     replay_io::print_bytes(writer, Packet::payload(raw))
 }
 
-fn checksum_case(writer: &mut impl Write, a: PacketAnswer, payload: &[u8]) -> io::Result<()> {
+fn checksum_case(
+    writer: &mut impl Write,
+    a: Result<Packet, Refusal>,
+    payload: &[u8],
+) -> io::Result<()> {
     match a {
-        PacketAnswer::Packet(p) => {
+        Ok(p) => {
             print_checksum(writer, p.compute_checksum(payload))?;
             print_packet_answer(writer, p.compute_and_set_checksum(payload))
         }
-        PacketAnswer::Refused(r) => replay_io::print_refusal(writer, r),
+        Err(r) => replay_io::print_refusal(writer, r),
     }
 }
 
@@ -86,7 +88,7 @@ fn write_case(writer: &mut impl Write, f: Fields, payload: &[u8]) -> io::Result<
 
 fn write_within(
     writer: &mut impl Write,
-    a: PacketAnswer,
+    a: Result<Packet, Refusal>,
     room: usize,
     payload: &[u8],
     out: &mut [u8],
@@ -95,8 +97,8 @@ fn write_within(
         return replay_io::print_bad_line(writer);
     }
     match a {
-        PacketAnswer::Packet(p) => write_packet(writer, p, payload, &mut out[0..room]),
-        PacketAnswer::Refused(r) => replay_io::print_refusal(writer, r),
+        Ok(p) => write_packet(writer, p, payload, &mut out[0..room]),
+        Err(r) => replay_io::print_refusal(writer, r),
     }
 }
 
@@ -113,19 +115,19 @@ fn write_packet(
 fn type_case(writer: &mut impl Write, f: Fields) -> io::Result<()> {
     let v = f.values;
     match PacketType::try_from((v[0] % 256) as u8) {
-        PacketTypeAnswer::Type(t) => replay_io::print_number(writer, t.to_byte() as u64),
-        PacketTypeAnswer::Refused(r) => replay_io::print_refusal(writer, r),
+        Ok(t) => replay_io::print_number(writer, t.to_byte() as u64),
+        Err(r) => replay_io::print_refusal(writer, r),
     }
 }
 
-fn flags_case(writer: &mut impl Write, a: PacketAnswer) -> io::Result<()> {
+fn flags_case(writer: &mut impl Write, a: Result<Packet, Refusal>) -> io::Result<()> {
     match a {
-        PacketAnswer::Packet(p) => {
+        Ok(p) => {
             replay_io::print_test(writer, p.is_retransmitted())?;
             print_packet(writer, p.set_retransmitted())?;
             print_packet(writer, new_packet(p))
         }
-        PacketAnswer::Refused(r) => replay_io::print_refusal(writer, r),
+        Err(r) => replay_io::print_refusal(writer, r),
     }
 }
 
@@ -140,23 +142,23 @@ fn new_packet(p: Packet) -> Packet {
 }
 
 // The packet of number, kind, flags and checksum, each cut to its width.
-fn packet_of(f: Fields) -> PacketAnswer {
+fn packet_of(f: Fields) -> Result<Packet, Refusal> {
     let v = f.values;
     match PacketType::try_from((v[1] % 256) as u8) {
-        PacketTypeAnswer::Type(pkt_type) => PacketAnswer::Packet(Packet {
+        Ok(pkt_type) => Ok(Packet {
             seq_num: replay_io::low(v[0]),
             pkt_type,
             flags: (v[2] % 256) as u8,
             checksum: (v[3] % 65536) as u16,
         }),
-        PacketTypeAnswer::Refused(r) => PacketAnswer::Refused(r),
+        Err(r) => Err(r),
     }
 }
 
-fn print_packet_answer(writer: &mut impl Write, a: PacketAnswer) -> io::Result<()> {
+fn print_packet_answer(writer: &mut impl Write, a: Result<Packet, Refusal>) -> io::Result<()> {
     match a {
-        PacketAnswer::Packet(p) => print_packet(writer, p),
-        PacketAnswer::Refused(r) => replay_io::print_refusal(writer, r),
+        Ok(p) => print_packet(writer, p),
+        Err(r) => replay_io::print_refusal(writer, r),
     }
 }
 
@@ -168,24 +170,24 @@ fn print_packet(writer: &mut impl Write, p: Packet) -> io::Result<()> {
     replay_io::print_number(writer, p.checksum as u64)
 }
 
-fn print_validity(writer: &mut impl Write, a: ValidityAnswer) -> io::Result<()> {
+fn print_validity(writer: &mut impl Write, a: Result<bool, Refusal>) -> io::Result<()> {
     match a {
-        ValidityAnswer::Valid => replay_io::print(writer, b" valid"),
-        ValidityAnswer::Invalid => replay_io::print(writer, b" invalid"),
-        ValidityAnswer::Refused(r) => replay_io::print_refusal(writer, r),
+        Ok(true) => replay_io::print(writer, b" valid"),
+        Ok(false) => replay_io::print(writer, b" invalid"),
+        Err(r) => replay_io::print_refusal(writer, r),
     }
 }
 
-fn print_checksum(writer: &mut impl Write, a: ChecksumAnswer) -> io::Result<()> {
+fn print_checksum(writer: &mut impl Write, a: Result<u16, Refusal>) -> io::Result<()> {
     match a {
-        ChecksumAnswer::Checksum(k) => replay_io::print_number(writer, k as u64),
-        ChecksumAnswer::Refused(r) => replay_io::print_refusal(writer, r),
+        Ok(k) => replay_io::print_number(writer, k as u64),
+        Err(r) => replay_io::print_refusal(writer, r),
     }
 }
 
-fn print_length(writer: &mut impl Write, a: LengthAnswer) -> io::Result<()> {
+fn print_length(writer: &mut impl Write, a: Result<usize, Refusal>) -> io::Result<()> {
     match a {
-        LengthAnswer::Length(n) => replay_io::print_number(writer, n as u64),
-        LengthAnswer::Refused(r) => replay_io::print_refusal(writer, r),
+        Ok(n) => replay_io::print_number(writer, n as u64),
+        Err(r) => replay_io::print_refusal(writer, r),
     }
 }

@@ -1,4 +1,5 @@
 -- What a packet that is due is answered, by the tests that were true of it, and what the entry points of channel and schedule answer there.
+use Rattle.std.specs.Prelude.{Err}
 use mathlib.Core.Path.{◌≡◌, refl, sym, ◌∙◌, ap, subst}
 use Prim.Native.Nat.{ℕ, ◌+◌, ◌≤◌}
 use native.Mathlib.Omega.{arith}
@@ -12,8 +13,6 @@ use borrow.Author.Tests.{le-ltb}
 use Rattle.bounds.specs.Bounds.{max_datagram, max_duration, max_time}
 use Rattle.refusal.specs.Order.{check, verdict}
 use Rattle.refusal.specs.declared.Refusal.TheVariants.{State, Counts, Time, Long, Full}
-use Rattle.refusal.specs.declared.Verdict.TheVariants.{Refused}
-use Rattle.refusal.specs.declared.DoneAnswer.TheVariants as done
 use Rattle.refusal.proofs.Laws.{false_check, true_check, on_refused}
 use Rattle.schedule.specs.State.{Schedule, waiting_records, state_broken, counts_broken, late, held_late, deliveries_late, copies, lacks_room}
 use Rattle.schedule.specs.Schedule.{schedule_at_unchecked, on_schedule, schedule_checks, schedule_at}
@@ -33,6 +32,7 @@ use Rattle.path.specs.declared.Stop.TheVariants as stop
 use Rattle.path.specs.declared.Carriage.{Carriage}
 use Rattle.path.specs.declared.Carriage.TheVariants.{RollsSpent, EventsFull, ScheduleFull, Carried}
 use Rattle.path.proofs.Packets.{carry_spent, carry_no_entry, carry_by_lem, by_full, by_room, orders_below, can_process, delays_fine, can_put}
+use Rattle.refusal.specs.Order.{passed}
 
 -- ---- a packet by the next rolls: the copies that they grant, the bytes of each, and the direction once they are scheduled
 abbrev pub next_rolls : Direction → List Float → Rolls
@@ -75,10 +75,10 @@ sent_length ch wire r out h = go (is_lost ch.config r) refl
     go false e = ap length (sent_bytes_lem ch wire r out e) ∙ carried_length ch.config r wire
 
 -- of the checks of `schedule_at` only the last is true
-full_alone : (m : Schedule) (now n : ℕ) (ds : Deliveries) → state_broken m ≡ false → counts_broken m ≡ false → late now ≡ false → held_late (waiting_records m) ≡ false → deliveries_late now ds ≡ false → ltb max_datagram n ≡ false → lacks_room m (copies ds) ≡ true → verdict (schedule_checks m now n ds) ≡ Refused Full
+full_alone : (m : Schedule) (now n : ℕ) (ds : Deliveries) → state_broken m ≡ false → counts_broken m ≡ false → late now ≡ false → held_late (waiting_records m) ≡ false → deliveries_late now ds ≡ false → ltb max_datagram n ≡ false → lacks_room m (copies ds) ≡ true → verdict (schedule_checks m now n ds) ≡ Err Full
 full_alone m now n ds a b c e f g h = last (state_broken m) (counts_broken m) (late now || (held_late (waiting_records m) || deliveries_late now ds)) (ltb max_datagram n) (lacks_room m (copies ds)) a b (or_both _ _ c (or_both _ _ e f)) g h
   where
-    last : (a b c e f : Bool) → a ≡ false → b ≡ false → c ≡ false → e ≡ false → f ≡ true → verdict (check a State ∷ check b Counts ∷ check c Time ∷ check e Long ∷ check f Full ∷ []) ≡ Refused Full
+    last : (a b c e f : Bool) → a ≡ false → b ≡ false → c ≡ false → e ≡ false → f ≡ true → verdict (check a State ∷ check b Counts ∷ check c Time ∷ check e Long ∷ check f Full ∷ []) ≡ Err Full
     last a b c e f p q r s t = rw (p, q, r, s, t) (false_check State _ ∙ false_check Counts _ ∙ false_check Time _ ∙ false_check Long _ ∙ true_check Full [] tt)
 
 -- ---- the four answers: three of them end a run
@@ -184,11 +184,11 @@ module _ (d : Direction) (rolls : List Float) (entry_free : Bool) (now : ℕ) (w
         soon now h = omega arith
 
     pub schedule_is : lacks_room (schedule_of d) (copies (granted d rolls)) ≡ false
-        → schedule_at (schedule_of d) now (sent_bytes (sent d.path rolls wire) wire) (granted d rolls) ≡ on_schedule (schedule_at_unchecked (schedule_of d) now (sent_bytes (sent d.path rolls wire) wire) (granted d rolls)) done.Done
+        → schedule_at (schedule_of d) now (sent_bytes (sent d.path rolls wire) wire) (granted d rolls) ≡ on_schedule (schedule_at_unchecked (schedule_of d) now (sent_bytes (sent d.path rolls wire) wire) (granted d rolls)) passed
     schedule_is h = schedule_accepted (schedule_of d) now (sent_bytes (sent d.path rolls wire) wire) (granted d rolls) (schedule_accepts (schedule_of d) now (sent_bytes (sent d.path rolls wire) wire) (granted d rolls) (can_put d rolls entry_free now wire left can h size) in_time can.good.times)
 
-    pub schedule_refuses : lacks_room (schedule_of d) (copies (granted d rolls)) ≡ true → schedule_at (schedule_of d) now (sent_bytes (sent d.path rolls wire) wire) (granted d rolls) ≡ on_schedule (schedule_of d) (done.Refused Full)
+    pub schedule_refuses : lacks_room (schedule_of d) (copies (granted d rolls)) ≡ true → schedule_at (schedule_of d) now (sent_bytes (sent d.path rolls wire) wire) (granted d rolls) ≡ on_schedule (schedule_of d) (Err Full)
     unfolding schedule_at
     schedule_refuses h =
-        on_refused (λ r. on_schedule (schedule_of d) (done.Refused r)) _
+        on_refused (λ r. on_schedule (schedule_of d) (Err r)) _
         (full_alone (schedule_of d) now (length (sent_bytes (sent d.path rolls wire) wire)) (granted d rolls) can.good.sound (orders_below d rolls can.good) in_time can.good.times (delays_fine d rolls entry_free now wire left can) (le-ltb max_datagram (length (sent_bytes (sent d.path rolls wire) wire)) (rw size can.short)) h)

@@ -1,4 +1,5 @@
 -- What holds of the bytes of every copy that waits: kept by carrying a packet whose copies have it, and had by what is taken. Where all chances are 0.0 the copy is the packet.
+use Rattle.std.specs.Prelude.{Ok, Some}
 use mathlib.Core.Path.{◌≡◌, sym, ◌∙◌, ap, subst}
 use Prim.Native.Nat.{ℕ, ◌+◌, ◌≤◌}
 use mathlib.Core.Bool.{Bool, true, false}
@@ -13,7 +14,6 @@ use Rattle.schedule.specs.Schedule.{schedule_at_unchecked}
 use Rattle.schedule.specs.Waiting.{WaitingCopy, waiting, new_copies, All, of_none, of_more}
 use Rattle.schedule.specs.declared.Deliveries.{Deliveries}
 use Rattle.schedule.specs.declared.Deliveries.TheVariants.{Lost, One, Two}
-use Rattle.schedule.specs.declared.ReadyAnswer.TheVariants as ready
 use Rattle.schedule.proofs.Laws.{new_waits, schedule_all, pop_all, pop_takes, all_weaker}
 use Rattle.channel.specs.declared.ChannelConfig.{ChannelConfig}
 use Rattle.channel.proofs.Laws.{carried_length, NoFaults, CarriedWhole, carried_whole}
@@ -60,7 +60,7 @@ module _ {P : List ℕ → Type 0} where
     unfolding take_ready
     take_each = record { each = pop_all (schedule_of d) now out sound a.each }
 
-    pub take_copy : (n : ℕ) → (take_ready d now out).result.answer ≡ ready.Packet n → TakesCopy P d now out n
+    pub take_copy : (n : ℕ) → (take_ready d now out).result.answer ≡ Ok (Some n) → TakesCopy P d now out n
     unfolding take_ready
     take_copy n e =
         let t = pop_takes (schedule_of d) now out sound a.each n e in
@@ -75,7 +75,7 @@ module _ {P : List ℕ → Type 0} where
         }
 
     -- the first bytes of `out`
-    pub take_front : (n : ℕ) → (take_ready d now out).result.answer ≡ ready.Packet n → P (take n (take_ready d now out).out)
+    pub take_front : (n : ℕ) → (take_ready d now out).result.answer ≡ Ok (Some n) → P (take n (take_ready d now out).out)
     take_front n e = let t = take_copy n e in subst P (sym t.front) t.holds
 
 pub each_weaker : {P Q : List ℕ → Type 0} {d : Direction} → ((x : List ℕ) → P x → Q x) → EachWaiting P d → EachWaiting Q d

@@ -1,4 +1,5 @@
 -- What crates above may cite: a direction is good from its making on, what its calls answer, and what they mean for the list of copies that wait.
+use Rattle.std.specs.Prelude.{Err, None, Ok, Option, Result, Some}
 use mathlib.Core.Path.{◌≡◌, refl, sym, ◌∙◌, ap, subst}
 use Prim.Native.Nat.{ℕ, zero, suc, ◌+◌, ◌-◌, ◌*◌, ◌≤◌, ◌<◌}
 use native.Mathlib.Omega.{arith}
@@ -16,10 +17,6 @@ use Rattle.schedule.specs.State.{waiting_records, state_broken, held_late, copie
 use Rattle.schedule.specs.Record.{time_of}
 use Rattle.schedule.specs.Schedule.{first_record, pop_first, pop_unchecked, pop_ready_at, on_pop, first_due, without_first}
 use Rattle.schedule.specs.Waiting.{WaitingCopy, waiting, put_copies, pop_copies, nothing, leaves, first_deadline}
-use Rattle.schedule.specs.declared.FirstDue.{FirstDue}
-use Rattle.schedule.specs.declared.FirstDue.TheVariants as first
-use Rattle.schedule.specs.declared.ReadyAnswer.{ReadyAnswer}
-use Rattle.schedule.specs.declared.ReadyAnswer.TheVariants as ready
 use Rattle.schedule.proofs.Laws.{new_sound, new_times, new_cleared, schedule_cleared, pop_cleared, schedule_waits, schedule_leaves, Leaves, pop_leaves, waits_count, first_time_is, count_within, pop_packet, pop_nothing, pop_idle, pop_never_refused, can_pop, pop_accepts, pop_accepted, pop_by, pop_by_first, first_packet}
 use Rattle.channel.specs.Bounds.{config_broken}
 use Rattle.channel.specs.Faults.{deliveries_of}
@@ -31,7 +28,6 @@ use Rattle.channel.proofs.Laws.{granted_le, carried_length, counted_rises}
 use Rattle.path.specs.Rolls.{packet_rolls, rolls_broken, Doubles}
 use Rattle.path.specs.Direction.{Direction, schedule_of, Counted, Good}
 use Rattle.path.specs.Path.{new_path, left_by_carry, carry, TakeExit, on_take, left_by_take, take_ready, remove_first, next_deadline, deadline_of, is_empty, CanCarry, CanRemove}
-use Rattle.path.specs.declared.NextDeadline.TheVariants as deadline
 use Rattle.path.proofs.Packets.{orders_below, can_put}
 pub use Rattle.path.proofs.Packets.{rolls_left, rolls_fine, rolls_doubles}
 use Rattle.path.proofs.Answers.{next_rolls, granted, copy_bytes, carried_on, Fits, carries, by_left}
@@ -136,42 +132,42 @@ module _ (d : Direction) (now : ℕ) (out : List ℕ) where
   take_used = refl
 
   -- below its entry point taking refuses nothing, and where it answers nothing all is as it was
-  pub take_never_refused : (r : Refusal) → (take_ready d now out).result.answer ≡ ready.Refused r → ⊥
+  pub take_never_refused : (r : Refusal) → (take_ready d now out).result.answer ≡ Err r → ⊥
   unfolding take_ready
   take_never_refused r e = pop_never_refused (schedule_of d) now out r e
 
-  pub take_idle : (take_ready d now out).result.answer ≡ ready.Nothing → take_ready d now out ≡ on_take d.path (on_pop (schedule_of d) out ready.Nothing)
+  pub take_idle : (take_ready d now out).result.answer ≡ Ok None → take_ready d now out ≡ on_take d.path (on_pop (schedule_of d) out (Ok None))
   unfolding take_ready
   take_idle e = ap (on_take d.path) (pop_idle (schedule_of d) now out e)
 
   -- what is taken waits no longer
-  pub take_count : (n : ℕ) → (take_ready d now out).result.answer ≡ ready.Packet n → (left_by_take (take_ready d now out)).path.scheduler.count + 1 ≡ d.path.scheduler.count
+  pub take_count : (n : ℕ) → (take_ready d now out).result.answer ≡ Ok (Some n) → (left_by_take (take_ready d now out)).path.scheduler.count + 1 ≡ d.path.scheduler.count
   unfolding take_ready pop_unchecked without_first
   take_count n = go (ltb 0 d.path.scheduler.count) (leb (time_of (first_record d.records)) now) (ltb-true 0 d.path.scheduler.count)
     where
-      go : (t u : Bool) → (t ≡ true → 0 < d.path.scheduler.count) → (cond (t && u) (pop_first (schedule_of d) out) (on_pop (schedule_of d) out ready.Nothing)).result.answer ≡ ready.Packet n
-          → (cond (t && u) (pop_first (schedule_of d) out) (on_pop (schedule_of d) out ready.Nothing)).result.scheduler.count + 1 ≡ d.path.scheduler.count
+      go : (t u : Bool) → (t ≡ true → 0 < d.path.scheduler.count) → (cond (t && u) (pop_first (schedule_of d) out) (on_pop (schedule_of d) out (Ok None))).result.answer ≡ Ok (Some n)
+          → (cond (t && u) (pop_first (schedule_of d) out) (on_pop (schedule_of d) out (Ok None))).result.scheduler.count + 1 ≡ d.path.scheduler.count
       go true true h e = omega (arith, h refl)
       go true false h e = let z : ◌≡◌ {A = ℕ} 0 1 = cc in absurd (omega arith)
       go false u h e = let z : ◌≡◌ {A = ℕ} 0 1 = cc in absurd (omega arith)
 
   -- by the copy that leaves first
-  take_by : {a : FirstDue} → first_due d.path.scheduler.count d.records now ≡ a → take_ready d now out ≡ on_take d.path (pop_by a (schedule_of d) out)
+  take_by : {a : Option (ℕ × ℕ)} → first_due d.path.scheduler.count d.records now ≡ a → take_ready d now out ≡ on_take d.path (pop_by a (schedule_of d) out)
   unfolding take_ready
-  take_by e = ap (on_take d.path) (pop_by_first (schedule_of d) now out) ∙ ap (λ (a : FirstDue). on_take d.path (pop_by a (schedule_of d) out)) e
+  take_by e = ap (on_take d.path) (pop_by_first (schedule_of d) now out) ∙ ap (λ (a : Option (ℕ × ℕ)). on_take d.path (pop_by a (schedule_of d) out)) e
 
-  pub take_not_due : first_due d.path.scheduler.count d.records now ≡ first.Nothing → (take_ready d now out).result.answer ≡ ready.Nothing
+  pub take_not_due : first_due d.path.scheduler.count d.records now ≡ None → (take_ready d now out).result.answer ≡ Ok None
   take_not_due e = ap (λ (x : TakeExit). x.result.answer) (take_by e)
 
   -- what is taken lies in its place, and removing it leaves the same
   pub record TakesPlace (place len : ℕ) : Type 0 where
     pub can : CanRemove d
     pub inside : place * place_size + len ≤ length d.places
-    pub answer : (take_ready d now out).result.answer ≡ ready.Packet len
+    pub answer : (take_ready d now out).result.answer ≡ Ok (Some len)
     pub bytes : take len (take_ready d now out).out ≡ take (place * place_size + len - place * place_size) (drop (place * place_size) d.places)
     pub left : left_by_take (take_ready d now out) ≡ remove_first d
 
-  pub take_place : (place len : ℕ) → state_broken (schedule_of d) ≡ false → Cleared (schedule_of d) → first_due d.path.scheduler.count d.records now ≡ first.Packet place len → TakesPlace place len
+  pub take_place : (place len : ℕ) → state_broken (schedule_of d) ≡ false → Cleared (schedule_of d) → first_due d.path.scheduler.count d.records now ≡ Some (place, len) → TakesPlace place len
   take_place place len sound cleared e =
       let p = first_packet (schedule_of d) now place len sound e in
       let t = take_by e in
@@ -189,13 +185,13 @@ module _ (d : Direction) (now : ℕ) (out : List ℕ) where
 
   module _ (sound : state_broken (schedule_of d) ≡ false) where
     -- no copy is due: all is as it was
-    pub take_none : pop_copies now (waiting (schedule_of d)) ≡ nothing → take_ready d now out ≡ on_take d.path (on_pop (schedule_of d) out ready.Nothing)
+    pub take_none : pop_copies now (waiting (schedule_of d)) ≡ nothing → take_ready d now out ≡ on_take d.path (on_pop (schedule_of d) out (Ok None))
     unfolding take_ready
     take_none h = ap (on_take d.path) (pop_nothing (schedule_of d) now out sound h)
 
     -- the first copy leaves, its bytes at the front of `out`; the others wait
     pub record TakesFirst (c : WaitingCopy) (cs : List WaitingCopy) : Type 0 where
-      pub answer : take_ready d now out ≡ on_take d.path (on_pop (without_first (schedule_of d)) (c.bytes ++ drop (length c.bytes) out) (ready.Packet (length c.bytes)))
+      pub answer : take_ready d now out ≡ on_take d.path (on_pop (without_first (schedule_of d)) (c.bytes ++ drop (length c.bytes) out) (Ok (Some (length c.bytes))))
       pub rest : waiting (schedule_of (left_by_take (take_ready d now out))) ≡ cs
 
     pub take_first : (c : WaitingCopy) (cs : List WaitingCopy) → pop_copies now (waiting (schedule_of d)) ≡ leaves c cs → TakesFirst c cs
@@ -244,16 +240,16 @@ module _ (d : Direction) (now : ℕ) (out : List ℕ) where
 
 -- whatever holds where nothing is due, and before a copy is taken if it holds after it, holds; `next` is what the copy of n bytes makes of s
 pub by_takes : {S : Type 0} (now : ℕ) (out : List ℕ) (next : Direction → S → ℕ → S) (R : Direction → S → Type 0)
-    → ((d : Direction) (s : S) → (take_ready d now out).result.answer ≡ ready.Nothing → R d s)
-    → ((d : Direction) (s : S) (n : ℕ) → (take_ready d now out).result.answer ≡ ready.Packet n → R (left_by_take (take_ready d now out)) (next d s n) → R d s)
+    → ((d : Direction) (s : S) → (take_ready d now out).result.answer ≡ Ok None → R d s)
+    → ((d : Direction) (s : S) (n : ℕ) → (take_ready d now out).result.answer ≡ Ok (Some n) → R (left_by_take (take_ready d now out)) (next d s n) → R d s)
     → (d : Direction) (s : S) → R d s
 by_takes {S} now out next R idle taken d s = by_count d.path.scheduler.count d s refl
   where
-    by_answer : (d : Direction) (s : S) → ((n : ℕ) → (take_ready d now out).result.answer ≡ ready.Packet n → R (left_by_take (take_ready d now out)) (next d s n))
-        → (a : ReadyAnswer) → (take_ready d now out).result.answer ≡ a → R d s
-    by_answer d s rest ready.Nothing e = idle d s e
-    by_answer d s rest (ready.Refused r) e = absurd (take_never_refused d now out r e)
-    by_answer d s rest (ready.Packet n) e = taken d s n e (rest n e)
+    by_answer : (d : Direction) (s : S) → ((n : ℕ) → (take_ready d now out).result.answer ≡ Ok (Some n) → R (left_by_take (take_ready d now out)) (next d s n))
+        → (a : Result (Option ℕ) Refusal) → (take_ready d now out).result.answer ≡ a → R d s
+    by_answer d s rest (Ok None) e = idle d s e
+    by_answer d s rest (Err r) e = absurd (take_never_refused d now out r e)
+    by_answer d s rest (Ok (Some n)) e = taken d s n e (rest n e)
 
     by_count : (k : ℕ) (d : Direction) (s : S) → d.path.scheduler.count ≡ k → R d s
     by_count zero d s h = by_answer d s (λ n e. absurd (omega (arith, h, take_count d now out n e))) (take_ready d now out).result.answer refl
@@ -265,11 +261,11 @@ module _ (d : Direction) (sound : state_broken (schedule_of d) ≡ false) where
   pub records_within : d.path.scheduler.count ≤ length d.records
   records_within = count_within (schedule_of d) sound
 
-  pub deadline_none : waiting (schedule_of d) ≡ [] → next_deadline d.path d.records ≡ deadline.Nothing
+  pub deadline_none : waiting (schedule_of d) ≡ [] → next_deadline d.path d.records ≡ None
   unfolding deadline_of first_deadline
   deadline_none e = ap deadline_of (first_time_is (schedule_of d) sound ∙ ap first_deadline e)
 
-  pub deadline_is : (c : WaitingCopy) (cs : List WaitingCopy) → waiting (schedule_of d) ≡ c ∷ cs → next_deadline d.path d.records ≡ deadline.At c.time
+  pub deadline_is : (c : WaitingCopy) (cs : List WaitingCopy) → waiting (schedule_of d) ≡ c ∷ cs → next_deadline d.path d.records ≡ Some c.time
   unfolding deadline_of first_deadline
   deadline_is c cs e = ap deadline_of (first_time_is (schedule_of d) sound ∙ ap first_deadline e)
 

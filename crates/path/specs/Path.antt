@@ -1,6 +1,6 @@
 -- Document 01, `app/transfer.rs` (`process`, `schedule_at`, `fold_bytes`, `pop_ready_at`, `next_deadline`) and "Turned
 -- away", the ends of a run: what each call on one direction of the line answers and leaves behind.
-use Rattle.std.specs.Prelude.{ℕ, ◌+◌, ◌≤◌, ◌<◌, ◌≡◌, Bool, true, false, cond, not, List, [], length, take, replicate, ltb, eqb, Float}
+use Rattle.std.specs.Prelude.{ℕ, ◌+◌, ◌≤◌, ◌<◌, ◌≡◌, Bool, true, false, cond, not, List, [], length, take, replicate, ltb, eqb, Float, Err, None, Ok, Option, Result, Some}
 use Rattle.bounds.specs.Bounds.{max_datagram, max_duration}
 use Rattle.octets.specs.Fold.{fold_bytes}
 use Rattle.schedule.specs.State.{Schedule, state_broken, copies, lacks_room, Cleared}
@@ -9,10 +9,6 @@ use Rattle.schedule.specs.Schedule.{due, without_first}
 use Rattle.schedule.specs.declared.ChannelScheduler.{ChannelScheduler}
 use Rattle.schedule.specs.declared.Deliveries.{Deliveries}
 use Rattle.schedule.specs.declared.Deliveries.TheVariants.{Lost, One, Two}
-use Rattle.schedule.specs.declared.ReadyAnswer.{ReadyAnswer}
-use Rattle.schedule.specs.declared.ReadyAnswer.TheVariants as ready
-use Rattle.schedule.specs.declared.DeadlineAnswer.{DeadlineAnswer}
-use Rattle.schedule.specs.declared.DeadlineAnswer.TheVariants as answered
 use Rattle.channel.specs.Faults.{carried_bytes}
 use Rattle.channel.specs.Process.{new_channel_unchecked, TransitExit, process_unchecked}
 use Rattle.channel.specs.declared.Channel.{Channel}
@@ -25,8 +21,7 @@ use Rattle.path.specs.declared.Carriage.TheVariants.{RollsSpent, EventsFull, Sch
 use Rattle.path.specs.declared.Stop.{Stop}
 use Rattle.path.specs.declared.Stop.TheVariants as stop
 use Rattle.path.specs.declared.CarryResult.{CarryResult}
-use Rattle.path.specs.declared.NextDeadline.{NextDeadline}
-use Rattle.path.specs.declared.NextDeadline.TheVariants as deadline
+use Rattle.refusal.specs.declared.Refusal.{Refusal}
 
 abbrev pub path_of : Channel → ChannelScheduler → ℕ → Path
 path_of c s n = record { channel = c; scheduler = s; used = n }
@@ -105,7 +100,7 @@ is_going stop.ScheduleFull = false
 -- the earliest copy that is due
 pub record TakeResult : Type 0 where
   pub path : Path
-  pub answer : ReadyAnswer
+  pub answer : Result (Option ℕ) Refusal
 
 pub record TakeExit : Type 0 where
   pub records : List (List ℕ)
@@ -131,15 +126,15 @@ take_ready d now out = on_take d.path (pop_unchecked (schedule_of d) now out)
 abbrev pub packet_buffer : List ℕ
 packet_buffer = replicate max_datagram 0
 
-abbrev pub is_taken : ReadyAnswer → Bool
-is_taken (ready.Packet len) = true
-is_taken ready.Nothing = false
-is_taken (ready.Refused r) = false
+abbrev pub is_taken : Result (Option ℕ) Refusal → Bool
+is_taken (Ok (Some len)) = true
+is_taken (Ok None) = false
+is_taken (Err r) = false
 
-abbrev pub taken_bytes : ReadyAnswer → List ℕ → List ℕ
-taken_bytes (ready.Packet len) out = take len out
-taken_bytes ready.Nothing out = []
-taken_bytes (ready.Refused r) out = []
+abbrev pub taken_bytes : Result (Option ℕ) Refusal → List ℕ → List ℕ
+taken_bytes (Ok (Some len)) out = take len out
+taken_bytes (Ok None) out = []
+taken_bytes (Err r) out = []
 
 -- whether a copy is due
 abbrev pub is_due : Path → List (List ℕ) → ℕ → Bool
@@ -150,12 +145,12 @@ abbrev pub remove_first : Direction → Direction
 remove_first d = on_path (without_first (schedule_of d)) d.path.channel d.path.used
 
 -- when the next copy leaves; `first_time` refuses nothing
-unfoldable pub deadline_of : DeadlineAnswer → NextDeadline
-deadline_of (answered.At t) = deadline.At t
-deadline_of answered.Nothing = deadline.Nothing
-deadline_of (answered.Refused r) = deadline.Nothing
+unfoldable pub deadline_of : Result (Option ℕ) Refusal → Option ℕ
+deadline_of (Ok (Some t)) = Some t
+deadline_of (Ok None) = None
+deadline_of (Err r) = None
 
-abbrev pub next_deadline : Path → List (List ℕ) → NextDeadline
+abbrev pub next_deadline : Path → List (List ℕ) → Option ℕ
 next_deadline p rs = deadline_of (first_time p.scheduler.count rs)
 
 abbrev pub is_empty : Path → Bool

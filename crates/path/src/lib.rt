@@ -10,7 +10,7 @@ ghost use Rattle.path.specs.Path.{new_path, rolls_spent, copy_fold, carry_exit, 
 ghost use Rattle.path.specs.Path.{stop_of, is_going, remove_first, CanRemove, is_due, next_deadline, is_empty};
 
 use channel::{Channel, ChannelConfig, Rolls};
-use schedule::{ChannelScheduler, DeadlineAnswer, Deliveries, FirstDue, ScheduledRow, copies_of};
+use schedule::{ChannelScheduler, Deliveries, ScheduledRow, copies_of};
 
 // How many rolls a packet takes.
 pub const PACKET_ROLLS: usize = 8;
@@ -45,13 +45,6 @@ pub enum Stop {
 pub struct CarryResult {
     pub path: Path,
     pub answer: Carriage,
-}
-
-// When a copy leaves next.
-#[derive(Clone, Copy)]
-pub enum NextDeadline {
-    At(u64),
-    Nothing,
 }
 
 // Whether a roll is out of bounds: check 11 of a run. A slice of doubles holds doubles by its type.
@@ -160,7 +153,7 @@ impl Path {
     }
 
     // Of the copy that leaves first, if it is due, the place and the length.
-    pub fn first_due_unchecked(self, records: &[ScheduledRow], now: u64) -> FirstDue
+    pub fn first_due_unchecked(self, records: &[ScheduledRow], now: u64) -> Option<(usize, usize)>
         requires { self.scheduler.count ≤ length records.now }
         ensures { result ≡ first_due self.scheduler.count records.now now }
     {
@@ -188,21 +181,21 @@ impl Path {
     {
         let scheduler = self.scheduler;
         match scheduler.next_deadline_unchecked(records) {
-            DeadlineAnswer::At(time) => time <= now,
-            DeadlineAnswer::Nothing => false,
-            DeadlineAnswer::Refused(_) => false,
+            Ok(Some(time)) => time <= now,
+            Ok(None) => false,
+            Err(_) => false,
         }
     }
 
-    pub fn next_deadline_unchecked(self, records: &[ScheduledRow]) -> NextDeadline
+    pub fn next_deadline_unchecked(self, records: &[ScheduledRow]) -> Option<u64>
         requires { self.scheduler.count ≤ length records.now }
         ensures { result ≡ next_deadline self records.now }
     {
         let scheduler = self.scheduler;
         match scheduler.next_deadline_unchecked(records) {
-            DeadlineAnswer::At(time) => NextDeadline::At(time),
-            DeadlineAnswer::Nothing => NextDeadline::Nothing,
-            DeadlineAnswer::Refused(_) => NextDeadline::Nothing,
+            Ok(Some(time)) => Some(time),
+            Ok(None) => None,
+            Err(_) => None,
         }
     }
 

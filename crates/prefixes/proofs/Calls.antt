@@ -1,4 +1,5 @@
 -- The sender's calls of a run are not refused: a chunk that can be sent, a timeout, a valid ACK.
+use Rattle.std.specs.Prelude.{Ok}
 use Prim.Native.Nat.{ℕ, zero, suc, ◌+◌, ◌*◌, ◌≤◌, ◌<◌, min}
 use mathlib.Core.Path.{◌≡◌, refl, sym, ap, subst, ◌∙◌}
 use mathlib.Core.Bool.{Bool, true, false, cond}
@@ -77,7 +78,7 @@ timeout_not_refused v t h = by_state v.sender.state v.store t (ample_buffer v.se
     by_state (senderState.SelectiveRepeat s) store t out h room = let u = slots.sender s.window store in by_due_lem u (timeout_number s.window t) out h.state h.counts room (selective_repeat.due u (timeout_number s.window t)) refl
 
 -- ---- a valid ACK: what else a line hands over is no call
-pub ack_not_refused : (v : SenderEnd) (raw : List ℕ) (p : Packet) → SenderUnbroken v → read_datagram raw ≡ reading.Valid p → p.pkt_type ≡ packetType.Ack → is_handled (handle_ack v raw).answer ≡ true
+pub ack_not_refused : (v : SenderEnd) (raw : List ℕ) (p : Packet) → SenderUnbroken v → read_datagram raw ≡ Ok (reading.Valid p) → p.pkt_type ≡ packetType.Ack → is_handled (handle_ack v raw).answer ≡ true
 unfolding handle_ack_unchecked
 ack_not_refused v raw p h e k = ap (λ (x : AckExit SenderEnd). is_handled x.answer) (ack_of_number v raw h p e k) ∙ either (is_in_window (window_of v.sender) p.seq_num)
   where

@@ -1,4 +1,5 @@
 -- Copies of a datagram of a chunk, whole or with one bit flipped anywhere: what reads as valid Data has the chunk's number and a prefix of the chunk.
+use Rattle.std.specs.Prelude.{Err, Ok, Result}
 use Prim.Native.Nat.{ℕ, ◌+◌, ◌≤◌, ◌<◌}
 use mathlib.Core.Path.{◌≡◌, refl, sym, ap, subst, ◌∙◌}
 use mathlib.Core.Logic.{◌⊎◌, inl, inr, ⊎_elim}
@@ -15,7 +16,6 @@ use Rattle.packet.specs.Format.{made, matches, with_checksum}
 use Rattle.packet.specs.Reading.{from_bytes, payload_of, declared, read_datagram}
 use Rattle.packet.specs.declared.Packet.{Packet}
 use Rattle.packet.specs.declared.PacketType.{PacketType}
-use Rattle.packet.specs.declared.PacketAnswer.TheVariants as packetAnswer
 use Rattle.packet.specs.declared.DatagramReading.{DatagramReading}
 use Rattle.packet.specs.declared.DatagramReading.TheVariants as datagram
 use Rattle.packet.proofs.Laws.{Prefix, made_flip_length, given_refused, given_packet}
@@ -32,6 +32,7 @@ use Rattle.path.proofs.Laws.{rolls_left, rolls_fine, rolls_doubles, next_rolls, 
 use Rattle.completion.proofs.Laws.{carry_each_fits}
 use Rattle.prefixes.specs.Prefixes.{IsPrefix}
 use Rattle.prefixes.proofs.Receiver.{Honest}
+use Rattle.refusal.specs.declared.Refusal.{Refusal}
 
 same_number : (m n : ℕ) → reading.Data m ≡ reading.Data n → m ≡ n
 same_number m n e = cc
@@ -40,10 +41,10 @@ same_number m n e = cc
 no_data : {X : Type 0} (raw : List ℕ) (n : ℕ) → NotValid raw → read_packet raw ≡ reading.Data n → X
 no_data {X} raw n none e = go (read_datagram raw) refl e
   where
-    go : (x : DatagramReading) → read_datagram raw ≡ x → reading_of x ≡ reading.Data n → X
-    go (datagram.Valid p) f g = absurd (none p f)
-    go (datagram.Corrupted p) f g = let z : ◌≡◌ {A = ℕ} 0 1 = cc in absurd (omega arith)
-    go (datagram.Refused r) f g = let z : ◌≡◌ {A = ℕ} 0 1 = cc in absurd (omega arith)
+    go : (x : Result DatagramReading Refusal) → read_datagram raw ≡ x → reading_of x ≡ reading.Data n → X
+    go (Ok (datagram.Valid p)) f g = absurd (none p f)
+    go (Ok (datagram.Corrupted p)) f g = let z : ◌≡◌ {A = ℕ} 0 1 = cc in absurd (omega arith)
+    go (Err r) f g = let z : ◌≡◌ {A = ℕ} 0 1 = cc in absurd (omega arith)
 
 -- whole and flipped copies
 pub record AllHonest (P : ℕ → Chunk → Type 0) (wire : List ℕ) : Type 0 where
@@ -62,7 +63,7 @@ module _ (P : ℕ → Chunk → Type 0) (q : Segment) (raw : List ℕ) (d : Data
       sent : Packet
       sent = with_checksum d.packet q.payload
 
-      refused : (n : ℕ) {r : _} → from_bytes copy ≡ packetAnswer.Refused r → read_packet copy ≡ reading.Data n → P n (payload_of copy)
+      refused : (n : ℕ) {r : _} → from_bytes copy ≡ Err r → read_packet copy ≡ reading.Data n → P n (payload_of copy)
       refused n {r} cut e = no_data copy n (λ p f. let g = given_refused copy r cut in let z : ◌≡◌ {A = ℕ} 0 1 = cc in omega arith) e
 
       prefixed : (n : ℕ) → Prefix copy sent q.payload → read_packet copy ≡ reading.Data n → P n (payload_of copy)
@@ -71,7 +72,7 @@ module _ (P : ℕ → Chunk → Type 0) (q : Segment) (raw : List ℕ) (d : Data
           short : length (payload_of copy) ≤ 1400
           short = let a = d.short in let p = x.proper in rw (x.prefix, length-take-le (declared copy) q.payload (omega arith)) (omega arith)
 
-          go : (b : Bool) → reading_of (cond b (datagram.Valid sent) (datagram.Corrupted sent)) ≡ reading.Data n → P n (payload_of copy)
+          go : (b : Bool) → reading_of (cond b (Ok (datagram.Valid sent)) (Ok (datagram.Corrupted sent))) ≡ reading.Data n → P n (payload_of copy)
           go false f = let z : ◌≡◌ {A = ℕ} 0 1 = cc in absurd (omega arith)
           go true f =
               let k : q.number ≡ n = sym d.number ∙ same_number d.packet.seq_num n (ap (λ (t : PacketType). by_type t d.packet.seq_num) (sym d.kind) ∙ f) in

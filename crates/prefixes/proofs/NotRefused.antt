@@ -1,4 +1,5 @@
 -- On any rolls no Data that a run hands over is refused: its number is a chunk's, and the output has room for what is delivered, which is no longer than the file.
+use Rattle.std.specs.Prelude.{Err, None, Ok, Option, Result, Some}
 use Prim.Native.Nat.{ℕ, ◌+◌, ◌-◌, ◌≤◌, ◌<◌}
 use mathlib.Core.Path.{◌≡◌, refl, sym, ap, subst, ◌∙◌}
 use mathlib.Core.Bool.{Bool, true, false, cond, ◌&&◌}
@@ -29,10 +30,6 @@ use Rattle.receiver.specs.Reply.{answer_of, is_refused, ack_missing, room_missin
 use Rattle.receiver.specs.Receive.{ReceiveExit, Reception, received_exit, receive, receive_unchecked}
 use Rattle.receiver.specs.declared.PacketReading.TheVariants as reading
 use Rattle.receiver.specs.declared.Decision.{Decision}
-use Rattle.receiver.specs.declared.Reply.{Reply}
-use Rattle.receiver.specs.declared.Reply.TheVariants as reply
-use Rattle.receiver.specs.declared.ReceiveAnswer.{ReceiveAnswer}
-use Rattle.receiver.specs.declared.ReceiveAnswer.TheVariants as answer
 use Rattle.receiver.proofs.Laws.{receive_unchecked_lem, state_low}
 use Rattle.stop_and_wait.specs.Receiver as stop_and_wait
 use Rattle.go_back_n.specs.Receiver as go_back_n
@@ -40,7 +37,6 @@ use Rattle.selective_repeat.specs.Receiver as selective_repeat
 use Rattle.selective_repeat.specs.declared.SelectiveRepeatReceiver.{SelectiveRepeatReceiver}
 use Rattle.selective_repeat.proofs.Laws.{receiving_sound}
 use Rattle.refinement.proofs.Laws.{ReceiveOutcome, packet_refused, not_data, data_taken, flatten_append, state_good, stop_and_wait_view, go_back_nView, selective_view, stop_and_wait_receives, go_back_n_receives, selective_receives}
-use Rattle.schedule.specs.declared.ReadyAnswer.TheVariants as ready
 use Rattle.path.specs.Direction.{Direction}
 use Rattle.path.specs.Path.{packet_buffer}
 use Rattle.path.proofs.Laws.{take_front}
@@ -59,6 +55,7 @@ use Rattle.prefixes.proofs.Parts.{HonestStep, honest}
 use Rattle.prefixes.proofs.Receiver.{Honest, Parts, by_place, Written, WrittenIn, EndWritten, end_parts}
 use Rattle.prefixes.proofs.Copies.{PrefixAt}
 use Rattle.prefixes.proofs.Prefixed.{Prefixed, parts_known, prefixed_fill}
+use Rattle.refusal.specs.declared.Refusal.{Refusal}
 
 -- ---- room
 room_fits : (d : Decision) (size filled : ℕ) (output ack : List ℕ) → cond d.deliver size 0 ≤ length output - filled → header_size ≤ length ack → room_missing d size filled output ack ≡ false
@@ -69,9 +66,9 @@ room_fits d size filled output ack h l = rw (deliver d.deliver h, ack_fits d.rep
     deliver true h = le-ltb _ _ h
     deliver false h = refl
 
-    ack_fits : (r : Reply) → ack_missing r ack ≡ false
-    ack_fits (reply.Ack n) = le-ltb _ _ l
-    ack_fits reply.Silent = refl
+    ack_fits : (r : Option ℕ) → ack_missing r ack ≡ false
+    ack_fits (Some n) = le-ltb _ _ l
+    ack_fits None = refl
 
 applied_filled : (d : Decision) (bytes : List ℕ) (filled : ℕ) (output ack : List ℕ) → (applied d bytes filled output ack).filled ≡ filled + cond d.deliver (length bytes) 0
 unfolding applied
@@ -85,13 +82,13 @@ at_most : (b : Bool) (n : ℕ) → cond b n 0 ≤ n
 at_most true n = omega arith
 at_most false n = omega arith
 
-answered : (r : Reply) → is_refused (answer_of r) ≡ false
-answered (reply.Ack n) = refl
-answered reply.Silent = refl
+answered : (r : Option ℕ) → is_refused (answer_of r) ≡ false
+answered (Some n) = refl
+answered None = refl
 
-no_answer : {X : Type 0} (r : Reply) {s : _} → answer_of r ≡ answer.Refused s → X
-no_answer (reply.Ack n) e = let z : ◌≡◌ {A = ℕ} 0 1 = cc in absurd (omega arith)
-no_answer reply.Silent e = let z : ◌≡◌ {A = ℕ} 0 1 = cc in absurd (omega arith)
+no_answer : {X : Type 0} (r : Option ℕ) {s : _} → answer_of r ≡ Err s → X
+no_answer (Some n) e = let z : ◌≡◌ {A = ℕ} 0 1 = cc in absurd (omega arith)
+no_answer None e = let z : ◌≡◌ {A = ℕ} 0 1 = cc in absurd (omega arith)
 
 -- ---- a receiver's call by its checks, its decision and the bytes that it delivers
 module _ {R : Type 0} (p : ProtocolType) (w : ℕ) (view : R → ReceiverState) (filledOf : R → ℕ) (r : R) (broken : List ℕ → Bool) (counts : Bool) (d : Decision) (bytes : List ℕ) (after : ℕ → R) (raw ack : List ℕ) where
@@ -158,10 +155,10 @@ module _ (chunks : List Chunk) where
   data_taken_in : (raw : List ℕ) → is_data (read_datagram raw) ≡ true → Taken raw
   data_taken_in raw t = go (read_datagram raw) refl t
     where
-      go : (x : DatagramReading) → read_datagram raw ≡ x → is_data x ≡ true → Taken raw
-      go (datagram.Valid p) e t = valid_taken raw e
-      go (datagram.Corrupted p) e t = corrupted_taken raw e
-      go (datagram.Refused s) e t = let z : ◌≡◌ {A = ℕ} 0 1 = cc in absurd (omega arith)
+      go : (x : Result DatagramReading Refusal) → read_datagram raw ≡ x → is_data x ≡ true → Taken raw
+      go (Ok (datagram.Valid p)) e t = valid_taken raw e
+      go (Ok (datagram.Corrupted p)) e t = corrupted_taken raw e
+      go (Err s) e t = let z : ◌≡◌ {A = ℕ} 0 1 = cc in absurd (omega arith)
 
   number_low : (raw : List ℕ) → length chunks ≤ seq_num_limit → Honest (PrefixAt chunks) raw → number_high (read_datagram raw) ≡ false
   number_low raw few h = go (read_datagram raw) refl
@@ -171,10 +168,10 @@ module _ (chunks : List Chunk) where
       by_type_lem packetType.Ack n k = refl
       by_type_lem packetType.Fin n k = refl
 
-      go : (x : DatagramReading) → read_datagram raw ≡ x → number_high x ≡ false
-      go (datagram.Valid p) e = by_type_lem p.pkt_type p.seq_num (λ f. (h.reads p.seq_num (ap reading_of e ∙ f)).known)
-      go (datagram.Corrupted p) e = refl
-      go (datagram.Refused s) e = refl
+      go : (x : Result DatagramReading Refusal) → read_datagram raw ≡ x → number_high x ≡ false
+      go (Ok (datagram.Valid p)) e = by_type_lem p.pkt_type p.seq_num (λ f. (h.reads p.seq_num (ap reading_of e ∙ f)).known)
+      go (Ok (datagram.Corrupted p)) e = refl
+      go (Err s) e = refl
 
   -- ---- a session's receiver
   in_order_longer : (base filled : ℕ) (output more : List ℕ) → receiverState.state_broken base filled output ≡ false → receiverState.state_broken base filled (output ++ more) ≡ false
@@ -257,7 +254,7 @@ module _ {s : Start} {v : SenderEnd} {forward : Direction} where
 
   -- what is due on the forward line: in each turn of its loop
   pub turn_not_refused : (rolls : List Float) (total now : ℕ) {b : Inbound} → Prefixed s v (end_of b) b.output forward → length s.file ≤ length s.output → length (chunks_in s) ≤ seq_num_limit → CanServeForward forward b rolls now
-      → (n : ℕ) → (next_taken now forward).result.answer ≡ ready.Packet n → is_data (read_datagram (take n (next_taken now forward).out)) ≡ true → is_refused (handled (take n (next_taken now forward).out) b).answer ≡ false
+      → (n : ℕ) → (next_taken now forward).result.answer ≡ Ok (Some n) → is_data (read_datagram (take n (next_taken now forward).out)) ≡ true → is_refused (handled (take n (next_taken now forward).out) b).answer ≡ false
   turn_not_refused rolls total now {b} q room few can n e t =
       let on = can_hand_over rolls total now forward b can n e in
       prefixed_not_refused q room few on.good on.few (take_front forward now packet_buffer can.sound q.sends.waiting n e) t

@@ -1,4 +1,5 @@
 -- What holds of a run's ends and its forward line on any rolls; each part of a step keeps it, and at the end it says what was written.
+use Rattle.std.specs.Prelude.{Ok, Some}
 use Prim.Native.Nat.{ℕ, zero, suc, ◌+◌, ◌≤◌, ◌<◌}
 use mathlib.Core.Path.{◌≡◌, refl, sym, ap, ◌∙◌, subst}
 use mathlib.Core.Bool.{Bool, true, false, not, true≢false}
@@ -18,7 +19,6 @@ use Rattle.chunks.proofs.Laws.{chunks_joined}
 use Rattle.window.specs.State.{window_broken}
 use Rattle.refinement.proofs.Laws.{selective_view, fresh_receiver_follows}
 use Rattle.channel.specs.declared.ChannelConfig.{ChannelConfig}
-use Rattle.schedule.specs.declared.ReadyAnswer.TheVariants as ready
 use Rattle.path.specs.Direction.{Direction}
 use Rattle.path.specs.Path.{new_path, is_going, left_by_take}
 use Rattle.path.proofs.Laws.{new_each}
@@ -99,7 +99,7 @@ sent_on : {s : Start} {v u : SenderEnd} {r : ReceiverEnd} {output : List ℕ} {d
 sent_on q x = record { begun = q.begun; sends = x; receives = q.receives }
 
 -- a copy that the forward line hands over, and all that are due
-pub prefixed_turn : {s : Start} {v : SenderEnd} {b : Inbound} {forward : Direction} (rolls : List Float) (total now n : ℕ) → CanServeForward forward b rolls now → (next_taken now forward).result.answer ≡ ready.Packet n → Prefixed s v (end_of b) b.output forward
+pub prefixed_turn : {s : Start} {v : SenderEnd} {b : Inbound} {forward : Direction} (rolls : List Float) (total now n : ℕ) → CanServeForward forward b rolls now → (next_taken now forward).result.answer ≡ Ok (Some n) → Prefixed s v (end_of b) b.output forward
     → Prefixed s v (end_of (next_exit rolls total now forward b n).inbound) (next_exit rolls total now forward b n).inbound.output (left_by_take (next_taken now forward))
 prefixed_turn {s} {b = b} {forward} rolls total now n can e q =
     let x = turn_written (PrefixAt (chunks_in s)) s.output rolls total now forward b n e (record { can = can; waiting = q.sends.waiting; written = q.receives }) in

@@ -1,4 +1,5 @@
 -- The sending side: every datagram that is submitted is Data of the chunk of its number, so what waits on the forward line are copies of such.
+use Rattle.std.specs.Prelude.{Option}
 use Prim.Native.Nat.{ℕ, zero, suc, ◌+◌, ◌-◌, ◌≤◌, ◌<◌}
 use mathlib.Core.Path.{◌≡◌, refl, sym, ap, ◌∙◌, subst}
 use mathlib.Core.Bool.{Bool, true, false, cond}
@@ -22,7 +23,6 @@ use Rattle.clock.specs.declared.Due.{Due}
 use Rattle.clock.specs.declared.Due.TheVariants as ran
 use Rattle.window.specs.Slots.{first_datagram, datagram_for}
 use Rattle.session.specs.Sending.{SenderEnd, window_of, window_end, send_chunk, has_outstanding, oldest_outstanding, resent}
-use Rattle.session.specs.declared.Oldest.{Oldest}
 use Rattle.session.specs.declared.Timeout.{Timeout}
 use Rattle.session.specs.declared.Timeout.TheVariants as timeout
 use Rattle.session.proofs.Laws.{datagram_short, ResentAs}
@@ -106,7 +106,7 @@ module _ (size : ℕ) (file : List ℕ) where
       by_left (suc k) w e can q = by_test_lem w can q (λ free x. by_left k (next w).state (one_less total (next_number w) _ k e (next_grows can free)) (send_keeps can free) x) (can_pump total w.sender.sender) refl
 
 -- ---- packets that are sent again
-module _ (chunks : List Chunk) (t : Timing) (rolls : List Float) (rto now : ℕ) (oldest : Oldest) (limit : ℕ) (v : SenderEnd) (holds : SenderHolds chunks v) where
+module _ (chunks : List Chunk) (t : Timing) (rolls : List Float) (rto now : ℕ) (oldest : Option ℕ) (limit : ℕ) (v : SenderEnd) (holds : SenderHolds chunks v) where
   record Before (first count : ℕ) (r : Resends) (o : Outgoing) : Type 0 where
     can : CanRetransmitAll t rolls rto now v first count r o
     waiting : PrefixesWait chunks o.forward

@@ -1,4 +1,5 @@
 -- What the lines hand over: copies to the receiver, any bytes to the sender.
+use Rattle.std.specs.Prelude.{Ok, Some}
 use Prim.Native.Nat.{ℕ}
 use mathlib.Core.Path.{◌≡◌, refl, sym, subst}
 use mathlib.Core.Bool.{Bool, true, false}
@@ -7,7 +8,6 @@ use lib.Ieee.{Float}
 use lib.ListN.{take}
 use Rattle.protocol.specs.Machine.{Chunk}
 use Rattle.packet.specs.Reading.{read_datagram}
-use Rattle.schedule.specs.declared.ReadyAnswer.TheVariants as ready
 use Rattle.path.specs.Direction.{Direction}
 use Rattle.path.specs.Path.{left_by_take, packet_buffer}
 use Rattle.path.proofs.Laws.{EachWaiting, take_each, take_front}
@@ -42,7 +42,7 @@ module _ (P : ℕ → Chunk → Type 0) (before : List ℕ) where
       pub waiting : EachWaiting (Honest P) forward
       pub written : InboundWritten b
 
-    pub turn_written : (forward : Direction) (b : Inbound) (n : ℕ) → (next_taken now forward).result.answer ≡ ready.Packet n → Serves forward b → Serves (left_by_take (next_taken now forward)) (next_exit rolls total now forward b n).inbound
+    pub turn_written : (forward : Direction) (b : Inbound) (n : ℕ) → (next_taken now forward).result.answer ≡ Ok (Some n) → Serves forward b → Serves (left_by_take (next_taken now forward)) (next_exit rolls total now forward b n).inbound
     turn_written forward b n e q =
         record {
           can = turn_good rolls total now forward b q.can n e;

@@ -1,4 +1,5 @@
 -- Laws of carrying a decision out.
+use Rattle.std.specs.Prelude.{Option, Some}
 use Prim.Native.Nat.{ℕ, ◌+◌, ◌-◌, ◌≤◌}
 use mathlib.Core.Path.{◌≡◌, refl}
 use mathlib.Core.Bool.{Bool, true, false, ◌||◌, ◌&&◌}
@@ -12,11 +13,9 @@ use Rattle.refusal.proofs.Laws.{or_false}
 use Rattle.store.specs.Numbers.{written_at}
 use Rattle.store.proofs.Laws.{written_on, written_none, written_length}
 use Rattle.receiver.specs.Reply.{ack_missing, room_missing, RoomFor, apply_exit, applied}
-use Rattle.receiver.specs.declared.Reply.{Reply}
-use Rattle.receiver.specs.declared.Reply.TheVariants as reply
 use Rattle.receiver.specs.declared.Decision.{Decision}
 
-pub ack_room : (r : Reply) (n : ℕ) (ack : List ℕ) → r ≡ reply.Ack n → ack_missing r ack ≡ false → 10 ≤ length ack
+pub ack_room : (r : Option ℕ) (n : ℕ) (ack : List ℕ) → r ≡ Some n → ack_missing r ack ≡ false → 10 ≤ length ack
 ack_room r n ack e h = ltb-false (length ack) 10 (rw e at h)
 
 pub room_ack : (d : Decision) (size filled : ℕ) (output ack : List ℕ) → RoomFor d size filled output ack → ack_missing d.reply ack ≡ false

@@ -1,8 +1,7 @@
 -- arq/*.rs, `handle_packet`, and document 01, "Turned away" 7: what a datagram is to a receiver.
-use Rattle.std.specs.Prelude.{ℕ, List, Bool, true, false, cond, ◌&&◌, leb}
+use Rattle.std.specs.Prelude.{ℕ, List, Bool, true, false, cond, ◌&&◌, leb, Err, Ok, Result}
 use Rattle.bounds.specs.Bounds.{seq_num_limit}
 use Rattle.refusal.specs.declared.Refusal.TheVariants.{Numbers}
-use Rattle.refusal.specs.declared.Verdict.{Verdict}
 use Rattle.refusal.specs.Order.{verdict, decide, held_checks}
 use Rattle.packet.specs.Reading.{read_datagram}
 use Rattle.packet.specs.declared.Packet.{Packet}
@@ -12,8 +11,7 @@ use Rattle.packet.specs.declared.DatagramReading.{DatagramReading}
 use Rattle.packet.specs.declared.DatagramReading.TheVariants as datagram
 use Rattle.receiver.specs.declared.PacketReading.{PacketReading}
 use Rattle.receiver.specs.declared.PacketReading.TheVariants as reading
-use Rattle.receiver.specs.declared.ReadingAnswer.{ReadingAnswer}
-use Rattle.receiver.specs.declared.ReadingAnswer.TheVariants as answer
+use Rattle.refusal.specs.declared.Refusal.{Refusal}
 
 -- a valid packet, by its type
 abbrev pub by_type : PacketType → ℕ → PacketReading
@@ -27,10 +25,10 @@ packet_reading p true = by_type p.pkt_type p.seq_num
 packet_reading p false = reading.Corrupted
 
 -- a datagram that isn't refused; what a refused one would be is nowhere asked
-abbrev pub reading_of : DatagramReading → PacketReading
-reading_of (datagram.Valid p) = packet_reading p true
-reading_of (datagram.Corrupted p) = packet_reading p false
-reading_of (datagram.Refused r) = reading.Corrupted
+abbrev pub reading_of : Result DatagramReading Refusal → PacketReading
+reading_of (Ok (datagram.Valid p)) = packet_reading p true
+reading_of (Ok (datagram.Corrupted p)) = packet_reading p false
+reading_of (Err r) = reading.Corrupted
 
 abbrev pub read_packet : List ℕ → PacketReading
 read_packet raw = reading_of (read_datagram raw)
@@ -44,22 +42,22 @@ is_data packetType.Fin = false
 abbrev pub is_number_high : Packet → Bool
 is_number_high p = is_data p.pkt_type && leb seq_num_limit p.seq_num
 
-abbrev pub number_high : DatagramReading → Bool
-number_high (datagram.Valid p) = is_number_high p
-number_high (datagram.Corrupted p) = false
-number_high (datagram.Refused r) = false
+abbrev pub number_high : Result DatagramReading Refusal → Bool
+number_high (Ok (datagram.Valid p)) = is_number_high p
+number_high (Ok (datagram.Corrupted p)) = false
+number_high (Err r) = false
 
 -- the reading, or its refusal
-abbrev pub reading_answer : DatagramReading → ReadingAnswer
-reading_answer (datagram.Valid p) =
-    cond (is_number_high p) (answer.Refused Numbers) (answer.Reading (packet_reading p true))
-reading_answer (datagram.Corrupted p) = answer.Reading (packet_reading p false)
-reading_answer (datagram.Refused r) = answer.Refused r
+abbrev pub reading_answer : Result DatagramReading Refusal → Result PacketReading Refusal
+reading_answer (Ok (datagram.Valid p)) =
+    cond (is_number_high p) (Err Numbers) (Ok (packet_reading p true))
+reading_answer (Ok (datagram.Corrupted p)) = Ok (packet_reading p false)
+reading_answer (Err r) = Err r
 
 -- after the verdict on what the receiver holds
-unfoldable pub read_after : Verdict → List ℕ → ReadingAnswer
-read_after held raw = decide held answer.Refused (reading_answer (read_datagram raw))
+unfoldable pub read_after : Result Unit Refusal → List ℕ → Result PacketReading Refusal
+read_after held raw = decide held Err (reading_answer (read_datagram raw))
 
 -- by whether 9 and 8 are true of what the receiver holds
-abbrev pub read_held : Bool → Bool → List ℕ → ReadingAnswer
+abbrev pub read_held : Bool → Bool → List ℕ → Result PacketReading Refusal
 read_held broken counts raw = read_after (verdict (held_checks broken counts)) raw

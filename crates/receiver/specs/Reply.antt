@@ -1,32 +1,27 @@
 -- Document 01, "`delivered_data` becomes a lent output and its fill mark", "Turned away" 5, and arq/*.rs,
 -- `handle_packet`.
-use Rattle.std.specs.Prelude.{ℕ, ◌+◌, ◌-◌, ◌≤◌, List, [], ◌++◌, Bool, true, false, cond, ◌||◌, ◌&&◌, ◌≡◌, length, take, drop, ltb}
+use Rattle.std.specs.Prelude.{ℕ, ◌+◌, ◌-◌, ◌≤◌, List, [], ◌++◌, Bool, true, false, cond, ◌||◌, ◌&&◌, ◌≡◌, length, take, drop, ltb, Err, None, Ok, Option, Result, Some}
 use Rattle.bounds.specs.Bounds.{header_size}
 use Rattle.packet.specs.Format.{new_packet, made}
 use Rattle.packet.specs.declared.PacketType.TheVariants.{Ack}
-use Rattle.receiver.specs.declared.Reply.{Reply}
-use Rattle.receiver.specs.declared.Reply.TheVariants as reply
 use Rattle.receiver.specs.declared.Decision.{Decision}
-use Rattle.receiver.specs.declared.ReceiveAnswer.{ReceiveAnswer}
-use Rattle.receiver.specs.declared.ReceiveAnswer.TheVariants as answer
+use Rattle.refusal.specs.declared.Refusal.{Refusal}
 
-abbrev pub answer_of : Reply → ReceiveAnswer
-answer_of (reply.Ack n) = answer.Ack n
-answer_of reply.Silent = answer.Silent
+abbrev pub answer_of : Option ℕ → Result (Option ℕ) Refusal
+answer_of r = Ok r
 
-abbrev pub is_refused : ReceiveAnswer → Bool
-is_refused (answer.Ack n) = false
-is_refused answer.Silent = false
-is_refused (answer.Refused r) = true
+abbrev pub is_refused : Result (Option ℕ) Refusal → Bool
+is_refused (Ok r) = false
+is_refused (Err r) = true
 
 -- the buffer for the ACK after a reply
-unfoldable pub ack_after : Reply → List ℕ → List ℕ
-ack_after (reply.Ack n) ack = made (new_packet n Ack) [] ++ drop header_size ack
-ack_after reply.Silent ack = ack
+unfoldable pub ack_after : Option ℕ → List ℕ → List ℕ
+ack_after (Some n) ack = made (new_packet n Ack) [] ++ drop header_size ack
+ack_after None ack = ack
 
-abbrev pub ack_missing : Reply → List ℕ → Bool
-ack_missing (reply.Ack n) ack = ltb (length ack) header_size
-ack_missing reply.Silent ack = false
+abbrev pub ack_missing : Option ℕ → List ℕ → Bool
+ack_missing (Some n) ack = ltb (length ack) header_size
+ack_missing None ack = false
 
 -- 5: the output without space for what is delivered, or the buffer for the ACK too short
 unfoldable pub room_missing : Decision → ℕ → ℕ → List ℕ → List ℕ → Bool
@@ -49,7 +44,7 @@ applied d payload filled output ack =
     (apply_exit filled output (ack_after d.reply ack))
 
 -- what carrying out asks for
-abbrev pub RoomForReply : Reply → List ℕ → Type 0
+abbrev pub RoomForReply : Option ℕ → List ℕ → Type 0
 RoomForReply r ack = ack_missing r ack ≡ false
 
 pub record RoomFor (d : Decision) (size filled : ℕ) (output ack : List ℕ) : Type 0 where

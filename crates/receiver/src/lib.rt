@@ -6,12 +6,11 @@ ghost use Rattle.packet.specs.Reading.{read_datagram};
 ghost use Rattle.receiver.specs.State.{state_broken, counts_broken};
 ghost use Rattle.receiver.specs.Reading.{packet_reading, is_number_high, reading_answer, read_after, read_held};
 ghost use Rattle.receiver.specs.Reply.{apply_exit, applied, room_missing, RoomFor, RoomForReply, ack_after};
-ghost use Rattle.receiver.specs.Reply.{answer_of, is_refused};
 ghost use Rattle.receiver.specs.Receive.{receive_exit, apply};
 
 use bounds::{COUNT_LIMIT, SEQ_NUM_LIMIT};
 use packet::{DatagramReading, Packet, PacketType};
-use refusal::{Refusal, Verdict};
+use refusal::Refusal;
 
 // What a packet that was read is to a receiver.
 #[derive(Clone, Copy)]
@@ -25,72 +24,27 @@ pub enum PacketReading {
     Corrupted,
 }
 
-// What a datagram is to a receiver.
-#[derive(Clone, Copy)]
-pub enum ReadingAnswer {
-    Reading(PacketReading),
-    Refused(Refusal),
-}
-
-// What a receiver sends back.
-#[derive(Clone, Copy)]
-pub enum Reply {
-    Ack(u32),
-    Silent,
-}
-
 // What a receiver decided on a packet, before anything is written.
 #[derive(Clone, Copy)]
 pub struct Decision {
     pub deliver: bool,
-    pub reply: Reply,
-}
-
-// The number of the ACK that was written, or none.
-#[derive(Clone, Copy)]
-pub enum ReceiveAnswer {
-    Ack(u32),
-    Silent,
-    Refused(Refusal),
+    pub reply: Option<u32>,
 }
 
 // The fill mark and the answer when a decision is carried out, or refused.
 #[derive(Clone, Copy)]
 pub struct ApplyResult {
     pub filled: usize,
-    pub answer: ReceiveAnswer,
-}
-
-impl Reply {
-    pub fn answer(self) -> ReceiveAnswer
-        ensures { result ≡ answer_of self }
-    {
-        match self {
-            Reply::Ack(n) => ReceiveAnswer::Ack(n),
-            Reply::Silent => ReceiveAnswer::Silent,
-        }
-    }
-}
-
-impl ReceiveAnswer {
-    pub fn is_refused(self) -> bool
-        ensures { result ≡ is_refused self }
-    {
-        match self {
-            ReceiveAnswer::Ack(_) => false,
-            ReceiveAnswer::Silent => false,
-            ReceiveAnswer::Refused(_) => true,
-        }
-    }
+    pub answer: Result<Option<u32>, Refusal>,
 }
 
 // A datagram for a receiver, after the verdict on what it holds.
-pub fn read_after(verdict: Verdict, raw: &[u8]) -> ReadingAnswer
+pub fn read_after(verdict: Result<(), Refusal>, raw: &[u8]) -> Result<PacketReading, Refusal>
     ensures { result ≡ read_after verdict raw.now }
 {
     match verdict {
-        Verdict::Accepted => read_packet(raw),
-        Verdict::Refused(r) => ReadingAnswer::Refused(r),
+        Ok(()) => read_packet(raw),
+        Err(r) => Err(r),
     }
 }
 
@@ -103,7 +57,7 @@ pub fn read_in_order(
     c: u64,
     raw: &[u8],
     output: &[u8],
-) -> ReadingAnswer
+) -> Result<PacketReading, Refusal>
     ensures { result ≡ read_held (state_broken base filled output.now) (counts_broken a b c)
         raw.now }
 {
@@ -143,14 +97,14 @@ pub fn apply_unchecked(
     if room_missing_unchecked(decision, payload.len(), filled, output, ack) {
         return ApplyResult {
             filled,
-            answer: ReceiveAnswer::Refused(Refusal::Full),
+            answer: Err(Refusal::Full),
         };
     }
     let end = apply_in_room_unchecked(decision, payload, filled, output, ack);
     let reply = decision.reply;
     ApplyResult {
         filled: end,
-        answer: reply.answer(),
+        answer: Ok(reply),
     }
 }
 
@@ -170,8 +124,8 @@ pub fn room_missing_unchecked(
     }
     let reply = decision.reply;
     match reply {
-        Reply::Ack(_) => ack.len() < Packet::HEADER_SIZE,
-        Reply::Silent => false,
+        Some(_) => ack.len() < Packet::HEADER_SIZE,
+        None => false,
     }
 }
 
@@ -206,11 +160,11 @@ pub fn apply_in_room_unchecked(
     filled
 }
 
-fn write_reply(reply: Reply, ack: &mut [u8])
+fn write_reply(reply: Option<u32>, ack: &mut [u8])
     requires { RoomForReply reply ack.old }
     ensures { ack.new ≡ ack_after reply ack.old }
 {
-    if let Reply::Ack(n) = reply {
+    if let Some(n) = reply {
         let none = b"";
         Packet::new_ack(n)
             .compute_and_set_checksum_unchecked(none)
@@ -241,20 +195,18 @@ pub fn counts_broken(a: u64, b: u64, c: u64) -> bool
     COUNT_LIMIT <= c
 }
 
-fn read_packet(raw: &[u8]) -> ReadingAnswer
+fn read_packet(raw: &[u8]) -> Result<PacketReading, Refusal>
     ensures { result ≡ reading_answer (read_datagram raw.now) }
 {
     match Packet::read_datagram(raw) {
-        DatagramReading::Valid(packet) => {
+        Ok(DatagramReading::Valid(packet)) => {
             if is_number_high(packet) {
-                return ReadingAnswer::Refused(Refusal::Numbers);
+                return Err(Refusal::Numbers);
             }
-            ReadingAnswer::Reading(packet_reading(packet, true))
+            Ok(packet_reading(packet, true))
         }
-        DatagramReading::Corrupted(packet) => {
-            ReadingAnswer::Reading(packet_reading(packet, false))
-        }
-        DatagramReading::Refused(r) => ReadingAnswer::Refused(r),
+        Ok(DatagramReading::Corrupted(packet)) => { Ok(packet_reading(packet, false)) }
+        Err(r) => Err(r),
     }
 }
 

@@ -1,4 +1,5 @@
 -- What the calls of the receiving side ask and answer, over plain values: one law for each return.
+use Rattle.std.specs.Prelude.{Err, None, Ok, Option, Result, Some}
 use Prim.Native.Nat.{ℕ, ◌+◌, ◌^◌, ◌≤◌, ◌<◌}
 use mathlib.Core.Path.{◌≡◌, refl, sym, ap, ◌∙◌}
 use mathlib.Core.Bool.{Bool, true, false, cond, ◌&&◌, ◌||◌}
@@ -16,8 +17,6 @@ use Rattle.packet.specs.declared.DatagramReading.{DatagramReading}
 use Rattle.packet.specs.declared.DatagramReading.TheVariants as reading
 use Rattle.packet.proofs.Laws.{taken_short}
 use Rattle.receiver.specs.Receive.{ReceiveExit, receive_exit}
-use Rattle.receiver.specs.declared.ReceiveAnswer.{ReceiveAnswer}
-use Rattle.receiver.specs.declared.ReceiveAnswer.TheVariants as receiveAnswer
 use Rattle.refusal.specs.declared.Refusal.{Refusal}
 use Rattle.notes.specs.Notes.{SegMetas, mark_ack_scheduled, ScheduledBelow}
 use Rattle.path.specs.Direction.{Direction, direction}
@@ -33,40 +32,38 @@ use Rattle.receiving.specs.Receiving.{Inbound, inbound, ForwardExit, forward_exi
 use Rattle.receiving.specs.Good.{CanOnForward}
 use Rattle.receiving.specs.Internal.{data_arrival, arrival_of}
 use Rattle.receiving.specs.declared.ReceivingSide.{ReceivingSide}
-use Rattle.receiving.specs.declared.Arrival.{Arrival}
-use Rattle.receiving.specs.declared.Arrival.TheVariants as arrival
 
 -- ---- what a datagram is
-pub arrives : (d : DatagramReading) (p : Packet) (valid : Bool) {x : DatagramReading} {a : Arrival} → x ≡ d → x ≡ read_as p valid → a ≡ data_arrival p.pkt_type p valid → a ≡ arrival_of d
+pub arrives : (d : Result DatagramReading Refusal) (p : Packet) (valid : Bool) {x : Result DatagramReading Refusal} {a : Option (Packet × Bool)} → x ≡ d → x ≡ read_as p valid → a ≡ data_arrival p.pkt_type p valid → a ≡ arrival_of d
 arrives d p valid e f g = g ∙ by_test_lem valid ∙ ap arrival_of (sym f ∙ e)
   where
     by_test_lem : (b : Bool) → data_arrival p.pkt_type p b ≡ arrival_of (read_as p b)
     by_test_lem true = refl
     by_test_lem false = refl
 
-record DataOf (d : DatagramReading) (p : Packet) (valid : Bool) : Type 0 where
+record DataOf (d : Result DatagramReading Refusal) (p : Packet) (valid : Bool) : Type 0 where
   pub read : d ≡ read_as p valid
   pub is : is_data d ≡ true
 
-typed : (t : PacketType) (q p : Packet) (b valid : Bool) → arrival.Data p valid ≡ data_arrival t q b → (q ≡ p) × (b ≡ valid) × (is_data_type t ≡ true)
+typed : (t : PacketType) (q p : Packet) (b valid : Bool) → Some (p, valid) ≡ data_arrival t q b → (q ≡ p) × (b ≡ valid) × (is_data_type t ≡ true)
 typed packetType.Data q p b valid e = (cc, cc, refl)
 typed packetType.Ack q p b valid e = let z : ◌≡◌ {A = ℕ} 0 1 = cc in absurd (omega arith)
 typed packetType.Fin q p b valid e = let z : ◌≡◌ {A = ℕ} 0 1 = cc in absurd (omega arith)
 
-read_data : (d : DatagramReading) (p : Packet) (valid : Bool) → arrival.Data p valid ≡ arrival_of d → DataOf d p valid
-read_data (reading.Valid q) p valid e = let m = typed q.pkt_type q p true valid e in record { read = ap (λ (x : Packet). read_as x true) m.0 ∙ ap (read_as p) m.1; is = m.2 }
-read_data (reading.Corrupted q) p valid e = let m = typed q.pkt_type q p false valid e in record { read = ap (λ (x : Packet). read_as x false) m.0 ∙ ap (read_as p) m.1; is = m.2 }
-read_data (reading.Refused r) p valid e = let z : ◌≡◌ {A = ℕ} 0 1 = cc in absurd (omega arith)
+read_data : (d : Result DatagramReading Refusal) (p : Packet) (valid : Bool) → Some (p, valid) ≡ arrival_of d → DataOf d p valid
+read_data (Ok (reading.Valid q)) p valid e = let m = typed q.pkt_type q p true valid e in record { read = ap (λ (x : Packet). read_as x true) m.0 ∙ ap (read_as p) m.1; is = m.2 }
+read_data (Ok (reading.Corrupted q)) p valid e = let m = typed q.pkt_type q p false valid e in record { read = ap (λ (x : Packet). read_as x false) m.0 ∙ ap (read_as p) m.1; is = m.2 }
+read_data (Err r) p valid e = let z : ◌≡◌ {A = ℕ} 0 1 = cc in absurd (omega arith)
 
-untyped : (t : PacketType) (q : Packet) (b : Bool) → arrival.Dropped ≡ data_arrival t q b → is_data_type t ≡ false
+untyped : (t : PacketType) (q : Packet) (b : Bool) → None ≡ data_arrival t q b → is_data_type t ≡ false
 untyped packetType.Data q b e = let z : ◌≡◌ {A = ℕ} 0 1 = cc in absurd (omega arith)
 untyped packetType.Ack q b e = refl
 untyped packetType.Fin q b e = refl
 
-read_dropped : (d : DatagramReading) → arrival.Dropped ≡ arrival_of d → is_data d ≡ false
-read_dropped (reading.Valid q) e = untyped q.pkt_type q true e
-read_dropped (reading.Corrupted q) e = untyped q.pkt_type q false e
-read_dropped (reading.Refused r) e = refl
+read_dropped : (d : Result DatagramReading Refusal) → None ≡ arrival_of d → is_data d ≡ false
+read_dropped (Ok (reading.Valid q)) e = untyped q.pkt_type q true e
+read_dropped (Ok (reading.Corrupted q)) e = untyped q.pkt_type q false e
+read_dropped (Err r) e = refl
 
 -- ---- counting
 late_as : (r : Receiver) (p : Packet) (valid : Bool) → (valid && gbn_already_delivered r p.seq_num) ≡ gbn_duplicate r (read_as p valid)
@@ -74,16 +71,16 @@ late_as r p true = refl
 late_as r p false = refl
 
 -- what comes late comes to a receiver whose ACKs are cumulative
-late_cumulative : (r : Receiver) (d : DatagramReading) → gbn_duplicate r d ≡ true → is_cumulative r ≡ true
-late_cumulative r (reading.Valid p) e = left (is_cumulative r) _ e
+late_cumulative : (r : Receiver) (d : Result DatagramReading Refusal) → gbn_duplicate r d ≡ true → is_cumulative r ≡ true
+late_cumulative r (Ok (reading.Valid p)) e = left (is_cumulative r) _ e
   where
     left : (a b : Bool) → (a && b) ≡ true → a ≡ true
     left true b e = refl
     left false b e = e
-late_cumulative r (reading.Corrupted p) e = let z : ◌≡◌ {A = ℕ} 0 1 = cc in absurd (omega arith)
-late_cumulative r (reading.Refused x) e = let z : ◌≡◌ {A = ℕ} 0 1 = cc in absurd (omega arith)
+late_cumulative r (Ok (reading.Corrupted p)) e = let z : ◌≡◌ {A = ℕ} 0 1 = cc in absurd (omega arith)
+late_cumulative r (Err x) e = let z : ◌≡◌ {A = ℕ} 0 1 = cc in absurd (omega arith)
 
-pub new_duplicates_lem : (r after : Receiver) (d : DatagramReading) → Rises r after → new_duplicates r (gbn_duplicate r d) after ≤ 1
+pub new_duplicates_lem : (r after : Receiver) (d : Result DatagramReading Refusal) → Rises r after → new_duplicates r (gbn_duplicate r d) after ≤ 1
 new_duplicates_lem r after d m = by_late (gbn_duplicate r d) refl
   where
     by_late : (b : Bool) → gbn_duplicate r d ≡ b → new_duplicates r b after ≤ 1
@@ -124,11 +121,11 @@ module _ (rolls : List Float) (now seq : ℕ) (wire : List ℕ) (side : Receivin
 
 -- ---- `on_forward`
 module _ (rolls : List Float) (total now : ℕ) (raw : List ℕ) (b : Inbound) where
-  pub dropped_law : {a : Arrival} → a ≡ arrival_of (read_datagram raw) → a ≡ arrival.Dropped → forward_exit b stop.Going ≡ on_forward rolls total now raw b
+  pub dropped_law : {a : Option (Packet × Bool)} → a ≡ arrival_of (read_datagram raw) → a ≡ None → forward_exit b stop.Going ≡ on_forward rolls total now raw b
   unfolding on_forward
   dropped_law e f = ap (λ (t : Bool). cond t (by_reply (handled raw b).answer rolls now (handled raw b).ack (received total now raw b)) (forward_exit b stop.Going)) (sym (read_dropped (read_datagram raw) (sym f ∙ e)))
 
-  module _ {a : Arrival} {p : Packet} {valid : Bool} (can : CanOnForward b rolls now) (e : a ≡ arrival_of (read_datagram raw)) (f : a ≡ arrival.Data p valid) where
+  module _ {a : Option (Packet × Bool)} {p : Packet} {valid : Bool} (can : CanOnForward b rolls now) (e : a ≡ arrival_of (read_datagram raw)) (f : a ≡ Some (p, valid)) where
     data_of : DataOf (read_datagram raw) p valid
     data_of = read_data (read_datagram raw) p valid (sym f ∙ e)
 
@@ -138,7 +135,7 @@ module _ (rolls : List Float) (total now : ℕ) (raw : List ℕ) (b : Inbound) w
     pub can_handle : {payload : List ℕ} → payload ≡ payload_of raw → CanHandlePacket (receiver_end b.side.receiver b.store) payload b.output
     can_handle {payload} h = good_can_receive can.good.receiver payload can.few (rw h (taken_short raw (taken_as raw p valid data_of.read)))
 
-    module _ {late : Bool} {payload : List ℕ} {answer : ReceiveAnswer} {after : Receiver} {store output ack : List ℕ} (g : late ≡ (valid && gbn_already_delivered b.side.receiver p.seq_num)) (h : payload ≡ payload_of raw) (k : receive_exit answer (receiver_end after store) output ack ≡ handle_packet_unchecked (receiver_end b.side.receiver b.store) p valid payload b.output ack_buffer) where
+    module _ {late : Bool} {payload : List ℕ} {answer : Result (Option ℕ) Refusal} {after : Receiver} {store output ack : List ℕ} (g : late ≡ (valid && gbn_already_delivered b.side.receiver p.seq_num)) (h : payload ≡ payload_of raw) (k : receive_exit answer (receiver_end after store) output ack ≡ handle_packet_unchecked (receiver_end b.side.receiver b.store) p valid payload b.output ack_buffer) where
       handled_is : receive_exit answer (receiver_end after store) output ack ≡ handled raw b
       handled_is = k ∙ ap (λ (l : List ℕ). handle_packet_unchecked (receiver_end b.side.receiver b.store) p valid l b.output ack_buffer) h ∙ packet_read raw b.output ack_buffer p valid data_of.read (receiver_end b.side.receiver b.store) unbroken
 
@@ -157,17 +154,17 @@ module _ (rolls : List Float) (total now : ℕ) (raw : List ℕ) (b : Inbound) w
             let n : absorbed.ack_sent ≡ b.side.ack_sent = ap (λ (x : ReceivingSide). x.ack_sent) m ∙ absorb_either total now counted (λ (x : ReceivingSide). x.ack_sent ≡ counted.ack_sent) refl refl ∙ ap (λ (x : ReceivingSide). x.ack_sent) l in
             (omega (arith, n, can.few, can.good.acks), (can.good.noted, can.good.scheduled), record { good = can.good.reverse; in_time = can.in_time; short = omega (arith, size) })
 
-        pub replied : {r : ReceiveAnswer} → answer ≡ r → by_reply r rolls now ack (inbound absorbed store output b.metas b.reverse) ≡ on_forward rolls total now raw b
+        pub replied : {r : Result (Option ℕ) Refusal} → answer ≡ r → by_reply r rolls now ack (inbound absorbed store output b.metas b.reverse) ≡ on_forward rolls total now raw b
         unfolding on_forward received
         replied q =
             rw (← q, m, l, late_is, data_of.is)
             (ap (λ (y : ReceiveExit ReceiverEnd). by_reply y.answer rolls now y.ack (inbound (absorb total now (delivered b.side (gbn_duplicate b.side.receiver (read_datagram raw)) y.receiver.receiver)) y.receiver.store y.output b.metas b.reverse)) handled_is)
 
-        pub silent_law : answer ≡ receiveAnswer.Silent → forward_exit (inbound absorbed store output b.metas b.reverse) stop.Going ≡ on_forward rolls total now raw b
+        pub silent_law : answer ≡ Ok None → forward_exit (inbound absorbed store output b.metas b.reverse) stop.Going ≡ on_forward rolls total now raw b
         silent_law q = replied q
 
-        pub refused_law : {r : Refusal} → answer ≡ receiveAnswer.Refused r → forward_exit (inbound absorbed store output b.metas b.reverse) stop.Going ≡ on_forward rolls total now raw b
+        pub refused_law : {r : Refusal} → answer ≡ Err r → forward_exit (inbound absorbed store output b.metas b.reverse) stop.Going ≡ on_forward rolls total now raw b
         refused_law q = replied q
 
-        pub ack_law : {n : ℕ} {x : ForwardExit} → answer ≡ receiveAnswer.Ack n → x ≡ submit_ack rolls now n ack (inbound absorbed store output b.metas b.reverse) → x ≡ on_forward rolls total now raw b
+        pub ack_law : {n : ℕ} {x : ForwardExit} → answer ≡ Ok (Some n) → x ≡ submit_ack rolls now n ack (inbound absorbed store output b.metas b.reverse) → x ≡ on_forward rolls total now raw b
         ack_law q w = w ∙ replied q

@@ -1,4 +1,5 @@
 -- What a datagram leaves: a receiving side as good as before it, with each counter at most one higher.
+use Rattle.std.specs.Prelude.{Err, None, Ok, Option, Result, Some}
 use Prim.Native.Nat.{ℕ, ◌+◌, ◌≤◌}
 use mathlib.Core.Path.{◌≡◌, refl, sym, ap, ◌∙◌, subst}
 use mathlib.Core.Bool.{Bool, true, false, cond, not, false≢true}
@@ -14,8 +15,6 @@ use Rattle.packet.specs.declared.PacketType.TheVariants as packetType
 use Rattle.packet.proofs.Laws.{made_length}
 use Rattle.refusal.specs.declared.Refusal.{Refusal}
 use Rattle.schedule.specs.State.{copies}
-use Rattle.receiver.specs.declared.ReceiveAnswer.{ReceiveAnswer}
-use Rattle.receiver.specs.declared.ReceiveAnswer.TheVariants as receiveAnswer
 use Rattle.notes.specs.Notes.{SegMetas, mark_ack_scheduled, ScheduledBelow}
 use Rattle.notes.proofs.Laws.{mark_length, mark_count, scheduled_mark}
 use Rattle.path.specs.Direction.{Direction, Good}
@@ -45,8 +44,8 @@ pub rises : (raw : List ℕ) (b : Inbound) → Rises b.side.receiver (handled ra
 rises raw b = packet_rises (receiver_end b.side.receiver b.store) raw b.output ack_buffer
 
 -- the ACK that goes out: the datagram that the packet layer makes
-pub reply_bytes : (raw : List ℕ) (b : Inbound) (n : ℕ) → (handled raw b).answer ≡ receiveAnswer.Ack n → (handled raw b).ack ≡ made (new_packet n packetType.Ack) []
-reply_bytes raw b n e = answered_buffer_lem (receiver_end b.side.receiver b.store) raw b.output ack_buffer ∙ ap (λ (a : ReceiveAnswer). answered_buffer a ack_buffer) e ∙ append-nil (made (new_packet n packetType.Ack) [])
+pub reply_bytes : (raw : List ℕ) (b : Inbound) (n : ℕ) → (handled raw b).answer ≡ Ok (Some n) → (handled raw b).ack ≡ made (new_packet n packetType.Ack) []
+reply_bytes raw b n e = answered_buffer_lem (receiver_end b.side.receiver b.store) raw b.output ack_buffer ∙ ap (λ (a : Result (Option ℕ) Refusal). answered_buffer a ack_buffer) e ∙ append-nil (made (new_packet n packetType.Ack) [])
 
 module _ (total now : ℕ) (raw : List ℕ) (b : Inbound) where
   -- the receiver's part is what it made of the datagram; notes and line are untouched
@@ -176,28 +175,28 @@ module _ (rolls : List Float) (total now : ℕ) (raw : List ℕ) (b : Inbound) w
   unfolding on_forward
   forward_dropped h = rw h
 
-  pub forward_silent : is_data (read_datagram raw) ≡ true → (handled raw b).answer ≡ receiveAnswer.Silent → on_forward rolls total now raw b ≡ forward_exit (received total now raw b) stop.Going
+  pub forward_silent : is_data (read_datagram raw) ≡ true → (handled raw b).answer ≡ Ok None → on_forward rolls total now raw b ≡ forward_exit (received total now raw b) stop.Going
   unfolding on_forward
   forward_silent h e = rw (h, e)
 
-  pub forward_refused : (r : Refusal) → is_data (read_datagram raw) ≡ true → (handled raw b).answer ≡ receiveAnswer.Refused r → on_forward rolls total now raw b ≡ forward_exit (received total now raw b) stop.Going
+  pub forward_refused : (r : Refusal) → is_data (read_datagram raw) ≡ true → (handled raw b).answer ≡ Err r → on_forward rolls total now raw b ≡ forward_exit (received total now raw b) stop.Going
   unfolding on_forward
   forward_refused r h e = rw (h, e)
 
-  pub forward_acknowledged : (n : ℕ) → is_data (read_datagram raw) ≡ true → (handled raw b).answer ≡ receiveAnswer.Ack n → on_forward rolls total now raw b ≡ submit_ack rolls now n (made (new_packet n packetType.Ack) []) (received total now raw b)
+  pub forward_acknowledged : (n : ℕ) → is_data (read_datagram raw) ≡ true → (handled raw b).answer ≡ Ok (Some n) → on_forward rolls total now raw b ≡ submit_ack rolls now n (made (new_packet n packetType.Ack) []) (received total now raw b)
   unfolding on_forward
   forward_acknowledged n h e = rw (h, e, reply_bytes raw b n e)
 
   -- whatever holds of these exits holds of the call's
   pub forward_either : (P : ForwardExit → Type 0) → (is_data (read_datagram raw) ≡ false → P (forward_exit b stop.Going)) → (is_data (read_datagram raw) ≡ true → P (forward_exit (received total now raw b) stop.Going))
-      → (is_data (read_datagram raw) ≡ true → (n : ℕ) → (handled raw b).answer ≡ receiveAnswer.Ack n → P (submit_ack rolls now n (made (new_packet n packetType.Ack) []) (received total now raw b)))
+      → (is_data (read_datagram raw) ≡ true → (n : ℕ) → (handled raw b).answer ≡ Ok (Some n) → P (submit_ack rolls now n (made (new_packet n packetType.Ack) []) (received total now raw b)))
       → P (on_forward rolls total now raw b)
   forward_either P dropped silent acked = by_reading_lem (is_data (read_datagram raw)) refl
     where
-      by_answer : is_data (read_datagram raw) ≡ true → (a : ReceiveAnswer) → (handled raw b).answer ≡ a → P (on_forward rolls total now raw b)
-      by_answer h receiveAnswer.Silent e = subst P (sym (forward_silent h e)) (silent h)
-      by_answer h (receiveAnswer.Refused r) e = subst P (sym (forward_refused r h e)) (silent h)
-      by_answer h (receiveAnswer.Ack n) e = subst P (sym (forward_acknowledged n h e)) (acked h n e)
+      by_answer : is_data (read_datagram raw) ≡ true → (a : Result (Option ℕ) Refusal) → (handled raw b).answer ≡ a → P (on_forward rolls total now raw b)
+      by_answer h (Ok None) e = subst P (sym (forward_silent h e)) (silent h)
+      by_answer h (Err r) e = subst P (sym (forward_refused r h e)) (silent h)
+      by_answer h (Ok (Some n)) e = subst P (sym (forward_acknowledged n h e)) (acked h n e)
 
       by_reading_lem : (t : Bool) → is_data (read_datagram raw) ≡ t → P (on_forward rolls total now raw b)
       by_reading_lem true h = by_answer h (handled raw b).answer refl
@@ -241,7 +240,7 @@ module _ (rolls : List Float) (total now : ℕ) (raw : List ℕ) (b : Inbound) w
         submit_good rolls now n (made (new_packet n packetType.Ack) []) (received total now raw b) (received_good total now raw b rolls can.good) (omega (arith, d.acks, d.datas, can.good.acks)) can.in_time (ack_short n))
 
     -- each copy that waits on the reverse line has P, if the ACK that goes out has it after the line
-    pub forward_each : {P : List ℕ → Type 0} → ((n : ℕ) → (handled raw b).answer ≡ receiveAnswer.Ack n → P (copy_bytes b.reverse rolls (made (new_packet n packetType.Ack) []))) → EachWaiting P b.reverse → EachWaiting P (on_forward rolls total now raw b).inbound.reverse
+    pub forward_each : {P : List ℕ → Type 0} → ((n : ℕ) → (handled raw b).answer ≡ Ok (Some n) → P (copy_bytes b.reverse rolls (made (new_packet n packetType.Ack) []))) → EachWaiting P b.reverse → EachWaiting P (on_forward rolls total now raw b).inbound.reverse
     unfolding submit_ack received
     forward_each {P} each a =
         forward_either (λ (x : ForwardExit). EachWaiting P x.inbound.reverse) (λ h. a) (λ h. a)
@@ -260,12 +259,12 @@ module _ (rolls : List Float) (total now : ℕ) (raw : List ℕ) (b : Inbound) w
         record { store = l.0; output = l.1; count = m.count; rows = m.rows; reverse = carry_keeps b.reverse rolls true now (made (new_packet n packetType.Ack) []) (can_carry n) })
 
   -- ---- what stands where the ACK ends the run: all of the Data, and the ACK counted; notes and line are as they were
-  pub forward_stopped : (n : ℕ) (a : Carriage) → is_data (read_datagram raw) ≡ true → (handled raw b).answer ≡ receiveAnswer.Ack n → stops a ≡ true → (carry b.reverse rolls true now (made (new_packet n packetType.Ack) [])).result.answer ≡ a
+  pub forward_stopped : (n : ℕ) (a : Carriage) → is_data (read_datagram raw) ≡ true → (handled raw b).answer ≡ Ok (Some n) → stops a ≡ true → (carry b.reverse rolls true now (made (new_packet n packetType.Ack) [])).result.answer ≡ a
       → on_forward rolls total now raw b ≡ forward_exit (inbound (ack_counted (received total now raw b).side) (handled raw b).receiver.store (handled raw b).output b.metas b.reverse) (stop_of a)
   unfolding received
   forward_stopped n a h e s c = forward_acknowledged n h e ∙ submit_stops rolls now n (made (new_packet n packetType.Ack) []) (received total now raw b) a s c
 
-  pub forward_carried : (n : ℕ) → is_data (read_datagram raw) ≡ true → (handled raw b).answer ≡ receiveAnswer.Ack n → Fits b.reverse rolls true now (made (new_packet n packetType.Ack) [])
+  pub forward_carried : (n : ℕ) → is_data (read_datagram raw) ≡ true → (handled raw b).answer ≡ Ok (Some n) → Fits b.reverse rolls true now (made (new_packet n packetType.Ack) [])
       → on_forward rolls total now raw b ≡ forward_exit (inbound (ack_counted (received total now raw b).side) (handled raw b).receiver.store (handled raw b).output
       (cond (ltb 0 (copies (granted b.reverse rolls))) (mark_ack_scheduled b.metas n (is_cumulative (received total now raw b).side.receiver)) b.metas) (carried_on b.reverse rolls now (made (new_packet n packetType.Ack) []))) stop.Going
   unfolding received

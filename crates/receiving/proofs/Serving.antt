@@ -1,4 +1,5 @@
 -- The loop over what is due on the forward line: its turns, and that what is left of it makes of the present what the whole makes of the start.
+use Rattle.std.specs.Prelude.{None, Ok, Option, Some}
 use Prim.Native.Nat.{ℕ, zero, suc, ◌+◌, ◌-◌, ◌*◌, ◌<◌}
 use mathlib.Core.Path.{◌≡◌, refl, sym, ap, subst, ◌∙◌}
 use mathlib.Core.Bool.{Bool, true, false, cond, not}
@@ -8,9 +9,6 @@ use lib.ListN.{length, take, drop}
 use lib.Ieee.{Float}
 use Rattle.bounds.specs.Bounds.{place_size}
 use Rattle.schedule.specs.Schedule.{first_due}
-use Rattle.schedule.specs.declared.FirstDue.{FirstDue}
-use Rattle.schedule.specs.declared.FirstDue.TheVariants as first
-use Rattle.schedule.specs.declared.ReadyAnswer.TheVariants as ready
 use Rattle.path.specs.Direction.{Direction, direction}
 use Rattle.path.specs.Path.{is_going, TakeExit, left_by_take, take_ready, remove_first, packet_buffer}
 use Rattle.path.specs.declared.Path.{Path}
@@ -31,41 +29,41 @@ abbrev pub next_exit : List Float → ℕ → ℕ → Direction → Inbound → 
 next_exit rolls total now forward b n = on_forward rolls total now (take n (next_taken now forward).out) b
 
 module _ (rolls : List Float) (total now : ℕ) (forward : Direction) (b : Inbound) where
-  idle_at : (n : ℕ) → (next_taken now forward).result.answer ≡ ready.Nothing → serve_at_most n rolls total now forward b ≡ serve_forward_exit forward b false stop.Going
+  idle_at : (n : ℕ) → (next_taken now forward).result.answer ≡ Ok None → serve_at_most n rolls total now forward b ≡ serve_forward_exit forward b false stop.Going
   unfolding serve_at_most
   idle_at zero e = refl
   idle_at (suc n) e = rw e
 
   -- nothing is due
-  pub serve_idle : (next_taken now forward).result.answer ≡ ready.Nothing → serve_forward rolls total now forward b ≡ serve_forward_exit forward b false stop.Going
+  pub serve_idle : (next_taken now forward).result.answer ≡ Ok None → serve_forward rolls total now forward b ≡ serve_forward_exit forward b false stop.Going
   serve_idle e = idle_at forward.path.scheduler.count e
 
-  turn_at : (n k m : ℕ) → (next_taken now forward).result.answer ≡ ready.Packet n → m + 1 ≡ k
+  turn_at : (n k m : ℕ) → (next_taken now forward).result.answer ≡ Ok (Some n) → m + 1 ≡ k
       → serve_at_most k rolls total now forward b ≡ cond (is_going (next_exit rolls total now forward b n).stop) (progressed (serve_at_most m rolls total now (left_by_take (next_taken now forward)) (next_exit rolls total now forward b n).inbound)) (serve_forward_exit (left_by_take (next_taken now forward)) (next_exit rolls total now forward b n).inbound true (next_exit rolls total now forward b n).stop)
   unfolding serve_at_most
   turn_at n zero m e h = absurd (omega arith)
   turn_at n (suc k) m e h = let p : m ≡ k = omega arith in rw (p, e)
 
-  turn_is : (n : ℕ) → (next_taken now forward).result.answer ≡ ready.Packet n → (t : Bool) → is_going (next_exit rolls total now forward b n).stop ≡ t
+  turn_is : (n : ℕ) → (next_taken now forward).result.answer ≡ Ok (Some n) → (t : Bool) → is_going (next_exit rolls total now forward b n).stop ≡ t
       → serve_forward rolls total now forward b ≡ cond t (progressed (serve_forward rolls total now (left_by_take (next_taken now forward)) (next_exit rolls total now forward b n).inbound)) (serve_forward_exit (left_by_take (next_taken now forward)) (next_exit rolls total now forward b n).inbound true (next_exit rolls total now forward b n).stop)
   turn_is n e t g =
       turn_at n forward.path.scheduler.count (left_by_take (next_taken now forward)).path.scheduler.count e (take_count forward now packet_buffer n e)
       ∙ ap (λ (t : Bool). cond t (progressed (serve_forward rolls total now (left_by_take (next_taken now forward)) (next_exit rolls total now forward b n).inbound)) (serve_forward_exit (left_by_take (next_taken now forward)) (next_exit rolls total now forward b n).inbound true (next_exit rolls total now forward b n).stop)) g
 
   -- one is handed over, and the run goes on
-  pub serve_going : (n : ℕ) → (next_taken now forward).result.answer ≡ ready.Packet n → is_going (next_exit rolls total now forward b n).stop ≡ true → serve_forward rolls total now forward b ≡ progressed (serve_forward rolls total now (left_by_take (next_taken now forward)) (next_exit rolls total now forward b n).inbound)
+  pub serve_going : (n : ℕ) → (next_taken now forward).result.answer ≡ Ok (Some n) → is_going (next_exit rolls total now forward b n).stop ≡ true → serve_forward rolls total now forward b ≡ progressed (serve_forward rolls total now (left_by_take (next_taken now forward)) (next_exit rolls total now forward b n).inbound)
   serve_going n e g = turn_is n e true g
 
   -- one is handed over, and its ACK ends the run
-  pub serve_stops : (n : ℕ) → (next_taken now forward).result.answer ≡ ready.Packet n → is_going (next_exit rolls total now forward b n).stop ≡ false → serve_forward rolls total now forward b ≡ serve_forward_exit (left_by_take (next_taken now forward)) (next_exit rolls total now forward b n).inbound true (next_exit rolls total now forward b n).stop
+  pub serve_stops : (n : ℕ) → (next_taken now forward).result.answer ≡ Ok (Some n) → is_going (next_exit rolls total now forward b n).stop ≡ false → serve_forward rolls total now forward b ≡ serve_forward_exit (left_by_take (next_taken now forward)) (next_exit rolls total now forward b n).inbound true (next_exit rolls total now forward b n).stop
   serve_stops n e g = turn_is n e false g
 
   -- ---- what a turn asks, and what it leaves
   module _ (can : CanServeForward forward b rolls now) where
-    pub can_hand_over : (n : ℕ) → (next_taken now forward).result.answer ≡ ready.Packet n → CanOnForward b rolls now
+    pub can_hand_over : (n : ℕ) → (next_taken now forward).result.answer ≡ Ok (Some n) → CanOnForward b rolls now
     can_hand_over n e = record { good = can.good; few = omega (arith, can.few, take_count forward now packet_buffer n e); in_time = can.in_time }
 
-    pub turn_good : (n : ℕ) → (next_taken now forward).result.answer ≡ ready.Packet n → CanServeForward (left_by_take (next_taken now forward)) (next_exit rolls total now forward b n).inbound rolls now
+    pub turn_good : (n : ℕ) → (next_taken now forward).result.answer ≡ Ok (Some n) → CanServeForward (left_by_take (next_taken now forward)) (next_exit rolls total now forward b n).inbound rolls now
     turn_good n e =
         let s = take_leaves forward now packet_buffer can.sound can.times in
         record {
@@ -110,11 +108,11 @@ over_progressed : (progress : Bool) (x : ServeForwardExit) → progressed x ≡ 
 over_progressed true x = refl
 over_progressed false x = refl
 
-module _ {rolls : List Float} {total now : ℕ} {f g : Direction} {u v : Inbound} {progress : Bool} {a : FirstDue} (l : Left rolls total now f g u v progress) (e : a ≡ first_due g.path.scheduler.count g.records now) where
-  pub left_idle : a ≡ first.Nothing → serve_forward_exit g v progress stop.Going ≡ serve_forward rolls total now f u
+module _ {rolls : List Float} {total now : ℕ} {f g : Direction} {u v : Inbound} {progress : Bool} {a : Option (ℕ × ℕ)} (l : Left rolls total now f g u v progress) (e : a ≡ first_due g.path.scheduler.count g.records now) where
+  pub left_idle : a ≡ None → serve_forward_exit g v progress stop.Going ≡ serve_forward rolls total now f u
   left_idle q = over_idle progress g v ∙ ap (left_over progress) (sym (serve_idle rolls total now g v (take_not_due g now packet_buffer (sym e ∙ q)))) ∙ l.eq
 
-  module _ {place len : ℕ} (q : a ≡ first.Packet place len) where
+  module _ {place len : ℕ} (q : a ≡ Some (place, len)) where
     pub left_takes : TakesPlace g now packet_buffer place len
     left_takes = take_place g now packet_buffer place len l.can.sound l.can.cleared (sym e ∙ q)
 

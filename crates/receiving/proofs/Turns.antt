@@ -1,4 +1,5 @@
 -- What the loop over the forward line leaves, turn by turn.
+use Rattle.std.specs.Prelude.{None, Ok, Some}
 use Prim.Native.Nat.{ℕ, ◌+◌, ◌≤◌}
 use mathlib.Core.Path.{◌≡◌, refl, sym, ap, ◌∙◌, subst}
 use mathlib.Core.Bool.{Bool, true, false, false≢true}
@@ -11,7 +12,6 @@ use Rattle.packet.specs.Format.{new_packet, made}
 use Rattle.packet.specs.declared.PacketType.TheVariants as packetType
 use Rattle.schedule.specs.State.{state_broken}
 use Rattle.schedule.specs.Waiting.{WaitingCopy, waiting, All, of_none, of_more}
-use Rattle.schedule.specs.declared.ReadyAnswer.TheVariants as ready
 use Rattle.path.specs.Direction.{Direction, schedule_of, Good}
 use Rattle.path.specs.Path.{is_going, left_by_take, take_ready, packet_buffer, is_taken}
 use Rattle.path.specs.declared.Stop.TheVariants as stop
@@ -52,27 +52,27 @@ every [] = of_none
 every (c ∷ cs) = of_more tt (every cs)
 
 module _ (rolls : List Float) (total now : ℕ) where
-  first_taken : (f : Direction) (n : ℕ) → state_broken (schedule_of f) ≡ false → (take_ready f now packet_buffer).result.answer ≡ ready.Packet n → TakesCopy (λ (x : List ℕ). Unit {0}) f now packet_buffer n
+  first_taken : (f : Direction) (n : ℕ) → state_broken (schedule_of f) ≡ false → (take_ready f now packet_buffer).result.answer ≡ Ok (Some n) → TakesCopy (λ (x : List ℕ). Unit {0}) f now packet_buffer n
   first_taken f n sound e = take_copy f now packet_buffer sound (record { each = every (waiting (schedule_of f)) }) n e
 
   -- whatever holds where nothing is due and where the ACK of the next copy ends the run, and before a turn if it holds after it, holds of the loop
   pub serve_turns : (R : Direction → Inbound → ServeForwardExit → Type 0)
-      → ((f : Direction) (c : Inbound) → (next_taken now f).result.answer ≡ ready.Nothing → R f c (serve_forward_exit f c false stop.Going))
-      → ((f : Direction) (c : Inbound) (n : ℕ) (x : ServeForwardExit) → (next_taken now f).result.answer ≡ ready.Packet n → is_going (next_exit rolls total now f c n).stop ≡ true → R (left_by_take (next_taken now f)) (next_exit rolls total now f c n).inbound x → R f c (progressed x))
-      → ((f : Direction) (c : Inbound) (n : ℕ) → (next_taken now f).result.answer ≡ ready.Packet n → is_going (next_exit rolls total now f c n).stop ≡ false → R f c (serve_forward_exit (left_by_take (next_taken now f)) (next_exit rolls total now f c n).inbound true (next_exit rolls total now f c n).stop))
+      → ((f : Direction) (c : Inbound) → (next_taken now f).result.answer ≡ Ok None → R f c (serve_forward_exit f c false stop.Going))
+      → ((f : Direction) (c : Inbound) (n : ℕ) (x : ServeForwardExit) → (next_taken now f).result.answer ≡ Ok (Some n) → is_going (next_exit rolls total now f c n).stop ≡ true → R (left_by_take (next_taken now f)) (next_exit rolls total now f c n).inbound x → R f c (progressed x))
+      → ((f : Direction) (c : Inbound) (n : ℕ) → (next_taken now f).result.answer ≡ Ok (Some n) → is_going (next_exit rolls total now f c n).stop ≡ false → R f c (serve_forward_exit (left_by_take (next_taken now f)) (next_exit rolls total now f c n).inbound true (next_exit rolls total now f c n).stop))
       → (f : Direction) (c : Inbound) → R f c (serve_forward rolls total now f c)
   serve_turns R idle going stops =
       by_takes now packet_buffer (λ f c n. (next_exit rolls total now f c n).inbound) (λ f c. R f c (serve_forward rolls total now f c)) (λ f c e. subst (R f c) (sym (serve_idle rolls total now f c e)) (idle f c e))
       (λ f c n e rest. by_stop_lem f c n e rest (is_going (next_exit rolls total now f c n).stop) refl)
     where
-      by_stop_lem : (f : Direction) (c : Inbound) (n : ℕ) → (next_taken now f).result.answer ≡ ready.Packet n → R (left_by_take (next_taken now f)) (next_exit rolls total now f c n).inbound (serve_forward rolls total now (left_by_take (next_taken now f)) (next_exit rolls total now f c n).inbound)
+      by_stop_lem : (f : Direction) (c : Inbound) (n : ℕ) → (next_taken now f).result.answer ≡ Ok (Some n) → R (left_by_take (next_taken now f)) (next_exit rolls total now f c n).inbound (serve_forward rolls total now (left_by_take (next_taken now f)) (next_exit rolls total now f c n).inbound)
           → (t : Bool) → is_going (next_exit rolls total now f c n).stop ≡ t → R f c (serve_forward rolls total now f c)
       by_stop_lem f c n e rest true g = subst (R f c) (sym (serve_going rolls total now f c n e g)) (going f c n _ e g rest)
       by_stop_lem f c n e rest false g = subst (R f c) (sym (serve_stops rolls total now f c n e g)) (stops f c n e g)
 
   -- an invariant of the turns holds at the end
   pub serve_keeps : (Q : Direction → Inbound → Type 0)
-      → ((f : Direction) (c : Inbound) (n : ℕ) → (next_taken now f).result.answer ≡ ready.Packet n → Q f c → Q (left_by_take (next_taken now f)) (next_exit rolls total now f c n).inbound)
+      → ((f : Direction) (c : Inbound) (n : ℕ) → (next_taken now f).result.answer ≡ Ok (Some n) → Q f c → Q (left_by_take (next_taken now f)) (next_exit rolls total now f c n).inbound)
       → (f : Direction) (c : Inbound) → Q f c → Q (serve_forward rolls total now f c).forward (serve_forward rolls total now f c).inbound
   serve_keeps Q turn f c =
       serve_turns (λ f c x. Q f c → Q x.forward x.inbound) (λ f c e q. q) (λ f c n x e g rest q. rest (turn f c n e q)) (λ f c n e g q. turn f c n e q) f c
@@ -124,7 +124,7 @@ module _ (rolls : List Float) (total now : ℕ) where
         (λ f c n x e g rest can. keeps_then (one f c n e can) (rest (turn_good rolls total now f c can n e)))
         (λ f c n e g can. one f c n e can) f c
       where
-        one : (f : Direction) (c : Inbound) (n : ℕ) → (next_taken now f).result.answer ≡ ready.Packet n → CanServeForward f c rolls now → InboundKeeps c (next_exit rolls total now f c n).inbound
+        one : (f : Direction) (c : Inbound) (n : ℕ) → (next_taken now f).result.answer ≡ Ok (Some n) → CanServeForward f c rolls now → InboundKeeps c (next_exit rolls total now f c n).inbound
         one f c n e can = forward_keeps rolls total now (take n (next_taken now f).out) c (can_hand_over rolls total now f c can n e)
 
     -- no counter falls, and none rises by more than the copies handed over
@@ -160,9 +160,9 @@ module _ (rolls : List Float) (total now : ℕ) where
     serve_progress = serve_turns (λ f c x. x.progress ≡ is_taken (next_taken now f).result.answer) (λ f c e. ap is_taken (sym e)) (λ f c n x e g rest. ap is_taken (sym e)) (λ f c n e g. ap is_taken (sym e)) f c
 
     -- a loop that the run outlives leaves nothing that is due
-    pub serve_drained : is_going (serve_forward rolls total now f c).stop ≡ true → (take_ready (serve_forward rolls total now f c).forward now packet_buffer).result.answer ≡ ready.Nothing
+    pub serve_drained : is_going (serve_forward rolls total now f c).stop ≡ true → (take_ready (serve_forward rolls total now f c).forward now packet_buffer).result.answer ≡ Ok None
     serve_drained =
-        serve_turns (λ f c x. is_going x.stop ≡ true → (take_ready x.forward now packet_buffer).result.answer ≡ ready.Nothing) (λ f c e t. e) (λ f c n x e g rest t. rest t)
+        serve_turns (λ f c x. is_going x.stop ≡ true → (take_ready x.forward now packet_buffer).result.answer ≡ Ok None) (λ f c e t. e) (λ f c n x e g rest t. rest t)
         (λ f c n e g t. absurd (false≢true (sym g ∙ t))) f c
 
 -- what the loop asks is met by a good direction and a good side, if their copies and Data are few

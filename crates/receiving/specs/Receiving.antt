@@ -1,6 +1,6 @@
 -- app/transfer.rs, the receiving side of a run: `on_forward` with `deliver_data` and `absorb`, and `submit_ack`; the
 -- loop over what is due on the forward line.
-use Rattle.std.specs.Prelude.{ℕ, zero, suc, ◌+◌, ◌-◌, Bool, true, false, cond, ◌||◌, List, replicate, ltb, Float}
+use Rattle.std.specs.Prelude.{ℕ, zero, suc, ◌+◌, ◌-◌, Bool, true, false, cond, ◌||◌, List, replicate, ltb, Float, Err, None, Ok, Option, Result, Some}
 use Rattle.bounds.specs.Bounds.{header_size}
 use Rattle.packet.specs.Reading.{read_datagram}
 use Rattle.packet.specs.declared.PacketType.{PacketType}
@@ -8,8 +8,6 @@ use Rattle.packet.specs.declared.PacketType.TheVariants as packetType
 use Rattle.packet.specs.declared.DatagramReading.{DatagramReading}
 use Rattle.packet.specs.declared.DatagramReading.TheVariants as reading
 use Rattle.receiver.specs.Receive.{ReceiveExit}
-use Rattle.receiver.specs.declared.ReceiveAnswer.{ReceiveAnswer}
-use Rattle.receiver.specs.declared.ReceiveAnswer.TheVariants as receiveAnswer
 use Rattle.schedule.specs.State.{copies}
 use Rattle.rows.specs.Rows.{as_number}
 use Rattle.notes.specs.Notes.{SegMetas, mark_ack_scheduled}
@@ -24,6 +22,7 @@ use Rattle.session.specs.Receiving.{ReceiverEnd, receiver_end, handle_packet, ba
 use Rattle.session.specs.Receiving.{gbn_already_delivered}
 use Rattle.session.specs.declared.Receiver.{Receiver}
 use Rattle.receiving.specs.declared.ReceivingSide.{ReceivingSide}
+use Rattle.refusal.specs.declared.Refusal.{Refusal}
 
 -- nothing received
 abbrev pub new_side : Receiver → ReceivingSide
@@ -90,16 +89,16 @@ is_data_type packetType.Data = true
 is_data_type packetType.Ack = false
 is_data_type packetType.Fin = false
 
-abbrev pub is_data : DatagramReading → Bool
-is_data (reading.Valid p) = is_data_type p.pkt_type
-is_data (reading.Corrupted p) = is_data_type p.pkt_type
-is_data (reading.Refused r) = false
+abbrev pub is_data : Result DatagramReading Refusal → Bool
+is_data (Ok (reading.Valid p)) = is_data_type p.pkt_type
+is_data (Ok (reading.Corrupted p)) = is_data_type p.pkt_type
+is_data (Err r) = false
 
 -- ---- its counting: a receiver's own count of duplicates, and for Go-Back-N, which has none, what comes late
-abbrev pub gbn_duplicate : Receiver → DatagramReading → Bool
-gbn_duplicate r (reading.Valid p) = gbn_already_delivered r p.seq_num
-gbn_duplicate r (reading.Corrupted p) = false
-gbn_duplicate r (reading.Refused x) = false
+abbrev pub gbn_duplicate : Receiver → Result DatagramReading Refusal → Bool
+gbn_duplicate r (Ok (reading.Valid p)) = gbn_already_delivered r p.seq_num
+gbn_duplicate r (Ok (reading.Corrupted p)) = false
+gbn_duplicate r (Err x) = false
 
 abbrev pub new_duplicates : Receiver → Bool → Receiver → ℕ
 new_duplicates before late after = (duplicate_count after - duplicate_count before) + as_number late
@@ -146,10 +145,10 @@ received total now raw b =
     inbound (absorb total now (delivered b.side late x.receiver.receiver)) x.receiver.store x.output
     b.metas b.reverse
 
-abbrev pub by_reply : ReceiveAnswer → List Float → ℕ → List ℕ → Inbound → ForwardExit
-by_reply (receiveAnswer.Ack n) rolls now ack b = submit_ack rolls now n ack b
-by_reply receiveAnswer.Silent rolls now ack b = forward_exit b stop.Going
-by_reply (receiveAnswer.Refused r) rolls now ack b = forward_exit b stop.Going
+abbrev pub by_reply : Result (Option ℕ) Refusal → List Float → ℕ → List ℕ → Inbound → ForwardExit
+by_reply (Ok (Some n)) rolls now ack b = submit_ack rolls now n ack b
+by_reply (Ok None) rolls now ack b = forward_exit b stop.Going
+by_reply (Err r) rolls now ack b = forward_exit b stop.Going
 
 -- what can't be read, or is no Data, is dropped uncounted
 unfoldable pub on_forward : List Float → ℕ → ℕ → List ℕ → Inbound → ForwardExit

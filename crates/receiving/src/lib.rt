@@ -18,8 +18,7 @@ use bounds::{HEADER_SIZE, PLACE_SIZE};
 use notes::{Note, Notes};
 use packet::{DatagramReading, Packet, PacketType};
 use path::{Carriage, Path, Stop};
-use receiver::ReceiveAnswer;
-use schedule::{FirstDue, ScheduledRow, copies_of};
+use schedule::{ScheduledRow, copies_of};
 use session::Receiver;
 
 // completed_at is the moment at which the last chunk was delivered, 0 before.
@@ -50,14 +49,6 @@ pub struct ServeForwardResult {
     pub notes: Notes,
     pub progress: bool,
     pub stop: Stop,
-}
-
-// What a datagram from the forward line is: Data that can be read, with whether its checksum matches; anything else is
-// dropped.
-#[derive(Clone, Copy)]
-enum Arrival {
-    Data(Packet, bool),
-    Dropped,
 }
 
 impl ReceivingSide {
@@ -109,7 +100,7 @@ pub fn serve_forward_unchecked(
     let mut progress = false;
     loop {
         match forward.first_due_unchecked(forward_records, now) {
-            FirstDue::Nothing => {
+            None => {
                 return ServeForwardResult {
                     forward,
                     side,
@@ -119,7 +110,7 @@ pub fn serve_forward_unchecked(
                     stop: Stop::Going,
                 };
             }
-            FirstDue::Packet(place, len) => {
+            Some((place, len)) => {
                 let from = place * PLACE_SIZE;
                 let end = from + len;
                 let got = on_forward_unchecked(
@@ -182,13 +173,13 @@ pub fn on_forward_unchecked(
         (direction records.old places.old reverse)) }
 {
     match arrival_of(raw) {
-        Arrival::Dropped => ForwardResult {
+        None => ForwardResult {
             side,
             reverse,
             notes,
             stop: Stop::Going,
         },
-        Arrival::Data(packet, valid) => {
+        Some((packet, valid)) => {
             let receiver = side.receiver;
             let late = gbn_duplicate(receiver, packet, valid);
             let mut ack = [0u8; HEADER_SIZE];
@@ -205,19 +196,19 @@ pub fn on_forward_unchecked(
             let side = absorb(side, total_chunks, now);
             let answer = received.answer;
             match answer {
-                ReceiveAnswer::Silent => ForwardResult {
+                Ok(None) => ForwardResult {
                     side,
                     reverse,
                     notes,
                     stop: Stop::Going,
                 },
-                ReceiveAnswer::Refused(_) => ForwardResult {
+                Err(_) => ForwardResult {
                     side,
                     reverse,
                     notes,
                     stop: Stop::Going,
                 },
-                ReceiveAnswer::Ack(n) => {
+                Ok(Some(n)) => {
                     submit_ack(
                         side, reverse, notes, now, n, &mut ack, rolls, rows, records, places,
                     )
@@ -227,24 +218,24 @@ pub fn on_forward_unchecked(
     }
 }
 
-fn arrival_of(raw: &[u8]) -> Arrival
+fn arrival_of(raw: &[u8]) -> Option<(Packet, bool)>
     ensures { result ≡ arrival_of (read_datagram raw.now) }
 {
     match Packet::read_datagram(raw) {
-        DatagramReading::Valid(packet) => data_arrival(packet, true),
-        DatagramReading::Corrupted(packet) => data_arrival(packet, false),
-        DatagramReading::Refused(_) => Arrival::Dropped,
+        Ok(DatagramReading::Valid(packet)) => data_arrival(packet, true),
+        Ok(DatagramReading::Corrupted(packet)) => data_arrival(packet, false),
+        Err(_) => None,
     }
 }
 
-fn data_arrival(packet: Packet, valid: bool) -> Arrival
+fn data_arrival(packet: Packet, valid: bool) -> Option<(Packet, bool)>
     ensures { result ≡ data_arrival packet.pkt_type packet valid }
 {
     let pkt_type = packet.pkt_type;
     match pkt_type {
-        PacketType::Data => Arrival::Data(packet, valid),
-        PacketType::Ack => Arrival::Dropped,
-        PacketType::Fin => Arrival::Dropped,
+        PacketType::Data => Some((packet, valid)),
+        PacketType::Ack => None,
+        PacketType::Fin => None,
     }
 }
 

@@ -1,4 +1,5 @@
 -- What a datagram handed to a sender as an ACK does, by what is read in it.
+use Rattle.std.specs.Prelude.{Err, Ok, Result}
 use Prim.Native.Nat.{ℕ, suc, ◌+◌, ◌-◌}
 use mathlib.Core.Path.{◌≡◌, refl, sym, ap, ◌∙◌}
 use mathlib.Core.Bool.{Bool, true, false, cond, ◌&&◌}
@@ -20,7 +21,6 @@ use Rattle.window.specs.Slots.{Sender, release}
 use Rattle.window.specs.Acknowledgement.{is_in_window, by_type, by_reading, ack_decision, AckExit, ack_exit, by_decision}
 use Rattle.window.specs.declared.AckDecision.{AckDecision}
 use Rattle.window.specs.declared.AckDecision.TheVariants as decision
-use Rattle.window.specs.declared.AckAnswer.TheVariants as answer
 use Rattle.window.proofs.Laws.{not_broken, Accepted, ack_accepted, ack_either, on_accept, on_not_accepted, on_ack_refused}
 use Rattle.go_back_n.specs.Sender.{handle_ack}
 use Rattle.refinement.specs.Follows.{sender_of}
@@ -36,8 +36,8 @@ pub record Acknowledged {S : Type 0} (p : ProtocolType) (selective : Bool) (view
   pub good : Good selective (view after)
 
 pub data AckOutcome {S : Type 0} (p : ProtocolType) (selective : Bool) (view : S → Sender) (v : S) (raw : List ℕ) (r : AckExit S) : Type 0 where
-  ack_refused : (s : Refusal) → r ≡ ack_exit (answer.Refused s) v → AckOutcome p selective view v raw r
-  ack_ignored : ((n : ℕ) → IsAck raw n → ⊥) → r ≡ ack_exit answer.NotAccepted v → AckOutcome p selective view v raw r
+  ack_refused : (s : Refusal) → r ≡ ack_exit (Err s) v → AckOutcome p selective view v raw r
+  ack_ignored : ((n : ℕ) → IsAck raw n → ⊥) → r ≡ ack_exit (Ok false) v → AckOutcome p selective view v raw r
   ack_taken : (n : ℕ) → IsAck raw n → Acknowledged p selective view v n r.after → AckOutcome p selective view v raw r
 
 -- what is asked of a protocol: an accepted number makes of its state what it makes of the machine's
@@ -53,20 +53,20 @@ module _ {S : Type 0} (p : ProtocolType) (selective : Bool) (view : S → Sender
   same_test g n = ap (λ (m : ℕ). leb (view v).window.send_base n && ltb n m) (next_number_lem selective (view v) g)
 
   of_number : Good selective (view v) → (n : ℕ) → IsAck raw n → (b : Bool) → is_in_window (view v).window n ≡ b
-      → ack_decision selective (view v).window (view v).store raw ≡ cond b (decision.Accept n (n + 1)) decision.NotAccepted → AckOutcome p selective view v raw result
+      → ack_decision selective (view v).window (view v).store raw ≡ cond b (Ok (decision.Accept n (n + 1))) (Ok decision.NotAccepted) → AckOutcome p selective view v raw result
   unfolding acknowledge
   of_number g n f true t d =
       let a = ack_accepted selective (view v).window (view v).store raw n (n + 1) d in
-      let is : ack_exit answer.Accepted (accept n) ≡ result = on_accept v accept n (n + 1) d refl in
+      let is : ack_exit (Ok true) (accept n) ≡ result = on_accept v accept n (n + 1) d refl in
       ack_taken n f (rw (← is) (record { follows = rw (same_test g n ∙ t) (accepts.follows n a); good = accepts.good n a }))
   of_number g n f false t d =
-      let is : ack_exit answer.NotAccepted v ≡ result = on_not_accepted v accept d in
+      let is : ack_exit (Ok false) v ≡ result = on_not_accepted v accept d in
       ack_taken n f (rw (← is) (record { follows = rw (same_test g n ∙ t); good = g }))
 
-  not_ack : (q : Packet) → read_datagram raw ≡ reading.Valid q → (q.pkt_type ≡ packetType.Ack → ⊥) → (n : ℕ) → IsAck raw n → ⊥
-  not_ack q f other n a = let same : reading.Valid a.packet ≡ reading.Valid q = sym a.read ∙ f in let is : a.packet ≡ q = cc in other (rw (← is) a.kind)
+  not_ack : (q : Packet) → read_datagram raw ≡ Ok (reading.Valid q) → (q.pkt_type ≡ packetType.Ack → ⊥) → (n : ℕ) → IsAck raw n → ⊥
+  not_ack q f other n a = let same : Ok (reading.Valid a.packet) ≡ Ok (reading.Valid q) = sym a.read ∙ f in let is : a.packet ≡ q = cc in other (rw (← is) a.kind)
 
-  by_type_lem : Good selective (view v) → (q : Packet) → read_datagram raw ≡ reading.Valid q → (t : PacketType) → q.pkt_type ≡ t
+  by_type_lem : Good selective (view v) → (q : Packet) → read_datagram raw ≡ Ok (reading.Valid q) → (t : PacketType) → q.pkt_type ≡ t
       → ack_decision selective (view v).window (view v).store raw ≡ by_type (view v).window t q.seq_num → AckOutcome p selective view v raw result
   by_type_lem g q f packetType.Ack k d =
       of_number g q.seq_num (record { packet = q; read = f; kind = k; number = refl }) (is_in_window (view v).window q.seq_num) refl d
@@ -75,17 +75,17 @@ module _ {S : Type 0} (p : ProtocolType) (selective : Bool) (view : S → Sender
   by_type_lem g q f packetType.Fin k d =
       ack_ignored (not_ack q f (λ e. let no = sym k ∙ e in let z : ◌≡◌ {A = ℕ} 0 1 = cc in omega arith)) (sym (on_not_accepted v accept d))
 
-  by_reading_lem : Good selective (view v) → (x : DatagramReading) → read_datagram raw ≡ x
+  by_reading_lem : Good selective (view v) → (x : Result DatagramReading Refusal) → read_datagram raw ≡ x
       → ack_decision selective (view v).window (view v).store raw ≡ by_reading (view v).window x → AckOutcome p selective view v raw result
-  by_reading_lem g (reading.Valid q) f d = by_type_lem g q f q.pkt_type refl d
-  by_reading_lem g (reading.Corrupted q) f d =
+  by_reading_lem g (Ok (reading.Valid q)) f d = by_type_lem g q f q.pkt_type refl d
+  by_reading_lem g (Ok (reading.Corrupted q)) f d =
       ack_ignored (λ n a. let no = sym a.read ∙ f in let z : ◌≡◌ {A = ℕ} 0 1 = cc in omega arith) (sym (on_not_accepted v accept d))
-  by_reading_lem g (reading.Refused s) f d = ack_refused s (sym (on_ack_refused v accept s d))
+  by_reading_lem g (Err s) f d = ack_refused s (sym (on_ack_refused v accept s d))
 
   pub ack_outcome : AckOutcome p selective view v raw result
   ack_outcome =
       ack_either selective (view v).window (view v).store raw
-      (λ (d : AckDecision). ack_decision selective (view v).window (view v).store raw ≡ d → AckOutcome p selective view v raw result)
+      (λ (d : Result AckDecision Refusal). ack_decision selective (view v).window (view v).store raw ≡ d → AckOutcome p selective view v raw result)
       (λ s e. ack_refused s (sym (on_ack_refused v accept s e))) (λ sound counts e. by_reading_lem sound (read_datagram raw) refl e) refl
 
   pub ack_good : Good selective (view v) → Good selective (view result.after)

@@ -1,4 +1,5 @@
 -- What a receiver, and a sender, read in a copy of a datagram.
+use Rattle.std.specs.Prelude.{Err, Ok}
 use Prim.Native.Nat.{ℕ, ◌≤◌, ◌<◌}
 use mathlib.Core.Path.{◌≡◌, refl, sym, ap, ◌∙◌}
 use mathlib.Core.List.{List, []}
@@ -50,7 +51,7 @@ flipped_empty p i b fits h k = elim (ℕ_discrete i 6) [
   ]
 ]
   where
-    refused : (r : Refusal) → read_datagram (flip (made p []) i b) ≡ datagram.Refused r → NotValid (flip (made p []) i b)
+    refused : (r : Refusal) → read_datagram (flip (made p []) i b) ≡ Err r → NotValid (flip (made p []) i b)
     refused r f q e = let z : ◌≡◌ {A = ℕ} 0 1 = cc in omega arith
 
     by_length : (i ≡ 6) ⊎ (i ≡ 7) → NotValid (flip (made p []) i b)
@@ -71,7 +72,7 @@ module _ (q : Segment) (original : List ℕ) (d : DataOf q original) where
   -- it isn't refused, and its number isn't too high
   pub data_accepted : Taken original × (number_high (read_datagram original) ≡ false)
   data_accepted =
-      let e : read_datagram original ≡ datagram.Valid (with_checksum d.packet q.payload) = ap read_datagram d.is ∙ made_given d.packet q.payload d.short in
+      let e : read_datagram original ≡ Ok (datagram.Valid (with_checksum d.packet q.payload)) = ap read_datagram d.is ∙ made_given d.packet q.payload d.short in
       (valid_taken original e, rw (e, d.kind, d.number) (lt-leb seq_num_limit q.number d.low))
 
   pub data_payload : payload_of original ≡ q.payload

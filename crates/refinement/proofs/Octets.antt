@@ -1,4 +1,5 @@
 -- A store of octets stays one, and what lies in its slots are octets.
+use Rattle.std.specs.Prelude.{Err, Ok, Result}
 use Prim.Native.Nat.{ℕ, zero, suc, ◌+◌, ◌-◌, ◌*◌, ◌%◌, ◌≤◌, ◌<◌}
 use mathlib.Core.Bool.{Bool}
 use mathlib.Core.List.{List, ◌++◌}
@@ -15,6 +16,7 @@ use Rattle.go_back_n.specs.Sender as go_back_n
 use Rattle.selective_repeat.specs.Sender as selective_repeat
 use Rattle.window.specs.Slots.{Sender, slot_for, fresh, hold, mark_retransmitted, empty_from, release}
 use Rattle.refinement.proofs.Sending.{send_refused, window_full, chunk_sent, send_outcome}
+use Rattle.refusal.specs.declared.Refusal.{Refusal}
 
 zeros_octets : (n : ℕ) → Octets (replicate n 0)
 zeros_octets zero = below_nil (omega arith)
@@ -75,11 +77,11 @@ send_octets selective v payload out o q = elim (send_outcome selective v payload
 ]
 
 -- what holds of a state, and of whatever an accepted number makes of it, holds after an ACK
-pub after_ack : {S : Type 0} (P : S → Type 0) (d : AckDecision) (v : S) (accept : ℕ → S) → P v → ((n : ℕ) → P (accept n)) → P (by_decision d v accept).after
+pub after_ack : {S : Type 0} (P : S → Type 0) (d : Result AckDecision Refusal) (v : S) (accept : ℕ → S) → P v → ((n : ℕ) → P (accept n)) → P (by_decision d v accept).after
 unfolding by_decision
-after_ack P (decision.Accept n base) v accept before step = step n
-after_ack P decision.NotAccepted v accept before step = before
-after_ack P (decision.Refused r) v accept before step = before
+after_ack P (Ok (decision.Accept n base)) v accept before step = step n
+after_ack P (Ok decision.NotAccepted) v accept before step = before
+after_ack P (Err r) v accept before step = before
 
 pub go_back_n_ack_octets : (v : Sender) (raw : List ℕ) → Octets v.store → Octets (go_back_n.handle_ack v raw).after.store
 go_back_n_ack_octets v raw o = after_ack (λ u. Octets u.store) _ v (λ n. release v (n + 1)) o (λ n. release_octets v (n + 1) o)

@@ -1,4 +1,5 @@
 -- What a datagram handed to a receiver does, by what is read in it: one law for the three protocols.
+use Rattle.std.specs.Prelude.{Err, None, Ok, Option, Some}
 use Prim.Native.Nat.{ℕ, ◌+◌, ◌-◌, ◌≤◌, ◌<◌}
 use mathlib.Core.Path.{◌≡◌, refl, sym, ap, ◌∙◌}
 use mathlib.Core.Bool.{Bool, true, false, cond}
@@ -23,10 +24,7 @@ use Rattle.receiver.specs.Reply.{answer_of, ack_after, room_missing, applied, ap
 use Rattle.receiver.specs.Receive.{ReceiveExit, receive_exit, Reception, received_exit, receive}
 use Rattle.receiver.specs.declared.PacketReading.{PacketReading}
 use Rattle.receiver.specs.declared.PacketReading.TheVariants as reading
-use Rattle.receiver.specs.declared.Reply.{Reply}
-use Rattle.receiver.specs.declared.Reply.TheVariants as reply
 use Rattle.receiver.specs.declared.Decision.{Decision}
-use Rattle.receiver.specs.declared.ReceiveAnswer.TheVariants as answer
 use Rattle.receiver.proofs.Laws.{ReceiveKnown, receive_either, read_low, not_valid_corrupted, room_output}
 use Rattle.refinement.specs.Follows.{acks_of}
 use Rattle.refinement.specs.Copies.{AckOf, NotValid}
@@ -49,17 +47,17 @@ pub record Took {R : Type 0} (view : R → ReceiverState) (filledOf : R → ℕ)
   pub output_is : result.output ≡ written_at output (filledOf r) (flatten m.delivered)
   pub fits : filledOf r + length (flatten m.delivered) ≤ length output
   pub acks : acks_of result.answer ≡ m.acks
-  pub ack_made : (n : ℕ) → result.answer ≡ answer.Ack n → AckOf n (take 10 result.ack)
+  pub ack_made : (n : ℕ) → result.answer ≡ Ok (Some n) → AckOf n (take 10 result.ack)
 
 -- no Data: state, fill mark and output as they were; nothing is answered to what isn't valid
 pub record Ignored {R : Type 0} (view : R → ReceiverState) (filledOf : R → ℕ) (r : R) (raw output ack : List ℕ) (result : ReceiveExit R) : Type 0 where
   pub follows : view result.receiver ≡ view r
   pub filled : filledOf result.receiver ≡ filledOf r
   pub output_is : result.output ≡ output
-  pub silent : NotValid raw → (result.answer ≡ answer.Silent) × (result.ack ≡ ack)
+  pub silent : NotValid raw → (result.answer ≡ Ok None) × (result.ack ≡ ack)
 
 pub data ReceiveOutcome {R : Type 0} (p : ProtocolType) (w : ℕ) (view : R → ReceiverState) (filledOf : R → ℕ) (r : R) (raw output ack : List ℕ) (result : ReceiveExit R) : Type 0 where
-  packet_refused : (s : Refusal) → result ≡ receive_exit (answer.Refused s) r output ack → ReceiveOutcome p w view filledOf r raw output ack result
+  packet_refused : (s : Refusal) → result ≡ receive_exit (Err s) r output ack → ReceiveOutcome p w view filledOf r raw output ack result
   not_data : ((n : ℕ) → read_packet raw ≡ reading.Data n → ⊥) → Ignored view filledOf r raw output ack result → ReceiveOutcome p w view filledOf r raw output ack result
   data_taken : (n : ℕ) → read_packet raw ≡ reading.Data n → n < 4294901760 → Took view filledOf r output ack (Machine.receive p w (view r) (record { number = n; payload = payload_of raw })) result
       → ReceiveOutcome p w view filledOf r raw output ack result
@@ -73,7 +71,7 @@ pub record Follows {R : Type 0} (view : R → ReceiverState) (after : ℕ → R)
 pub record Leaves {R : Type 0} (view : R → ReceiverState) (after : ℕ → R) (r : R) (d : Decision) (h : PacketReading) : Type 0 where
   pub state : (filled : ℕ) → view (after filled) ≡ view r
   pub nothing : d.deliver ≡ false
-  pub silent : h ≡ reading.Corrupted → d.reply ≡ reply.Silent
+  pub silent : h ≡ reading.Corrupted → d.reply ≡ None
 
 -- packets that are no Data, kind by kind
 pub other_kind : (P : PacketReading → Type 0) → ((n : ℕ) → P (reading.Fin n)) → P reading.Ack → P reading.Corrupted → (h : PacketReading) → ((n : ℕ) → h ≡ reading.Data n → ⊥) → P h
@@ -82,11 +80,11 @@ other_kind P fin ack corrupted (reading.Fin n) no_number = fin n
 other_kind P fin ack corrupted reading.Ack no_number = ack
 other_kind P fin ack corrupted reading.Corrupted no_number = corrupted
 
-pub left : {R : Type 0} {view : R → ReceiverState} {after : ℕ → R} {r : R} {d : Decision} {h : PacketReading} → ((filled : ℕ) → view (after filled) ≡ view r) → d.deliver ≡ false → (h ≡ reading.Corrupted → d.reply ≡ reply.Silent)
+pub left : {R : Type 0} {view : R → ReceiverState} {after : ℕ → R} {r : R} {d : Decision} {h : PacketReading} → ((filled : ℕ) → view (after filled) ≡ view r) → d.deliver ≡ false → (h ≡ reading.Corrupted → d.reply ≡ None)
     → Leaves view after r d h
 left same nothing silent = record { state = same; nothing = nothing; silent = silent }
 
-pub fin_valid : (n : ℕ) {a b : Reply} → reading.Fin n ≡ reading.Corrupted → a ≡ b
+pub fin_valid : (n : ℕ) {a b : Option ℕ} → reading.Fin n ≡ reading.Corrupted → a ≡ b
 fin_valid n e = let z : ◌≡◌ {A = ℕ} 0 1 = cc in absurd (omega arith)
 
 pub record Decides {R : Type 0} (p : ProtocolType) (w : ℕ) (view : R → ReceiverState) (filledOf : R → ℕ) (r : R) (broken : Bool) (after : ℕ → R) (d : Decision) (bytes raw output : List ℕ) : Type 0 where
@@ -97,10 +95,10 @@ pub record Decides {R : Type 0} (p : ProtocolType) (w : ℕ) (view : R → Recei
   pub on_other : ((n : ℕ) → read_packet raw ≡ reading.Data n → ⊥) → Leaves view after r d (read_packet raw)
 
 -- the ACK in its buffer
-ack_front : (r : Reply) (n : ℕ) (ack : List ℕ) → answer_of r ≡ answer.Ack n → take 10 (ack_after r ack) ≡ made (new_packet n Ack) []
+ack_front : (r : Option ℕ) (n : ℕ) (ack : List ℕ) → answer_of r ≡ Ok (Some n) → take 10 (ack_after r ack) ≡ made (new_packet n Ack) []
 unfolding ack_after
-ack_front (reply.Ack m) n ack e = let f : m ≡ n = cc in rw f (take_at (made (new_packet n Ack) []) (drop 10 ack) 10 (made_length (new_packet n Ack) []))
-ack_front reply.Silent n ack e = let z : ◌≡◌ {A = ℕ} 0 1 = cc in absurd (omega arith)
+ack_front (Some m) n ack e = let f : m ≡ n = cc in rw f (take_at (made (new_packet n Ack) []) (drop 10 ack) 10 (made_length (new_packet n Ack) []))
+ack_front None n ack e = let z : ◌≡◌ {A = ℕ} 0 1 = cc in absurd (omega arith)
 
 -- a number that the machine acknowledges is the segment's, or below base
 module _ (n : ℕ) (q : Segment) (limit : ℕ) (low : q.number < limit) where

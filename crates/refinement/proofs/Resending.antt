@@ -1,4 +1,5 @@
 -- Numbers sent again: the sender stays what it was, and the datagrams are the machine's segments.
+use Rattle.std.specs.Prelude.{Err, None, Ok, Some}
 use Prim.Native.Nat.{ℕ, zero, suc, ◌+◌, ◌-◌, ◌%◌, ◌≤◌, ◌<◌, min}
 use mathlib.Core.Path.{◌≡◌, refl, sym, ap, ◌∙◌}
 use mathlib.Core.Bool.{Bool, true, false, cond}
@@ -20,7 +21,6 @@ use Rattle.store.proofs.Laws.{slot_in, slot_payload_length}
 use Rattle.window.specs.Slots.{Sender, slot_for, mark_retransmitted, packet_for, datagram_for}
 use Rattle.window.specs.Resending.{datagrams_from, mark_from, sent_again, TimeoutExit, timeout_exit, resend, resend_outstanding}
 use Rattle.window.specs.State.{outstanding, state_broken, counts_broken}
-use Rattle.window.specs.declared.TimeoutAnswer.TheVariants as answer
 use Rattle.window.proofs.Laws.{sound, slot_low}
 use Rattle.go_back_n.specs.Sender.{handle_timeout}
 use Rattle.refinement.specs.Follows.{sender_of}
@@ -97,7 +97,7 @@ of_same e d = rw e at d
 -- the numbers that were sent again
 pub record SentAgain (selective : Bool) (v : Sender) (n k : ℕ) (out : List ℕ) (r : TimeoutExit Sender) : Type 0 where
   pub some : 0 < k
-  pub answered : r.answer ≡ answer.Resent (length (flatten (map (datagram_for r.after) (up_from n k))))
+  pub answered : r.answer ≡ Ok (Some (length (flatten (map (datagram_for r.after) (up_from n k)))))
   pub marked : r.after ≡ mark_from v n k
   pub follows : sender_of r.after ≡ sender_of v
   pub good : Good selective r.after
@@ -107,8 +107,8 @@ pub record SentAgain (selective : Bool) (v : Sender) (n k : ℕ) (out : List ℕ
   pub datagrams : Octets v.store → (m : ℕ) → n ≤ m → m < n + k → DataOf (segment_at (sender_of v) m) (datagram_for r.after m)
 
 pub data ResendOutcome (selective : Bool) (v : Sender) (n k : ℕ) (out : List ℕ) (r : TimeoutExit Sender) : Type 0 where
-  timeout_refused : (s : Refusal) → r ≡ timeout_exit (answer.Refused s) v out → ResendOutcome selective v n k out r
-  nothing_sent : k ≡ 0 → r ≡ timeout_exit answer.Nothing v out → ResendOutcome selective v n k out r
+  timeout_refused : (s : Refusal) → r ≡ timeout_exit (Err s) v out → ResendOutcome selective v n k out r
+  nothing_sent : k ≡ 0 → r ≡ timeout_exit (Ok None) v out → ResendOutcome selective v n k out r
   sent_again_lem : SentAgain selective v n k out r → ResendOutcome selective v n k out r
 
 module _ (selective : Bool) (v : Sender) (n k : ℕ) (out : List ℕ)
@@ -116,7 +116,7 @@ module _ (selective : Bool) (v : Sender) (n k : ℕ) (out : List ℕ)
   abbrev result : TimeoutExit Sender
   result = resend (state_broken selective v.window v.store) (counts_broken v.window) v n k out
 
-  written : result ≡ timeout_exit (answer.Resent (length (sent_again v n k))) (mark_from v n k) (sent_again v n k ++ drop (length (sent_again v n k)) out) → Good selective v → 0 < k → SentAgain selective v n k out result
+  written : result ≡ timeout_exit (Ok (Some (length (sent_again v n k)))) (mark_from v n k) (sent_again v n k ++ drop (length (sent_again v n k)) out) → Good selective v → 0 < k → SentAgain selective v n k out result
   written is g some =
       let after = mark_from v n k in
       let same = marks_follow selective v n k g in
@@ -127,7 +127,7 @@ module _ (selective : Bool) (v : Sender) (n k : ℕ) (out : List ℕ)
       let next : after.window.next_seq_num ≡ v.window.next_seq_num = marks_next v n k in
       rw is (record {
         some = some;
-        answered = ap (λ (l : List ℕ). answer.Resent (length l)) are;
+        answered = ap (λ (l : List ℕ). Ok (Some (length l))) are;
         marked = refl;
         follows = same;
         good = good;
@@ -144,7 +144,7 @@ module _ (selective : Bool) (v : Sender) (n k : ℕ) (out : List ℕ)
       (check (state_broken selective v.window v.store) State ∷ check (counts_broken v.window) Counts ∷ check (ltb (length out) (length (sent_again v n k))) Full ∷ []) _ _
       (λ s. timeout_refused s) (λ none e. by_count none.0 e (eqb k 0) refl) refl
     where
-      by_count : Good selective v → result ≡ cond (eqb k 0) (timeout_exit answer.Nothing v out) (timeout_exit (answer.Resent (length (sent_again v n k))) (mark_from v n k) (sent_again v n k ++ drop (length (sent_again v n k)) out))
+      by_count : Good selective v → result ≡ cond (eqb k 0) (timeout_exit (Ok None) v out) (timeout_exit (Ok (Some (length (sent_again v n k)))) (mark_from v n k) (sent_again v n k ++ drop (length (sent_again v n k)) out))
           → (b : Bool) → eqb k 0 ≡ b → ResendOutcome selective v n k out result
       by_count g is true e = nothing_sent (eqb-true k 0 e) (is ∙ rw e)
       by_count g is false e = let ne = eqb-false k 0 e in sent_again_lem (written (is ∙ rw e) g (omega arith))

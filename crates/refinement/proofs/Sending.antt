@@ -1,4 +1,5 @@
 -- What a send does, by its answer.
+use Rattle.std.specs.Prelude.{Err, None, Ok, Some}
 use Prim.Native.Nat.{ℕ, ◌+◌, ◌-◌, ◌≤◌, ◌<◌}
 use mathlib.Core.Path.{◌≡◌, refl, ap, ◌∙◌}
 use mathlib.Core.Bool.{Bool, true, false, cond}
@@ -17,7 +18,6 @@ use Rattle.packet.proofs.Laws.{made_length}
 use Rattle.window.specs.State.{outstanding}
 use Rattle.window.specs.Slots.{Sender, hold, first_datagram}
 use Rattle.window.specs.Sending.{SendExit, send_exit, window_free, send_checks, send_chunk}
-use Rattle.window.specs.declared.SendAnswer.TheVariants as answer
 use Rattle.refinement.specs.Follows.{sender_of}
 use Rattle.refinement.specs.Good.{Good}
 use Rattle.refinement.specs.Copies.{DataOf}
@@ -38,7 +38,7 @@ hold_window v payload = refl
 
 -- a chunk that was taken: the machine's next segment lies as a datagram at the front of the buffer
 pub record Sent (selective : Bool) (v : Sender) (payload out : List ℕ) (r : SendExit Sender) : Type 0 where
-  pub answered : r.answer ≡ answer.Sent (10 + length payload)
+  pub answered : r.answer ≡ Ok (Some (10 + length payload))
   pub follows : sender_of r.after ≡ send (sender_of v) payload
   pub good : Good selective r.after
   pub same_window : r.after.window.window_size ≡ v.window.window_size
@@ -48,13 +48,13 @@ pub record Sent (selective : Bool) (v : Sender) (payload out : List ℕ) (r : Se
   pub data_made : Octets payload → DataOf (record { number = next_number (sender_of v); payload = payload }) (take (10 + length payload) r.out)
 
 pub data SendOutcome (selective : Bool) (v : Sender) (payload out : List ℕ) (r : SendExit Sender) : Type 0 where
-  send_refused : (s : Refusal) → r ≡ send_exit (answer.Refused s) v out → SendOutcome selective v payload out r
-  window_full : length (sender_of v).chunks ≡ v.window.window_size → r ≡ send_exit answer.WindowFull v out → SendOutcome selective v payload out r
+  send_refused : (s : Refusal) → r ≡ send_exit (Err s) v out → SendOutcome selective v payload out r
+  window_full : length (sender_of v).chunks ≡ v.window.window_size → r ≡ send_exit (Ok None) v out → SendOutcome selective v payload out r
   chunk_sent : Sent selective v payload out r → SendOutcome selective v payload out r
 
 module _ (selective : Bool) (v : Sender) (payload out : List ℕ) where
   of_accepted : (free : Bool) → window_free v.window ≡ free → NoneTrue (send_checks selective v payload out)
-      → send_chunk selective v payload out ≡ cond (window_free v.window) (send_exit (answer.Sent (10 + length payload)) (hold v payload) (first_datagram v payload ++ drop (10 + length payload) out)) (send_exit answer.WindowFull v out)
+      → send_chunk selective v payload out ≡ cond (window_free v.window) (send_exit (Ok (Some (10 + length payload))) (hold v payload) (first_datagram v payload ++ drop (10 + length payload) out)) (send_exit (Ok None) v out)
       → SendOutcome selective v payload out (send_chunk selective v payload out)
   unfolding send_checks
   of_accepted false f none e =
@@ -68,7 +68,7 @@ module _ (selective : Bool) (v : Sender) (payload out : List ℕ) where
       let free : outstanding v.window < v.window.window_size = ltb-true _ _ f in
       let last = eqb-false v.window.next_seq_num 4294901760 (rw f at none.1.1.1.0) in
       let below : v.window.next_seq_num < 4294901760 = omega arith in
-      let is : send_chunk selective v payload out ≡ send_exit (answer.Sent (10 + length payload)) (hold v payload) (first_datagram v payload ++ drop (10 + length payload) out) = e ∙ rw f in
+      let is : send_chunk selective v payload out ≡ send_exit (Ok (Some (10 + length payload))) (hold v payload) (first_datagram v payload ++ drop (10 + length payload) out) = e ∙ rw f in
       let n = next_number_lem selective v g in
       let size = made_length (new_packet v.window.next_seq_num Data) payload in
       let datagram : take (10 + length payload) (send_chunk selective v payload out).out ≡ made (new_packet (next_number (sender_of v)) Data) payload = ap (λ (r : SendExit Sender). take (10 + length payload) r.out) is ∙ take_at (first_datagram v payload) (drop (10 + length payload) out) (10 + length payload) size ∙ rw n in

@@ -1,5 +1,5 @@
 -- Document 01, demand 3: a datagram handed over is a copy of one that was made, whole or with a bit turned over.
-use Rattle.std.specs.Prelude.{ℕ, ◌≤◌, ◌<◌, ◌≡◌, List, [], length}
+use Rattle.std.specs.Prelude.{ℕ, ◌≤◌, ◌<◌, ◌≡◌, List, [], length, Ok}
 use Rattle.bounds.specs.Bounds.{max_payload, seq_num_limit}
 use Rattle.protocol.specs.Machine.{Segment}
 use Rattle.octets.specs.Octets.{Octets}
@@ -38,11 +38,11 @@ pub record Flipped (original raw : List ℕ) : Type 0 where
 
 -- no valid packet is read in it
 abbrev pub NotValid : List ℕ → Type 0
-NotValid raw = (p : Packet) → read_datagram raw ≡ reading.Valid p → ⊥
+NotValid raw = (p : Packet) → read_datagram raw ≡ Ok (reading.Valid p) → ⊥
 
 -- a valid ACK of number n is read in it
 pub record IsAck (raw : List ℕ) (n : ℕ) : Type 0 where
   pub packet : Packet
-  pub read : read_datagram raw ≡ reading.Valid packet
+  pub read : read_datagram raw ≡ Ok (reading.Valid packet)
   pub kind : packet.pkt_type ≡ Ack
   pub number : packet.seq_num ≡ n

@@ -1,5 +1,5 @@
 -- The ends over a byte store as the ends over numbers, marks and chunks: what the one holds, read as the other.
-use Rattle.std.specs.Prelude.{ℕ, List, [], ◌∷◌, map, Bool, cond, eqb}
+use Rattle.std.specs.Prelude.{ℕ, List, [], ◌∷◌, map, Bool, cond, eqb, Err, None, Ok, Result, Some}
 use Rattle.std.proofs.Math.Option.{Option, none, some}
 use Rattle.protocol.specs.Runs.{up_from}
 use Rattle.protocol.specs.Machine.{Chunk, SenderState, ReceiverState}
@@ -7,8 +7,7 @@ use Rattle.store.specs.Slot.{slot_mark, slot_payload}
 use Rattle.store.specs.Sound.{slot_of}
 use Rattle.window.specs.State.{outstanding}
 use Rattle.window.specs.Slots.{Sender}
-use Rattle.receiver.specs.declared.ReceiveAnswer.{ReceiveAnswer}
-use Rattle.receiver.specs.declared.ReceiveAnswer.TheVariants as answer
+use Rattle.refusal.specs.declared.Refusal.{Refusal}
 
 -- what a slot holds
 abbrev pub acknowledged_in : List ℕ → Bool
@@ -40,7 +39,7 @@ abbrev pub receiver_of : ℕ → ℕ → List ℕ → ReceiverState
 receiver_of window base store = record { base = base; held = slots_read held_in store window base window }
 
 -- the numbers that a receiver's answer acknowledges
-abbrev pub acks_of : ReceiveAnswer → List ℕ
-acks_of (answer.Ack n) = n ∷ []
-acks_of answer.Silent = []
-acks_of (answer.Refused r) = []
+abbrev pub acks_of : Result (Option ℕ) Refusal → List ℕ
+acks_of (Ok (Some n)) = n ∷ []
+acks_of (Ok None) = []
+acks_of (Err r) = []

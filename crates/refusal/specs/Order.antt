@@ -1,11 +1,9 @@
 -- Document 01, "Checks go 9, 8, 10, 11, 4, 1, 2, 3, 6, 7, 5": of the lines that are true of a call, the first in this
 -- order is answered.
-use Rattle.std.specs.Prelude.{ℕ, Bool, cond, List, [], ◌∷◌, eqb}
+use Rattle.std.specs.Prelude.{ℕ, Bool, cond, List, [], ◌∷◌, eqb, Err, Ok, Result}
 use Rattle.refusal.specs.Refusal.{entry_of}
 use Rattle.refusal.specs.declared.Refusal.{Refusal}
 use Rattle.refusal.specs.declared.Refusal.TheVariants.{State, Counts}
-use Rattle.refusal.specs.declared.Verdict.{Verdict}
-use Rattle.refusal.specs.declared.Verdict.TheVariants.{Accepted, Refused}
 
 unfoldable pub order : List ℕ
 order = 9 ∷ 8 ∷ 10 ∷ 11 ∷ 4 ∷ 1 ∷ 2 ∷ 3 ∷ 6 ∷ 7 ∷ 5 ∷ []
@@ -18,28 +16,32 @@ pub record Check : Type 0 where
 abbrev pub check : Bool → Refusal → Check
 check b r = record { fires = b; refusal = r }
 
-unfoldable pub or_else : Verdict → Verdict → Verdict
-or_else Accepted v = v
-or_else (Refused r) v = Refused r
+-- no check fires; of a call that gives nothing back, that it is done
+abbrev pub passed : Result Unit Refusal
+passed = Ok tt
+
+unfoldable pub or_else : Result Unit Refusal → Result Unit Refusal → Result Unit Refusal
+or_else (Ok tt) v = v
+or_else (Err r) v = Err r
 
 -- the checks of one number
-unfoldable pub numbered : ℕ → List Check → Verdict
-numbered n [] = Accepted
+unfoldable pub numbered : ℕ → List Check → Result Unit Refusal
+numbered n [] = passed
 numbered n (c ∷ cs) = or_else (cond (eqb (entry_of c.refusal).number n)
-    (cond c.fires (Refused c.refusal) Accepted) Accepted) (numbered n cs)
+    (cond c.fires (Err c.refusal) passed) passed) (numbered n cs)
 
-unfoldable pub first_of : List ℕ → List Check → Verdict
-first_of [] cs = Accepted
+unfoldable pub first_of : List ℕ → List Check → Result Unit Refusal
+first_of [] cs = passed
 first_of (n ∷ ns) cs = or_else (numbered n cs) (first_of ns cs)
 
 -- the verdict on a call, however its checks are listed
-unfoldable pub verdict : List Check → Verdict
+unfoldable pub verdict : List Check → Result Unit Refusal
 verdict cs = first_of order cs
 
 -- what a call gives: after a refusal the one, else the other
-unfoldable pub decide : {A : Type 0} → Verdict → (Refusal → A) → A → A
-decide Accepted f a = a
-decide (Refused r) f a = f r
+unfoldable pub decide : {A : Type 0} → Result Unit Refusal → (Refusal → A) → A → A
+decide (Ok tt) f a = a
+decide (Err r) f a = f r
 
 -- 9 and 8, of what a call holds
 abbrev pub held_checks : Bool → Bool → List Check

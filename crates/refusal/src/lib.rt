@@ -26,32 +26,6 @@ pub enum Refusal {
     Roll,
 }
 
-// What a call's checks say.
-#[derive(Clone, Copy)]
-pub enum Verdict {
-    Accepted,
-    Refused(Refusal),
-}
-
-// Answers that are a bool, a count, or nothing but that the call is done.
-#[derive(Clone, Copy)]
-pub enum TestAnswer {
-    Is(bool),
-    Refused(Refusal),
-}
-
-#[derive(Clone, Copy)]
-pub enum CountAnswer {
-    Count(usize),
-    Refused(Refusal),
-}
-
-#[derive(Clone, Copy)]
-pub enum DoneAnswer {
-    Done,
-    Refused(Refusal),
-}
-
 // A word of at most 16 letters in ASCII, with zeros after it.
 #[derive(Clone, Copy)]
 pub struct Word {
@@ -140,16 +114,16 @@ impl Refusal {
 }
 
 // Checks 9 and 8 of what a call holds.
-pub fn held_verdict(state_broken: bool, counts_broken: bool) -> Verdict
+pub fn held_verdict(state_broken: bool, counts_broken: bool) -> Result<(), Refusal>
     ensures { result ≡ verdict (held_checks state_broken counts_broken) }
 {
     if state_broken {
-        return Verdict::Refused(Refusal::State);
+        return Err(Refusal::State);
     }
     if counts_broken {
-        return Verdict::Refused(Refusal::Counts);
+        return Err(Refusal::Counts);
     }
-    Verdict::Accepted
+    Ok(())
 }
 
 fn padded(letters: &[u8]) -> Word

@@ -12,7 +12,6 @@ use borrow.Author.Tests.{ltb-true, ltb-false, leb-true, ne_eqb}
 use Rattle.bounds.specs.Bounds.{max_delivery_delay}
 use Rattle.refusal.specs.Clauses.{any_of}
 use Rattle.refusal.specs.Order.{verdict}
-use Rattle.refusal.specs.declared.Verdict.TheVariants.{Accepted}
 use Rattle.refusal.proofs.Laws.{accepted_none_true, none_of, or_false}
 use Rattle.rows.specs.Rows.{as_number}
 use Rattle.events.specs.Events.{ForwardEvent, event_of}
@@ -23,6 +22,7 @@ use Rattle.text.proofs.Laws.{digits_decimal, digits_length, digits_u32, digits_d
 use Rattle.report.specs.Page.{Side, Right, Left, Column, aligned, line, copy_width, Entries, in_places, head_entries, head_line, sent_word, of_copy, event_entries, event_line, event_lines}
 use Rattle.report.specs.Page.{copy_count, repeat_count, totals, last_line, page}
 use Rattle.report.specs.Lines.{line_width, breaks, InLines, none, more, AllFit, widths, HasRoom, HaveRoom}
+use Rattle.refusal.specs.Order.{passed}
 
 -- ---- letters that are no line feed
 breaks_none : breaks [] ≡ false
@@ -245,11 +245,11 @@ rows_room (r ∷ rs) e f =
     let a = or_false (is_no_event r) (any_of (map is_no_event rs)) e in
     let b = or_false (is_late r) (any_of (map is_late rs)) f in (row_room r a.0 b.0, rows_room rs a.1 b.1)
 
-pub accepted_room : (rows : List (List ℕ)) → verdict (row_checks false rows) ≡ Accepted → HaveRoom (map event_of rows)
+pub accepted_room : (rows : List (List ℕ)) → verdict (row_checks false rows) ≡ passed → HaveRoom (map event_of rows)
 unfolding any_of
 accepted_room rows e = let n = accepted_none_true (row_checks false rows) e in rows_room rows n.0 n.1.0
 
-pub page_length : (rows : List (List ℕ)) → verdict (row_checks false rows) ≡ Accepted → length rows < 2 ^ 64 → length (page (map event_of rows)) ≡ (length rows + 2) * 73
+pub page_length : (rows : List (List ℕ)) → verdict (row_checks false rows) ≡ passed → length rows < 2 ^ 64 → length (page (map event_of rows)) ≡ (length rows + 2) * 73
 page_length rows e k =
     let m = length-map rows event_of in
     let l = lines_length (page_in_lines (map event_of rows) (accepted_room rows e) (subst (λ (n : ℕ). n < 2 ^ 64) (sym m) k)) in

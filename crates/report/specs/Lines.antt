@@ -1,14 +1,13 @@
 -- A text in lines of one width: what fits in columns, the events that have room in the page's, and what is left of a
 -- buffer where the page is written.
-use Rattle.std.specs.Prelude.{ℕ, suc, ◌+◌, ◌*◌, ◌≤◌, ◌≡◌, Bool, false, List, [], ◌∷◌, ◌++◌, map, eqb, length, take, drop}
+use Rattle.std.specs.Prelude.{ℕ, suc, ◌+◌, ◌*◌, ◌≤◌, ◌≡◌, Bool, false, List, [], ◌∷◌, ◌++◌, map, eqb, length, take, drop, Err, Ok, Result}
 use Rattle.bounds.specs.Bounds.{max_delivery_delay}
 use Rattle.refusal.specs.Clauses.{any_of}
 use Rattle.events.specs.Events.{ForwardEvent}
 use Rattle.lent_events.specs.Checks.{max_seq_num, max_copies, max_fold, any_above}
 use Rattle.text.specs.Letters.{line_feed}
-use Rattle.text.specs.declared.PlaceAnswer.{PlaceAnswer}
-use Rattle.text.specs.declared.PlaceAnswer.TheVariants.{Next, Refused}
 use Rattle.report.specs.Page.{Column}
+use Rattle.refusal.specs.declared.Refusal.{Refusal}
 
 abbrev pub line_width : ℕ
 line_width = 72
@@ -55,6 +54,6 @@ pub record Filed (buffer : List ℕ) (count n : ℕ) (after : List ℕ) : Type 0
   pub behind : drop n after ≡ drop n buffer
 
 -- by the answer: filed, or the buffer as it was
-abbrev pub Answered : List ℕ → ℕ → PlaceAnswer → List ℕ → Type 0
-Answered buffer count (Next n) after = Filed buffer count n after
-Answered buffer count (Refused r) after = after ≡ buffer
+abbrev pub Answered : List ℕ → ℕ → Result ℕ Refusal → List ℕ → Type 0
+Answered buffer count (Ok n) after = Filed buffer count n after
+Answered buffer count (Err r) after = after ≡ buffer

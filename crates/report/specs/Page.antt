@@ -1,6 +1,6 @@
 -- The page for the job bag (docs/REFERENCE.md, section 10): the forward events of a run in columns, between a head line
 -- and a line of totals.
-use Rattle.std.specs.Prelude.{ℕ, ◌+◌, Bool, true, false, cond, List, [], ◌∷◌, ◌++◌, ltb, length, get_or}
+use Rattle.std.specs.Prelude.{ℕ, ◌+◌, Bool, true, false, cond, List, [], ◌∷◌, ◌++◌, ltb, length, get_or, Err}
 use Rattle.refusal.specs.Refusal.{ascii}
 use Rattle.refusal.specs.Order.{verdict, decide}
 use Rattle.rows.specs.Rows.{as_number}
@@ -9,7 +9,6 @@ use Rattle.lent_events.specs.Checks.{event_checks}
 use Rattle.text.specs.Letters.{line_feed}
 use Rattle.text.specs.Decimal.{digits, right_in, left_in}
 use Rattle.text.specs.Place.{PlaceExit, place_exit, place}
-use Rattle.text.specs.declared.PlaceAnswer.TheVariants.{Refused}
 
 -- a text at the right or the left end of a column
 pub data Side : Type 0 where
@@ -140,5 +139,5 @@ page es = head_line ++ (event_lines es ++ last_line es)
 -- the page at the front of a lent buffer and its length; 9, 10, or 5 where the buffer is shorter
 unfoldable pub write_report : List ℕ → ℕ → List (List ℕ) → PlaceExit
 write_report buffer count rows =
-    decide (verdict (event_checks count rows)) (λ r. place_exit buffer (Refused r))
+    decide (verdict (event_checks count rows)) (λ r. place_exit buffer (Err r))
     (place buffer 0 (page (events_of count rows)))

@@ -3,7 +3,6 @@
 
 ghost use Rattle.std.specs.Prelude.{◌≡◌, false, cond, [], map, ◌+◌, ◌≤◌, length, ltb};
 ghost use Rattle.refusal.specs.Order.{verdict};
-ghost use Rattle.refusal.specs.declared.Verdict.TheVariants as verdicts;
 ghost use Rattle.rows.specs.Rows.{is_set};
 ghost use Rattle.events.specs.Events.{event_of};
 ghost use Rattle.lent_events.specs.Checks.{row_checks};
@@ -11,11 +10,11 @@ ghost use Rattle.text.specs.Decimal.{digits, right_in, left_in};
 ghost use Rattle.text.specs.Place.{written_at, place_exit, place};
 ghost use Rattle.report.specs.Page.{sent_width, copy_width, sent_word, event_line, event_lines};
 ghost use Rattle.report.specs.Page.{copy_count, repeat_count, last_line, page, write_report};
+ghost use Rattle.refusal.specs.Order.{passed};
 
 use events::Event;
 use lent_events::{AGAIN, COPIES, FIRST_DELAY, FIRST_FOLD, SECOND_DELAY, SECOND_FOLD, SEQ};
-use refusal::{Refusal, Verdict};
-use text::PlaceAnswer;
+use refusal::Refusal;
 
 // Bytes of a line: 72 columns and a line feed.
 const LINE_SIZE: usize = 73;
@@ -28,33 +27,33 @@ const COPY_WIDTH: usize = 13;
 const TOTAL_WIDTH: usize = 24;
 
 // Writes the page of the first `count` rows: a head line, a line for each event, a line of totals.
-pub fn write_report(rows: &[Event], count: usize, out: &mut [u8]) -> PlaceAnswer
+pub fn write_report(rows: &[Event], count: usize, out: &mut [u8]) -> Result<usize, Refusal>
     ensures { place_exit out.new result ≡ write_report out.old count rows.now }
 {
     match lent_events::check_events(rows, count) {
-        Verdict::Accepted => place_page(&rows[..count], out),
-        Verdict::Refused(r) => PlaceAnswer::Refused(r),
+        Ok(()) => place_page(&rows[..count], out),
+        Err(r) => Err(r),
     }
 }
 
 // Writes the page of rows that are events.
-fn place_page(rows: &[Event], out: &mut [u8]) -> PlaceAnswer
-    requires { verdict (row_checks false rows.now) ≡ verdicts.Accepted }
+fn place_page(rows: &[Event], out: &mut [u8]) -> Result<usize, Refusal>
+    requires { verdict (row_checks false rows.now) ≡ passed }
     ensures { place_exit out.new result
         ≡ place out.old 0 (page (map event_of rows.now)) }
 {
     let lines = out.len() / LINE_SIZE;
     if lines < 2 {
-        return PlaceAnswer::Refused(Refusal::Full);
+        return Err(Refusal::Full);
     }
     if lines - 2 < rows.len() {
-        return PlaceAnswer::Refused(Refusal::Full);
+        return Err(Refusal::Full);
     }
     let head = b"       seqsent           delay1       delay2        fold1        fold2  \n";
     let a = text::write_word_unchecked(head, out, 0);
     let b = write_lines(rows, out, a);
     let next = write_totals(rows, out, b);
-    PlaceAnswer::Next(next)
+    Ok(next)
 }
 
 fn write_lines(rows: &[Event], out: &mut [u8], at: usize) -> usize

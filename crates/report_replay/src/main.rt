@@ -8,7 +8,6 @@ use events::Event;
 use replay_io::{Fields, Lines};
 use std::io;
 use std::io::Write;
-use text::PlaceAnswer;
 
 fn main(rt: HostRuntime) -> io::Result<()> {
     let mut writer = rt.stdout();
@@ -113,13 +112,13 @@ fn write_page(
     out: &mut [u8],
 ) -> io::Result<()> {
     match report::write_report(rows, count, out) {
-        PlaceAnswer::Next(end) => {
+        Ok(end) => {
             replay_io::print_number(writer, end as u64)?;
             replay_io::print_crc32(writer, out)?;
             replay_io::print(writer, b"\n")?;
             replay_io::print(writer, replay_io::prefix(out, end))
         }
-        PlaceAnswer::Refused(r) => {
+        Err(r) => {
             replay_io::print_refusal(writer, r)?;
             replay_io::print_crc32(writer, out)
         }

@@ -1,4 +1,5 @@
 -- The checks of the entry points: their order, and what they let pass.
+use Rattle.std.specs.Prelude.{Err, Result, Some}
 use Rattle.std.proofs.Common.{◌≡◌, ℕ, ◌<◌, ◌≤◌, Bool, true, false, cond, not, ◌&&◌, ◌||◌, T, ltb, leb, [], ◌∷◌, refl, ◌∙◌, true≢false, ltb-false, le-leb, leb-false, leb-true}
 use mathlib.Core.Bool.{and-eq-true_iff}
 use denote.Floats.{passes}
@@ -8,8 +9,6 @@ use Rattle.refusal.proofs.Laws.{or_false, accepted_none_true}
 use Rattle.refusal.specs.Counts.{count_full}
 use Rattle.refusal.specs.Order.{check, verdict, decide, first_of, numbered, or_else, order}
 use Rattle.refusal.specs.declared.Refusal.{Refusal}
-use Rattle.refusal.specs.declared.Verdict.{Verdict}
-use Rattle.refusal.specs.declared.Verdict.TheVariants.{Accepted, Refused}
 use Rattle.refusal.specs.declared.Refusal.TheVariants.{State, Counts, Time, Setup}
 use Rattle.float.specs.Roll.{chance_in_bounds}
 use Rattle.rtt.specs.Rtt.{factor_in_bounds}
@@ -17,10 +16,10 @@ use Rattle.rto.specs.Rto.{durations_in_bounds, factors_in_bounds, config_in_boun
 use Rattle.rto.specs.declared.RtoConfig.{RtoConfig}
 use Rattle.rto.specs.declared.RtoStats.{RtoStats}
 use Rattle.rto.specs.declared.RtoEstimator.{RtoEstimator}
-use Rattle.rto.specs.declared.MaybeDuration.TheVariants.{Set}
+use Rattle.refusal.specs.Order.{passed}
 
 -- ---- checks 9, 8 and 10 of a call
-pub call_verdict_is : (s n t : Bool) → verdict (check s State ∷ check n Counts ∷ check t Time ∷ []) ≡ cond s (Refused State) (cond n (Refused Counts) (cond t (Refused Time) Accepted))
+pub call_verdict_is : (s n t : Bool) → verdict (check s State ∷ check n Counts ∷ check t Time ∷ []) ≡ cond s (Err State) (cond n (Err Counts) (cond t (Err Time) passed))
 unfolding verdict first_of numbered or_else order
 call_verdict_is true n t = refl
 call_verdict_is false true t = refl
@@ -33,14 +32,14 @@ pub record Passes (e : RtoEstimator) (late : Bool) : Type 0 where
   pub counts : counts_full e.stats ≡ false
   pub times : late ≡ false
 
-pub accepted_passes : (e : RtoEstimator) (late : Bool) → call_verdict e late ≡ Accepted → Passes e late
+pub accepted_passes : (e : RtoEstimator) (late : Bool) → call_verdict e late ≡ passed → Passes e late
 accepted_passes e late h = let f = accepted_none_true (check (state_broken e) State ∷ check (counts_full e.stats) Counts ∷ check late Time ∷ []) h in record { state = f.0; counts = f.1.0; times = f.1.1.0 }
 
-pub passes_accepted : (e : RtoEstimator) (late : Bool) → Passes e late → call_verdict e late ≡ Accepted
+pub passes_accepted : (e : RtoEstimator) (late : Bool) → Passes e late → call_verdict e late ≡ passed
 passes_accepted e late p = simp (call_verdict_is, p.state, p.counts, p.times)
 
 -- the verdict on an estimator, from its checks' results
-pub verdict_on : {v : Verdict} (e : RtoEstimator) (late : Bool) {b n t : Bool} → v ≡ verdict (check b State ∷ check n Counts ∷ check t Time ∷ []) → b ≡ state_broken e → n ≡ counts_full e.stats → t ≡ late → v ≡ call_verdict e late
+pub verdict_on : {v : Result Unit Refusal} (e : RtoEstimator) (late : Bool) {b n t : Bool} → v ≡ verdict (check b State ∷ check n Counts ∷ check t Time ∷ []) → b ≡ state_broken e → n ≡ counts_full e.stats → t ≡ late → v ≡ call_verdict e late
 verdict_on e late h p q r = h ∙ rw (p, q, r)
 
 pub sample_in_time : (e : RtoEstimator) (sample : ℕ) → sample_too_long e sample ≡ false → sample ≤ max_duration
@@ -107,7 +106,7 @@ count_below s e =
     record { sample = leb-false _ _ a.0; karn = leb-false _ _ b.0; timeout = leb-false _ _ d.0; backoff = leb-false _ _ d.1 }
 
 -- ---- held estimates
-pub estimates_fit : (s v : ℕ) → estimate_broken (Set s) (Set v) ≡ false → (s ≤ max_estimate) × (v ≤ max_estimate)
+pub estimates_fit : (s v : ℕ) → estimate_broken (Some s) (Some v) ≡ false → (s ≤ max_estimate) × (v ≤ max_estimate)
 estimates_fit s v e = let h = or_false (ltb max_estimate s) (ltb max_estimate v) e in (ltb-false _ _ h.0, ltb-false _ _ h.1)
 
 -- ---- the tests, one after the other

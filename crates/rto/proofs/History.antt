@@ -1,5 +1,6 @@
 -- After any list of calls from a fresh estimator it is what its accepted calls say, in every field (`after_calls_lem`), and the calls that are refused are those
 -- that the list says. The oldest call stands first.
+use Rattle.std.specs.Prelude.{Ok, Some}
 use Rattle.std.proofs.Common.{◌≡◌, ℕ, zero, suc, ◌+◌, ◌*◌, ◌^◌, ◌<◌, ◌≤◌, min, max, Bool, true, false, cond, not, ◌||◌, ltb, leb, List, [], ◌∷◌, ◌++◌, length, sym, refl, ap, ◌∙◌, subst, ap₂, true≢false, append-nil, zero-le, le_trans, le_refl, zero-lt-suc, pow-suc, mul-one, le-mul_of_pos_right, arith, length-append, pow_pos, le-ltb, lt-ltb}
 use mathlib.Core.List.{foldr, foldl, foldl-append}
 use mathlib.Core.Option.{Option, none, some}
@@ -8,39 +9,33 @@ use Rattle.refusal.specs.Counts.{count_full}
 use Rattle.refusal.specs.Order.{check, verdict, decide, first_of, numbered, or_else, order}
 use Rattle.refusal.specs.declared.Refusal.{Refusal}
 use Rattle.refusal.specs.declared.Refusal.TheVariants.{State, Counts, Time}
-use Rattle.refusal.specs.declared.Verdict.TheVariants as Verdict
-use Rattle.refusal.specs.declared.DoneAnswer.TheVariants.{Done}
-use Rattle.refusal.specs.declared.TestAnswer.TheVariants.{Is}
 use Rattle.refusal.proofs.Laws.{on_accepted}
 use Rattle.rtt.specs.declared.Estimate.{Estimate}
 use Rattle.rto.specs.Rto.{config_in_bounds, state_broken, counts_full, held_too_long, sample_too_long, call_verdict, no_stats, fresh, limited, estimate_for, min_rtt, max_rtt, max_consecutive, sampled, accept_sample, reject_sample, update_rtt_unchecked, timed_out, on_timeout_unchecked, reset_backoff_unchecked, update_result, timeout_result, reset_result, update_rtt, on_timeout, reset_backoff, has_exceeded_retry_limit, mean, mean_rtt_ms_unchecked, mean_rtt_ms}
 use Rattle.rto.specs.History.{Call, sample, timeout, reset, step, after_calls, update_refused, timeout_refused, reset_refused, is_refused, samples, count, is_rejection, is_timeout, rejections, timeouts, since, timeouts_since, most_since, min_of, max_of, latest, sum_ms, estimate_after, last_estimate, srtt_of, rttvar_of, base_rto, backed_off, estimator_of, full, too_long, accept, accepted}
 use Rattle.rto.specs.declared.RtoConfig.{RtoConfig}
 use Rattle.rto.specs.declared.RtoEstimator.{RtoEstimator}
-use Rattle.rto.specs.declared.MaybeDuration.TheVariants.{Set}
 use Rattle.rto.specs.declared.UpdateResult.{UpdateResult}
 use Rattle.rto.specs.declared.TimeoutResult.{TimeoutResult}
 use Rattle.rto.specs.declared.ResetResult.{ResetResult}
-use Rattle.rto.specs.declared.UpdateAnswer.TheVariants.{Accepted}
-use Rattle.rto.specs.declared.RtoAnswer.TheVariants.{Rto}
-use Rattle.rto.specs.declared.MeanAnswer.TheVariants.{Millis}
 use Rattle.rto.proofs.Checks.{config_of, passes_accepted, sample_in_time}
 use Rattle.rto.proofs.Keeps.{Doubles, Good, fresh_good, accept_good, reject_good, backoff_good, reset_good}
+use Rattle.refusal.specs.Order.{passed}
 
 -- ---- an accepted call
 held_or : (a b : Bool) → a ≡ false → (a || b) ≡ b
 held_or a b p = simp p
 
-pub update_accepted : (e : RtoEstimator) (d : ℕ) (again : Bool) → Good e → counts_full e.stats ≡ false → d ≤ max_duration → update_rtt e d again ≡ update_result (update_rtt_unchecked e d again) (Accepted (not again))
+pub update_accepted : (e : RtoEstimator) (d : ℕ) (again : Bool) → Good e → counts_full e.stats ≡ false → d ≤ max_duration → update_rtt e d again ≡ update_result (update_rtt_unchecked e d again) (Ok (not again))
 unfolding update_rtt
 update_accepted e d again g n h = on_accepted _ _ (passes_accepted e (sample_too_long e d) (record { state = g.state; counts = n; times = held_or (held_too_long e) (ltb max_duration d) g.times ∙ le-ltb max_duration d h }))
 
 module _ (e : RtoEstimator) (g : Good e) (n : counts_full e.stats ≡ false) where
-  pub timeout_accepted : on_timeout e ≡ timeout_result (on_timeout_unchecked e) (Rto (on_timeout_unchecked e).current_rto)
+  pub timeout_accepted : on_timeout e ≡ timeout_result (on_timeout_unchecked e) (Ok (on_timeout_unchecked e).current_rto)
   unfolding on_timeout
   timeout_accepted = on_accepted _ _ (passes_accepted e (held_too_long e) (record { state = g.state; counts = n; times = g.times }))
 
-  pub reset_accepted : reset_backoff e ≡ reset_result (reset_backoff_unchecked e) Done
+  pub reset_accepted : reset_backoff e ≡ reset_result (reset_backoff_unchecked e) passed
   unfolding reset_backoff
   reset_accepted = on_accepted _ _ (passes_accepted e (held_too_long e) (record { state = g.state; counts = n; times = g.times }))
 
@@ -52,12 +47,12 @@ fold_last f comm assoc a d (b ∷ ds) = ap (f b) (fold_last f comm assoc a d ds)
 min_more : (d : ℕ) (ds : List ℕ) → min_of (ds ++ (d ∷ [])) ≡ min_rtt (min_of ds) d
 unfolding min_of
 min_more d [] = refl
-min_more d (a ∷ ds) = ap Set (fold_last min (λ x y. omega arith) (λ x y z. omega arith) a d ds)
+min_more d (a ∷ ds) = ap Some (fold_last min (λ x y. omega arith) (λ x y z. omega arith) a d ds)
 
 max_more : (d : ℕ) (ds : List ℕ) → max_of (ds ++ (d ∷ [])) ≡ max_rtt (max_of ds) d
 unfolding max_of
 max_more d [] = refl
-max_more d (a ∷ ds) = ap Set (fold_last max (λ x y. omega arith) (λ x y z. omega arith) a d ds)
+max_more d (a ∷ ds) = ap Some (fold_last max (λ x y. omega arith) (λ x y z. omega arith) a d ds)
 
 estimate_more : (c : RtoConfig) (d : ℕ) (ds : List ℕ) → last_estimate c (ds ++ (d ∷ [])) ≡ some (estimate_after c (last_estimate c ds) d)
 unfolding last_estimate
@@ -283,14 +278,14 @@ module _ (c : RtoConfig) (h : config_in_bounds c ≡ true) (f : Doubles c) where
 
     -- what the calls that only read answer
     module _ (n : full (accepted xs) ≡ false) where
-      passes : call_verdict (estimator_of c (accepted xs)) (held_too_long (estimator_of c (accepted xs))) ≡ Verdict.Accepted
+      passes : call_verdict (estimator_of c (accepted xs)) (held_too_long (estimator_of c (accepted xs))) ≡ passed
       passes = passes_accepted (estimator_of c (accepted xs)) (held_too_long (estimator_of c (accepted xs))) (record { state = ran.good.state; counts = full_is c (accepted xs) ∙ n; times = ran.good.times })
 
       -- the limit is reached by as many timeouts since the last accepted sample or reset
-      pub limit_reached : (most : ℕ) → has_exceeded_retry_limit (after_calls c xs) most ≡ Is (leb most (min (timeouts_since (accepted xs)) max_consecutive))
+      pub limit_reached : (most : ℕ) → has_exceeded_retry_limit (after_calls c xs) most ≡ Ok (leb most (min (timeouts_since (accepted xs)) max_consecutive))
       unfolding has_exceeded_retry_limit estimator_of
       limit_reached most = rw after_calls_lem (on_accepted _ _ passes)
 
-      pub mean_is : mean_rtt_ms (after_calls c xs) ≡ Millis (mean (length (samples (accepted xs))) (sum_ms (samples (accepted xs))))
+      pub mean_is : mean_rtt_ms (after_calls c xs) ≡ Ok (mean (length (samples (accepted xs))) (sum_ms (samples (accepted xs))))
       unfolding mean_rtt_ms mean_rtt_ms_unchecked estimator_of
       mean_is = rw after_calls_lem (on_accepted _ _ passes)

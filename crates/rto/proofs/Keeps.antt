@@ -1,4 +1,5 @@
 -- A state that a call answers is accepted by the next call.
+use Rattle.std.specs.Prelude.{None, Option, Some}
 use Rattle.std.proofs.Common.{◌≡◌, ℕ, ◌*◌, ◌≤◌, min, max, true, false, ◌||◌, T, ltb, refl, true≢false, le_trans, arith, lit≤, ltb-false, le-ltb}
 use lib.Ieee.{binary64, fits}
 use Rattle.bounds.specs.Bounds.{max_duration, max_estimate}
@@ -7,8 +8,6 @@ use Rattle.rtt.proofs.Range.{first_srtt_range, first_rttvar_range, next_srtt_ran
 use Rattle.rto.specs.Rto.{config_in_bounds, estimate_broken, state_broken, rtt_too_long, held_too_long, limited, no_stats, fresh, estimate_for, min_rtt, max_rtt, sampled, accept_sample, reject_sample, timed_out, on_timeout_unchecked, reset_backoff_unchecked}
 use Rattle.rto.specs.declared.RtoConfig.{RtoConfig}
 use Rattle.rto.specs.declared.RtoEstimator.{RtoEstimator}
-use Rattle.rto.specs.declared.MaybeDuration.{MaybeDuration}
-use Rattle.rto.specs.declared.MaybeDuration.TheVariants.{Unset, Set}
 use Rattle.rto.proofs.Checks.{Config, config_of, estimates_fit, broken_config, broken_estimate}
 
 -- the doubles of a setup are doubles
@@ -28,19 +27,19 @@ unfolding state_broken
 state_good e p q = simp (p, q)
 
 -- SRTT and RTTVAR stay within 86,401 s
-pub estimate_range : (c : RtoConfig) (s v : MaybeDuration) (d : ℕ) → Config c → Doubles c → estimate_broken s v ≡ false → d ≤ max_duration → ((estimate_for c s v d).srtt ≤ max_estimate) × ((estimate_for c s v d).rttvar ≤ max_estimate)
+pub estimate_range : (c : RtoConfig) (s v : Option ℕ) (d : ℕ) → Config c → Doubles c → estimate_broken s v ≡ false → d ≤ max_duration → ((estimate_for c s v d).srtt ≤ max_estimate) × ((estimate_for c s v d).rttvar ≤ max_estimate)
 unfolding estimate_for
-estimate_range c Unset Unset d g f e h = let l : d ≤ max_estimate = le_trans h (lit≤ tt) in (first_srtt_range c.k c.rto_multiplier c.granularity d l, first_rttvar_range c.k c.rto_multiplier c.granularity d l)
-estimate_range c Unset (Set v) d g f e h = absurd (true≢false e)
-estimate_range c (Set s) Unset d g f e h = absurd (true≢false e)
-estimate_range c (Set s) (Set v) d g f e h =
+estimate_range c None None d g f e h = let l : d ≤ max_estimate = le_trans h (lit≤ tt) in (first_srtt_range c.k c.rto_multiplier c.granularity d l, first_rttvar_range c.k c.rto_multiplier c.granularity d l)
+estimate_range c None (Some v) d g f e h = absurd (true≢false e)
+estimate_range c (Some s) None d g f e h = absurd (true≢false e)
+estimate_range c (Some s) (Some v) d g f e h =
     let l : d ≤ max_estimate = le_trans h (lit≤ tt) in
     let x = estimates_fit s v e in (
       next_srtt_range c.alpha c.beta f.alpha f.beta g.alpha g.beta s v d x.0 x.1 l c.k c.rto_multiplier c.granularity,
       next_rttvar_range c.alpha c.beta f.alpha f.beta g.alpha g.beta s v d x.0 x.1 l c.k c.rto_multiplier c.granularity,
     )
 
-fits_both : (s v : ℕ) → s ≤ max_estimate → v ≤ max_estimate → estimate_broken (Set s) (Set v) ≡ false
+fits_both : (s v : ℕ) → s ≤ max_estimate → v ≤ max_estimate → estimate_broken (Some s) (Some v) ≡ false
 fits_both s v p q = simp (le-ltb max_estimate s p, le-ltb max_estimate v q)
 
 -- ---- check 10
@@ -67,16 +66,16 @@ times_of e h =
     let l = or_false y z d.1 in
     record { current = ltb-false _ _ a.0; base = ltb-false _ _ b.0; min_in = d.0; max_in = l.0; latest = l.1 }
 
-min_fits : (r : MaybeDuration) (d : ℕ) → rtt_too_long r ≡ false → d ≤ max_duration → rtt_too_long (min_rtt r d) ≡ false
-min_fits Unset d p h = le-ltb _ _ h
-min_fits (Set m) d p h = le-ltb max_duration (min m d) (smaller m d h)
+min_fits : (r : Option ℕ) (d : ℕ) → rtt_too_long r ≡ false → d ≤ max_duration → rtt_too_long (min_rtt r d) ≡ false
+min_fits None d p h = le-ltb _ _ h
+min_fits (Some m) d p h = le-ltb max_duration (min m d) (smaller m d h)
   where
     smaller : (m d : ℕ) → d ≤ max_duration → min m d ≤ max_duration
     smaller m d h = omega arith
 
-max_fits : (r : MaybeDuration) (d : ℕ) → rtt_too_long r ≡ false → d ≤ max_duration → rtt_too_long (max_rtt r d) ≡ false
-max_fits Unset d p h = le-ltb _ _ h
-max_fits (Set m) d p h = le-ltb max_duration (max m d) (larger m d (ltb-false _ _ p) h)
+max_fits : (r : Option ℕ) (d : ℕ) → rtt_too_long r ≡ false → d ≤ max_duration → rtt_too_long (max_rtt r d) ≡ false
+max_fits None d p h = le-ltb _ _ h
+max_fits (Some m) d p h = le-ltb max_duration (max m d) (larger m d (ltb-false _ _ p) h)
   where
     larger : (m d : ℕ) → m ≤ max_duration → d ≤ max_duration → max m d ≤ max_duration
     larger m d g h = omega arith

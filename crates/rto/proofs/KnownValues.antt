@@ -1,4 +1,5 @@
 -- Document 01's proof sheet, R1 and R2, and the bounds' edges, by computation.
+use Rattle.std.specs.Prelude.{Err, None, Ok, Option, Some}
 use Rattle.std.proofs.Common.{◌≡◌, ℕ, ◌+◌, true, false, [], ◌∷◌, refl, lit≤}
 use lib.Ieee.{fits, add, sub, mul, div, of_int, le, lt}
 use Rattle.bounds.specs.Bounds.{count_limit, max_duration, max_estimate}
@@ -10,16 +11,11 @@ use Rattle.rto.specs.Rto.{no_stats, fresh, estimate_for, accept_sample, sampled,
 use Rattle.rto.specs.History.{timeout, reset, step, after_calls}
 use Rattle.refusal.specs.Order.{verdict, decide, first_of, numbered, or_else, order}
 use Rattle.refusal.specs.declared.Refusal.TheVariants.{State, Counts, Time}
-use Rattle.refusal.specs.declared.DoneAnswer.TheVariants.{Done, Refused}
-use Rattle.rto.specs.declared.UpdateAnswer as Up
-use Rattle.rto.specs.declared.UpdateAnswer.TheVariants.{Accepted}
 use Rattle.rto.specs.declared.RtoEstimator.{RtoEstimator}
-use Rattle.rto.specs.declared.RtoAnswer.TheVariants.{Rto}
 use Rattle.rto.specs.declared.RtoConfig.{RtoConfig}
-use Rattle.rto.specs.declared.MaybeDuration.{MaybeDuration}
-use Rattle.rto.specs.declared.MaybeDuration.TheVariants.{Unset, Set}
 use Rattle.rto.proofs.Keeps.{Doubles, Good, fresh_good}
 use Rattle.rto.proofs.Rfc6298.{default_factors, Holds, first_sample, next_sample, karn}
+use Rattle.refusal.specs.Order.{passed}
 
 -- k 4, granularity 1 ms, multiplier 1, alpha 1/8, beta 1/4, and this initial RTO and these limits
 abbrev setup : ℕ → ℕ → ℕ → RtoConfig
@@ -29,7 +25,7 @@ abbrev pub limits : ℕ → ℕ → RtoConfig
 limits lo hi = setup 1000000000 lo hi
 
 -- this setup, SRTT, RTTVAR and RTO, and as many samples
-abbrev pub holding : RtoConfig → MaybeDuration → MaybeDuration → ℕ → ℕ → RtoEstimator
+abbrev pub holding : RtoConfig → Option ℕ → Option ℕ → ℕ → ℕ → RtoEstimator
 holding c s v rto n =
     record {
       config = c;
@@ -45,10 +41,10 @@ holding c s v rto n =
             karn_rejected_count = 0;
             timeout_count = 0;
             backoff_count = 0;
-            min_rtt = Unset;
-            max_rtt = Unset;
+            min_rtt = None;
+            max_rtt = None;
             sum_rtt_millis = zero64;
-            latest_rtt = Unset;
+            latest_rtt = None;
             max_consecutive_timeouts = 0;
           };
     }
@@ -64,7 +60,7 @@ unfolding accept_sample fresh no_stats sampled estimate_for first_estimate add m
 r1_minimum = refl
 
 -- R2: timeout at 300 ms, limits 1 ms and 500 ms: 500 ms
-pub r2 : (on_timeout_unchecked (holding (limits 1000000 500000000) Unset Unset 300000000 0)).current_rto ≡ 500000000
+pub r2 : (on_timeout_unchecked (holding (limits 1000000 500000000) None None 300000000 0)).current_rto ≡ 500000000
 unfolding on_timeout_unchecked
 r2 = refl
 
@@ -73,11 +69,11 @@ pub r1_call : (update_rtt (fresh (limits 1000000 60000000000)) 100000000 false).
 unfolding update_rtt decide verdict first_of numbered or_else order state_broken config_in_bounds counts_full held_too_long accept_sample fresh no_stats sampled estimate_for first_estimate add mul div of_int le lt
 r1_call = refl
 
-pub r1_answer : (update_rtt (fresh (limits 1000000 60000000000)) 100000000 false).answer ≡ Accepted true
+pub r1_answer : (update_rtt (fresh (limits 1000000 60000000000)) 100000000 false).answer ≡ Ok true
 unfolding update_rtt decide verdict first_of numbered or_else order state_broken config_in_bounds counts_full held_too_long accept_sample fresh no_stats sampled estimate_for first_estimate add mul div of_int le lt
 r1_answer = refl
 
-pub r2_call : (on_timeout (holding (limits 1000000 500000000) Unset Unset 300000000 0)).answer ≡ Rto 500000000
+pub r2_call : (on_timeout (holding (limits 1000000 500000000) None None 300000000 0)).answer ≡ Ok 500000000
 unfolding on_timeout decide verdict first_of numbered or_else order state_broken config_in_bounds counts_full held_too_long on_timeout_unchecked le
 r2_call = refl
 
@@ -96,7 +92,7 @@ unfolding default_config fits
 default_doubles = record { alpha = tt; beta = tt; k = tt; multiplier = tt }
 
 -- (3): a retransmitted sample, given to a fresh estimator
-pub default_karn : update_rtt (fresh default_config) 100000000 true ≡ update_result (with_stats (fresh default_config) (with_rejections no_stats 1)) (Accepted false)
+pub default_karn : update_rtt (fresh default_config) 100000000 true ≡ update_result (with_stats (fresh default_config) (with_rejections no_stats 1)) (Ok false)
 unfolding fresh no_stats counts_full
 default_karn = karn (fresh default_config) 100000000 (fresh_good default_config default_in_bounds) refl (lit≤ tt)
 
@@ -106,7 +102,7 @@ unfolding fresh no_stats counts_full default_config
 default_first = first_sample (fresh default_config) 100000000 default_factors (fresh_good default_config default_in_bounds) refl (lit≤ tt) refl refl
 
 abbrev second : RtoEstimator
-second = holding default_config (Set 100000000) (Set 50000000) 300000000 1
+second = holding default_config (Some 100000000) (Some 50000000) 300000000 1
 
 second_good : Good second
 unfolding state_broken config_in_bounds held_too_long default_config le
@@ -127,21 +123,21 @@ unfolding mul div add of_int
 odd_halves = (refl, refl, refl)
 
 -- ---- the bounds' edges: SRTT, RTTVAR and sample_count held, and nothing else
-abbrev held : MaybeDuration → MaybeDuration → ℕ → RtoEstimator
+abbrev held : Option ℕ → Option ℕ → ℕ → RtoEstimator
 held s v n = holding (limits 1000000 60000000000) s v 1000000000 n
 
 -- check 9: 86,401 s, a nanosecond more, only one set; check 8: 2 ^ 60 - 1 and 2 ^ 60
-pub held_edges : ((reset_backoff (held (Set max_estimate) (Set max_estimate) 0)).answer ≡ Done)
-    × ((reset_backoff (held (Set (max_estimate + 1)) (Set 0) 0)).answer ≡ Refused State)
-    × ((reset_backoff (held (Set 0) (Set (max_estimate + 1)) 0)).answer ≡ Refused State)
-    × ((reset_backoff (held (Set 0) Unset 0)).answer ≡ Refused State)
-    × ((reset_backoff (held Unset (Set 0) 0)).answer ≡ Refused State)
-    × ((reset_backoff (held Unset Unset 1152921504606846975)).answer ≡ Done)
-    × ((reset_backoff (held Unset Unset count_limit)).answer ≡ Refused Counts)
+pub held_edges : ((reset_backoff (held (Some max_estimate) (Some max_estimate) 0)).answer ≡ passed)
+    × ((reset_backoff (held (Some (max_estimate + 1)) (Some 0) 0)).answer ≡ Err State)
+    × ((reset_backoff (held (Some 0) (Some (max_estimate + 1)) 0)).answer ≡ Err State)
+    × ((reset_backoff (held (Some 0) None 0)).answer ≡ Err State)
+    × ((reset_backoff (held None (Some 0) 0)).answer ≡ Err State)
+    × ((reset_backoff (held None None 1152921504606846975)).answer ≡ passed)
+    × ((reset_backoff (held None None count_limit)).answer ≡ Err Counts)
 unfolding reset_backoff decide verdict first_of numbered or_else order state_broken config_in_bounds counts_full held_too_long le
 held_edges = (refl, refl, refl, refl, refl, refl, refl)
 
 -- check 10: 86,400 s and a nanosecond more, of a retransmitted sample too
-pub sample_edges : ((update_rtt (held Unset Unset 0) max_duration true).answer ≡ Accepted false) × ((update_rtt (held Unset Unset 0) (max_duration + 1) true).answer ≡ Up.TheVariants.Refused Time)
+pub sample_edges : ((update_rtt (held None None 0) max_duration true).answer ≡ Ok false) × ((update_rtt (held None None 0) (max_duration + 1) true).answer ≡ Err Time)
 unfolding update_rtt decide verdict first_of numbered or_else order state_broken config_in_bounds counts_full held_too_long le
 sample_edges = (refl, refl)

@@ -1,5 +1,6 @@
 -- RFC 6298, rule by rule, of the calls; where the reference departs from it is in docs/DIFFERENCES. Section 2 over exact numbers is
 -- rtt/specs/Rfc6298.antt.
+use Rattle.std.specs.Prelude.{None, Ok, Some}
 use Rattle.std.proofs.Common.{◌≡◌, ℕ, zero, suc, ◌+◌, ◌*◌, ◌^◌, ◌≤◌, min, max, true, false, ◌||◌, ltb, List, [], ◌∷◌, length, sym, refl, ap, ◌∙◌, ap₂, true≢false, le_trans, zero-lt-suc, le-mul_of_pos_right, arith, lit≤, pow_pos, lt-ltb}
 use mathlib.Core.List.{foldl}
 use mathlib.Core.Option.{Option, some}
@@ -14,8 +15,6 @@ use Rattle.rto.specs.Rto.{config_in_bounds, estimate_broken, counts_full, limite
 use Rattle.rto.specs.History.{Call, after_calls, samples, timeouts_since, estimate_after, last_estimate, base_rto, backed_off, is_limited, estimator_of, accepted}
 use Rattle.rto.specs.declared.RtoConfig.{RtoConfig}
 use Rattle.rto.specs.declared.RtoEstimator.{RtoEstimator}
-use Rattle.rto.specs.declared.MaybeDuration.TheVariants.{Unset, Set}
-use Rattle.rto.specs.declared.UpdateAnswer.TheVariants.{Accepted}
 use Rattle.rto.proofs.Checks.{config_of, broken_config, broken_estimate, estimates_fit}
 use Rattle.rto.proofs.Keeps.{Doubles, Good, limited_max, limited_min}
 use Rattle.rto.proofs.History.{update_accepted, after_calls_lem}
@@ -40,8 +39,8 @@ default_initial = record { notAbove = lit≤ tt; notBelow = lit≤ tt }
 -- an estimator holds SRTT and RTTVAR, and its RTO is one within the limits, all at most d away from x
 pub record Holds (d x : Estimates) (e : RtoEstimator) : Type 0 where
   pub estimate : Estimate
-  pub srtt : e.srtt ≡ Set estimate.srtt
-  pub rttvar : e.rttvar ≡ Set estimate.rttvar
+  pub srtt : e.srtt ≡ Some estimate.srtt
+  pub rttvar : e.rttvar ≡ Some estimate.rttvar
   pub rto : e.current_rto ≡ limited e.config estimate.rto
   pub near : AllWithin d estimate x
 
@@ -57,10 +56,10 @@ module _ (e : RtoEstimator) (r : ℕ) (t : RfcFactors e.config) (g : Good e) (n 
   unfolding accept_sample
   holds d x y p a =
       rw (update_accepted e r false g n h)
-      (record { estimate = y; srtt = ap (λ (z : Estimate). Set z.srtt) p; rttvar = ap (λ (z : Estimate). Set z.rttvar) p; rto = ap (λ (z : Estimate). limited e.config z.rto) p; near = a })
+      (record { estimate = y; srtt = ap (λ (z : Estimate). Some z.srtt) p; rttvar = ap (λ (z : Estimate). Some z.rttvar) p; rto = ap (λ (z : Estimate). limited e.config z.rto) p; near = a })
 
   -- (2.2): SRTT and the RTO before its limits are the exact ones, RTTVAR is at most half a nanosecond away
-  pub first_sample : e.srtt ≡ Unset → e.rttvar ≡ Unset → Holds first_distances (Rfc.first (whole G) (whole r)) (update_rtt e r false).estimator
+  pub first_sample : e.srtt ≡ None → e.rttvar ≡ None → Holds first_distances (Rfc.first (whole G) (whole r)) (update_rtt e r false).estimator
   unfolding estimate_for
   first_sample p q = holds first_distances (Rfc.first (whole G) (whole r)) (first_estimate four64 one64 G r) first_is (first_within r G (le_trans h (lit≤ tt)) G-fits)
     where
@@ -68,7 +67,7 @@ module _ (e : RtoEstimator) (r : ℕ) (t : RfcFactors e.config) (g : Good e) (n 
       first_is = simp (p, q, t.k, t.multiplier)
 
   -- (2.3): SRTT and RTTVAR are at most half a nanosecond away from the exact ones, the RTO before its limits at most 9 / 8 of one
-  pub next_sample : (s v : ℕ) → e.srtt ≡ Set s → e.rttvar ≡ Set v → Holds next_distances (Rfc.next (whole G) (whole s) (whole v) (whole r)) (update_rtt e r false).estimator
+  pub next_sample : (s v : ℕ) → e.srtt ≡ Some s → e.rttvar ≡ Some v → Holds next_distances (Rfc.next (whole G) (whole s) (whole v) (whole r)) (update_rtt e r false).estimator
   unfolding estimate_for
   next_sample s v p q =
       let b = estimates_fit s v (sym (ap₂ estimate_broken p q) ∙ broken_estimate e g.state) in
@@ -79,11 +78,11 @@ module _ (e : RtoEstimator) (r : ℕ) (t : RfcFactors e.config) (g : Good e) (n 
 
 -- (2.2) with any numbers: SRTT is the sample; RTTVAR its half, of an odd sample either nanosecond beside it
 module _ (c : RtoConfig) (r : ℕ) (h : r ≤ max_duration) where
-  pub first_srtt : (estimate_for c Unset Unset r).srtt ≡ r
+  pub first_srtt : (estimate_for c None None r).srtt ≡ r
   unfolding estimate_for first_estimate
   first_srtt = same_sample r (le_trans h (lit≤ tt))
 
-  pub first_half : (r ≤ 2 * (estimate_for c Unset Unset r).rttvar + 1) × (2 * (estimate_for c Unset Unset r).rttvar ≤ r + 1)
+  pub first_half : (r ≤ 2 * (estimate_for c None None r).rttvar + 1) × (2 * (estimate_for c None None r).rttvar ≤ r + 1)
   unfolding estimate_for first_estimate
   first_half = half_sample r (le_trans h (lit≤ tt))
 
@@ -132,6 +131,6 @@ module _ (c : RtoConfig) (h : config_in_bounds c ≡ true) (f : Doubles c) (xs :
       go [] (suc n) l = absurd (true≢false (rw (lt-ltb 0 (suc n) (zero-lt-suc n)) at l))
 
 -- ---- (3), Karn: a call with a retransmitted sample that no check refuses leaves all but one counter, which is one higher
-pub karn : (e : RtoEstimator) (d : ℕ) → Good e → counts_full e.stats ≡ false → d ≤ max_duration → update_rtt e d true ≡ update_result (with_stats e (with_rejections e.stats (e.stats.karn_rejected_count + 1))) (Accepted false)
+pub karn : (e : RtoEstimator) (d : ℕ) → Good e → counts_full e.stats ≡ false → d ≤ max_duration → update_rtt e d true ≡ update_result (with_stats e (with_rejections e.stats (e.stats.karn_rejected_count + 1))) (Ok false)
 unfolding reject_sample
 karn e d g n h = update_accepted e d true g n h

@@ -1,22 +1,18 @@
 -- Document 01, "Links that would ruin a book": what any list of calls says of the estimator, each of its fields, from
 -- the accepted calls alone. The oldest call stands first.
-use Rattle.std.specs.Prelude.{ℕ, zero, suc, ◌*◌, ◌^◌, min, max, Bool, true, false, cond, ◌||◌, List, [], ◌∷◌, ◌++◌, length, nat_lt, Float}
+use Rattle.std.specs.Prelude.{ℕ, zero, suc, ◌*◌, ◌^◌, min, max, Bool, true, false, cond, ◌||◌, List, [], ◌∷◌, ◌++◌, length, nat_lt, Float, Err, None, Ok, Result, Some}
 use mathlib.Core.List.{foldr, foldl}
 use Rattle.std.proofs.Math.Option.{Option, none, some}
 use Rattle.std.specs.Float.{binary64}
 use Rattle.std.specs.Float.Ieee.{add}
 use Rattle.bounds.specs.Bounds.{max_duration}
 use Rattle.refusal.specs.Counts.{count_full}
-use Rattle.refusal.specs.declared.DoneAnswer as Re
 use Rattle.rtt.specs.Rtt.{zero64, to_ms}
 use Rattle.rtt.specs.declared.Estimate.{Estimate}
 use Rattle.rto.specs.declared.RtoConfig.{RtoConfig}
 use Rattle.rto.specs.declared.RtoEstimator.{RtoEstimator}
-use Rattle.rto.specs.declared.MaybeDuration.{MaybeDuration}
-use Rattle.rto.specs.declared.MaybeDuration.TheVariants.{Unset, Set}
-use Rattle.rto.specs.declared.UpdateAnswer as Up
-use Rattle.rto.specs.declared.RtoAnswer as Ti
 use Rattle.rto.specs.Rto.{max_consecutive, limited, first_of, next_of, fresh, update_rtt, on_timeout, reset_backoff}
+use Rattle.refusal.specs.declared.Refusal.{Refusal}
 
 -- `update_rtt` with the sample and whether it was retransmitted, `on_timeout`, `reset_backoff`
 pub data Call : Type 0 where
@@ -33,17 +29,17 @@ unfoldable pub after_calls : RtoConfig → List Call → RtoEstimator
 after_calls c xs = foldl step (fresh c) xs
 
 -- whether an answer is a refusal
-abbrev pub update_refused : Up.UpdateAnswer → Bool
-update_refused (Up.TheVariants.Accepted b) = false
-update_refused (Up.TheVariants.Refused r) = true
+abbrev pub update_refused : Result Bool Refusal → Bool
+update_refused (Ok b) = false
+update_refused (Err r) = true
 
-abbrev pub timeout_refused : Ti.RtoAnswer → Bool
-timeout_refused (Ti.TheVariants.Rto n) = false
-timeout_refused (Ti.TheVariants.Refused r) = true
+abbrev pub timeout_refused : Result ℕ Refusal → Bool
+timeout_refused (Ok n) = false
+timeout_refused (Err r) = true
 
-abbrev pub reset_refused : Re.DoneAnswer → Bool
-reset_refused Re.TheVariants.Done = false
-reset_refused (Re.TheVariants.Refused r) = true
+abbrev pub reset_refused : Result Unit Refusal → Bool
+reset_refused (Ok tt) = false
+reset_refused (Err r) = true
 
 unfoldable pub is_refused : RtoEstimator → Call → Bool
 is_refused e (sample d again) = update_refused (update_rtt e d again).answer
@@ -95,16 +91,16 @@ most_since n [] = n
 most_since n (x ∷ xs) = max n (most_since (since n x) xs)
 
 -- ---- of the samples
-unfoldable pub min_of : List ℕ → MaybeDuration
-min_of [] = Unset
-min_of (d ∷ ds) = Set (foldr min d ds)
+unfoldable pub min_of : List ℕ → Option ℕ
+min_of [] = None
+min_of (d ∷ ds) = Some (foldr min d ds)
 
-unfoldable pub max_of : List ℕ → MaybeDuration
-max_of [] = Unset
-max_of (d ∷ ds) = Set (foldr max d ds)
+unfoldable pub max_of : List ℕ → Option ℕ
+max_of [] = None
+max_of (d ∷ ds) = Some (foldr max d ds)
 
-unfoldable pub latest : List ℕ → MaybeDuration
-latest ds = foldl (λ (r : MaybeDuration) (d : ℕ). Set d) Unset ds
+unfoldable pub latest : List ℕ → Option ℕ
+latest ds = foldl (λ (r : Option ℕ) (d : ℕ). Some d) None ds
 
 -- the running sum in ms, from 0.0
 unfoldable pub sum_ms : List ℕ → Float
@@ -118,13 +114,13 @@ estimate_after c (some x) d = next_of c x.srtt x.rttvar d
 unfoldable pub last_estimate : RtoConfig → List ℕ → Option Estimate
 last_estimate c ds = foldl (λ (x : Option Estimate) (d : ℕ). some (estimate_after c x d)) none ds
 
-abbrev pub srtt_of : Option Estimate → MaybeDuration
-srtt_of none = Unset
-srtt_of (some x) = Set x.srtt
+abbrev pub srtt_of : Option Estimate → Option ℕ
+srtt_of none = None
+srtt_of (some x) = Some x.srtt
 
-abbrev pub rttvar_of : Option Estimate → MaybeDuration
-rttvar_of none = Unset
-rttvar_of (some x) = Set x.rttvar
+abbrev pub rttvar_of : Option Estimate → Option ℕ
+rttvar_of none = None
+rttvar_of (some x) = Some x.rttvar
 
 -- ---- the RTO
 -- before the first sample the initial one, which the limits don't touch; then the last sample's, within the limits

@@ -1,6 +1,6 @@
 -- RFC 6298 and document 01, `timing/rto.rs`, "Bounds of a setup" and "Turned away", checks 9, 8, 10 and 4: the
 -- reference's RtoEstimator.
-use Rattle.std.specs.Prelude.{ℕ, ◌+◌, ◌*◌, min, max, Bool, true, false, cond, not, ◌&&◌, ◌||◌, [], ◌∷◌, pos, ◌==◌, nat_le, nat_lt, Float}
+use Rattle.std.specs.Prelude.{ℕ, ◌+◌, ◌*◌, min, max, Bool, true, false, cond, not, ◌&&◌, ◌||◌, [], ◌∷◌, pos, ◌==◌, nat_le, nat_lt, Float, Err, None, Ok, Option, Result, Some}
 use Rattle.std.specs.Float.{binary64}
 use Rattle.std.specs.Float.Ieee.{add, div, of_int}
 use Rattle.bounds.specs.Bounds.{max_duration, max_estimate, max_granularity}
@@ -9,28 +9,15 @@ use Rattle.rtt.specs.Rtt.{zero64, one64, eighth64, quarter64, four64, factor_in_
 use Rattle.rtt.specs.declared.Estimate.{Estimate}
 use Rattle.refusal.specs.Counts.{count_full}
 use Rattle.refusal.specs.Order.{check, verdict, decide}
-use Rattle.refusal.specs.declared.Verdict.{Verdict}
 use Rattle.refusal.specs.declared.Refusal.TheVariants.{State, Counts, Time, Setup}
-use Rattle.refusal.specs.declared.DoneAnswer.{DoneAnswer}
-use Rattle.refusal.specs.declared.DoneAnswer as Re
-use Rattle.refusal.specs.declared.TestAnswer.{TestAnswer}
-use Rattle.refusal.specs.declared.TestAnswer as Li
 use Rattle.rto.specs.declared.RtoConfig.{RtoConfig}
 use Rattle.rto.specs.declared.RtoStats.{RtoStats}
 use Rattle.rto.specs.declared.RtoEstimator.{RtoEstimator}
-use Rattle.rto.specs.declared.MaybeDuration.{MaybeDuration}
-use Rattle.rto.specs.declared.MaybeDuration.TheVariants.{Unset, Set}
-use Rattle.rto.specs.declared.EstimatorAnswer.{EstimatorAnswer}
-use Rattle.rto.specs.declared.EstimatorAnswer as Mk
-use Rattle.rto.specs.declared.UpdateAnswer.{UpdateAnswer}
-use Rattle.rto.specs.declared.UpdateAnswer as Up
 use Rattle.rto.specs.declared.UpdateResult.{UpdateResult}
-use Rattle.rto.specs.declared.RtoAnswer.{RtoAnswer}
-use Rattle.rto.specs.declared.RtoAnswer as Ti
 use Rattle.rto.specs.declared.TimeoutResult.{TimeoutResult}
 use Rattle.rto.specs.declared.ResetResult.{ResetResult}
-use Rattle.rto.specs.declared.MeanAnswer.{MeanAnswer}
-use Rattle.rto.specs.declared.MeanAnswer as Me
+use Rattle.refusal.specs.declared.Refusal.{Refusal}
+use Rattle.refusal.specs.Order.{passed}
 
 -- ---- a setup's bounds
 abbrev pub durations_in_bounds : RtoConfig → Bool
@@ -47,11 +34,11 @@ unfoldable pub config_in_bounds : RtoConfig → Bool
 config_in_bounds c = durations_in_bounds c && factors_in_bounds c
 
 -- ---- check 9: the setup, and SRTT and RTTVAR, which are set together
-abbrev pub estimate_broken : MaybeDuration → MaybeDuration → Bool
-estimate_broken Unset Unset = false
-estimate_broken Unset (Set v) = true
-estimate_broken (Set s) Unset = true
-estimate_broken (Set s) (Set v) = nat_lt max_estimate s || nat_lt max_estimate v
+abbrev pub estimate_broken : Option ℕ → Option ℕ → Bool
+estimate_broken None None = false
+estimate_broken None (Some v) = true
+estimate_broken (Some s) None = true
+estimate_broken (Some s) (Some v) = nat_lt max_estimate s || nat_lt max_estimate v
 
 unfoldable pub state_broken : RtoEstimator → Bool
 state_broken e = not (config_in_bounds e.config) || estimate_broken e.srtt e.rttvar
@@ -63,9 +50,9 @@ counts_full s =
     || (count_full s.timeout_count || count_full s.backoff_count))
 
 -- ---- check 10
-abbrev pub rtt_too_long : MaybeDuration → Bool
-rtt_too_long Unset = false
-rtt_too_long (Set d) = nat_lt max_duration d
+abbrev pub rtt_too_long : Option ℕ → Bool
+rtt_too_long None = false
+rtt_too_long (Some d) = nat_lt max_duration d
 
 unfoldable pub held_too_long : RtoEstimator → Bool
 held_too_long e =
@@ -76,7 +63,7 @@ abbrev pub sample_too_long : RtoEstimator → ℕ → Bool
 sample_too_long e sample = held_too_long e || nat_lt max_duration sample
 
 -- ---- the checks of a call on an estimator; `late`: check 10
-abbrev pub call_verdict : RtoEstimator → Bool → Verdict
+abbrev pub call_verdict : RtoEstimator → Bool → Result Unit Refusal
 call_verdict e late =
     verdict (check (state_broken e) State ∷ check (counts_full e.stats) Counts ∷ check late Time ∷ [])
 
@@ -102,10 +89,10 @@ no_stats =
       karn_rejected_count = 0;
       timeout_count = 0;
       backoff_count = 0;
-      min_rtt = Unset;
-      max_rtt = Unset;
+      min_rtt = None;
+      max_rtt = None;
       sum_rtt_millis = zero64;
-      latest_rtt = Unset;
+      latest_rtt = None;
       max_consecutive_timeouts = 0;
     }
 
@@ -114,8 +101,8 @@ unfoldable pub fresh : RtoConfig → RtoEstimator
 fresh c =
     record {
       config = c;
-      srtt = Unset;
-      rttvar = Unset;
+      srtt = None;
+      rttvar = None;
       current_rto = c.initial_rto;
       base_rto = c.initial_rto;
       in_backoff = false;
@@ -136,18 +123,18 @@ abbrev pub next_of : RtoConfig → ℕ → ℕ → ℕ → Estimate
 next_of c srtt rttvar sample =
     next_estimate c.alpha c.beta c.k c.rto_multiplier c.granularity srtt rttvar sample
 
-unfoldable pub estimate_for : RtoConfig → MaybeDuration → MaybeDuration → ℕ → Estimate
-estimate_for c Unset v sample = first_of c sample
-estimate_for c (Set s) Unset sample = first_of c sample
-estimate_for c (Set s) (Set v) sample = next_of c s v sample
+unfoldable pub estimate_for : RtoConfig → Option ℕ → Option ℕ → ℕ → Estimate
+estimate_for c None v sample = first_of c sample
+estimate_for c (Some s) None sample = first_of c sample
+estimate_for c (Some s) (Some v) sample = next_of c s v sample
 
-abbrev pub min_rtt : MaybeDuration → ℕ → MaybeDuration
-min_rtt Unset d = Set d
-min_rtt (Set m) d = Set (min m d)
+abbrev pub min_rtt : Option ℕ → ℕ → Option ℕ
+min_rtt None d = Some d
+min_rtt (Some m) d = Some (min m d)
 
-abbrev pub max_rtt : MaybeDuration → ℕ → MaybeDuration
-max_rtt Unset d = Set d
-max_rtt (Set m) d = Set (max m d)
+abbrev pub max_rtt : Option ℕ → ℕ → Option ℕ
+max_rtt None d = Some d
+max_rtt (Some m) d = Some (max m d)
 
 unfoldable pub sampled : RtoStats → ℕ → RtoStats
 sampled s d =
@@ -159,7 +146,7 @@ sampled s d =
       min_rtt = min_rtt s.min_rtt d;
       max_rtt = max_rtt s.max_rtt d;
       sum_rtt_millis = add binary64 s.sum_rtt_millis (to_ms d);
-      latest_rtt = Set d;
+      latest_rtt = Some d;
       max_consecutive_timeouts = s.max_consecutive_timeouts;
     }
 
@@ -168,8 +155,8 @@ accept_sample e d =
     let x = estimate_for e.config e.srtt e.rttvar d in
     record {
       config = e.config;
-      srtt = Set x.srtt;
-      rttvar = Set x.rttvar;
+      srtt = Some x.srtt;
+      rttvar = Some x.rttvar;
       current_rto = limited e.config x.rto;
       base_rto = limited e.config x.rto;
       in_backoff = false;
@@ -268,42 +255,42 @@ unfoldable pub mean_rtt_ms_unchecked : RtoStats → Float
 mean_rtt_ms_unchecked s = mean s.sample_count s.sum_rtt_millis
 
 -- ---- the entry points
-unfoldable pub with_config : RtoConfig → EstimatorAnswer
+unfoldable pub with_config : RtoConfig → Result RtoEstimator Refusal
 with_config c =
-    decide (verdict (check (not (config_in_bounds c)) Setup ∷ [])) (λ r. Mk.TheVariants.Refused r)
-    (Mk.TheVariants.Made (fresh c))
+    decide (verdict (check (not (config_in_bounds c)) Setup ∷ [])) (λ r. Err r)
+    (Ok (fresh c))
 
-abbrev pub update_result : RtoEstimator → UpdateAnswer → UpdateResult
+abbrev pub update_result : RtoEstimator → Result Bool Refusal → UpdateResult
 update_result e a = record { estimator = e; answer = a }
 
 unfoldable pub update_rtt : RtoEstimator → ℕ → Bool → UpdateResult
 update_rtt e sample again =
-    decide (call_verdict e (sample_too_long e sample)) (λ r. update_result e (Up.TheVariants.Refused r))
-    (update_result (update_rtt_unchecked e sample again) (Up.TheVariants.Accepted (not again)))
+    decide (call_verdict e (sample_too_long e sample)) (λ r. update_result e (Err r))
+    (update_result (update_rtt_unchecked e sample again) (Ok (not again)))
 
-abbrev pub timeout_result : RtoEstimator → RtoAnswer → TimeoutResult
+abbrev pub timeout_result : RtoEstimator → Result ℕ Refusal → TimeoutResult
 timeout_result e a = record { estimator = e; answer = a }
 
 unfoldable pub on_timeout : RtoEstimator → TimeoutResult
 on_timeout e =
     let x = on_timeout_unchecked e in
-    decide (call_verdict e (held_too_long e)) (λ r. timeout_result e (Ti.TheVariants.Refused r))
-    (timeout_result x (Ti.TheVariants.Rto x.current_rto))
+    decide (call_verdict e (held_too_long e)) (λ r. timeout_result e (Err r))
+    (timeout_result x (Ok x.current_rto))
 
-abbrev pub reset_result : RtoEstimator → DoneAnswer → ResetResult
+abbrev pub reset_result : RtoEstimator → Result Unit Refusal → ResetResult
 reset_result e a = record { estimator = e; answer = a }
 
 unfoldable pub reset_backoff : RtoEstimator → ResetResult
 reset_backoff e =
-    decide (call_verdict e (held_too_long e)) (λ r. reset_result e (Re.TheVariants.Refused r))
-    (reset_result (reset_backoff_unchecked e) Re.TheVariants.Done)
+    decide (call_verdict e (held_too_long e)) (λ r. reset_result e (Err r))
+    (reset_result (reset_backoff_unchecked e) passed)
 
-unfoldable pub has_exceeded_retry_limit : RtoEstimator → ℕ → TestAnswer
+unfoldable pub has_exceeded_retry_limit : RtoEstimator → ℕ → Result Bool Refusal
 has_exceeded_retry_limit e n =
-    decide (call_verdict e (held_too_long e)) (λ r. Li.TheVariants.Refused r)
-    (Li.TheVariants.Is (nat_le n e.consecutive_timeouts))
+    decide (call_verdict e (held_too_long e)) (λ r. Err r)
+    (Ok (nat_le n e.consecutive_timeouts))
 
-unfoldable pub mean_rtt_ms : RtoEstimator → MeanAnswer
+unfoldable pub mean_rtt_ms : RtoEstimator → Result Float Refusal
 mean_rtt_ms e =
-    decide (call_verdict e (held_too_long e)) (λ r. Me.TheVariants.Refused r)
-    (Me.TheVariants.Millis (mean_rtt_ms_unchecked e.stats))
+    decide (call_verdict e (held_too_long e)) (λ r. Err r)
+    (Ok (mean_rtt_ms_unchecked e.stats))

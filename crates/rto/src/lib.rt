@@ -14,7 +14,7 @@ ghost use Rattle.rto.specs.Rto.{mean_rtt_ms_unchecked, with_config, update_rtt, 
 ghost use Rattle.rto.specs.Rto.{has_exceeded_retry_limit, mean_rtt_ms};
 
 use bounds::{COUNT_LIMIT, MAX_DURATION, MAX_ESTIMATE, MAX_GRANULARITY};
-use refusal::{DoneAnswer, Refusal, TestAnswer, Verdict};
+use refusal::Refusal;
 use rtt::Estimate;
 
 #[derive(Clone, Copy)]
@@ -29,31 +29,24 @@ pub struct RtoConfig {
     pub rto_multiplier: f64,
 }
 
-// A duration that may be unset.
-#[derive(Clone, Copy)]
-pub enum MaybeDuration {
-    Unset,
-    Set(u64),
-}
-
 #[derive(Clone, Copy)]
 pub struct RtoStats {
     pub sample_count: u64,
     pub karn_rejected_count: u64,
     pub timeout_count: u64,
     pub backoff_count: u64,
-    pub min_rtt: MaybeDuration,
-    pub max_rtt: MaybeDuration,
+    pub min_rtt: Option<u64>,
+    pub max_rtt: Option<u64>,
     pub sum_rtt_millis: f64,
-    pub latest_rtt: MaybeDuration,
+    pub latest_rtt: Option<u64>,
     pub max_consecutive_timeouts: u32,
 }
 
 #[derive(Clone, Copy)]
 pub struct RtoEstimator {
     pub config: RtoConfig,
-    pub srtt: MaybeDuration,
-    pub rttvar: MaybeDuration,
+    pub srtt: Option<u64>,
+    pub rttvar: Option<u64>,
     pub current_rto: u64,
     pub base_rto: u64,
     pub in_backoff: bool,
@@ -62,46 +55,21 @@ pub struct RtoEstimator {
 }
 
 #[derive(Clone, Copy)]
-pub enum EstimatorAnswer {
-    Made(RtoEstimator),
-    Refused(Refusal),
-}
-
-#[derive(Clone, Copy)]
-pub enum UpdateAnswer {
-    // Whether the sample was used.
-    Accepted(bool),
-    Refused(Refusal),
-}
-
-#[derive(Clone, Copy)]
 pub struct UpdateResult {
     pub estimator: RtoEstimator,
-    pub answer: UpdateAnswer,
-}
-
-#[derive(Clone, Copy)]
-pub enum RtoAnswer {
-    Rto(u64),
-    Refused(Refusal),
+    pub answer: Result<bool, Refusal>,
 }
 
 #[derive(Clone, Copy)]
 pub struct TimeoutResult {
     pub estimator: RtoEstimator,
-    pub answer: RtoAnswer,
+    pub answer: Result<u64, Refusal>,
 }
 
 #[derive(Clone, Copy)]
 pub struct ResetResult {
     pub estimator: RtoEstimator,
-    pub answer: DoneAnswer,
-}
-
-#[derive(Clone, Copy)]
-pub enum MeanAnswer {
-    Millis(f64),
-    Refused(Refusal),
+    pub answer: Result<(), Refusal>,
 }
 
 pub fn config_in_bounds(c: RtoConfig) -> bool
@@ -137,13 +105,13 @@ impl RtoEstimator {
         RtoEstimator::with_config_unchecked(RtoConfig::default())
     }
 
-    pub fn with_config(config: RtoConfig) -> EstimatorAnswer
+    pub fn with_config(config: RtoConfig) -> Result<RtoEstimator, Refusal>
         ensures { result ≡ with_config config }
     {
         if !config_in_bounds(config) {
-            return EstimatorAnswer::Refused(Refusal::Setup);
+            return Err(Refusal::Setup);
         }
-        EstimatorAnswer::Made(RtoEstimator::with_config_unchecked(config))
+        Ok(RtoEstimator::with_config_unchecked(config))
     }
 
     // Whether the sample was used: a retransmitted one is not.
@@ -156,13 +124,13 @@ impl RtoEstimator {
             counts_full(stats),
             sample_too_long(self, sample),
         ) {
-            Verdict::Refused(r) => UpdateResult {
+            Err(r) => UpdateResult {
                 estimator: self,
-                answer: UpdateAnswer::Refused(r),
+                answer: Err(r),
             },
-            Verdict::Accepted => UpdateResult {
+            Ok(()) => UpdateResult {
                 estimator: self.update_rtt_unchecked(sample, is_retransmission),
-                answer: UpdateAnswer::Accepted(!is_retransmission),
+                answer: Ok(!is_retransmission),
             },
         }
     }
@@ -173,15 +141,15 @@ impl RtoEstimator {
     {
         let stats = self.stats;
         match call_verdict(state_broken(self), counts_full(stats), held_too_long(self)) {
-            Verdict::Refused(r) => TimeoutResult {
+            Err(r) => TimeoutResult {
                 estimator: self,
-                answer: RtoAnswer::Refused(r),
+                answer: Err(r),
             },
-            Verdict::Accepted => {
+            Ok(()) => {
                 let e = self.on_timeout_unchecked();
                 TimeoutResult {
                     estimator: e,
-                    answer: RtoAnswer::Rto(e.current_rto),
+                    answer: Ok(e.current_rto),
                 }
             }
         }
@@ -192,34 +160,34 @@ impl RtoEstimator {
     {
         let stats = self.stats;
         match call_verdict(state_broken(self), counts_full(stats), held_too_long(self)) {
-            Verdict::Refused(r) => ResetResult {
+            Err(r) => ResetResult {
                 estimator: self,
-                answer: DoneAnswer::Refused(r),
+                answer: Err(r),
             },
-            Verdict::Accepted => ResetResult {
+            Ok(()) => ResetResult {
                 estimator: self.reset_backoff_unchecked(),
-                answer: DoneAnswer::Done,
+                answer: Ok(()),
             },
         }
     }
 
-    pub fn has_exceeded_retry_limit(self, max_retries: u32) -> TestAnswer
+    pub fn has_exceeded_retry_limit(self, max_retries: u32) -> Result<bool, Refusal>
         ensures { result ≡ has_exceeded_retry_limit self max_retries }
     {
         let stats = self.stats;
         match call_verdict(state_broken(self), counts_full(stats), held_too_long(self)) {
-            Verdict::Refused(r) => TestAnswer::Refused(r),
-            Verdict::Accepted => TestAnswer::Is(self.consecutive_timeouts >= max_retries),
+            Err(r) => Err(r),
+            Ok(()) => Ok(self.consecutive_timeouts >= max_retries),
         }
     }
 
-    pub fn mean_rtt_ms(self) -> MeanAnswer
+    pub fn mean_rtt_ms(self) -> Result<f64, Refusal>
         ensures { result ≡ mean_rtt_ms self }
     {
         let stats = self.stats;
         match call_verdict(state_broken(self), counts_full(stats), held_too_long(self)) {
-            Verdict::Refused(r) => MeanAnswer::Refused(r),
-            Verdict::Accepted => MeanAnswer::Millis(self.mean_rtt_ms_unchecked()),
+            Err(r) => Err(r),
+            Ok(()) => Ok(self.mean_rtt_ms_unchecked()),
         }
     }
 
@@ -229,8 +197,8 @@ impl RtoEstimator {
     {
         RtoEstimator {
             config,
-            srtt: MaybeDuration::Unset,
-            rttvar: MaybeDuration::Unset,
+            srtt: None,
+            rttvar: None,
             current_rto: config.initial_rto,
             base_rto: config.initial_rto,
             in_backoff: false,
@@ -294,19 +262,19 @@ impl RtoEstimator {
 
 // Checks 9, 8 and 10 in their order. It takes their results: one that looked at the estimator itself was too large to
 // be inlined, and update_rtt took half as long again.
-fn call_verdict(broken: bool, full: bool, late: bool) -> Verdict
+fn call_verdict(broken: bool, full: bool, late: bool) -> Result<(), Refusal>
     ensures { result ≡ verdict (check broken State ∷ check full Counts ∷ check late Time ∷ []) }
 {
     if broken {
-        return Verdict::Refused(Refusal::State);
+        return Err(Refusal::State);
     }
     if full {
-        return Verdict::Refused(Refusal::Counts);
+        return Err(Refusal::Counts);
     }
     if late {
-        return Verdict::Refused(Refusal::Time);
+        return Err(Refusal::Time);
     }
-    Verdict::Accepted
+    Ok(())
 }
 
 fn durations_in_bounds(c: RtoConfig) -> bool
@@ -354,17 +322,17 @@ fn state_broken(e: RtoEstimator) -> bool
     estimate_broken(srtt, rttvar)
 }
 
-fn estimate_broken(srtt: MaybeDuration, rttvar: MaybeDuration) -> bool
+fn estimate_broken(srtt: Option<u64>, rttvar: Option<u64>) -> bool
     ensures { result ≡ estimate_broken srtt rttvar }
 {
     match srtt {
-        MaybeDuration::Unset => match rttvar {
-            MaybeDuration::Unset => false,
-            MaybeDuration::Set(_) => true,
+        None => match rttvar {
+            None => false,
+            Some(_) => true,
         },
-        MaybeDuration::Set(s) => match rttvar {
-            MaybeDuration::Unset => true,
-            MaybeDuration::Set(v) => too_large(s, v),
+        Some(s) => match rttvar {
+            None => true,
+            Some(v) => too_large(s, v),
         },
     }
 }
@@ -424,12 +392,12 @@ fn sample_too_long(e: RtoEstimator, sample: u64) -> bool
     sample > MAX_DURATION
 }
 
-fn rtt_too_long(r: MaybeDuration) -> bool
+fn rtt_too_long(r: Option<u64>) -> bool
     ensures { result ≡ rtt_too_long r }
 {
     match r {
-        MaybeDuration::Unset => false,
-        MaybeDuration::Set(d) => d > MAX_DURATION,
+        None => false,
+        Some(d) => d > MAX_DURATION,
     }
 }
 
@@ -445,8 +413,8 @@ fn accept_sample(e: RtoEstimator, sample: u64) -> RtoEstimator
     let rto = limit(x.rto, config.min_rto, config.max_rto);
     RtoEstimator {
         config,
-        srtt: MaybeDuration::Set(x.srtt),
-        rttvar: MaybeDuration::Set(x.rttvar),
+        srtt: Some(x.srtt),
+        rttvar: Some(x.rttvar),
         current_rto: rto,
         base_rto: rto,
         in_backoff: false,
@@ -467,15 +435,15 @@ fn reject_sample(e: RtoEstimator) -> RtoEstimator
     after
 }
 
-fn estimate_for(c: RtoConfig, srtt: MaybeDuration, rttvar: MaybeDuration, sample: u64) -> Estimate
+fn estimate_for(c: RtoConfig, srtt: Option<u64>, rttvar: Option<u64>, sample: u64) -> Estimate
     requires { (config_in_bounds c ≡ true) × (estimate_broken srtt rttvar ≡ false) × (sample ≤ max_duration) }
     ensures { result ≡ estimate_for c srtt rttvar sample }
 {
     match srtt {
-        MaybeDuration::Unset => first_estimate(c, sample),
-        MaybeDuration::Set(s) => match rttvar {
-            MaybeDuration::Unset => first_estimate(c, sample),
-            MaybeDuration::Set(v) => next_estimate(c, s, v, sample),
+        None => first_estimate(c, sample),
+        Some(s) => match rttvar {
+            None => first_estimate(c, sample),
+            Some(v) => next_estimate(c, s, v, sample),
         },
     }
 }
@@ -518,7 +486,7 @@ fn stats_with_sample(s: RtoStats, sample: u64) -> RtoStats
         min_rtt: min_rtt(shortest, sample),
         max_rtt: max_rtt(longest, sample),
         sum_rtt_millis: s.sum_rtt_millis + rtt::to_ms(sample),
-        latest_rtt: MaybeDuration::Set(sample),
+        latest_rtt: Some(sample),
         max_consecutive_timeouts: s.max_consecutive_timeouts,
     }
 }
@@ -531,29 +499,29 @@ fn no_stats() -> RtoStats
         karn_rejected_count: 0,
         timeout_count: 0,
         backoff_count: 0,
-        min_rtt: MaybeDuration::Unset,
-        max_rtt: MaybeDuration::Unset,
+        min_rtt: None,
+        max_rtt: None,
         sum_rtt_millis: 0.0,
-        latest_rtt: MaybeDuration::Unset,
+        latest_rtt: None,
         max_consecutive_timeouts: 0,
     }
 }
 
-fn min_rtt(r: MaybeDuration, d: u64) -> MaybeDuration
+fn min_rtt(r: Option<u64>, d: u64) -> Option<u64>
     ensures { result ≡ min_rtt r d }
 {
     match r {
-        MaybeDuration::Unset => MaybeDuration::Set(d),
-        MaybeDuration::Set(m) => MaybeDuration::Set(m.min(d)),
+        None => Some(d),
+        Some(m) => Some(m.min(d)),
     }
 }
 
-fn max_rtt(r: MaybeDuration, d: u64) -> MaybeDuration
+fn max_rtt(r: Option<u64>, d: u64) -> Option<u64>
     ensures { result ≡ max_rtt r d }
 {
     match r {
-        MaybeDuration::Unset => MaybeDuration::Set(d),
-        MaybeDuration::Set(m) => MaybeDuration::Set(m.max(d)),
+        None => Some(d),
+        Some(m) => Some(m.max(d)),
     }
 }
 

@@ -1,4 +1,5 @@
 -- After every round that goes on nothing is left to send; why and when a run ended as the source's does.
+use Rattle.std.specs.Prelude.{None, Ok, Option, Some}
 use Prim.Native.Nat.{ℕ, ◌-◌, ◌≤◌, ◌<◌}
 use native.Mathlib.Omega.{arith}
 use mathlib.Core.Path.{◌≡◌, refl, sym, ap, ◌∙◌, subst}
@@ -8,9 +9,6 @@ use mathlib.Core.List.{List, [], ◌∷◌}
 use lib.Dec.{eqb, leb, ltb}
 use lib.Ieee.{Float}
 use borrow.Author.Tests.{leb-true, leb-false, ltb-true, ltb-false, eqb-true}
-use Rattle.timer.specs.declared.Deadline.{Deadline}
-use Rattle.timer.specs.declared.Deadline.TheVariants as deadline
-use Rattle.schedule.specs.declared.ReadyAnswer.TheVariants as ready
 use Rattle.path.specs.Path.{is_going, take_ready, packet_buffer}
 use Rattle.path.specs.Rolls.{Doubles}
 use Rattle.path.specs.declared.Stop.{Stop}
@@ -23,7 +21,6 @@ use Rattle.clock.specs.declared.Timing.{Timing}
 use Rattle.clock.specs.declared.Timing.TheVariants.{PerNumber}
 use Rattle.window.specs.State.{outstanding}
 use Rattle.session.specs.Sending.{SenderEnd, window_of, has_outstanding, oldest_outstanding, resent}
-use Rattle.session.specs.declared.Oldest.{Oldest}
 use Rattle.session.specs.declared.Timeout.{Timeout}
 use Rattle.session.specs.declared.Timeout.TheVariants as timeout
 use Rattle.notes.specs.Notes.{is_premature}
@@ -70,7 +67,7 @@ module _ (limit : ℕ) where
   spent_more : (r : Resends) (b : Bool) → Spent r → Spent (counted_again r b)
   spent_more r b q = record { met = λ e. let h = q.met e in omega (arith, h) }
 
-  module _ (t : Timing) (rolls : List Float) (rto now : ℕ) (oldest : Oldest) where
+  module _ (t : Timing) (rolls : List Float) (rto now : ℕ) (oldest : Option ℕ) where
     abbrev sends : List ℕ → Resends → Outgoing → RetransmitExit
     sends packet r o = retransmit t rolls rto now oldest (number_of packet) packet r o
 
@@ -181,7 +178,7 @@ module _ (p : Plan) (g : Given) (plan : GoodPlan p g) where
       drained : Drained u.time u.arrivals
       not_due : due p.timing u.arrivals.clock u.time (has_outstanding u.arrivals.sender.sender) ≡ ran.Nothing
 
-    past_why : (u : RunState) (t : ℕ) → next_time p u ≡ deadline.At t → QuietAt u → t ≤ u.time → TimerPast p u
+    past_why : (u : RunState) (t : ℕ) → next_time p u ≡ Some t → QuietAt u → t ≤ u.time → TimerPast p u
     past_why u t e n h =
         ⊎_elim (λ f. let l = line_later u.arrivals.forward u.time n.drained.forward f in absurd (omega (arith, h, l)))
         (⊎_elim (λ f. let l = line_later u.arrivals.inbound.reverse u.time n.drained.reverse f in absurd (omega (arith, h, l)))
@@ -194,9 +191,9 @@ module _ (p : Plan) (g : Given) (plan : GoodPlan p g) where
     same : {u : RunState} → TimerPast p u → TimerPast p (exhausted u)
     same x = record { single = x.single; none = x.none; deadline = x.deadline; set = x.set; past = x.past }
 
-    move_why : (u : RunState) (d : Deadline) → next_time p u ≡ d → QuietAt u → SpentAt u → Why s (move_to p u d)
-    move_why u deadline.Unset e n r = over_why u u.time (nothing_due n.left e)
-    move_why u (deadline.At t) e n r =
+    move_why : (u : RunState) (d : Option ℕ) → next_time p u ≡ d → QuietAt u → SpentAt u → Why s (move_to p u d)
+    move_why u None e n r = over_why u u.time (nothing_due n.left e)
+    move_why u (Some t) e n r =
         either (leb t u.time) _ _ (λ h. over_why (exhausted u) u.time (timer_past n.left (same (past_why u t e n (leb-true t u.time h)))))
         (λ h. either (ltb p.max_virtual_time t) _ _ (λ k. over_why u p.max_virtual_time (past_limit n.left (record { deadline = t; next = e; past = ltb-true p.max_virtual_time t k })))
         (λ k. either (eqb u.moves 0) _ _ (λ m. over_why (at u t u.moves u.rounds) t (moments_used n.left (sym n.moves ∙ eqb-true u.moves 0 m) (let a = n.now in let b = leb-false t u.time h in omega (arith, a, b)) e))
@@ -223,7 +220,7 @@ module _ (p : Plan) (g : Given) (plan : GoodPlan p g) where
           moves = refl;
           now = refl;
           left = left on k;
-          drained = record { forward = subst (λ (o : Outgoing). (take_ready o.forward s.time packet_buffer).result.answer ≡ ready.Nothing) (sym n.outgoing) d.forward; reverse = d.reverse };
+          drained = record { forward = subst (λ (o : Outgoing). (take_ready o.forward s.time packet_buffer).result.answer ≡ Ok None) (sym n.outgoing) d.forward; reverse = d.reverse };
           not_due = ap (λ (v : SenderEnd). due p.timing (after_both p g s).arrivals.clock s.time (has_outstanding v.sender)) n.sender
               ∙ ap (λ (o : Outgoing). due p.timing o.clock s.time (has_outstanding (arrives p g s).state.sender.sender)) n.outgoing ∙ n.not_due;
         }

@@ -1,4 +1,5 @@
 -- Runs computed from the definitions: each end, two of them on either line, the order of the tests, and the limit of time.
+use Rattle.std.specs.Prelude.{Err, Ok, Result}
 use Prim.Native.Nat.{ℕ, ◌*◌, ◌^◌, ◌<◌}
 use native.Mathlib.Omega.{arith}
 use mathlib.Core.Path.{◌≡◌, refl}
@@ -19,8 +20,6 @@ use Rattle.step.specs.State.{Given, given, Lent, lent}
 use Rattle.transfer.specs.Transfer.{RunExit, run_transfer}
 use Rattle.transfer.specs.declared.Ceilings.{Ceilings}
 use Rattle.transfer.specs.declared.Outcome.{Outcome}
-use Rattle.transfer.specs.declared.RunAnswer.{RunAnswer}
-use Rattle.transfer.specs.declared.RunAnswer.TheVariants as answer
 use Rattle.run_ends.specs.Ends.{word_of, EndsSo}
 use Rattle.run_ends.proofs.Transfer.{transfer_ends}
 use Rattle.acks.specs.Acks as acks
@@ -67,6 +66,7 @@ use Rattle.window.specs.Acknowledgement as windowAcknowledgement
 use Rattle.window.specs.Sending as windowSending
 use Rattle.window.specs.Slots as windowSlots
 use Rattle.window.specs.State as windowState
+use Rattle.refusal.specs.declared.Refusal.{Refusal}
 
 -- one byte over Stop-and-Wait, 5 ms each way, no faults; to a limit of time; three moments, two rounds at each
 abbrev config : ℕ → TransferConfig
@@ -126,9 +126,9 @@ row w c t o = record { word = w; completed = c; finished = t; written = o }
 abbrev row_of : RunExit → Row
 row_of x = by_answer x.answer
   where
-    by_answer : RunAnswer → Row
-    by_answer (answer.Outcome o) = row (word_of o.end) o.completed o.finished_at (take (filled o.receiver) x.lent.output)
-    by_answer (answer.Refused r) = row [] false 0 []
+    by_answer : Result Outcome Refusal → Row
+    by_answer (Ok o) = row (word_of o.end) o.completed o.finished_at (take (filled o.receiver) x.lent.output)
+    by_answer (Err r) = row [] false 0 []
 
 ends_table : map (λ x. row_of (called x)) (case 1 1 1 1 1 ∷ case 0 1 1 1 1 ∷ case 1 0 1 1 1 ∷ case 1 1 0 1 1 ∷ case 1 1 1 0 1 ∷ case 1 1 1 1 0 ∷ case 0 1 0 0 1 ∷ case 1 1 0 0 1 ∷ to 4000000 ∷ [])
     ≡ row (ascii "ended") true 5000000 (65 ∷ [])
@@ -153,5 +153,5 @@ factors : (limit : ℕ) → Factors (config limit).rto
 unfolding fits
 factors limit = record { alpha = tt; beta = tt; k = tt; multiplier = tt }
 
-ends_so : (x : Case) → x.forward < 100 → x.reverse < 100 → (o : Outcome) → (called x).answer ≡ answer.Outcome o → EndsSo (config x.limit) (offered x) o (called x).lent
+ends_so : (x : Case) → x.forward < 100 → x.reverse < 100 → (o : Outcome) → (called x).answer ≡ Ok o → EndsSo (config x.limit) (offered x) o (called x).lent
 ends_so x f r o e = transfer_ends ceilings (config x.limit) (offered x) (memory x) (doubles (x.forward * packet_rolls) (omega arith)) (doubles (x.reverse * packet_rolls) (omega arith)) (factors x.limit) o e

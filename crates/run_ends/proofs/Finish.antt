@@ -1,4 +1,5 @@
 -- When a run finishes.
+use Rattle.std.specs.Prelude.{None, Ok, Option, Some}
 use Prim.Native.Nat.{ℕ, ◌+◌, ◌-◌, ◌/◌, ◌≤◌, ◌<◌}
 use native.Mathlib.Omega.{arith}
 use mathlib.Core.Path.{◌≡◌, refl, sym, ap, ◌∙◌, subst}
@@ -8,8 +9,6 @@ use mathlib.Core.List.{List, [], ◌∷◌}
 use lib.Dec.{eqb, leb, ltb}
 use lib.ListN.{length}
 use borrow.Author.Tests.{leb-false, ltb-true, ltb-false}
-use Rattle.timer.specs.declared.Deadline.{Deadline}
-use Rattle.timer.specs.declared.Deadline.TheVariants as deadline
 use Rattle.path.specs.Path.{is_going}
 use Rattle.path.specs.declared.Stop.{Stop}
 use Rattle.path.specs.declared.Stop.TheVariants as stop
@@ -34,7 +33,6 @@ use Rattle.transfer.specs.Run.{is_over, run}
 use Rattle.transfer.specs.Transfer.{end_of, finished_at, run_transfer}
 use Rattle.transfer.specs.declared.Ceilings.{Ceilings}
 use Rattle.transfer.specs.declared.Outcome.{Outcome}
-use Rattle.transfer.specs.declared.RunAnswer.TheVariants as answer
 use Rattle.transfer.proofs.Laws.{run_over}
 use Rattle.edition_clock.specs.AlongARun.{Reached, start, next}
 use Rattle.edition_clock.proofs.Run.{run_last}
@@ -56,9 +54,9 @@ module _ (p : Plan) (g : Given) (s : RunState) (sides : ReceivingSide → Type 0
   over_now : (u : RunState) (e : End) → u.time ≡ s.time → sides (side_of u) → Steps (over u e u.time)
   over_now u e t q = record { later = omega (arith, t); in_time = omega (arith, t); side = q; finishes = λ i. inl refl }
 
-  move_steps : (u : RunState) (d : Deadline) → u.time ≡ s.time → sides (side_of u) → Steps (move_to p u d)
-  move_steps u deadline.Unset e q = over_now u end.Ended e q
-  move_steps u (deadline.At t) e q = by_past (leb t u.time) (ltb p.max_virtual_time t) (leb-false t u.time) (ltb-false p.max_virtual_time t)
+  move_steps : (u : RunState) (d : Option ℕ) → u.time ≡ s.time → sides (side_of u) → Steps (move_to p u d)
+  move_steps u None e q = over_now u end.Ended e q
+  move_steps u (Some t) e q = by_past (leb t u.time) (ltb p.max_virtual_time t) (leb-false t u.time) (ltb-false p.max_virtual_time t)
     where
       by_moves : (b : Bool) → u.time < t → t ≤ p.max_virtual_time → Steps (cond b (over (at u t u.moves u.rounds) end.Ended t) (step_exit (at u t (u.moves - 1) p.rounds) Going))
       by_moves true h k = record { later = omega (arith, e, h); in_time = k; side = q; finishes = λ i. inl refl }
@@ -198,5 +196,5 @@ pub transfer_finishes : (k : Ceilings) (c : TransferConfig) (g : Given) (l : Len
 unfolding new_run
 transfer_finishes k c g l h = run_finishes (plan_for k c g) g (new_run k c l) (omega arith) (start_completed_is k c g l h) refl
 
-pub outcome_finishes : (k : Ceilings) (c : TransferConfig) (g : Given) (l : Lent) (o : Outcome) → (run_transfer k c g l).answer ≡ answer.Outcome o → FinishedSo k c g l o
+pub outcome_finishes : (k : Ceilings) (c : TransferConfig) (g : Given) (l : Lent) (o : Outcome) → (run_transfer k c g l).answer ≡ Ok o → FinishedSo k c g l o
 outcome_finishes k c g l = by_outcome k c g l (λ (o : Outcome) (m : Lent). FinishedSo k c g l o) (λ h. let f = transfer_finishes k c g l h in record { in_time = f.in_time; completed = f.completed })

@@ -1,4 +1,5 @@
 -- A moment at which nothing happened: every chunk was sent or the window has no space, and every deadline is later, but for the single timer's with nothing outstanding.
+use Rattle.std.specs.Prelude.{None, Ok, Option, Some}
 use Prim.Native.Nat.{ℕ, zero, suc, ◌-◌, ◌≤◌, ◌<◌}
 use native.Mathlib.Omega.{arith}
 use mathlib.Core.Path.{◌≡◌, refl, sym, ap, ◌∙◌, subst}
@@ -11,19 +12,14 @@ use lib.ListN.{length}
 use borrow.Author.Tests.{leb-false, ltb-false}
 use Rattle.chunks.specs.Chunks.{chunks_of}
 use Rattle.timer.specs.Timer.{expired_at}
-use Rattle.timer.specs.declared.Deadline.{Deadline}
-use Rattle.timer.specs.declared.Deadline.TheVariants as deadline
 use Rattle.multi_timer.specs.Map.{Entry, keys_of, deadlines_of, keep, due_keys, min_of, earliest}
 use Rattle.multi_timer.specs.Map as map
 use Rattle.schedule.specs.Record.{time_of}
 use Rattle.schedule.specs.Schedule.{first_record, pop_first, pop_unchecked, on_pop}
-use Rattle.schedule.specs.declared.ReadyAnswer.TheVariants as ready
-use Rattle.schedule.specs.declared.DeadlineAnswer.TheVariants as answered
 use Rattle.window.specs.State.{outstanding}
 use Rattle.path.specs.Direction.{Direction, schedule_of}
 use Rattle.path.specs.Path.{is_going, take_ready, packet_buffer}
 use Rattle.path.specs.Path as path
-use Rattle.path.specs.declared.NextDeadline.TheVariants as next
 use Rattle.path.specs.declared.Stop.TheVariants as stop
 use Rattle.clock.specs.Clock.{ClockState, timer_of, single_due, due, as_deadline}
 use Rattle.clock.specs.Clock as clock
@@ -167,8 +163,8 @@ sent_left {t} {rolls} {size} {file} {total} {now} {s} limit can = by_test_lem (i
 
 -- ---- the arrivals: what was due on the lines was handed over
 pub record Drained (now : ℕ) (a : ArrivalState) : Type 0 where
-  pub forward : (take_ready a.forward now packet_buffer).result.answer ≡ ready.Nothing
-  pub reverse : (take_ready a.inbound.reverse now packet_buffer).result.answer ≡ ready.Nothing
+  pub forward : (take_ready a.forward now packet_buffer).result.answer ≡ Ok None
+  pub reverse : (take_ready a.inbound.reverse now packet_buffer).result.answer ≡ Ok None
 
 pub arrivals_drained : (t : Timing) (rolls : List Float) (total now : ℕ) (a : ArrivalState) → is_going (serve_arrivals t rolls total now a).stop ≡ true → Drained now (serve_arrivals t rolls total now a).state
 unfolding serve_arrivals
@@ -185,12 +181,12 @@ arrivals_drained t rolls total now a = by_stop_lem (is_going forth.stop) refl
     by_stop_lem false g on = absurd (true≢false (sym on ∙ g))
 
 -- ---- deadlines that are later
-pub line_later : (d : Direction) (now : ℕ) → (take_ready d now packet_buffer).result.answer ≡ ready.Nothing → {u : ℕ} → path.next_deadline d.path d.records ≡ next.At u → now < u
+pub line_later : (d : Direction) (now : ℕ) → (take_ready d now packet_buffer).result.answer ≡ Ok None → {u : ℕ} → path.next_deadline d.path d.records ≡ Some u → now < u
 unfolding take_ready pop_unchecked path.deadline_of
 line_later d now e {u} f = by_tests (ltb 0 d.path.scheduler.count) (leb (time_of (first_record d.records)) now) (leb-false (time_of (first_record d.records)) now) e f
   where
-    by_tests : (a b : Bool) → (b ≡ false → now < time_of (first_record d.records)) → (cond (a && b) (pop_first (schedule_of d) packet_buffer) (on_pop (schedule_of d) packet_buffer ready.Nothing)).result.answer ≡ ready.Nothing
-        → path.deadline_of (cond a (answered.At (time_of (first_record d.records))) answered.Nothing) ≡ next.At u → now < u
+    by_tests : (a b : Bool) → (b ≡ false → now < time_of (first_record d.records)) → (cond (a && b) (pop_first (schedule_of d) packet_buffer) (on_pop (schedule_of d) packet_buffer (Ok None))).result.answer ≡ Ok None
+        → path.deadline_of (cond a (Ok (Some (time_of (first_record d.records)))) (Ok None)) ≡ Some u → now < u
     by_tests true true h e f = let z : ◌≡◌ {A = ℕ} 0 1 = cc in absurd (omega arith)
     by_tests true false h e f = let k : time_of (first_record d.records) ≡ u = cc in let l = h refl in omega (arith, k, l)
     by_tests false b h e f = let z : ◌≡◌ {A = ℕ} 0 1 = cc in absurd (omega arith)
@@ -209,7 +205,7 @@ unfolding deadlines_of min_of
 min_later now d [] h e = h
 min_later now d (x ∷ es) h e = let f = first_later now x es e in let r = min_later now x.deadline es f.0 f.1 in omega (arith, h, r)
 
-entries_later : (now : ℕ) (es : List Entry) → due_keys now es ≡ [] → (u : ℕ) → as_deadline (earliest (deadlines_of es)) ≡ deadline.At u → now < u
+entries_later : (now : ℕ) (es : List Entry) → due_keys now es ≡ [] → (u : ℕ) → as_deadline (earliest (deadlines_of es)) ≡ Some u → now < u
 unfolding deadlines_of earliest
 entries_later now [] e u f = let z : ◌≡◌ {A = ℕ} 0 1 = cc in absurd (omega arith)
 entries_later now (x ∷ es) e u f =
@@ -222,20 +218,20 @@ entries_later now (x ∷ es) e u f =
 pub record SinglePast (t : Timing) (c : ClockState) (some : Bool) (u : ℕ) : Type 0 where
   pub single : t ≡ timing.Single
   pub none : some ≡ false
-  pub at : (timer_of c).deadline ≡ deadline.At u
+  pub at : (timer_of c).deadline ≡ Some u
 
-pub timers_later : (t : Timing) (c : ClockState) (now : ℕ) (some : Bool) → due t c now some ≡ ran.Nothing → (u : ℕ) → clock.next_deadline t c ≡ deadline.At u → (now < u) ⊎ SinglePast t c some u
+pub timers_later : (t : Timing) (c : ClockState) (now : ℕ) (some : Bool) → due t c now some ≡ ran.Nothing → (u : ℕ) → clock.next_deadline t c ≡ Some u → (now < u) ⊎ SinglePast t c some u
 unfolding due clock.next_deadline
 timers_later timing.Single c now some e u f = by_tests (expired_at (timer_of c).deadline now) some refl refl e
   where
     by_tests : (a b : Bool) → expired_at (timer_of c).deadline now ≡ a → some ≡ b → single_due a b ran.Nothing ≡ ran.Nothing → (now < u) ⊎ SinglePast timing.Single c some u
     by_tests true true x o e = let z : ◌≡◌ {A = ℕ} 0 1 = cc in absurd (omega arith)
     by_tests true false x o e = inr (record { single = refl; none = o; at = f })
-    by_tests false b x o e = inl (leb-false u now (ap (λ (d : Deadline). expired_at d now) (sym f) ∙ x))
+    by_tests false b x o e = inl (leb-false u now (ap (λ (d : Option ℕ). expired_at d now) (sym f) ∙ x))
 timers_later timing.PerNumber c now some e u f = inl (entries_later now (running c) (no_numbers_due c now some e) u f)
 timers_later timing.Edition c now some e u f = by_tests (expired_at (timer_of c).deadline now) some refl e
   where
     by_tests : (a b : Bool) → expired_at (timer_of c).deadline now ≡ a → single_due a b ran.Idle ≡ ran.Nothing → (now < u) ⊎ SinglePast timing.Edition c some u
     by_tests true true x e = let z : ◌≡◌ {A = ℕ} 0 1 = cc in absurd (omega arith)
     by_tests true false x e = let z : ◌≡◌ {A = ℕ} 0 1 = cc in absurd (omega arith)
-    by_tests false b x e = inl (leb-false u now (ap (λ (d : Deadline). expired_at d now) (sym f) ∙ x))
+    by_tests false b x e = inl (leb-false u now (ap (λ (d : Option ℕ). expired_at d now) (sym f) ∙ x))

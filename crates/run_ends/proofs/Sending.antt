@@ -1,4 +1,5 @@
 -- The timers and the window: what came of each packet that was due on the forward line.
+use Rattle.std.specs.Prelude.{Option}
 use Prim.Native.Nat.{ℕ, ◌+◌, ◌<◌}
 use native.Mathlib.Omega.{arith}
 use mathlib.Core.Path.{◌≡◌, refl, sym, ap, subst}
@@ -25,7 +26,6 @@ use Rattle.clock.specs.Clock.{ClockState, cancel_number, Submission}
 use Rattle.clock.specs.declared.Timing.{Timing}
 use Rattle.clock.specs.declared.Timing.TheVariants.{PerNumber}
 use Rattle.session.specs.Sending.{SenderEnd, window_of, window_end, oldest_outstanding, resent}
-use Rattle.session.specs.declared.Oldest.{Oldest}
 use Rattle.session.specs.declared.Timeout.{Timeout}
 use Rattle.session.specs.declared.Timeout.TheVariants as timeout
 use Rattle.session.proofs.Laws.{ResentAs, resent_as}
@@ -100,7 +100,7 @@ module _ (c : ChannelConfig) (rolls : List Float) where
         (λ s can free g q. send_at can free q)
 
   -- ---- packets sent again; `next` numbers were used
-  module _ (limit : ℕ) (t : Timing) (rto now : ℕ) (v : SenderEnd) (oldest : Oldest) (next : ℕ) where
+  module _ (limit : ℕ) (t : Timing) (rto now : ℕ) (v : SenderEnd) (oldest : Option ℕ) (next : ℕ) where
     abbrev sends : ℕ → Resends → Outgoing → RetransmitExit
     sends first r o = retransmit t rolls rto now oldest first (datagram_for (window_end v) first) r o
 

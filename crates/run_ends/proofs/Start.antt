@@ -1,4 +1,5 @@
 -- Runs that end before their first packet.
+use Rattle.std.specs.Prelude.{None}
 use Prim.Native.Nat.{ℕ, zero, suc, ◌-◌}
 use native.Mathlib.Omega.{arith}
 use mathlib.Core.Path.{◌≡◌, refl, sym, ap, ◌∙◌, subst}
@@ -10,7 +11,6 @@ use borrow.Author.Tests.{le-leb, lt-leb}
 use Rattle.protocol.specs.declared.ProtocolType.{ProtocolType}
 use Rattle.protocol.specs.declared.ProtocolType.TheVariants.{StopAndWait, GoBackN, SelectiveRepeat}
 use Rattle.timer.specs.Timer.{new_timer}
-use Rattle.timer.specs.declared.Deadline.TheVariants as deadline
 use Rattle.multi_timer.specs.Map.{entries_of, keys_of, keep, deadlines_of, earliest}
 use Rattle.multi_timer.specs.MultiTimer.{new_unchecked}
 use Rattle.path.specs.Direction.{Direction}
@@ -118,7 +118,7 @@ new_due timing.Single keys deadlines now outstanding = refl
 new_due timing.PerNumber keys deadlines now outstanding = refl
 new_due timing.Edition keys deadlines now outstanding = refl
 
-new_unset : (t : Timing) (keys deadlines : List ℕ) → clock.next_deadline t (new_clock keys deadlines) ≡ deadline.Unset
+new_unset : (t : Timing) (keys deadlines : List ℕ) → clock.next_deadline t (new_clock keys deadlines) ≡ None
 unfolding clock.next_deadline new_clock new_timer new_unchecked entries_of deadlines_of earliest
 new_unset timing.Single keys deadlines = refl
 new_unset timing.PerNumber keys deadlines = refl
@@ -145,13 +145,13 @@ module _ (k : Ceilings) (c : TransferConfig) (g : Given) (l : Lent) where
   abbrev none : Plan
   none = plan_of c 0 k.rounds
 
-  nothing_left : (s : RunState) → s.arrivals.inbound.side.completed ≡ false → next_deadline none.timing s.arrivals.forward s.arrivals.inbound.reverse s.arrivals.clock ≡ deadline.Unset → settle none s ≡ over s Ended s.time
+  nothing_left : (s : RunState) → s.arrivals.inbound.side.completed ≡ false → next_deadline none.timing s.arrivals.forward s.arrivals.inbound.reverse s.arrivals.clock ≡ None → settle none s ≡ over s Ended s.time
   unfolding settle
   nothing_left s e f =
       ap (λ (b : Bool). cond (b && sender_idle 0 s.arrivals.sender.sender s.arrivals.forward.path s.arrivals.inbound.reverse.path s.arrivals.clock.answer) (over s Ended s.time) (move_to none s (next_deadline none.timing s.arrivals.forward s.arrivals.inbound.reverse s.arrivals.clock))) e
       ∙ ap (move_to none s) f
 
-  new_settles : (s : RunState) → s.arrivals ≡ (new_run k c l).arrivals → next_deadline none.timing s.arrivals.forward s.arrivals.inbound.reverse s.arrivals.clock ≡ deadline.Unset
+  new_settles : (s : RunState) → s.arrivals ≡ (new_run k c l).arrivals → next_deadline none.timing s.arrivals.forward s.arrivals.inbound.reverse s.arrivals.clock ≡ None
   unfolding new_run new_path next_deadline deadline_of
   new_settles s e = ap (λ (a : ArrivalState). next_deadline none.timing a.forward a.inbound.reverse a.clock) e ∙ new_unset none.timing l.keys l.deadlines
 

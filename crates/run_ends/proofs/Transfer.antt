@@ -1,4 +1,5 @@
 -- How every run of `run_transfer` ends.
+use Rattle.std.specs.Prelude.{Ok}
 use Prim.Native.Nat.{ℕ, ◌+◌, ◌-◌}
 use native.Mathlib.Omega.{arith}
 use mathlib.Core.Path.{◌≡◌, refl, sym, ap, ◌∙◌}
@@ -32,7 +33,6 @@ use Rattle.transfer.specs.Run.{run}
 use Rattle.transfer.specs.Transfer.{end_of, outcome_of, lent_of, RunExit, run_transfer}
 use Rattle.transfer.specs.declared.Ceilings.{Ceilings}
 use Rattle.transfer.specs.declared.Outcome.{Outcome}
-use Rattle.transfer.specs.declared.RunAnswer.TheVariants as answer
 use Rattle.transfer.proofs.Laws.{start_plan, start_good}
 pub use Rattle.transfer.proofs.Laws.{accepted_is, outcome_starts, by_outcome}
 use Rattle.run_ends.specs.Ends.{Line, forward_line, reverse_line, rolls_spent, schedule_left, schedule_full, Stopped, AllCarried, LastNotCarried, EndWhy, EndsSo, IsOutcome}
@@ -118,12 +118,12 @@ module _ (k : Ceilings) (c : TransferConfig) (g : Given) (l : Lent) where
   pub never_refused : CanStart (start_of c g l) → IsOutcome (run_transfer k c g l).answer
   never_refused h = record { outcome = outcome_of (run (plan_for k c g) g (new_run k c l)); is = ap (λ (x : RunExit). x.answer) (accepted_is k c g l h) }
 
-  pub transfer_ends : Doubles g.forward_rolls → Doubles g.reverse_rolls → Factors c.rto → (o : Outcome) → (run_transfer k c g l).answer ≡ answer.Outcome o → EndsSo c g o (run_transfer k c g l).lent
+  pub transfer_ends : Doubles g.forward_rolls → Doubles g.reverse_rolls → Factors c.rto → (o : Outcome) → (run_transfer k c g l).answer ≡ Ok o → EndsSo c g o (run_transfer k c g l).lent
   transfer_ends forward reverse factors =
       by_outcome k c g l (λ o m. EndsSo c g o m)
       (λ h. so c g k (run (plan_for k c g) g (new_run k c l)) (run_ends_at c.channel (reverse_config c.channel) (plan_for k c g) g (start_plan k c g l h) (new_run k c l) (start_good k c g l h forward reverse factors) (start_on k c g l)))
 
   -- and so in no other way: where the answer and the slices say why a run ended so, it ended so
-  pub transfer_ends_only : Doubles g.forward_rolls → Doubles g.reverse_rolls → Factors c.rto → (o : Outcome) → (run_transfer k c g l).answer ≡ answer.Outcome o → (e : End)
+  pub transfer_ends_only : Doubles g.forward_rolls → Doubles g.reverse_rolls → Factors c.rto → (o : Outcome) → (run_transfer k c g l).answer ≡ Ok o → (e : End)
       → EndWhy e (forward_line c g o (run_transfer k c g l).lent) (reverse_line c g o (run_transfer k c g l).lent) → o.end ≡ e
   transfer_ends_only forward reverse factors o i e w = end_unique (transfer_ends forward reverse factors o i).why w

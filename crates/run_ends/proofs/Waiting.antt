@@ -1,4 +1,5 @@
 -- The records in use stand first and have a length, the others are zeros: so a schedule's records tell how many copies wait.
+use Rattle.std.specs.Prelude.{None, Ok}
 use Prim.Native.Nat.{ℕ, zero, suc, ◌+◌, ◌-◌, ◌≤◌, ◌<◌}
 use native.Mathlib.Omega.{arith}
 use mathlib.Core.Path.{◌≡◌, refl, sym, ap, ◌∙◌, subst}
@@ -14,7 +15,6 @@ use Rattle.schedule.specs.State.{Schedule, place_count, waiting_records, leaves_
 use Rattle.schedule.specs.Schedule.{new_schedule, put_copy, schedule_at_unchecked, without_first, first_record, pop_first, on_pop, pop_unchecked, left_by_pop}
 use Rattle.schedule.specs.declared.Deliveries.{Deliveries}
 use Rattle.schedule.specs.declared.Deliveries.TheVariants.{Lost, One, Two}
-use Rattle.schedule.specs.declared.ReadyAnswer.TheVariants as ready
 use Rattle.schedule.proofs.Ordering.{inserted_length}
 use Rattle.run_ends.specs.Ends.{waiting_count}
 
@@ -125,7 +125,7 @@ pub take_tidy : (m : Schedule) (now : ℕ) (out : List ℕ) → TidySchedule m �
 unfolding pop_unchecked without_first
 take_tidy m now out t = go (ltb 0 m.scheduler.count) (leb (time_of (first_record m.records)) now) (ltb-true 0 m.scheduler.count)
   where
-    go : (a b : Bool) → (a ≡ true → 0 < m.scheduler.count) → TidySchedule (left_by_pop (cond (a && b) (pop_first m out) (on_pop m out ready.Nothing)))
+    go : (a b : Bool) → (a ≡ true → 0 < m.scheduler.count) → TidySchedule (left_by_pop (cond (a && b) (pop_first m out) (on_pop m out (Ok None))))
     go true true h = pop_tidy (h refl) t
     go true false h = t
     go false b h = t

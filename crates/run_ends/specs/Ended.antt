@@ -1,7 +1,5 @@
 -- app/transfer.rs, `run_transfer`: why and when a run ended as the source's does, by its last step.
-use Rattle.std.specs.Prelude.{ℕ, ◌≤◌, ◌<◌, ◌≡◌, Bool, true, ◌⊎◌}
-use Rattle.timer.specs.declared.Deadline.{Deadline}
-use Rattle.timer.specs.declared.Deadline.TheVariants.{Unset, At}
+use Rattle.std.specs.Prelude.{ℕ, ◌≤◌, ◌<◌, ◌≡◌, Bool, true, ◌⊎◌, None, Option, Some}
 use Rattle.window.specs.State.{outstanding}
 use Rattle.clock.specs.Clock.{timer_of}
 use Rattle.clock.specs.declared.Timing.TheVariants.{Single}
@@ -19,7 +17,7 @@ is_idle p s =
     sender_idle p.total_chunks a.sender.sender a.forward.path a.inbound.reverse.path a.clock.answer
 
 -- the earliest of both lines and of the timers
-abbrev pub next_time : Plan → RunState → Deadline
+abbrev pub next_time : Plan → RunState → Option ℕ
 next_time p s =
     let a = s.arrivals in
     next_deadline p.timing a.forward a.inbound.reverse a.clock
@@ -36,13 +34,13 @@ pub record TimerPast (p : Plan) (s : RunState) : Type 0 where
   pub none : (window_of s.arrivals.sender.sender).next_seq_num
       ≤ (window_of s.arrivals.sender.sender).send_base
   pub deadline : ℕ
-  pub set : (timer_of s.arrivals.clock).deadline ≡ At deadline
+  pub set : (timer_of s.arrivals.clock).deadline ≡ Some deadline
   pub past : deadline ≤ s.time
 
 -- the next deadline is past the limit
 pub record PastLimit (p : Plan) (s : RunState) : Type 0 where
   pub deadline : ℕ
-  pub next : next_time p s ≡ At deadline
+  pub next : next_time p s ≡ Some deadline
   pub past : p.max_virtual_time < deadline
 
 -- The last step was one from u to s, and the run ended at a time: now, but at the limit where the next deadline is past
@@ -53,11 +51,11 @@ pub data EndedWhy (p : Plan) (u s : RunState) : ℕ → Type 0 where
   finished : s.arrivals.inbound.side.completed ≡ true → is_idle p s ≡ true → EndedWhy p u s s.time
   resends_used : s.resends.exhausted ≡ true → p.max_retransmissions ≤ s.resends.retx_submitted
       → EndedWhy p u s s.time
-  nothing_due : NothingToSend p s → next_time p s ≡ Unset → EndedWhy p u s s.time
+  nothing_due : NothingToSend p s → next_time p s ≡ None → EndedWhy p u s s.time
   past_limit : NothingToSend p s → PastLimit p s → EndedWhy p u s p.max_virtual_time
   rounds_used : u.rounds ≡ 0 → s ≡ exhausted u → (0 < p.rounds → NothingToSend p s) → EndedWhy p u s s.time
   timer_past : NothingToSend p s → TimerPast p s → EndedWhy p u s s.time
-  moments_used : NothingToSend p s → u.moves ≡ 0 → u.time < s.time → next_time p s ≡ At s.time
+  moments_used : NothingToSend p s → u.moves ≡ 0 → u.time < s.time → next_time p s ≡ Some s.time
       → EndedWhy p u s s.time
 
 -- of a run from s; it finishes at that time, a completed one at its completion

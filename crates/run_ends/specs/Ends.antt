@@ -1,6 +1,6 @@
 -- Document 01, "Turned away", the ends of a run: how a run of `run_transfer` ended and why, by its answer and what it
 -- left in the lent slices alone.
-use Rattle.std.specs.Prelude.{ℕ, ◌+◌, ◌*◌, ◌≡◌, Bool, true, false, List, [], ◌∷◌, ltb, Float, length}
+use Rattle.std.specs.Prelude.{ℕ, ◌+◌, ◌*◌, ◌≡◌, Bool, true, false, List, [], ◌∷◌, ltb, Float, length, Ok, Result}
 use Rattle.refusal.specs.Refusal.{ascii}
 use Rattle.rows.specs.Rows.{as_number}
 use Rattle.schedule.specs.Record.{record_length}
@@ -16,8 +16,7 @@ use Rattle.step.specs.declared.End.{End}
 use Rattle.step.specs.declared.End.TheVariants.{Ended, RollsSpent, EventsFull, ScheduleFull}
 use Rattle.transfer.specs.Start.{reverse_config}
 use Rattle.transfer.specs.declared.Outcome.{Outcome}
-use Rattle.transfer.specs.declared.RunAnswer.{RunAnswer}
-use Rattle.transfer.specs.declared.RunAnswer.TheVariants as answer
+use Rattle.refusal.specs.declared.Refusal.{Refusal}
 
 -- ---- the words
 abbrev pub word_of : End → List ℕ
@@ -107,6 +106,6 @@ pub record EndsSo (c : TransferConfig) (g : Given) (o : Outcome) (after : Lent) 
   pub events : o.driver.events ≡ o.forward.packets_seen
 
 -- a call that wasn't refused
-pub record IsOutcome (a : RunAnswer) : Type 0 where
+pub record IsOutcome (a : Result Outcome Refusal) : Type 0 where
   pub outcome : Outcome
-  pub is : a ≡ answer.Outcome outcome
+  pub is : a ≡ Ok outcome

@@ -1,4 +1,5 @@
 -- What the forward line hands over: each copy is a call.
+use Rattle.std.specs.Prelude.{Err, None, Ok, Option, Result, Some}
 use Prim.Native.Nat.{ℕ, ◌+◌}
 use mathlib.Core.Path.{◌≡◌, refl, sym, ap, ◌∙◌, subst}
 use mathlib.Core.Bool.{Bool, true, false, cond, ◌||◌}
@@ -9,9 +10,6 @@ use Rattle.packet.specs.Format.{new_packet, made}
 use Rattle.packet.specs.Reading.{read_datagram}
 use Rattle.packet.specs.declared.PacketType.TheVariants as packetType
 use Rattle.receiver.specs.Reply.{is_refused}
-use Rattle.receiver.specs.declared.ReceiveAnswer.{ReceiveAnswer}
-use Rattle.receiver.specs.declared.ReceiveAnswer.TheVariants as receiveAnswer
-use Rattle.schedule.specs.declared.ReadyAnswer.TheVariants as ready
 use Rattle.rto.specs.declared.RtoEstimator.{RtoEstimator}
 use Rattle.path.specs.Direction.{Direction, schedule_of}
 use Rattle.path.specs.Path.{is_going, left_by_take, CanCarry}
@@ -37,6 +35,7 @@ use Rattle.run_history.proofs.Noted.{noted_marked, any_more}
 use Rattle.run_history.proofs.Columns.{line_of, TakenFrom, taken_from, line_taken, carry_replying}
 use Rattle.run_history.proofs.Holds.{LineHolds, Takes, Hands, no_copy, hands_copy, take_holds, reply_holds}
 use Rattle.run_history.proofs.Tells.{Origin, Moment, moment, Sent, forward_copies, Told, Makes, Goes, still_told, by_call, Notes, no_trip, same_noted, same_chunked, none_replied, none_returns, no_more}
+use Rattle.refusal.specs.declared.Refusal.{Refusal}
 
 absorbed_duplicates : (total now : ℕ) (x : ReceivingSide) → (absorb total now x).duplicate_data ≡ x.duplicate_data
 unfolding absorb
@@ -122,7 +121,7 @@ module _ (b : Origin) (v : SenderEnd) (e : RtoEstimator) (acks duplicates : ℕ)
     can_carry can n = record { good = (received_good total now raw i b.reverse_rolls can.good).reverse; in_time = can.in_time; short = omega (arith, made_length (new_packet n packetType.Ack) []) }
 
     -- Data with its ACK
-    acked : CanOnForward i b.reverse_rolls now → is_data (read_datagram raw) ≡ true → (n : ℕ) → (handled raw i).answer ≡ receiveAnswer.Ack n → (going : Bool)
+    acked : CanOnForward i b.reverse_rolls now → is_data (read_datagram raw) ≡ true → (n : ℕ) → (handled raw i).answer ≡ Ok (Some n) → (going : Bool)
         → is_going (submit_ack b.reverse_rolls now n (made (new_packet n packetType.Ack) []) (received total now raw i)).stop ≡ going
         → Makes b (arrival raw going) now_at (then_at (submit_ack b.reverse_rolls now n (made (new_packet n packetType.Ack) []) (received total now raw i)).inbound)
     unfolding submit_ack
@@ -172,7 +171,7 @@ module _ (b : Origin) (v : SenderEnd) (e : RtoEstimator) (acks duplicates : ℕ)
           ∙ ap (λ (ds : Deliveries). cond (ltb 0 (copies ds)) (marked_metas b.reverse_rolls now n wire later) later.metas) (whole_granted later.reverse b.reverse_rolls true now wire (can_carry can n) no_faults fits.left)
           ∙ ap (λ (x : SegMetas). mark_ack_scheduled x n (is_cumulative later.side.receiver)) d.metas ∙ ap (λ (r : Receiver). mark_ack_scheduled i.metas n (is_cumulative r)) d.receiver
 
-      acked_noted : is_data (read_datagram raw) ≡ true → (handled raw i).answer ≡ receiveAnswer.Ack n → is_going (submit_ack b.reverse_rolls now n wire later).stop ≡ true → (going : Bool) → (xs : List Reply) (ys : List ℕ) → Notes xs ys now_at
+      acked_noted : is_data (read_datagram raw) ≡ true → (handled raw i).answer ≡ Ok (Some n) → is_going (submit_ack b.reverse_rolls now n wire later).stop ≡ true → (going : Bool) → (xs : List Reply) (ys : List ℕ) → Notes xs ys now_at
           → Notes (xs ++ replied_by now_at.ends (arrival raw going)) (ys ++ []) (then_at (submit_ack b.reverse_rolls now n wire later).inbound)
       acked_noted h a g going xs ys q = rw (h, a, marks g) (no_trip now_at.events _ ys (noted_marked q n (is_cumulative (handled raw i).receiver.receiver) (λ k. any_more (covers k) xs _)))
 
@@ -182,13 +181,13 @@ module _ (b : Origin) (v : SenderEnd) (e : RtoEstimator) (acks duplicates : ℕ)
         After : ForwardExit → Type 0
         After x = Goes b (then_at x.inbound) (is_going x.stop)
 
-        No : ReceiveAnswer → Type 0
+        No : Result (Option ℕ) Refusal → Type 0
         No a = reply a (is_cumulative (handled raw i).receiver.receiver) (window_of v.sender).next_seq_num true ≡ []
 
-        by_answer : is_data (read_datagram raw) ≡ true → (a : ReceiveAnswer) → (handled raw i).answer ≡ a → After (on_forward b.reverse_rolls total now raw i)
-        by_answer h receiveAnswer.Silent a = let nothing : No (handled raw i).answer = subst No (sym a) refl in subst After (sym (forward_silent b.reverse_rolls total now raw i h a)) (by_call q (silent h nothing) (λ g. refl) (λ g. silent_noted h nothing))
-        by_answer h (receiveAnswer.Refused r) a = let nothing : No (handled raw i).answer = subst No (sym a) refl in subst After (sym (forward_refused b.reverse_rolls total now raw i r h a)) (by_call q (silent h nothing) (λ g. refl) (λ g. silent_noted h nothing))
-        by_answer h (receiveAnswer.Ack n) a =
+        by_answer : is_data (read_datagram raw) ≡ true → (a : Result (Option ℕ) Refusal) → (handled raw i).answer ≡ a → After (on_forward b.reverse_rolls total now raw i)
+        by_answer h (Ok None) a = let nothing : No (handled raw i).answer = subst No (sym a) refl in subst After (sym (forward_silent b.reverse_rolls total now raw i h a)) (by_call q (silent h nothing) (λ g. refl) (λ g. silent_noted h nothing))
+        by_answer h (Err r) a = let nothing : No (handled raw i).answer = subst No (sym a) refl in subst After (sym (forward_refused b.reverse_rolls total now raw i r h a)) (by_call q (silent h nothing) (λ g. refl) (λ g. silent_noted h nothing))
+        by_answer h (Ok (Some n)) a =
             subst After (sym (forward_acknowledged b.reverse_rolls total now raw i n h a))
             (by_call q (acked can h n a _ refl) (λ g. g) (λ g. acked_noted can (ap (λ (x : Channel). x.config) q.tells.replying.line.channel_is) n h a g _))
 
@@ -198,15 +197,15 @@ module _ (b : Origin) (v : SenderEnd) (e : RtoEstimator) (acks duplicates : ℕ)
 
   -- I: what the turns keep, and by which no Data is refused
   pub arrivals_told : (total now : ℕ) (I : Direction → Inbound → Type 0)
-      → ((f : Direction) (i : Inbound) (n : ℕ) → (next_taken now f).result.answer ≡ ready.Packet n → I f i → I (left_by_take (next_taken now f)) (next_exit b.reverse_rolls total now f i n).inbound)
-      → ((f : Direction) (i : Inbound) (n : ℕ) → (next_taken now f).result.answer ≡ ready.Packet n → I f i → CanOnForward i b.reverse_rolls now)
-      → ((f : Direction) (i : Inbound) (n : ℕ) → (next_taken now f).result.answer ≡ ready.Packet n → I f i → is_data (read_datagram (take n (next_taken now f).out)) ≡ true → is_refused (handled (take n (next_taken now f).out) i).answer ≡ false)
+      → ((f : Direction) (i : Inbound) (n : ℕ) → (next_taken now f).result.answer ≡ Ok (Some n) → I f i → I (left_by_take (next_taken now f)) (next_exit b.reverse_rolls total now f i n).inbound)
+      → ((f : Direction) (i : Inbound) (n : ℕ) → (next_taken now f).result.answer ≡ Ok (Some n) → I f i → CanOnForward i b.reverse_rolls now)
+      → ((f : Direction) (i : Inbound) (n : ℕ) → (next_taken now f).result.answer ≡ Ok (Some n) → I f i → is_data (read_datagram (take n (next_taken now f).out)) ≡ true → is_refused (handled (take n (next_taken now f).out) i).answer ≡ false)
       → ((f : Direction) (i : Inbound) → I f i → (state_broken (schedule_of f) ≡ false) × (held_late (waiting_records (schedule_of f)) ≡ false))
       → (f : Direction) (i : Inbound) → I f i → Arrives f i → Goes b (arrive_moment (serve_forward b.reverse_rolls total now f i).forward (serve_forward b.reverse_rolls total now f i).inbound) (is_going (serve_forward b.reverse_rolls total now f i).stop)
   arrivals_told total now I keeps can accepts sound =
       serve_turns b.reverse_rolls total now (λ (f : Direction) (i : Inbound) (x : ServeForwardExit). I f i → Arrives f i → Goes b (arrive_moment x.forward x.inbound) (is_going x.stop)) (λ f i e k q. still_told q)
       (λ f i n x e g rest k q. rest (keeps f i n e k) ((turn f i n e k q).0 g)) (λ f i n e g k q. turn f i n e k q)
     where
-      turn : (f : Direction) (i : Inbound) (n : ℕ) → (next_taken now f).result.answer ≡ ready.Packet n → I f i → Arrives f i
+      turn : (f : Direction) (i : Inbound) (n : ℕ) → (next_taken now f).result.answer ≡ Ok (Some n) → I f i → Arrives f i
           → Goes b (arrive_moment (left_by_take (next_taken now f)) (next_exit b.reverse_rolls total now f i n).inbound) (is_going (next_exit b.reverse_rolls total now f i n).stop)
       turn f i n e k q = arrival_told total now (take n (next_taken now f).out) f (left_by_take (next_taken now f)) (taken_from now f n e) (λ gs places h. take_holds now f n (sound f i k).0 (sound f i k).1 e h) i (accepts f i n e k) (can f i n e k) q

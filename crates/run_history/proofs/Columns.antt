@@ -1,4 +1,5 @@
 -- What a line and a count are after a list of packets and so many copies handed over, and after one more.
+use Rattle.std.specs.Prelude.{Ok, Some}
 use Prim.Native.Nat.{ℕ, ◌+◌, ◌*◌}
 use mathlib.Core.Path.{◌≡◌, refl, sym, ap, ◌∙◌, subst}
 use mathlib.Core.Bool.{Bool, true, false, cond, not}
@@ -16,7 +17,6 @@ use Rattle.schedule.specs.Schedule.{put_copy, schedule_at_unchecked}
 use Rattle.schedule.specs.Waiting.{WaitingCopy, waiting}
 use Rattle.schedule.specs.declared.Deliveries.{Deliveries}
 use Rattle.schedule.specs.declared.Deliveries.TheVariants.{Lost, One, Two}
-use Rattle.schedule.specs.declared.ReadyAnswer.TheVariants as ready
 use Rattle.path.specs.Direction.{Direction, schedule_of}
 use Rattle.path.specs.Rolls.{packet_rolls, rolls_at}
 use Rattle.path.specs.Path.{CarryExit, is_going, left_by_carry, carry, stop_of, copy_fold, left_by_take, take_ready, packet_buffer}
@@ -72,7 +72,7 @@ pub record TakenFrom (d after : Direction) : Type 0 where
   pub channel : after.path.channel ≡ d.path.channel
   pub count : after.path.scheduler.count + 1 ≡ d.path.scheduler.count
 
-pub taken_from : (now : ℕ) (d : Direction) (n : ℕ) → (take_ready d now packet_buffer).result.answer ≡ ready.Packet n → TakenFrom d (left_by_take (take_ready d now packet_buffer))
+pub taken_from : (now : ℕ) (d : Direction) (n : ℕ) → (take_ready d now packet_buffer).result.answer ≡ Ok (Some n) → TakenFrom d (left_by_take (take_ready d now packet_buffer))
 unfolding take_ready
 taken_from now d n e = record { used = refl; channel = refl; count = take_count d now packet_buffer n e }
 

@@ -1,4 +1,5 @@
 -- What is sent: each chunk is a call, and each timeout with what becomes of its datagrams.
+use Rattle.std.specs.Prelude.{Option}
 use Prim.Native.Nat.{ℕ, ◌+◌, ◌≤◌, ◌<◌}
 use mathlib.Core.Path.{◌≡◌, refl, sym, ap, ◌∙◌, subst}
 use mathlib.Core.Bool.{Bool, true, false, cond, not, ◌&&◌, true≢false}
@@ -29,7 +30,6 @@ use Rattle.delivery.specs.Ends.{bytes_sent, is_send_refused}
 use Rattle.session.specs.GoodSender.{SenderUnbroken}
 use Rattle.departures.specs.Departures.{is_going_on}
 use Rattle.prefixes.proofs.Laws.{send_not_refused, timeout_not_refused}
-use Rattle.session.specs.declared.Oldest.{Oldest}
 use Rattle.session.specs.declared.Timeout.{Timeout}
 use Rattle.session.specs.declared.Timeout.TheVariants as timeout
 use Rattle.submission.specs.Submission.{Outgoing, entry_free, submit}
@@ -93,7 +93,7 @@ sum_more : (p c k y x r : ℕ) → x ≡ c + k → r ≡ p + c → r + k ≡ y �
 sum_more p c k y x r e f g = omega arith
 
 -- ---- datagrams again, until the ceiling is met or the run ends
-module _ (c : ChannelConfig) (rolls : List Float) (limit : ℕ) (t : Timing) (rto now : ℕ) (oldest : Oldest) where
+module _ (c : ChannelConfig) (rolls : List Float) (limit : ℕ) (t : Timing) (rto now : ℕ) (oldest : Option ℕ) where
   abbrev Sends : List Submission → ℕ → Resends → Outgoing → Type 0
   Sends xs came r o = Sending c rolls xs came r.retx_submitted o.written (line_of o.forward) (events_in o)
 

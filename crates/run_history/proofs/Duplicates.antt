@@ -1,4 +1,5 @@
 -- `duplicate_data` by the readings of the Data handed over.
+use Rattle.std.specs.Prelude.{Err, None, Ok, Option, Result, Some}
 use Prim.Native.Nat.{ℕ, suc, ◌+◌, ◌-◌}
 use mathlib.Core.Path.{◌≡◌, refl, sym, ap, ◌∙◌, subst}
 use mathlib.Core.Bool.{Bool, true, false, cond, true≢false}
@@ -13,8 +14,6 @@ use Rattle.packet.specs.declared.DatagramReading.TheVariants as datagram
 use Rattle.receiver.specs.Reading.{by_type, reading_of, read_packet}
 use Rattle.receiver.specs.Reply.{is_refused}
 use Rattle.receiver.specs.declared.PacketReading.{PacketReading}
-use Rattle.receiver.specs.declared.ReceiveAnswer.{ReceiveAnswer}
-use Rattle.receiver.specs.declared.ReceiveAnswer.TheVariants as answer
 use Rattle.delivery.specs.Ends.{is_received}
 use Rattle.tallies.specs.Readings.{count, is_older}
 use Rattle.tallies.specs.Receivers as receivers
@@ -38,6 +37,7 @@ use Rattle.run_history.specs.EndCalls.{receiver_call_by, receiver_from, is_repea
 use Rattle.run_history.specs.History.{start_ends, History}
 use Rattle.run_history.proofs.Lists.{after_more, collect_more}
 use Rattle.run_history.proofs.EndCalls.{receiver_after, receiver_counted}
+use Rattle.refusal.specs.declared.Refusal.{Refusal}
 
 -- ---- one call more
 module _ {R : Type 0} (handle : receivers.Handling R) where
@@ -57,26 +57,26 @@ risen : (b : Bool) (n late : ℕ) → late ≡ 0 → ((cond b (suc n) n - n) + l
 risen true n late e = omega arith
 risen false n late e = omega arith
 
-not_late : (r : Receiver) (x : DatagramReading) → is_cumulative r ≡ false → as_number (gbn_duplicate r x) ≡ 0
-not_late r (datagram.Valid p) e = rw e
-not_late r (datagram.Corrupted p) e = refl
-not_late r (datagram.Refused s) e = refl
+not_late : (r : Receiver) (x : Result DatagramReading Refusal) → is_cumulative r ≡ false → as_number (gbn_duplicate r x) ≡ 0
+not_late r (Ok (datagram.Valid p)) e = rw e
+not_late r (Ok (datagram.Corrupted p)) e = refl
+not_late r (Err s) e = refl
 
-late_is : (hs : List PacketReading) (f : ℕ) (w : ℕ) (x : DatagramReading) → is_data x ≡ true → gbn_duplicate (record { state = receiver_from GoBackN w hs f }) x ≡ is_older hs (reading_of x)
-late_is hs f w (datagram.Valid p) t = by_type_lem p.pkt_type t
+late_is : (hs : List PacketReading) (f : ℕ) (w : ℕ) (x : Result DatagramReading Refusal) → is_data x ≡ true → gbn_duplicate (record { state = receiver_from GoBackN w hs f }) x ≡ is_older hs (reading_of x)
+late_is hs f w (Ok (datagram.Valid p)) t = by_type_lem p.pkt_type t
   where
-    by_type_lem : (k : PacketType) → is_data_type k ≡ true → gbn_duplicate (record { state = receiver_from GoBackN w hs f }) (datagram.Valid p) ≡ is_older hs (by_type k p.seq_num)
+    by_type_lem : (k : PacketType) → is_data_type k ≡ true → gbn_duplicate (record { state = receiver_from GoBackN w hs f }) (Ok (datagram.Valid p)) ≡ is_older hs (by_type k p.seq_num)
     by_type_lem packetType.Data t = refl
     by_type_lem packetType.Ack t = absurd (true≢false (sym t))
     by_type_lem packetType.Fin t = absurd (true≢false (sym t))
-late_is hs f w (datagram.Corrupted p) t = refl
-late_is hs f w (datagram.Refused s) t = absurd (true≢false (sym t))
+late_is hs f w (Ok (datagram.Corrupted p)) t = refl
+late_is hs f w (Err s) t = absurd (true≢false (sym t))
 
 raised : (b : Bool) (n : ℕ) → ((0 - 0) + as_number b) + n ≡ cond b (suc n) n
 raised true n = omega arith
 raised false n = omega arith
 
-pub repeated_one : (p : ProtocolType) (w : ℕ) (hs : List PacketReading) (x : DatagramReading) (f g : ℕ) → is_data x ≡ true
+pub repeated_one : (p : ProtocolType) (w : ℕ) (hs : List PacketReading) (x : Result DatagramReading Refusal) (f g : ℕ) → is_data x ≡ true
     → new_duplicates (record { state = receiver_from p w hs f }) (gbn_duplicate (record { state = receiver_from p w hs f }) x) (record { state = receiver_from p w (reading_of x ∷ hs) g }) + count (is_repeated p w) hs ≡ count (is_repeated p w) (reading_of x ∷ hs)
 unfolding count
 repeated_one StopAndWait w hs x f g t = risen (is_repeated StopAndWait w hs (reading_of x)) (count (is_repeated StopAndWait w) hs) _ (not_late (record { state = receiver_from StopAndWait w hs f }) x refl)
@@ -105,10 +105,10 @@ module _ (p : ProtocolType) (w : ℕ) (store : List ℕ) (v : SenderEnd) (output
       ap (receivers.readings handle_packet (new_receiver p w store))
       (collect_more receiver_call_by first cs c ∙ ap (λ (l : List receivers.Call). collect receiver_call_by first cs ++ l) e ∙ append-nil (collect receiver_call_by first cs))
 
-  received : (a : ReceiveAnswer) → is_refused a ≡ false → is_received a ≡ true
-  received (answer.Ack n) e = refl
-  received answer.Silent e = refl
-  received (answer.Refused r) e = absurd (true≢false e)
+  received : (a : Result (Option ℕ) Refusal) → is_refused a ≡ false → is_received a ≡ true
+  received (Ok (Some n)) e = refl
+  received (Ok None) e = refl
+  received (Err r) e = absurd (true≢false e)
 
   module _ (cs : List Call) (raw : List ℕ) (carried : Bool) (t : reads_as_data raw ≡ true) (ok : is_refused (received_by (after_calls first cs) raw).answer ≡ false) where
     abbrev this : receivers.Call

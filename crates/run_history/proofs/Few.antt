@@ -1,4 +1,5 @@
 -- What a run's history says of its answer alone.
+use Rattle.std.specs.Prelude.{None, Option, Some}
 use Prim.Native.Nat.{ℕ, suc, ◌+◌, ◌≤◌, min}
 use native.Mathlib.Omega.{arith}
 use mathlib.Core.Path.{◌≡◌, refl, sym, ap, ◌∙◌, subst}
@@ -20,8 +21,6 @@ use Rattle.path.specs.Rolls.{packet_rolls}
 use Rattle.events.specs.Events.{event_of, events_of}
 use Rattle.session.specs.Sending.{handle_ack, resent}
 use Rattle.acks.specs.Acks.{ack_number, sample_seq, is_accepted}
-use Rattle.acks.specs.declared.AckNumber.{AckNumber}
-use Rattle.acks.specs.declared.AckNumber.TheVariants as ack
 use Rattle.setup.specs.declared.TransferConfig.{TransferConfig}
 use Rattle.step.specs.State.{Given, Lent}
 use Rattle.transfer.specs.declared.Ceilings.{Ceilings}
@@ -92,9 +91,9 @@ calls_join (x ∷ xs) ys = let e = calls_join xs ys in omega (arith, e)
 
 -- a call gives at most a sample, and only a valid ACK does
 module _ (s a : ℕ → Bool) (e : Ends) where
-  sample_most : (raw : List ℕ) (age : ℕ) (n : AckNumber) → sample_calls (first_sample s a age (ended_by n e raw)) ≤ one (is_number n)
-  sample_most raw age ack.Nothing = omega arith
-  sample_most raw age (ack.Number n) = go (is_accepted (handle_ack e.sender raw).answer) (s (sample_seq e.sender.sender.state n))
+  sample_most : (raw : List ℕ) (age : ℕ) (n : Option ℕ) → sample_calls (first_sample s a age (ended_by n e raw)) ≤ one (is_number n)
+  sample_most raw age None = omega arith
+  sample_most raw age (Some n) = go (is_accepted (handle_ack e.sender raw).answer) (s (sample_seq e.sender.sender.state n))
     where
       taken : (u : Bool) → sample_calls (cond u [] (rto.sample age (a (sample_seq e.sender.sender.state n)) ∷ [])) ≤ 1
       taken true = omega arith

@@ -1,4 +1,5 @@
 -- What waits on a line are copies that it was granted, each once, and none that was handed over.
+use Rattle.std.specs.Prelude.{Ok, Some}
 use Prim.Native.Nat.{ℕ, ◌+◌, ◌*◌, ◌<◌}
 use native.Mathlib.Omega.{arith}
 use mathlib.Core.Path.{◌≡◌, refl, sym, ap, ◌∙◌, subst}
@@ -15,7 +16,6 @@ use Rattle.schedule.specs.Schedule.{put_copy, schedule_at_unchecked}
 use Rattle.schedule.specs.Waiting.{WaitingCopy, copy, copy_after, waiting, new_copies, inserted_all, put_copies, All, of_none, of_more}
 use Rattle.schedule.specs.declared.Deliveries.{Deliveries}
 use Rattle.schedule.specs.declared.Deliveries.TheVariants.{Lost, One, Two}
-use Rattle.schedule.specs.declared.ReadyAnswer.TheVariants as ready
 use Rattle.schedule.proofs.Laws.{new_waits, schedule_waits, all_weaker}
 use Rattle.channel.specs.Faults.{carried_bytes, deliveries_of}
 use Rattle.channel.specs.declared.Channel.{Channel}
@@ -219,7 +219,7 @@ without_first {places = places} w h =
       below = all_more w.order h.below first.inside;
     }
 
-pub take_holds : {gs : List (List ℕ)} {places : List ℕ} (now : ℕ) (d : Direction) (n : ℕ) → state_broken (schedule_of d) ≡ false → held_late (waiting_records (schedule_of d)) ≡ false → (take_ready d now packet_buffer).result.answer ≡ ready.Packet n → LineHolds gs places (line_of d)
+pub take_holds : {gs : List (List ℕ)} {places : List ℕ} (now : ℕ) (d : Direction) (n : ℕ) → state_broken (schedule_of d) ≡ false → held_late (waiting_records (schedule_of d)) ≡ false → (take_ready d now packet_buffer).result.answer ≡ Ok (Some n) → LineHolds gs places (line_of d)
     → Takes gs places (take n (take_ready d now packet_buffer).out) (line_of (left_by_take (take_ready d now packet_buffer)))
 take_holds {gs} {places} now d n sound times e h =
     let waits : EachWaiting (λ (x : List ℕ). Unit {0}) d = record { each = all_weaker (λ w q. tt) h.each } in

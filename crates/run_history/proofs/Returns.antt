@@ -1,4 +1,5 @@
 -- What the reverse line hands over: each copy is a call, with the sample that an accepted ACK gives.
+use Rattle.std.specs.Prelude.{None, Option, Some}
 use Prim.Native.Nat.{ℕ, ◌+◌, ◌-◌, ◌≤◌, ◌<◌}
 use native.Mathlib.Omega.{arith}
 use mathlib.Core.Path.{◌≡◌, refl, sym, ap, ◌∙◌, subst}
@@ -17,8 +18,6 @@ use Rattle.rto.specs.declared.UpdateResult.{UpdateResult}
 use Rattle.rto.proofs.Laws.{update_accepted}
 use Rattle.rows.specs.Rows.{is_set}
 use Rattle.notes.specs.Notes.{SegMetas, meta_at, SampleExit, take_sample}
-use Rattle.notes.specs.declared.Sample.{Sample}
-use Rattle.notes.specs.declared.Sample.TheVariants.{Rtt, Nothing}
 use Rattle.notes.proofs.Laws.{sample_first, sample_again, sample_within}
 use Rattle.clock.specs.Clock.{by_sample, sample_rtt}
 use Rattle.clock.specs.declared.Timing.{Timing}
@@ -36,8 +35,6 @@ use Rattle.receiving.specs.Receiving.{Inbound, inbound}
 use Rattle.acks.specs.Acks.{AckState, ack_number, sample_seq, on_accepted, counted, duplicate, is_accepted, by_number, on_ack}
 use Rattle.acks.specs.Good.{CanOnAck}
 use Rattle.acks.specs.Reverse.{serve_reverse, CanServeReverse}
-use Rattle.acks.specs.declared.AckNumber.{AckNumber}
-use Rattle.acks.specs.declared.AckNumber.TheVariants as ack
 use Rattle.acks.proofs.Laws.{acked, next_taken, can_hand_over, turn_good, serve_reverse_invariant}
 use Rattle.run_history.specs.Calls.{return, is_number, one}
 use Rattle.sending.specs.declared.Resends.{Resends}
@@ -59,7 +56,7 @@ accepted_only : (t : Bool) → is_accepted (ack_answer_of t) ≡ true → t ≡ 
 accepted_only true e = refl
 accepted_only false e = absurd (true≢false (sym e))
 
-trip_sent : (v : SenderEnd) (raw : List ℕ) → SenderUnbroken v → (n : ℕ) → ack_number (read_datagram raw) ≡ ack.Number n → is_accepted (handle_ack v raw).answer ≡ true → sample_seq v.sender.state n < (window_of v.sender).next_seq_num
+trip_sent : (v : SenderEnd) (raw : List ℕ) → SenderUnbroken v → (n : ℕ) → ack_number (read_datagram raw) ≡ Some n → is_accepted (handle_ack v raw).answer ≡ true → sample_seq v.sender.state n < (window_of v.sender).next_seq_num
 unfolding handle_ack_unchecked
 trip_sent v raw u n h a =
     let s = window_of v.sender in
@@ -70,9 +67,9 @@ trip_sent v raw u n h a =
     ⊎_elim (λ e. omega (arith, e, low, high)) (λ e. omega (arith, e, high)) (base_or_number v.sender.state n)
 
 -- ---- a sample as the estimator's call
-abbrev calls_of : Sample → List rto.Call
-calls_of Nothing = []
-calls_of (Rtt age again) = rto.sample age again ∷ []
+abbrev calls_of : Option (ℕ × Bool) → List rto.Call
+calls_of None = []
+calls_of (Some (age, again)) = rto.sample age again ∷ []
 
 module _ (b : Origin) (f : Direction) (i : Inbound) (again : Resends) (written : ℕ) (rows : List (List ℕ)) where
   -- the receiving side as it was, with the reverse line
@@ -92,7 +89,7 @@ module _ (b : Origin) (f : Direction) (i : Inbound) (again : Resends) (written :
     came xs k places q h = subst (λ (ys : List Reply). Hands (reverse_copies b xs) (raw ∷ []) places (λ (ps : List ℕ). LineHolds (reverse_copies b ys) ps (line_of left))) (sym (append-nil xs)) (hands_copy (took _ places h))
 
     -- no valid ACK
-    dropped : ack_number (read_datagram raw) ≡ ack.Nothing → Makes b (return raw 0) (return_moment d s) (return_moment left s)
+    dropped : ack_number (read_datagram raw) ≡ None → Makes b (return raw 0) (return_moment d s) (return_moment left s)
     dropped h =
         record {
           not_refused = λ t. absurd (true≢false (sym t ∙ ap is_number h));
@@ -111,7 +108,7 @@ module _ (b : Origin) (f : Direction) (i : Inbound) (again : Resends) (written :
           duplicates_are = rw h (no_more s.duplicates);
         }
 
-    handled : SenderUnbroken s.sender → (n : ℕ) → ack_number (read_datagram raw) ≡ ack.Number n → is_handled (handle_ack s.sender raw).answer ≡ true
+    handled : SenderUnbroken s.sender → (n : ℕ) → ack_number (read_datagram raw) ≡ Some n → is_handled (handle_ack s.sender raw).answer ≡ true
     unfolding handle_ack_unchecked
     handled u n h = ap (λ (x : AckExit SenderEnd). is_handled x.answer) (acked s.sender raw u n h) ∙ either (is_in_window (window_of s.sender.sender) n)
       where
@@ -119,7 +116,7 @@ module _ (b : Origin) (f : Direction) (i : Inbound) (again : Resends) (written :
         either true = refl
         either false = refl
 
-    module _ (u : SenderUnbroken s.sender) (n : ℕ) (h : ack_number (read_datagram raw) ≡ ack.Number n) where
+    module _ (u : SenderUnbroken s.sender) (n : ℕ) (h : ack_number (read_datagram raw) ≡ Some n) where
       -- with the sender after it, another estimator, other notes and another count of duplicates
       abbrev answered : RtoEstimator → SegMetas → ℕ → Moment
       answered e m k = moment f (inbound i.side i.store i.output m left) (handle_ack s.sender raw).after e (s.received + 1) k again written rows
@@ -178,7 +175,7 @@ module _ (b : Origin) (f : Direction) (i : Inbound) (again : Resends) (written :
           let counts = (can_sample s.estimator s.received g s.metas now can.good.notes can.few).counts in
           ap (λ (x : UpdateResult). rto.update_refused x.answer) (update_accepted s.estimator l re (record { state = g.state; times = g.times }) counts (le_trans h can.good.notes.within))
 
-      module _ (n : ℕ) (h : ack_number (read_datagram raw) ≡ ack.Number n) (a : is_accepted (handle_ack s.sender raw).answer ≡ true) where
+      module _ (n : ℕ) (h : ack_number (read_datagram raw) ≡ Some n) (a : is_accepted (handle_ack s.sender raw).answer ≡ true) where
         abbrev seq : ℕ
         seq = sample_seq s.sender.sender.state n
 
@@ -204,9 +201,9 @@ module _ (b : Origin) (f : Direction) (i : Inbound) (again : Resends) (written :
                 ap (λ (c : Bool). cond c [] (rto.sample age (again seq) ∷ [])) (x.0 ∙ e) ∙ ap (λ (c : Bool). rto.sample age c ∷ []) x.1
                 ∙ ap (λ (y : SampleExit). calls_of y.sample) (sym (sample_first s.metas seq now (subst (λ (k : ℕ). seq < k) (sym q.noted.count) sent_segment) e))
 
-        sample_taken : (x : Sample) → (take_sample s.metas seq now).sample ≡ x → (foldl rto.step s.estimator (calls_of x) ≡ by_sample s.estimator x) × Taken s.estimator (calls_of x)
-        sample_taken Nothing e = (refl, tt)
-        sample_taken (Rtt l re) e = let w = sample_within s.metas seq now l re e in (update_is l re w, (update_taken l re w, tt))
+        sample_taken : (x : Option (ℕ × Bool)) → (take_sample s.metas seq now).sample ≡ x → (foldl rto.step s.estimator (calls_of x) ≡ by_sample s.estimator x) × Taken s.estimator (calls_of x)
+        sample_taken None e = (refl, tt)
+        sample_taken (Some (l, re)) e = let w = sample_within s.metas seq now l re e in (update_is l re w, (update_taken l re w, tt))
 
         accepted_told : Returns d s → Returns left (on_accepted timing now n seq (counted s (handle_ack s.sender raw).after))
         unfolding on_accepted sample_rtt
@@ -222,14 +219,14 @@ module _ (b : Origin) (f : Direction) (i : Inbound) (again : Resends) (written :
       unfolding on_ack
       return_told q = by_number_lem (ack_number (read_datagram raw)) refl
         where
-          by_accepted : (n : ℕ) → ack_number (read_datagram raw) ≡ ack.Number n → (t : Bool) → is_accepted (handle_ack s.sender raw).answer ≡ t
+          by_accepted : (n : ℕ) → ack_number (read_datagram raw) ≡ Some n → (t : Bool) → is_accepted (handle_ack s.sender raw).answer ≡ t
               → Returns left (cond t (on_accepted timing now n (sample_seq s.sender.sender.state n) (counted s (handle_ack s.sender raw).after)) (duplicate (counted s (handle_ack s.sender raw).after)))
           by_accepted n h true a = accepted_told n h a q
           by_accepted n h false a = duplicate_told can.good.sender n h a q
 
-          by_number_lem : (x : AckNumber) → ack_number (read_datagram raw) ≡ x → Returns left (by_number x timing now raw s)
-          by_number_lem ack.Nothing h = told_more q (dropped h) tt (λ xs ys k. rw h (same_noted (return_moment d s) xs ys k))
-          by_number_lem (ack.Number n) h = by_accepted n h (is_accepted (handle_ack s.sender raw).answer) refl
+          by_number_lem : (x : Option ℕ) → ack_number (read_datagram raw) ≡ x → Returns left (by_number x timing now raw s)
+          by_number_lem None h = told_more q (dropped h) tt (λ xs ys k. rw h (same_noted (return_moment d s) xs ys k))
+          by_number_lem (Some n) h = by_accepted n h (is_accepted (handle_ack s.sender raw).answer) refl
 
   pub returns_told : (timing : Timing) (now : ℕ) (d : Direction) (s : AckState) → CanServeReverse d s now → Returns d s → Returns (serve_reverse timing now d s).reverse (serve_reverse timing now d s).state
   returns_told timing now d s can q =

@@ -1,4 +1,5 @@
 -- The answer of `run_transfer` from the history of its calls.
+use Rattle.std.specs.Prelude.{Ok}
 use Prim.Native.Nat.{ℕ}
 use mathlib.Core.Path.{◌≡◌, refl, sym, ap, subst}
 use mathlib.Core.List.{[]}
@@ -34,7 +35,6 @@ use Rattle.transfer.specs.Run.{run}
 use Rattle.transfer.specs.Transfer.{outcome_of, lent_of, run_transfer}
 use Rattle.transfer.specs.declared.Ceilings.{Ceilings}
 use Rattle.transfer.specs.declared.Outcome.{Outcome}
-use Rattle.transfer.specs.declared.RunAnswer.TheVariants as answer
 use Rattle.transfer.proofs.Laws.{reverse_no_faults, start_plan, start_good, sender_window, sender_store, by_outcome}
 use Rattle.run_history.specs.Calls.{after_calls, collect, total}
 use Rattle.run_history.specs.Lines.{filter, any, packets_from, events_from}
@@ -137,5 +137,5 @@ module _ (k : Ceilings) (c : TransferConfig) (g : Given) (l : Lent) where
           }
 
   -- of every call that isn't refused. Octets, Doubles and Factors say what the lent bytes and doubles are by their types.
-  pub transfer_history : Octets l.sender_store → Octets g.file → Doubles g.forward_rolls → Doubles g.reverse_rolls → Factors c.rto → (o : Outcome) → (run_transfer k c g l).answer ≡ answer.Outcome o → History k c g l o (run_transfer k c g l).lent
+  pub transfer_history : Octets l.sender_store → Octets g.file → Doubles g.forward_rolls → Doubles g.reverse_rolls → Factors c.rto → (o : Outcome) → (run_transfer k c g l).answer ≡ Ok o → History k c g l o (run_transfer k c g l).lent
   transfer_history store file forward reverse factors = by_outcome k c g l (History k c g l) (λ h. last_history h store file forward reverse factors)

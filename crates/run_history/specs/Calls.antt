@@ -1,13 +1,11 @@
 -- Document 01, "Links that would ruin a book" (tallies from the history of calls): the calls of a run, oldest first,
 -- and what they make of both ends and hand to the lines. Nothing here looks at a run's state.
-use Rattle.std.specs.Prelude.{ℕ, ◌+◌, Bool, true, false, cond, not, ◌&&◌, List, [], ◌∷◌, ◌++◌}
+use Rattle.std.specs.Prelude.{ℕ, ◌+◌, Bool, true, false, cond, not, ◌&&◌, List, [], ◌∷◌, ◌++◌, Err, None, Ok, Option, Result, Some}
 use Rattle.packet.specs.Format.{new_packet, made}
 use Rattle.packet.specs.Reading.{read_datagram}
 use Rattle.packet.specs.declared.PacketType.TheVariants as packetType
 use Rattle.window.specs.Sending.{SendExit}
 use Rattle.receiver.specs.Receive.{ReceiveExit}
-use Rattle.receiver.specs.declared.ReceiveAnswer.{ReceiveAnswer}
-use Rattle.receiver.specs.declared.ReceiveAnswer.TheVariants as receiveAnswer
 use Rattle.delivery.specs.Calls.{number_of}
 use Rattle.delivery.specs.Ends.{bytes_sent}
 use Rattle.path.specs.Path.{packet_buffer}
@@ -16,8 +14,7 @@ use Rattle.session.specs.Receiving.{ReceiverEnd, is_cumulative, handle_packet}
 use Rattle.session.specs.declared.Timeout.{Timeout}
 use Rattle.receiving.specs.Receiving.{is_data, gbn_duplicate, new_duplicates, ack_buffer}
 use Rattle.acks.specs.Acks.{ack_number, is_accepted}
-use Rattle.acks.specs.declared.AckNumber.{AckNumber}
-use Rattle.acks.specs.declared.AckNumber.TheVariants as ack
+use Rattle.refusal.specs.declared.Refusal.{Refusal}
 
 pub data Call : Type 0 where
   -- a chunk is sent, and its datagram handed to the forward line; whether it was carried
@@ -43,9 +40,9 @@ ends v r output = record { sender = v; receiver = r; output = output }
 abbrev pub reads_as_data : List ℕ → Bool
 reads_as_data raw = is_data (read_datagram raw)
 
-abbrev pub is_number : AckNumber → Bool
-is_number ack.Nothing = false
-is_number (ack.Number n) = true
+abbrev pub is_number : Option ℕ → Bool
+is_number None = false
+is_number (Some n) = true
 
 abbrev pub reads_as_ack : List ℕ → Bool
 reads_as_ack raw = is_number (ack_number (read_datagram raw))
@@ -120,8 +117,8 @@ pub record Reply : Type 0 where
   pub wire : List ℕ
   pub carried : Bool
 
-abbrev pub reply : ReceiveAnswer → Bool → ℕ → Bool → List Reply
-reply (receiveAnswer.Ack n) cumulative sent carried =
+abbrev pub reply : Result (Option ℕ) Refusal → Bool → ℕ → Bool → List Reply
+reply (Ok (Some n)) cumulative sent carried =
     record {
       number = n;
       cumulative = cumulative;
@@ -130,8 +127,8 @@ reply (receiveAnswer.Ack n) cumulative sent carried =
       carried = carried;
     }
     ∷ []
-reply receiveAnswer.Silent cumulative sent carried = []
-reply (receiveAnswer.Refused r) cumulative sent carried = []
+reply (Ok None) cumulative sent carried = []
+reply (Err r) cumulative sent carried = []
 
 abbrev pub replied_by : Ends → Call → List Reply
 replied_by e (chunk payload carried) = []

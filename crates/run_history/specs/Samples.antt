@@ -1,20 +1,18 @@
 -- RFC 6298, section 3 (Karn's algorithm), and `sample_rtt` (app/transfer.rs): the estimator's calls from the history of
 -- a run's calls. A timeout that wrote something is one; so is the sample of a segment's round trip, once.
-use Rattle.std.specs.Prelude.{ℕ, Bool, cond, ◌&&◌, List, [], ◌∷◌, ◌++◌, eqb}
+use Rattle.std.specs.Prelude.{ℕ, Bool, cond, ◌&&◌, List, [], ◌∷◌, ◌++◌, eqb, None, Option, Some}
 use Rattle.packet.specs.Reading.{read_datagram}
 use Rattle.rto.specs.History as rto
 use Rattle.session.specs.Sending.{handle_ack, resent}
 use Rattle.acks.specs.Acks.{ack_number, sample_seq, is_accepted}
-use Rattle.acks.specs.declared.AckNumber.{AckNumber}
-use Rattle.acks.specs.declared.AckNumber.TheVariants as ack
 use Rattle.run_history.specs.Calls.{Call, chunk, timeout, arrival, return, Ends, after_calls, collect}
 use Rattle.run_history.specs.Calls.{Submission, submitted_by}
 use Rattle.run_history.specs.Lines.{any, carried_of}
 
 -- the segment whose round trip an ACK ends, if it is accepted: in Selective Repeat its own, else the oldest outstanding
-abbrev pub ended_by : AckNumber → Ends → List ℕ → List ℕ
-ended_by ack.Nothing e raw = []
-ended_by (ack.Number n) e raw =
+abbrev pub ended_by : Option ℕ → Ends → List ℕ → List ℕ
+ended_by None e raw = []
+ended_by (Some n) e raw =
     cond (is_accepted (handle_ack e.sender raw).answer) (sample_seq e.sender.sender.state n ∷ []) []
 
 abbrev pub round_trip_by : Ends → Call → List ℕ

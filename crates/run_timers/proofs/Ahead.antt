@@ -1,4 +1,5 @@
 -- On the source's timing no timer is set further ahead than the largest RTO.
+use Rattle.std.specs.Prelude.{None, Some}
 use Prim.Native.Nat.{ℕ, ◌+◌, ◌-◌, ◌≤◌, ◌<◌}
 use native.Mathlib.Omega.{arith}
 use mathlib.Core.Path.{◌≡◌, refl, sym, ap, ◌∙◌, subst}
@@ -13,25 +14,19 @@ use Rattle.packet.specs.Reading.{read_datagram}
 use Rattle.window.specs.Acknowledgement.{is_in_window}
 use Rattle.timer.specs.Timer.{started_at_unchecked, cancelled_unchecked}
 use Rattle.timer.specs.declared.RetransmissionTimer.{RetransmissionTimer}
-use Rattle.timer.specs.declared.Deadline.TheVariants.{At}
 use Rattle.multi_timer.specs.Map.{Entry, lookup, put, remove}
 use Rattle.multi_timer.proofs.Laws.{lookup_put, lookup_remove}
 use Rattle.rto.specs.declared.RtoEstimator.{RtoEstimator}
 use Rattle.notes.specs.Notes.{SegMetas, meta_at, is_noted, rto_at_send, deadline_of, expiry, Timely}
-use Rattle.notes.specs.declared.Expiry.TheVariants as expiration
 use Rattle.path.specs.Direction.{Direction}
 use Rattle.clock.specs.Clock.{ClockState, timer_of, with_timer, is_oldest, arm_until, arm_oldest, Submission, arm_after_submit, Accepted, rearm_after_ack, cancel, sample_rtt, Held, CanArm}
 use Rattle.clock.specs.declared.Timing.{Timing}
 use Rattle.clock.specs.declared.Timing.TheVariants.{Single, PerNumber, Edition}
 use Rattle.clock.proofs.Laws.{running, submit_entries, cancel_number_entries, sampled_timely}
 use Rattle.session.specs.Sending.{window_of, oldest_outstanding, acknowledged}
-use Rattle.session.specs.declared.Oldest.{Oldest}
-use Rattle.session.specs.declared.Oldest.TheVariants.{Number, Nothing}
 use Rattle.acks.specs.Acks.{AckState, ack_number, sample_seq, on_accepted, counted, on_ack}
 use Rattle.acks.specs.Good.{CanOnAck}
 use Rattle.acks.specs.Reverse.{serve_reverse, CanServeReverse}
-use Rattle.acks.specs.declared.AckNumber.{AckNumber}
-use Rattle.acks.specs.declared.AckNumber.TheVariants as ack
 use Rattle.acks.proofs.Laws.{on_ack_dropped, on_ack_duplicate, on_ack_accepted, on_accepted_is, next_taken, can_hand_over, turn_good, serve_reverse_invariant}
 use Rattle.arrivals.specs.Arrivals.{ArrivalState, ArrivalExit, acks_of, serve_arrivals, CanServeArrivals}
 use Rattle.arrivals.proofs.Laws.{between, can_serve_reverse, either_exit}
@@ -40,7 +35,7 @@ use Rattle.run_timers.proofs.Notes.{Limited, sampled_limited, Short, short_rto, 
 
 -- no timer of the timing is set more than `top` ahead
 pub record Near (top : ℕ) (t : Timing) (now : ℕ) (c : ClockState) : Type 0 where
-  pub timer : t ≡ Single → (d : ℕ) → (timer_of c).deadline ≡ At d → d ≤ now + top
+  pub timer : t ≡ Single → (d : ℕ) → (timer_of c).deadline ≡ Some d → d ≤ now + top
   pub numbers : t ≡ PerNumber → (n d : ℕ) → lookup n (running c) ≡ some d → d ≤ now + top
 
 pub near_later : {top : ℕ} {t : Timing} {now later : ℕ} {c : ClockState} → now ≤ later → Near top t now c → Near top t later c
@@ -60,12 +55,12 @@ edition_number e = let z : ◌≡◌ {A = ℕ} 0 1 = cc in absurd (omega arith)
 
 -- ---- the calls of the clock
 module _ (top : ℕ) where
-  oldest_near : (t : RetransmissionTimer) (m : SegMetas) (now : ℕ) (o : Oldest) → Timely m now → Short top m → (d : ℕ) → (arm_oldest t m now o).deadline ≡ At d → d ≤ now + top
+  oldest_near : (t : RetransmissionTimer) (m : SegMetas) (now : ℕ) (o : Option ℕ) → Timely m now → Short top m → (d : ℕ) → (arm_oldest t m now o).deadline ≡ Some d → d ≤ now + top
   unfolding arm_oldest expiry started_at_unchecked cancelled_unchecked
-  oldest_near t m now Nothing y s d e = let z : ◌≡◌ {A = ℕ} 0 1 = cc in absurd (omega arith)
-  oldest_near t m now (Number seq) y s d e = by_noted (is_noted m seq) (ltb-true seq m.notes.count) e
+  oldest_near t m now None y s d e = let z : ◌≡◌ {A = ℕ} 0 1 = cc in absurd (omega arith)
+  oldest_near t m now (Some seq) y s d e = by_noted (is_noted m seq) (ltb-true seq m.notes.count) e
     where
-      by_noted : (b : Bool) → (b ≡ true → seq < m.notes.count) → (arm_until t now (cond b (expiration.At (deadline_of (meta_at m seq))) expiration.Nothing)).deadline ≡ At d → d ≤ now + top
+      by_noted : (b : Bool) → (b ≡ true → seq < m.notes.count) → (arm_until t now (cond b (Some (deadline_of (meta_at m seq))) None)).deadline ≡ Some d → d ≤ now + top
       by_noted true n e =
           let k : now + (deadline_of (meta_at m seq) - now) ≡ d = cc in
           let a = (y.at seq (n refl)).last in
@@ -97,7 +92,7 @@ module _ (top : ℕ) where
   unfolding arm_after_submit
   armed_near Single c m x y s r can q = record { timer = λ i d e. by_oldest (x.retransmission || is_oldest x.oldest x.seq) d e; numbers = λ i. single_other i }
     where
-      by_oldest : (b : Bool) (d : ℕ) → (timer_of (cond b (with_timer c (arm_oldest (timer_of c) m x.time x.oldest)) c)).deadline ≡ At d → d ≤ x.time + top
+      by_oldest : (b : Bool) (d : ℕ) → (timer_of (cond b (with_timer c (arm_oldest (timer_of c) m x.time x.oldest)) c)).deadline ≡ Some d → d ≤ x.time + top
       by_oldest true d e = oldest_near (timer_of c) m x.time x.oldest y s d e
       by_oldest false d e = q.timer refl d e
   armed_near PerNumber c m x y s r can q =
@@ -148,13 +143,13 @@ module _ (top : ℕ) (t : Timing) (now : ℕ) where
                 (sampled_timely s.estimator s.metas seq now on.good.notes) m on.good.clock h.near;
           })
 
-      by_test_lem : (n : ℕ) → ack_number (read_datagram raw) ≡ ack.Number n → (b : Bool) → is_in_window (window_of s.sender.sender) n ≡ b → OfAcks (on_ack t now raw s)
+      by_test_lem : (n : ℕ) → ack_number (read_datagram raw) ≡ Some n → (b : Bool) → is_in_window (window_of s.sender.sender) n ≡ b → OfAcks (on_ack t now raw s)
       by_test_lem n e true i = subst OfAcks (sym (on_ack_accepted t now raw s n on.good.sender e i)) (accepted n)
       by_test_lem n e false i = subst OfAcks (sym (on_ack_duplicate t now raw s n on.good.sender e i)) (record { estimator = h.estimator; notes = h.notes; near = h.near })
 
-      by_number_lem : (x : AckNumber) → ack_number (read_datagram raw) ≡ x → OfAcks (on_ack t now raw s)
-      by_number_lem ack.Nothing e = subst OfAcks (sym (on_ack_dropped t now raw s e)) h
-      by_number_lem (ack.Number n) e = by_test_lem n e (is_in_window (window_of s.sender.sender) n) refl
+      by_number_lem : (x : Option ℕ) → ack_number (read_datagram raw) ≡ x → OfAcks (on_ack t now raw s)
+      by_number_lem None e = subst OfAcks (sym (on_ack_dropped t now raw s e)) h
+      by_number_lem (Some n) e = by_test_lem n e (is_in_window (window_of s.sender.sender) n) refl
 
   reverse_ahead : (d : Direction) (s : AckState) → CanServeReverse d s now → OfAcks s → OfAcks (serve_reverse t now d s).state
   reverse_ahead d s can h =

@@ -1,4 +1,5 @@
 -- Selective Repeat's timers: each number that is outstanding and not acknowledged has one.
+use Rattle.std.specs.Prelude.{None, Some}
 use Prim.Native.Nat.{ℕ}
 use mathlib.Core.Path.{◌≡◌, refl, sym, ap, ◌∙◌, subst}
 use mathlib.Core.Bool.{Bool, true, false, cond, not, true≢false, and-eq-true_iff}
@@ -35,8 +36,6 @@ use Rattle.sending.proofs.Laws.{chunk, blank, given, written, can_send_lem, can_
 use Rattle.acks.specs.Acks.{AckState, ack_number, sample_seq, on_accepted, counted, on_ack}
 use Rattle.acks.specs.Good.{CanOnAck}
 use Rattle.acks.specs.Reverse.{serve_reverse, CanServeReverse}
-use Rattle.acks.specs.declared.AckNumber.{AckNumber}
-use Rattle.acks.specs.declared.AckNumber.TheVariants as ack
 use Rattle.acks.proofs.Laws.{on_ack_dropped, on_ack_duplicate, on_ack_accepted, on_accepted_is, on_ack_keeps, next_taken, can_hand_over, turn_good, serve_reverse_invariant}
 use Rattle.arrivals.specs.Arrivals.{ArrivalState, ArrivalExit, acks_of, serve_arrivals, CanServeArrivals}
 use Rattle.arrivals.proofs.Laws.{between, can_serve_reverse, either_exit}
@@ -89,13 +88,13 @@ module _ (now : ℕ) where
                 ∙ removed_some n k (running s.clock) b.0 (h.each k b.1);
           })
 
-      by_test_lem : (n : ℕ) → ack_number (read_datagram raw) ≡ ack.Number n → (b : Bool) → is_in_window (window_of s.sender.sender) n ≡ b → OfAcks (on_ack PerNumber now raw s)
+      by_test_lem : (n : ℕ) → ack_number (read_datagram raw) ≡ Some n → (b : Bool) → is_in_window (window_of s.sender.sender) n ≡ b → OfAcks (on_ack PerNumber now raw s)
       by_test_lem n e true i = subst OfAcks (sym (on_ack_accepted PerNumber now raw s n on.good.sender e i)) (accepted n i)
       by_test_lem n e false i = subst OfAcks (sym (on_ack_duplicate PerNumber now raw s n on.good.sender e i)) (record { each = h.each })
 
-      by_number_lem : (x : AckNumber) → ack_number (read_datagram raw) ≡ x → OfAcks (on_ack PerNumber now raw s)
-      by_number_lem ack.Nothing e = subst OfAcks (sym (on_ack_dropped PerNumber now raw s e)) h
-      by_number_lem (ack.Number n) e = by_test_lem n e (is_in_window (window_of s.sender.sender) n) refl
+      by_number_lem : (x : Option ℕ) → ack_number (read_datagram raw) ≡ x → OfAcks (on_ack PerNumber now raw s)
+      by_number_lem None e = subst OfAcks (sym (on_ack_dropped PerNumber now raw s e)) h
+      by_number_lem (Some n) e = by_test_lem n e (is_in_window (window_of s.sender.sender) n) refl
 
   reverse_each : (d : Direction) (s : AckState) → CanServeReverse d s now → is_selective s.sender.sender.state ≡ true → OfAcks s → OfAcks (serve_reverse PerNumber now d s).state
   reverse_each d s can selective h =

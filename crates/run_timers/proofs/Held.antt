@@ -1,4 +1,5 @@
 -- What every step keeps of the timers, by the timing, and what it says of a run's state.
+use Rattle.std.specs.Prelude.{Some}
 use Prim.Native.Nat.{ℕ, ◌+◌, ◌-◌, ◌≤◌, ◌<◌}
 use native.Mathlib.Omega.{arith}
 use mathlib.Core.Path.{◌≡◌, refl, sym, ◌∙◌, subst}
@@ -6,7 +7,6 @@ use mathlib.Core.Bool.{true, false}
 use mathlib.Core.Option.{some}
 use borrow.Author.Tests.{lt-ltb, le-ltb}
 use Rattle.timer.specs.Timer.{active}
-use Rattle.timer.specs.declared.Deadline.TheVariants.{At}
 use Rattle.multi_timer.specs.Map.{lookup}
 use Rattle.window.specs.State.{outstanding}
 use Rattle.path.specs.Path.{is_going}
@@ -52,7 +52,7 @@ EachKept top t a again now = OnlyEach a again now × AheadKept top t a again now
 
 abbrev pub EditionKept : ℕ → Kept
 EditionKept top a again now =
-    (has_outstanding a.sender.sender ≡ true → active (timer_of a.clock).deadline ≡ true) × ((d : ℕ) → (timer_of a.clock).deadline ≡ At d → d ≤ now + top)
+    (has_outstanding a.sender.sender ≡ true → active (timer_of a.clock).deadline ≡ true) × ((d : ℕ) → (timer_of a.clock).deadline ≡ Some d → d ≤ now + top)
 
 ahead_lasting : (top : ℕ) (t : Timing) → Lasting (AheadKept top t)
 ahead_lasting top t a again now later l h = record { estimator = h.estimator; notes = h.notes; near = near_later (omega arith) h.near }
@@ -129,7 +129,7 @@ pub record Held (top : ℕ) (p : Plan) (s : RunState) : Type 0 where
   pub set : (p.timing ≡ PerNumber → ⊥) → (window_in s).send_base < (window_in s).next_seq_num → active (timer_of s.arrivals.clock).deadline ≡ true
   pub off : p.timing ≡ Single → (window_in s).next_seq_num ≤ (window_in s).send_base → active (timer_of s.arrivals.clock).deadline ≡ false
   pub each : p.timing ≡ PerNumber → (n : ℕ) → Unacknowledged s n → HasTimer s.arrivals.clock n
-  pub near : (p.timing ≡ PerNumber → ⊥) → (d : ℕ) → (timer_of s.arrivals.clock).deadline ≡ At d → d ≤ s.time + top
+  pub near : (p.timing ≡ PerNumber → ⊥) → (d : ℕ) → (timer_of s.arrivals.clock).deadline ≡ Some d → d ≤ s.time + top
   pub each_near : p.timing ≡ PerNumber → (n d : ℕ) → lookup n (running s.arrivals.clock) ≡ some d → d ≤ s.time + top
 
 pub single_held : {limit : ℕ} (top : ℕ) (p : Plan) (s : RunState) → p.timing ≡ Single → Holds (SingleKept limit top p.timing) s → Held top p s

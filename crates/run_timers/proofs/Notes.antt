@@ -1,4 +1,5 @@
 -- The RTOs that the notes hold, and the estimator's: none is above a limit.
+use Rattle.std.specs.Prelude.{None, Option, Some}
 use Prim.Native.Nat.{ℕ, ◌+◌, ◌≤◌, ◌<◌, min, max}
 use native.Mathlib.Omega.{arith}
 use native.Mathlib.Nat.{lt_of_lt_of_le}
@@ -20,8 +21,6 @@ use Rattle.schedule.specs.declared.Deliveries.{Deliveries}
 use Rattle.notes.specs.SegMeta.{SegMeta, seg_meta, note_row, first_sent, with_sending, with_dropped, with_ack_scheduled, with_rtt_sampled}
 use Rattle.notes.specs.Notes.{SegMetas, seg_metas, meta_at, update, sent, mark_ack_scheduled, rto_at_send, is_noted, SampleExit, take_sample}
 use Rattle.notes.specs.declared.Notes.{Notes}
-use Rattle.notes.specs.declared.Sample.{Sample}
-use Rattle.notes.specs.declared.Sample.TheVariants as sample
 use Rattle.notes.proofs.Laws.{update_notes, update_length, update_cases, again_is, dropped_is, mark_one, mark_length, mark_count, mark_covers, mark_above, sample_cases}
 use Rattle.path.specs.Direction.{Direction}
 use Rattle.clock.specs.Clock.{by_sample, sample_rtt}
@@ -38,11 +37,11 @@ pub record Limited (top : ℕ) (e : RtoEstimator) : Type 0 where
 clamped : (x a b top : ℕ) → b ≤ top → min (max x a) b ≤ top
 clamped x a b top h = omega arith
 
-by_sample_lem : (top : ℕ) (e : RtoEstimator) (x : Sample) → Limited top e → Limited top (by_sample e x)
+by_sample_lem : (top : ℕ) (e : RtoEstimator) (x : Option (ℕ × Bool)) → Limited top e → Limited top (by_sample e x)
 unfolding accept_sample reject_sample
-by_sample_lem top e sample.Nothing l = l
-by_sample_lem top e (sample.Rtt d true) l = record { limit = l.limit; rto = l.rto }
-by_sample_lem top e (sample.Rtt d false) l = record { limit = l.limit; rto = clamped _ e.config.min_rto e.config.max_rto top l.limit }
+by_sample_lem top e None l = l
+by_sample_lem top e (Some (d, true)) l = record { limit = l.limit; rto = l.rto }
+by_sample_lem top e (Some (d, false)) l = record { limit = l.limit; rto = clamped _ e.config.min_rto e.config.max_rto top l.limit }
 
 pub sampled_limited : (top : ℕ) (e : RtoEstimator) (m : SegMetas) (seq now : ℕ) → Limited top e → Limited top (sample_rtt e m seq now).estimator
 unfolding sample_rtt

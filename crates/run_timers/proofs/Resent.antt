@@ -1,4 +1,5 @@
 -- On the source's timing a step that goes on sends a packet again where a timer has run out.
+use Rattle.std.specs.Prelude.{Option}
 use Prim.Native.Nat.{ℕ, ◌≤◌, ◌<◌}
 use native.Mathlib.Omega.{arith}
 use mathlib.Core.Path.{◌≡◌, refl, sym, ap, ◌∙◌, subst}
@@ -20,7 +21,6 @@ use Rattle.clock.specs.declared.Timing.TheVariants as timing
 use Rattle.clock.proofs.Laws.{running}
 use Rattle.delivery.specs.Calls.{number_of}
 use Rattle.session.specs.Sending.{has_outstanding, oldest_outstanding, resent}
-use Rattle.session.specs.declared.Oldest.{Oldest}
 use Rattle.session.specs.declared.Timeout.{Timeout}
 use Rattle.session.specs.declared.Timeout.TheVariants as timeout
 use Rattle.submission.specs.Submission.{Outgoing}
@@ -48,12 +48,12 @@ again_in x = x.state.resends.retx_submitted
 -- ---- the count of what was sent again never falls, and a packet raises it
 module _ (limit : ℕ) (rolls : List Float) (now : ℕ) where
   module _ (t : Timing) where
-    all_more : (rto : ℕ) (oldest : Oldest) (packets : List (List ℕ)) (n : ℕ) (r : Resends) (o : Outgoing) → n ≤ r.retx_submitted → n ≤ (retransmit_all limit t rolls rto now oldest packets r o).resends.retx_submitted
+    all_more : (rto : ℕ) (oldest : Option ℕ) (packets : List (List ℕ)) (n : ℕ) (r : Resends) (o : Outgoing) → n ≤ r.retx_submitted → n ≤ (retransmit_all limit t rolls rto now oldest packets r o).resends.retx_submitted
     all_more rto oldest packets n r o h =
         resend_turns limit t rolls rto now oldest (λ (r : Resends) (o : Outgoing). n ≤ r.retx_submitted) (λ r o h. h) packets
         (λ packet m r o h. subst (λ (y : Resends). n ≤ y.retx_submitted) (sym (retransmit_counts t rolls rto now oldest (number_of packet) packet r o)) (omega (arith, h))) r o h
 
-    all_one : (rto : ℕ) (oldest : Oldest) (packet : List ℕ) (packets : List (List ℕ)) (r : Resends) (o : Outgoing) → ceiling_met limit r ≡ false → r.retx_submitted < (retransmit_all limit t rolls rto now oldest (packet ∷ packets) r o).resends.retx_submitted
+    all_one : (rto : ℕ) (oldest : Option ℕ) (packet : List ℕ) (packets : List (List ℕ)) (r : Resends) (o : Outgoing) → ceiling_met limit r ≡ false → r.retx_submitted < (retransmit_all limit t rolls rto now oldest (packet ∷ packets) r o).resends.retx_submitted
     all_one rto oldest packet packets r o c = by_stop_lem (is_going sends.stop) refl
       where
         sends : RetransmitExit

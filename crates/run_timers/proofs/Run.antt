@@ -1,4 +1,5 @@
 -- Along every run whatever is outstanding has a timer, no further ahead than the largest RTO; so it ends with every chunk acknowledged or at a ceiling.
+use Rattle.std.specs.Prelude.{Some}
 use Prim.Native.Nat.{ℕ, ◌+◌, ◌-◌, ◌*◌, ◌≤◌, ◌<◌}
 use native.Mathlib.Omega.{arith}
 use mathlib.Core.Path.{◌≡◌, refl, sym, ap, ◌∙◌, subst}
@@ -10,7 +11,6 @@ use Rattle.bounds.specs.Bounds.{max_duration}
 use Rattle.protocol.specs.declared.ProtocolType.{ProtocolType}
 use Rattle.protocol.specs.declared.ProtocolType.TheVariants as protocol
 use Rattle.timer.specs.Timer.{active, new_timer}
-use Rattle.timer.specs.declared.Deadline.TheVariants.{At}
 use Rattle.multi_timer.specs.Map.{is_some}
 use Rattle.rto.specs.Rto.{fresh}
 use Rattle.notes.specs.Notes.{new_notes}
@@ -158,7 +158,7 @@ module _ (k : Ceilings) (c : TransferConfig) (g : Given) (l : Lent) (h : CanStar
       upper = (edition_setup c.clock c.protocol c.rto e h.clock_fine).limits.upper
 
       ahead : {now : ℕ} {m : Moment} → edition.Kept k.retries now m
-          → (has_outstanding m.sender.sender ≡ true → active (timer_of m.clock).deadline ≡ true) × ((d : ℕ) → (timer_of m.clock).deadline ≡ At d → d ≤ now + top)
+          → (has_outstanding m.sender.sender ≡ true → active (timer_of m.clock).deadline ≡ true) × ((d : ℕ) → (timer_of m.clock).deadline ≡ Some d → d ≤ now + top)
       ahead q = (q.runs, λ d f. let a = q.not_far d f in let b = q.high in let z = upper in omega (arith, a, b, z))
 
   along_source : c.clock ≡ choice.Source → (c.protocol ≡ protocol.StopAndWait → c.max_retransmissions ≤ k.retries) → Along

@@ -1,4 +1,5 @@
 -- The departures set no timer further ahead than the largest RTO.
+use Rattle.std.specs.Prelude.{Option}
 use Prim.Native.Nat.{ℕ, ◌+◌, ◌≤◌}
 use native.Mathlib.Omega.{arith}
 use mathlib.Core.Path.{◌≡◌, refl, sym, subst}
@@ -20,7 +21,6 @@ use Rattle.clock.specs.declared.Timing.{Timing}
 use Rattle.clock.specs.declared.Timing.TheVariants.{PerNumber}
 use Rattle.clock.proofs.Laws.{running, estimator_rto}
 use Rattle.session.specs.Sending.{oldest_outstanding, resent}
-use Rattle.session.specs.declared.Oldest.{Oldest}
 use Rattle.session.specs.declared.Timeout.{Timeout}
 use Rattle.session.specs.declared.Timeout.TheVariants as timeout
 use Rattle.submission.specs.Submission.{Outgoing, note_before, submit, CanSubmit}
@@ -57,7 +57,7 @@ module _ (top : ℕ) (t : Timing) (now : ℕ) (rolls : List Float) where
     notes : Short top o.metas
     near : (t ≡ PerNumber → ⊥) → Near top t now o.clock
 
-  again_sent : (seq rto : ℕ) (oldest : Oldest) (packet : List ℕ) (o : Outgoing) → rto ≤ max_duration → rto ≤ top → Sent o → Sent (submit t rolls (record { time = now; seq = seq; rto = rto; retransmission = true; oldest = oldest }) packet o).outgoing
+  again_sent : (seq rto : ℕ) (oldest : Option ℕ) (packet : List ℕ) (o : Outgoing) → rto ≤ max_duration → rto ≤ top → Sent o → Sent (submit t rolls (record { time = now; seq = seq; rto = rto; retransmission = true; oldest = oldest }) packet o).outgoing
   again_sent seq rto oldest packet o long short q =
       by_outgoing t rolls x packet o Sent (record { timely = noted; notes = listed; near = q.near })
       (λ f. record { timely = noted_after; notes = listed_after; near = λ other. armed_near top t o.clock (metas_of rolls x o) x noted_after listed_after short (λ e. absurd (other e)) (q.near other) })

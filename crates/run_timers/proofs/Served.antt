@@ -1,4 +1,5 @@
 -- With a number outstanding the next time is set and near: so a run that ended has every chunk acknowledged, or met a ceiling.
+use Rattle.std.specs.Prelude.{None, Some}
 use Prim.Native.Nat.{ℕ, ◌+◌, ◌-◌, ◌≤◌, ◌<◌, min}
 use native.Mathlib.Omega.{arith}
 use mathlib.Core.Path.{◌≡◌, refl, sym, ap, ◌∙◌, subst}
@@ -9,8 +10,6 @@ use mathlib.Core.Option.{Option, none, some}
 use lib.Dec.{ltb, eqb}
 use borrow.Author.Tests.{ltb-true, ltb-false, not-true}
 use Rattle.timer.specs.Timer.{active}
-use Rattle.timer.specs.declared.Deadline.{Deadline}
-use Rattle.timer.specs.declared.Deadline.TheVariants.{Unset, At}
 use Rattle.multi_timer.specs.Map.{Entry, deadlines_of, lookup, is_some, min_of, earliest}
 use Rattle.window.specs.State.{outstanding}
 use Rattle.window.proofs.Laws.{Sound, sound}
@@ -62,7 +61,7 @@ min_below a (y ∷ es) k d e = by_key (eqb y.key k) e (min_below y.deadline es k
 
 record Earliest (es : List Entry) (d : ℕ) : Type 0 where
   at : ℕ
-  is : as_deadline (earliest (deadlines_of es)) ≡ At at
+  is : as_deadline (earliest (deadlines_of es)) ≡ Some at
   first : at ≤ d
 
 earliest_of_lem : (es : List Entry) (k d : ℕ) → lookup k es ≡ some d → Earliest es d
@@ -78,16 +77,16 @@ module _ (top : ℕ) (p : Plan) (s : RunState) (held : Held top p s) (unbroken :
   -- ---- with a number outstanding
   record Next (t : Timing) : Type 0 where
     at : ℕ
-    is : clock.next_deadline t s.arrivals.clock ≡ At at
+    is : clock.next_deadline t s.arrivals.clock ≡ Some at
     near : at ≤ s.time + top
 
   next_set : (window_in s).send_base < (window_in s).next_seq_num → Next p.timing
   unfolding clock.next_deadline
   next_set o = by_timing p.timing refl
     where
-      set : (p.timing ≡ PerNumber → ⊥) → (x : Deadline) → (timer_of s.arrivals.clock).deadline ≡ x → (d : ℕ) × (((timer_of s.arrivals.clock).deadline ≡ At d) × (d ≤ s.time + top))
-      set other Unset f = absurd (true≢false (sym (held.set other o) ∙ ap active f))
-      set other (At d) f = (d, (f, held.near other d f))
+      set : (p.timing ≡ PerNumber → ⊥) → (x : Option ℕ) → (timer_of s.arrivals.clock).deadline ≡ x → (d : ℕ) × (((timer_of s.arrivals.clock).deadline ≡ Some d) × (d ≤ s.time + top))
+      set other None f = absurd (true≢false (sym (held.set other o) ∙ ap active f))
+      set other (Some d) f = (d, (f, held.near other d f))
 
       listed : p.timing ≡ PerNumber → (x : Option ℕ) → lookup (window_in s).send_base (running s.arrivals.clock) ≡ x → Next PerNumber
       listed i none f = absurd (true≢false (sym (held.each i (window_in s).send_base (record { from = omega arith; below = o; plain = base_unmarked s.arrivals.sender unbroken })) ∙ ap is_some f))
@@ -121,17 +120,17 @@ module _ (top : ℕ) (p : Plan) (s : RunState) (held : Held top p s) (unbroken :
       all_sent (omega (arith, over)) (inl sent)
 
   -- ---- either
-  no_time : NothingToSend p s → next_time p s ≡ Unset → AllAcknowledged p s
+  no_time : NothingToSend p s → next_time p s ≡ None → AllAcknowledged p s
   no_time n e = by_test_lem (ltb (window_in s).send_base (window_in s).next_seq_num) refl
     where
-      not_set : {d : ℕ} → At d ≡ Unset → AllAcknowledged p s
+      not_set : {d : ℕ} → Some d ≡ None → AllAcknowledged p s
       not_set e = let z : ◌≡◌ {A = ℕ} 0 1 = cc in absurd (omega arith)
 
       by_test_lem : (b : Bool) → ltb (window_in s).send_base (window_in s).next_seq_num ≡ b → AllAcknowledged p s
       by_test_lem true o = let x = next_set (ltb-true _ _ o) in not_set (sym x.is ∙ (laws.no_deadline p.timing s.arrivals.forward s.arrivals.inbound.reverse s.arrivals.clock e).timer_none)
       by_test_lem false o = all_sent (ltb-false _ _ o) n
 
-  late_time : NothingToSend p s → (t : ℕ) → next_time p s ≡ At t → p.max_virtual_time < t → AllAcknowledged p s ⊎ (p.max_virtual_time < s.time + top)
+  late_time : NothingToSend p s → (t : ℕ) → next_time p s ≡ Some t → p.max_virtual_time < t → AllAcknowledged p s ⊎ (p.max_virtual_time < s.time + top)
   late_time n t e h = by_test_lem (ltb (window_in s).send_base (window_in s).next_seq_num) refl
     where
       by_test_lem : (b : Bool) → ltb (window_in s).send_base (window_in s).next_seq_num ≡ b → AllAcknowledged p s ⊎ (p.max_virtual_time < s.time + top)

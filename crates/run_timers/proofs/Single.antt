@@ -1,4 +1,5 @@
 -- The single timer of Stop-and-Wait and Go-Back-N: it is set exactly while a number is outstanding.
+use Rattle.std.specs.Prelude.{None, Option, Some}
 use Prim.Native.Nat.{ℕ, zero, suc, ◌+◌, ◌-◌, ◌≤◌, ◌<◌, min}
 use native.Mathlib.Omega.{arith}
 use mathlib.Core.Path.{◌≡◌, refl, sym, ap, ◌∙◌, subst}
@@ -32,8 +33,6 @@ use Rattle.clock.specs.declared.Due.TheVariants as ran
 use Rattle.clock.proofs.Laws.{arm_oldest_deadline}
 use Rattle.session.specs.Sending.{SenderEnd, sender_in, stop_and_wait_end, go_back_nEnd, window_of, has_outstanding, oldest_outstanding, send_chunk, acknowledged, Resent, resent, resent_numbers}
 use Rattle.session.specs.GoodSender.{is_selective, SenderUnbroken}
-use Rattle.session.specs.declared.Oldest.{Oldest}
-use Rattle.session.specs.declared.Oldest.TheVariants.{Number, Nothing}
 use Rattle.session.specs.declared.Sender.{Sender}
 use Rattle.session.specs.declared.SenderState.{SenderState}
 use Rattle.session.specs.declared.SenderState.TheVariants as senderState
@@ -50,8 +49,6 @@ use Rattle.sending.proofs.Laws.{chunk, blank, given, written, can_send_lem, sent
 use Rattle.acks.specs.Acks.{AckState, ack_number, sample_seq, on_accepted, counted, on_ack}
 use Rattle.acks.specs.Good.{CanOnAck}
 use Rattle.acks.specs.Reverse.{serve_reverse, CanServeReverse}
-use Rattle.acks.specs.declared.AckNumber.{AckNumber}
-use Rattle.acks.specs.declared.AckNumber.TheVariants as ack
 use Rattle.acks.proofs.Laws.{on_ack_dropped, on_ack_duplicate, on_ack_accepted, on_ack_keeps, next_taken, can_hand_over, turn_good, serve_reverse_invariant}
 use Rattle.receiving.proofs.Laws.{serve_keeps_sizes}
 use Rattle.arrivals.specs.Arrivals.{ArrivalState, ArrivalExit, acks_of, serve_arrivals, CanServeArrivals}
@@ -84,7 +81,7 @@ arm_is : (t : RetransmissionTimer) (m : SegMetas) (now : ℕ) (s : Sender) → (
 unfolding arm_oldest cancelled_unchecked
 arm_is t m now s h = by_some (has_outstanding s) refl
   where
-    by_some : (b : Bool) → has_outstanding s ≡ b → active (arm_oldest t m now (cond b (Number (window_of s).send_base) Nothing)).deadline ≡ b
+    by_some : (b : Bool) → has_outstanding s ≡ b → active (arm_oldest t m now (cond b (Some (window_of s).send_base) None)).deadline ≡ b
     by_some true o =
         let low = some_left (window_of s).send_base (window_of s).next_seq_num (ltb-true 0 (outstanding (window_of s)) o) in
         ap active (arm_oldest_deadline t m now (window_of s).send_base (omega (arith, low, h)))
@@ -122,15 +119,15 @@ module _ (limit now again : ℕ) where
             retries = subst (λ (v : SenderEnd). retries_of v.sender.state ≤ again) (sym (accepted_sender n seq u)) none;
           }
 
-      by_test_lem : (n : ℕ) → ack_number (read_datagram raw) ≡ ack.Number n → (b : Bool) → is_in_window (window_of s.sender.sender) n ≡ b → OfAcks (on_ack Single now raw s)
+      by_test_lem : (n : ℕ) → ack_number (read_datagram raw) ≡ Some n → (b : Bool) → is_in_window (window_of s.sender.sender) n ≡ b → OfAcks (on_ack Single now raw s)
       by_test_lem n e true i =
           let is = on_ack_accepted Single now raw s n on.good.sender e i in
           subst OfAcks (sym is) (accepted n (subst (λ (y : AckState). y.metas.notes.count ≡ next_of y.sender) is still_noted))
       by_test_lem n e false i = subst OfAcks (sym (on_ack_duplicate Single now raw s n on.good.sender e i)) (record { noted = h.noted; runs = h.runs; limit_is = h.limit_is; retries = h.retries })
 
-      by_number_lem : (x : AckNumber) → ack_number (read_datagram raw) ≡ x → OfAcks (on_ack Single now raw s)
-      by_number_lem ack.Nothing e = subst OfAcks (sym (on_ack_dropped Single now raw s e)) h
-      by_number_lem (ack.Number n) e = by_test_lem n e (is_in_window (window_of s.sender.sender) n) refl
+      by_number_lem : (x : Option ℕ) → ack_number (read_datagram raw) ≡ x → OfAcks (on_ack Single now raw s)
+      by_number_lem None e = subst OfAcks (sym (on_ack_dropped Single now raw s e)) h
+      by_number_lem (Some n) e = by_test_lem n e (is_in_window (window_of s.sender.sender) n) refl
 
   reverse_runs : (d : Direction) (s : AckState) → CanServeReverse d s now → OfAcks s → OfAcks (serve_reverse Single now d s).state
   reverse_runs d s can h =
@@ -339,10 +336,10 @@ module _ (limit top now : ℕ) (rolls : List Float) (enough : top ≤ limit) whe
     sent_set c m x v r e o n before = ap (λ (b : Bool). is_set (cond (b || is_oldest x.oldest x.seq) (with_timer c (arm_oldest (timer_of c) m x.time x.oldest)) c)) r ∙ by_oldest (is_oldest x.oldest x.seq) refl
       where
         first : is_oldest x.oldest x.seq ≡ eqb (window_of v).send_base x.seq
-        first = ap (λ (y : Oldest). is_oldest y x.seq) (e ∙ ap (λ (b : Bool). cond b (Number (window_of v).send_base) Nothing) o)
+        first = ap (λ (y : Option ℕ). is_oldest y x.seq) (e ∙ ap (λ (b : Bool). cond b (Some (window_of v).send_base) None) o)
 
         by_oldest : (b : Bool) → is_oldest x.oldest x.seq ≡ b → is_set (cond b (with_timer c (arm_oldest (timer_of c) m x.time x.oldest)) c) ≡ true
-        by_oldest true i = ap (λ (y : Oldest). active (arm_oldest (timer_of c) m x.time y).deadline) e ∙ arm_is (timer_of c) m x.time v n ∙ o
+        by_oldest true i = ap (λ (y : Option ℕ). active (arm_oldest (timer_of c) m x.time y).deadline) e ∙ arm_is (timer_of c) m x.time v n ∙ o
         by_oldest false i = before (eqb-false _ _ (sym first ∙ i))
 
     chunk_runs : (s : PumpState) → CanPump Single rolls size file total rto now s → can_pump total s.sender.sender ≡ true → is_going (send_one Single rolls (chunks_of size file) rto now s).stop ≡ true → OfPump s

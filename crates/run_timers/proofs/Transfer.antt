@@ -1,4 +1,5 @@
 -- A run of `run_transfer` that ended is completed, or met a ceiling.
+use Rattle.std.specs.Prelude.{Ok}
 use native.Mathlib.Nat.{le_trans}
 use mathlib.Core.Path.{◌≡◌}
 use mathlib.Core.Bool.{true}
@@ -17,7 +18,6 @@ use Rattle.transfer.specs.Run.{run}
 use Rattle.transfer.specs.Transfer.{outcome_of, lent_of, run_transfer}
 use Rattle.transfer.specs.declared.Ceilings.{Ceilings}
 use Rattle.transfer.specs.declared.Outcome.{Outcome}
-use Rattle.transfer.specs.declared.RunAnswer.TheVariants as answer
 use Rattle.transfer_delivery.specs.Delivered.{file_chunks, events_at, Delivered}
 use Rattle.transfer_delivery.proofs.Laws.{transfer_delivered}
 use Rattle.run_ends.proofs.Laws.{by_outcome}
@@ -36,6 +36,6 @@ module _ (k : Ceilings) (c : TransferConfig) (g : Given) (l : Lent) (store : Oct
   completes : CanStart (start_of c g l) → Completes (outcome_of last) (lent_of last.state)
   completes h d flips e = ⊎_elim (λ all. inl (d.said (le_trans all (d.first flips).not_negative))) inr (transfer_served k c g l h forward reverse factors retries e)
 
-  pub transfer_completes : (o : Outcome) → (run_transfer k c g l).answer ≡ answer.Outcome o → FlipsOutside c.channel g.forward_rolls (file_chunks c g) (events_at o (run_transfer k c g l).lent) → o.end ≡ Ended
+  pub transfer_completes : (o : Outcome) → (run_transfer k c g l).answer ≡ Ok o → FlipsOutside c.channel g.forward_rolls (file_chunks c g) (events_at o (run_transfer k c g l).lent) → o.end ≡ Ended
       → (o.completed ≡ true) ⊎ CeilingMet k c g (new_run k c l) last
   transfer_completes o e = by_outcome k c g l Completes completes o e (transfer_delivered k c g l store file forward reverse factors o e)

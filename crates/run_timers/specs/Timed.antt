@@ -1,11 +1,10 @@
 -- app/transfer.rs, `arm_after_submit`, `arm_oldest`, `rearm_after_ack`: whatever is outstanding has a timer; on the
 -- source's timing nothing else has one.
-use Rattle.std.specs.Prelude.{ℕ, ◌+◌, ◌*◌, ◌≤◌, ◌<◌, max, ◌≡◌, true, false}
+use Rattle.std.specs.Prelude.{ℕ, ◌+◌, ◌*◌, ◌≤◌, ◌<◌, max, ◌≡◌, true, false, Some}
 use Rattle.std.proofs.Math.Option.{Option, some}
 use Rattle.bounds.specs.Bounds.{max_duration}
 use Rattle.protocol.specs.declared.ProtocolType.TheVariants.{StopAndWait}
 use Rattle.timer.specs.Timer.{active}
-use Rattle.timer.specs.declared.Deadline.TheVariants.{At}
 use Rattle.multi_timer.specs.Map.{lookup}
 use Rattle.multi_timer.specs.MultiTimer.{used}
 use Rattle.rto.specs.declared.RtoConfig.{RtoConfig}
@@ -51,7 +50,7 @@ pub record Timed (c : TransferConfig) (p : Plan) (s : RunState) : Type 0 where
       → active (timer_of s.arrivals.clock).deadline ≡ false
   pub each : p.timing ≡ PerNumber → (n : ℕ) → Unacknowledged s n → HasTimer s.arrivals.clock n
   pub only : p.timing ≡ PerNumber → (n : ℕ) → HasTimer s.arrivals.clock n → Unacknowledged s n
-  pub near : (p.timing ≡ PerNumber → ⊥) → (d : ℕ) → (timer_of s.arrivals.clock).deadline ≡ At d
+  pub near : (p.timing ≡ PerNumber → ⊥) → (d : ℕ) → (timer_of s.arrivals.clock).deadline ≡ Some d
       → d ≤ s.time + largest_rto c.rto
   pub each_near : p.timing ≡ PerNumber → (n d : ℕ) → deadline_for s.arrivals.clock n ≡ some d
       → d ≤ s.time + largest_rto c.rto

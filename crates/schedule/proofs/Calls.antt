@@ -1,4 +1,5 @@
 -- One law a function, over plain values: what its callees give is what its definition says.
+use Rattle.std.specs.Prelude.{Err, None, Ok, Result, Some}
 use mathlib.Core.Path.{◌≡◌, refl, sym, ◌∙◌, ap}
 use Prim.Native.Nat.{ℕ, zero, suc, ◌+◌, ◌-◌, ◌*◌, ◌/◌, ◌<◌, ◌≤◌}
 use native.Mathlib.Omega.{arith}
@@ -15,14 +16,12 @@ use Rattle.schedule.specs.Record.{record4, time_of, record_length, place_of, vac
 use Rattle.schedule.specs.State.{Schedule, schedule, waiting_records, broken_from, state_broken, late, held_late, leaves_at, delay_late, deliveries_late, copies, delay_at, unused_places, unused_records, lacks_room, CanPut, CanSchedule}
 use Rattle.schedule.specs.Schedule.{scheduler, new_schedule, placed, place_bytes, put_copy, schedule_at_unchecked, schedule_checks, room_of, first_record, bytes_of, without_first, pop_exit, on_pop, pop_unchecked, pop_checks, CanPop, read_checks}
 use Rattle.refusal.specs.Order.{verdict, decide}
-use Rattle.refusal.specs.declared.Verdict.{Verdict}
-use Rattle.refusal.specs.declared.Verdict.TheVariants.{Accepted, Refused}
 use Rattle.refusal.specs.declared.Refusal.{Refusal}
-use Rattle.schedule.specs.declared.ReadyAnswer.TheVariants as ready
 use Rattle.schedule.specs.declared.ChannelScheduler.{ChannelScheduler}
 use Rattle.schedule.specs.declared.Deliveries.{Deliveries}
 use Rattle.schedule.specs.declared.Deliveries.TheVariants.{Lost, One, Two}
 use Rattle.schedule.proofs.Memory.{lacks_is, room_for, has_room, put_sound, put_next, put_room, first_inside, first_fine}
+use Rattle.refusal.specs.Order.{passed}
 
 pub new_law : (rs : List (List ℕ)) (ps : List ℕ) {rs' : List (List ℕ)} {q : List ℕ} → rs' ≡ replicate (length rs) vacant → q ≡ replicate (length (take (length ps / 1410 * 1410) ps)) 0 → schedule rs' (q ++ drop (length ps / 1410 * 1410) ps) (scheduler 0 0) ≡ new_schedule rs ps
 new_law rs ps p q = rw (p, q, length-take-le (length ps / 1410 * 1410) ps (whole (length ps)))
@@ -122,13 +121,13 @@ pub lacks_not : (m : Schedule) (k : ℕ) {r n : ℕ} → r ≡ room_of m → n �
 lacks_not m k p q h = sym (lacks_is (unused_places m) (unused_records m) k) ∙ le-ltb (room_of m) k (rw (← p, ← q) h)
 
 -- ---- what the verdict on a call tells
-pub answered_refused : {A : Type 0} {v w : Verdict} {r : Refusal} (f : Refusal → A) (a : A) → v ≡ w → v ≡ Refused r → f r ≡ decide w f a
+pub answered_refused : {A : Type 0} {v w : Result Unit Refusal} {r : Refusal} (f : Refusal → A) (a : A) → v ≡ w → v ≡ Err r → f r ≡ decide w f a
 answered_refused f a p q = sym (on_refused f a (sym p ∙ q))
 
-pub answered : {A : Type 0} {v w : Verdict} {b : A} (f : Refusal → A) (a : A) → v ≡ w → v ≡ Accepted → b ≡ a → b ≡ decide w f a
+pub answered : {A : Type 0} {v w : Result Unit Refusal} {b : A} (f : Refusal → A) (a : A) → v ≡ w → v ≡ passed → b ≡ a → b ≡ decide w f a
 answered f a p q e = e ∙ sym (on_accepted f a (sym p ∙ q))
 
-pub can_schedule : (m : Schedule) (now : ℕ) (packet : List ℕ) (ds : Deliveries) → verdict (schedule_checks m now (length packet) ds) ≡ Accepted → CanSchedule m now packet ds
+pub can_schedule : (m : Schedule) (now : ℕ) (packet : List ℕ) (ds : Deliveries) → verdict (schedule_checks m now (length packet) ds) ≡ passed → CanSchedule m now packet ds
 can_schedule m now packet ds e =
     let n = accepted_none_true (schedule_checks m now (length packet) ds) e in
     record {
@@ -139,10 +138,10 @@ can_schedule m now packet ds e =
       room = n.1.1.1.1.0;
     }
 
-pub can_pop_accepted : (m : Schedule) (now : ℕ) (out : List ℕ) → verdict (pop_checks m now (length out)) ≡ Accepted → CanPop m now out
+pub can_pop_accepted : (m : Schedule) (now : ℕ) (out : List ℕ) → verdict (pop_checks m now (length out)) ≡ passed → CanPop m now out
 can_pop_accepted m now out e = let n = accepted_none_true (pop_checks m now (length out)) e in record { sound = n.0; room = n.1.1.1.0 }
 
-pub read_sound : (m : Schedule) → verdict (read_checks m) ≡ Accepted → state_broken m ≡ false
+pub read_sound : (m : Schedule) → verdict (read_checks m) ≡ passed → state_broken m ≡ false
 read_sound m e = (accepted_none_true (read_checks m) e).0
 
 -- ---- taking out
@@ -153,11 +152,11 @@ module _ (m : Schedule) (now : ℕ) (out : List ℕ) where
   abbrev first : List ℕ
   first = first_record m.records
 
-  pub none_waits : m.scheduler.count ≡ 0 → on_pop m out ready.Nothing ≡ pop_unchecked m now out
+  pub none_waits : m.scheduler.count ≡ 0 → on_pop m out (Ok None) ≡ pop_unchecked m now out
   unfolding pop_unchecked
   none_waits h = simp (le-ltb 0 m.scheduler.count (omega arith))
 
-  pub first_not_due : (m.scheduler.count ≡ 0 → ⊥) → now < time_of first → on_pop m out ready.Nothing ≡ pop_unchecked m now out
+  pub first_not_due : (m.scheduler.count ≡ 0 → ⊥) → now < time_of first → on_pop m out (Ok None) ≡ pop_unchecked m now out
   unfolding pop_unchecked
   first_not_due h k = simp (lt-ltb 0 m.scheduler.count (omega arith), lt-leb (time_of first) now k)
 
@@ -165,7 +164,7 @@ module _ (m : Schedule) (now : ℕ) (out : List ℕ) where
       → rs ≡ drop 1 (waiting_records m) ++ vacant ∷ drop m.scheduler.count m.records
       → ps ≡ placed m.places (place_of first) (replicate 1410 0)
       → o ≡ bytes_of m.places first ++ drop (record_length first) out
-      → pop_exit rs ps o (record { scheduler = scheduler (m.scheduler.count - 1) m.scheduler.next_order; answer = ready.Packet (record_length first) }) ≡ pop_unchecked m now out
+      → pop_exit rs ps o (record { scheduler = scheduler (m.scheduler.count - 1) m.scheduler.next_order; answer = Ok (Some (record_length first)) }) ≡ pop_unchecked m now out
   unfolding pop_unchecked without_first
   taken_law h k p q r = simp (lt-ltb 0 m.scheduler.count (omega arith), le-leb (time_of first) now k, p, q, r)
 

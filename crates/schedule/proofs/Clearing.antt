@@ -1,4 +1,5 @@
 -- Bytes of the places that hold no packet are zeros: from making on, after a copy is put in, and after one is taken out.
+use Rattle.std.specs.Prelude.{None, Ok}
 use mathlib.Core.Path.{◌≡◌, refl, sym, ◌∙◌, ap, subst}
 use Prim.Native.Nat.{ℕ, zero, suc, ◌<◌, ◌≤◌, ◌+◌, ◌-◌, ◌*◌, ◌/◌}
 use native.Mathlib.Omega.{arith}
@@ -15,7 +16,6 @@ use Rattle.schedule.specs.State.{Schedule, waiting_records, place_count, state_b
 use Rattle.schedule.specs.Schedule.{new_schedule, placed, place_bytes, put_copy, schedule_at_unchecked, first_record, without_first, on_pop, pop_first, pop_unchecked, left_by_pop}
 use Rattle.schedule.specs.declared.Deliveries.{Deliveries}
 use Rattle.schedule.specs.declared.Deliveries.TheVariants.{Lost, One, Two}
-use Rattle.schedule.specs.declared.ReadyAnswer.TheVariants as ready
 use Rattle.schedule.proofs.Ordering.{insert_none, insert_here, insert_later}
 use Rattle.schedule.proofs.Sound.{place_cons}
 use Rattle.schedule.proofs.Memory.{length_filled, short, place_free, place_inside, put_records, put_places, first_waits, first_fine, first_inside, taken_records, taken_places}
@@ -216,7 +216,7 @@ pub pop_cleared : (m : Schedule) (now : ℕ) (out : List ℕ) → state_broken m
 unfolding pop_unchecked
 pop_cleared m now out sound c = go (ltb 0 m.scheduler.count) refl (leb (time_of (first_record m.records)) now)
   where
-    go : (t : Bool) → ltb 0 m.scheduler.count ≡ t → (u : Bool) → Cleared (left_by_pop (cond (t && u) (pop_first m out) (on_pop m out ready.Nothing)))
+    go : (t : Bool) → ltb 0 m.scheduler.count ≡ t → (u : Bool) → Cleared (left_by_pop (cond (t && u) (pop_first m out) (on_pop m out (Ok None))))
     go true e true = taken_cleared m sound (ltb-true 0 m.scheduler.count e) c
     go true e false = c
     go false e u = c

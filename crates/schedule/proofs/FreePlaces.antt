@@ -1,4 +1,5 @@
 -- The free places: how many there are, which is the first, and what the sum of the places tells of it.
+use Rattle.std.specs.Prelude.{None, Option, Some}
 use mathlib.Core.Path.{◌≡◌, refl, sym, ◌∙◌, ap, subst}
 use Prim.Native.Nat.{ℕ, zero, suc, ◌<◌, ◌≤◌, ◌+◌, ◌-◌, ◌*◌, ◌/◌}
 use native.Mathlib.Omega.{arith}
@@ -12,8 +13,6 @@ use borrow.Author.Tests.{ltb-true, ltb-false, lt-ltb, le-ltb, leb-false, le-leb,
 use Rattle.refusal.proofs.Laws.{or_false}
 use Rattle.schedule.specs.Record.{place_of, place_in, free_from}
 use Rattle.schedule.specs.Internal.{doubled, outside, place_sum, sum_from}
-use Rattle.schedule.specs.declared.PlaceSum.{PlaceSum}
-use Rattle.schedule.specs.declared.PlaceSum.TheVariants.{Is, Past}
 use Rattle.schedule.proofs.Lists.{rest_cons}
 use Rattle.schedule.proofs.Sound.{place_cons}
 
@@ -176,33 +175,33 @@ free_summed places n rs l w d some =
     omega arith
 
 -- ---- the loops that sum
-sum_cons : (last n : ℕ) (r : List ℕ) (rs : List (List ℕ)) → sum_from last n (r ∷ rs) ≡ cond (ltb last (place_of r)) Past (sum_from last (n + place_of r) rs)
+sum_cons : (last n : ℕ) (r : List ℕ) (rs : List (List ℕ)) → sum_from last n (r ∷ rs) ≡ cond (ltb last (place_of r)) None (sum_from last (n + place_of r) rs)
 unfolding sum_from outside place_sum
 sum_cons last n r rs = go (ltb last (place_of r)) refl
   where
     grouped : (a b c : ℕ) → a + (b + c) ≡ (a + b) + c
     grouped a b c = omega arith
 
-    go : (t : Bool) → ltb last (place_of r) ≡ t → cond (leb (suc last) (place_of r) || outside (suc last) rs) Past (Is (n + (place_of r + place_sum rs))) ≡ cond t Past (cond (outside (suc last) rs) Past (Is (n + place_of r + place_sum rs)))
+    go : (t : Bool) → ltb last (place_of r) ≡ t → cond (leb (suc last) (place_of r) || outside (suc last) rs) None (Some (n + (place_of r + place_sum rs))) ≡ cond t None (cond (outside (suc last) rs) None (Some (n + place_of r + place_sum rs)))
     go true e = rw (le-leb (suc last) (place_of r) (ltb-true last (place_of r) e))
     go false e = rw (lt-leb (suc last) (place_of r) (suc_lt (ltb-false last (place_of r) e)), grouped n (place_of r) (place_sum rs))
       where
         suc_lt : {a b : ℕ} → a ≤ b → a < suc b
         suc_lt h = omega arith
 
-pub sum_none : (last n : ℕ) {rs : List (List ℕ)} → rs ≡ [] → Is n ≡ sum_from last n rs
+pub sum_none : (last n : ℕ) {rs : List (List ℕ)} → rs ≡ [] → Some n ≡ sum_from last n rs
 unfolding sum_from outside place_sum
-sum_none last n e = sym (ap (sum_from last n) e ∙ ap Is (add-zero n))
+sum_none last n e = sym (ap (sum_from last n) e ∙ ap Some (add-zero n))
 
-sum_found : (last n : ℕ) (rs : List (List ℕ)) {r : PlaceSum} → r ≡ sum_from last 0 rs → r ≡ Is n → (outside (suc last) rs ≡ false) × (n ≡ place_sum rs)
+sum_found : (last n : ℕ) (rs : List (List ℕ)) {r : Option ℕ} → r ≡ sum_from last 0 rs → r ≡ Some n → (outside (suc last) rs ≡ false) × (n ≡ place_sum rs)
 unfolding sum_from
 sum_found last n rs p q = go (outside (suc last) rs) refl (sym q ∙ p)
   where
-    go : (t : Bool) → outside (suc last) rs ≡ t → Is n ≡ cond (outside (suc last) rs) Past (Is (0 + place_sum rs)) → (outside (suc last) rs ≡ false) × (n ≡ place_sum rs)
+    go : (t : Bool) → outside (suc last) rs ≡ t → Some n ≡ cond (outside (suc last) rs) None (Some (0 + place_sum rs)) → (outside (suc last) rs ≡ false) × (n ≡ place_sum rs)
     go true e h = let z : ◌≡◌ {A = ℕ} 0 1 = cc in absurd (omega arith)
     go false e h = (e, cc (zero-add (place_sum rs)))
 
-pub sum_frees : (places count n : ℕ) (s : List (List ℕ)) {r : PlaceSum} → count ≤ length s → 0 < length (free_from places 0 (take count s)) → doubled (take count s) ≡ false → r ≡ sum_from count 0 (take count s) → r ≡ Is n
+pub sum_frees : (places count n : ℕ) (s : List (List ℕ)) {r : Option ℕ} → count ≤ length s → 0 < length (free_from places 0 (take count s)) → doubled (take count s) ≡ false → r ≡ sum_from count 0 (take count s) → r ≡ Some n
     → get_or (free_from places 0 (take count s)) 0 0 + n ≡ count * (count + 1) / 2
 sum_frees places count n s h some d p q =
     let t = sum_found count n (take count s) p q in
@@ -235,38 +234,38 @@ module _ (s : List (List ℕ)) (count : ℕ) (high : count ≤ length s) where
   place_at i = place_of (get_or s i [])
 
   -- n more than the sum from the i-th record on
-  abbrev left : ℕ → ℕ → PlaceSum
+  abbrev left : ℕ → ℕ → Option ℕ
   left n i = sum_from count n (drop i (take count s))
 
-  sum_at : (n i : ℕ) {p : ℕ} → i < count → p ≡ place_at i → left n i ≡ cond (ltb count p) Past (left (n + p) (i + 1))
-  sum_at n i h e = ap (sum_from count n) (rest_cons [] count i s h high) ∙ sum_cons count n (get_or s i []) (drop (i + 1) (take count s)) ∙ ap (λ (p : ℕ). cond (ltb count p) Past (left (n + p) (i + 1))) (sym e)
+  sum_at : (n i : ℕ) {p : ℕ} → i < count → p ≡ place_at i → left n i ≡ cond (ltb count p) None (left (n + p) (i + 1))
+  sum_at n i h e = ap (sum_from count n) (rest_cons [] count i s h high) ∙ sum_cons count n (get_or s i []) (drop (i + 1) (take count s)) ∙ ap (λ (p : ℕ). cond (ltb count p) None (left (n + p) (i + 1))) (sym e)
 
-  pub sum_past : (n i : ℕ) {p : ℕ} → i < count → p ≡ place_at i → count < p → Past ≡ left n i
-  sum_past n i {p} h e l = sym (sum_at n i h e ∙ ap (λ (b : Bool). cond b Past (left (n + p) (i + 1))) (lt-ltb count p l))
+  pub sum_past : (n i : ℕ) {p : ℕ} → i < count → p ≡ place_at i → count < p → None ≡ left n i
+  sum_past n i {p} h e l = sym (sum_at n i h e ∙ ap (λ (b : Bool). cond b None (left (n + p) (i + 1))) (lt-ltb count p l))
 
   pub sum_next : (n i : ℕ) {p : ℕ} → i < count → p ≡ place_at i → p ≤ count → left (n + p) (i + 1) ≡ left n i
-  sum_next n i {p} h e l = sym (sum_at n i h e ∙ ap (λ (b : Bool). cond b Past (left (n + p) (i + 1))) (le-ltb count p l))
+  sum_next n i {p} h e l = sym (sum_at n i h e ∙ ap (λ (b : Bool). cond b None (left (n + p) (i + 1))) (le-ltb count p l))
 
   -- four at a time
   module _ (i : ℕ) {p q u v : ℕ} (room : 4 ≤ count - i) (at_p : p ≡ place_at i) (at-q : q ≡ place_at (i + 1)) (at-u : u ≡ place_at (i + 2)) (at-v : v ≡ place_at (i + 3)) where
     abbrev one_past : Bool
     one_past = (ltb count p || ltb count q) || (ltb count u || ltb count v)
 
-    sum_four : (n : ℕ) → left n i ≡ cond (ltb count p) Past (cond (ltb count q) Past (cond (ltb count u) Past (cond (ltb count v) Past (left (n + p + q + u + v) (i + 4)))))
+    sum_four : (n : ℕ) → left n i ≡ cond (ltb count p) None (cond (ltb count q) None (cond (ltb count u) None (cond (ltb count v) None (left (n + p + q + u + v) (i + 4)))))
     sum_four n =
         sum_at n i (omega arith) at_p
-        ∙ ap (λ (x : PlaceSum). cond (ltb count p) Past x)
-        (sum_at (n + p) (i + 1) (omega arith) at-q ∙ ap (λ (j : ℕ). cond (ltb count q) Past (left (n + p + q) j)) (add_assoc i 1 1)
-        ∙ ap (λ (x : PlaceSum). cond (ltb count q) Past x)
-        (sum_at (n + p + q) (i + 2) (omega arith) at-u ∙ ap (λ (j : ℕ). cond (ltb count u) Past (left (n + p + q + u) j)) (add_assoc i 2 1)
-        ∙ ap (λ (x : PlaceSum). cond (ltb count u) Past x)
-        (sum_at (n + p + q + u) (i + 3) (omega arith) at-v ∙ ap (λ (j : ℕ). cond (ltb count v) Past (left (n + p + q + u + v) j)) (add_assoc i 3 1))))
+        ∙ ap (λ (x : Option ℕ). cond (ltb count p) None x)
+        (sum_at (n + p) (i + 1) (omega arith) at-q ∙ ap (λ (j : ℕ). cond (ltb count q) None (left (n + p + q) j)) (add_assoc i 1 1)
+        ∙ ap (λ (x : Option ℕ). cond (ltb count q) None x)
+        (sum_at (n + p + q) (i + 2) (omega arith) at-u ∙ ap (λ (j : ℕ). cond (ltb count u) None (left (n + p + q + u) j)) (add_assoc i 2 1)
+        ∙ ap (λ (x : Option ℕ). cond (ltb count u) None x)
+        (sum_at (n + p + q + u) (i + 3) (omega arith) at-v ∙ ap (λ (j : ℕ). cond (ltb count v) None (left (n + p + q + u + v) j)) (add_assoc i 3 1))))
 
-    pub four_past : (n : ℕ) → one_past ≡ true → Past ≡ left n i
-    four_past n t = sym (sum_four n ∙ some_of Past (left (n + p + q + u + v) (i + 4)) (ltb count p) (ltb count q) (ltb count u) (ltb count v) t)
+    pub four_past : (n : ℕ) → one_past ≡ true → None ≡ left n i
+    four_past n t = sym (sum_four n ∙ some_of None (left (n + p + q + u + v) (i + 4)) (ltb count p) (ltb count q) (ltb count u) (ltb count v) t)
 
     pub four_next : (a b c d : ℕ) → one_past ≡ false → left ((a + p) + (b + q) + ((c + u) + (d + v))) (i + 4) ≡ left (a + b + (c + d)) i
-    four_next a b c d t = let n = a + b + (c + d) in ap (λ (x : ℕ). left x (i + 4)) (grouped a b c d p q u v) ∙ sym (sum_four n ∙ none_of Past (left (n + p + q + u + v) (i + 4)) (ltb count p) (ltb count q) (ltb count u) (ltb count v) t)
+    four_next a b c d t = let n = a + b + (c + d) in ap (λ (x : ℕ). left x (i + 4)) (grouped a b c d p q u v) ∙ sym (sum_four n ∙ none_of None (left (n + p + q + u + v) (i + 4)) (ltb count p) (ltb count q) (ltb count u) (ltb count v) t)
       where
         grouped : (a b c d p q u v : ℕ) → (a + p) + (b + q) + ((c + u) + (d + v)) ≡ a + b + (c + d) + p + q + u + v
         grouped a b c d p q u v = omega arith

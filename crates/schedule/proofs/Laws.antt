@@ -1,4 +1,5 @@
 -- What crates above may cite: the schedule is the list of copies that wait. Making gives none, scheduling inserts by time and order, taking removes the first alone, and the first's time is the next deadline.
+use Rattle.std.specs.Prelude.{Err, None, Ok, Some}
 use mathlib.Core.Path.{◌≡◌, refl, sym, ◌∙◌, ap, subst}
 use Prim.Native.Nat.{ℕ, zero, suc, ◌<◌, ◌≤◌, ◌+◌, ◌-◌, min}
 use native.Mathlib.Omega.{arith}
@@ -12,10 +13,6 @@ use borrow.Author.Tests.{ltb-true, ltb-false, leb-true, leb-false, le-ltb, lt-le
 use Rattle.bounds.specs.Bounds.{count_limit, max_datagram, max_delivery_delay, max_duration, max_time}
 use Rattle.refusal.specs.Order.{verdict}
 use Rattle.refusal.specs.declared.Refusal.{Refusal}
-use Rattle.refusal.specs.declared.Verdict.TheVariants.{Accepted}
-use Rattle.refusal.specs.declared.DoneAnswer.TheVariants as done
-use Rattle.refusal.specs.declared.CountAnswer.TheVariants as counted
-use Rattle.refusal.specs.declared.TestAnswer.TheVariants as test
 use Rattle.schedule.specs.Record.{record4, time_of, order_of, record_length, place_of, vacant, after, inserted, ordered_from, place_in, lowest_free}
 use Rattle.schedule.specs.State.{Schedule, waiting_records, place_count, broken_from, state_broken, counts_broken, late, held_late, delay_late, deliveries_late, copies, leaves_at, unused_places, unused_records, lacks_room, CanPut, CanSchedule}
 use Rattle.schedule.specs.Schedule.{new_schedule, placed, place_bytes, put_copy, schedule_at_unchecked, ScheduleExit, on_schedule, schedule_checks, schedule_at}
@@ -24,8 +21,6 @@ use Rattle.schedule.specs.Schedule.{first_time, next_deadline, read_checks, len,
 use Rattle.schedule.specs.Waiting.{WaitingCopy, copy, copy_after, waiting_copy, waiting, put_copies, new_copies, inserted_all, All, of_none, of_more, Popped, nothing, leaves, pop_copies, first_deadline}
 use Rattle.schedule.specs.declared.Deliveries.{Deliveries}
 use Rattle.schedule.specs.declared.Deliveries.TheVariants.{Lost, One, Two}
-use Rattle.schedule.specs.declared.ReadyAnswer.TheVariants as ready
-use Rattle.schedule.specs.declared.DeadlineAnswer.TheVariants as deadline
 use Rattle.schedule.proofs.Ordering.{up_to, Order, by_key, first_of, insert_none, insert_here, insert_later, inserted_length, inserted_all_lem, inserted_false}
 use Rattle.refusal.proofs.Laws.{or_false, on_accepted, accepted_none_true, none_true_accepted, either_answer}
 use Rattle.schedule.proofs.Sound.{fine, none_broken, place_cons}
@@ -33,6 +28,7 @@ use Rattle.schedule.proofs.Memory.{length_filled, within, unbroken, in_order_lem
 use Rattle.schedule.proofs.Calls.{can_one, can_first, can_second, lacks, lacks_not}
 pub use Rattle.schedule.proofs.Calls.{can_schedule, can_pop_accepted, read_sound}
 use Rattle.schedule.proofs.Bytes.{other_copies, filled_bytes, bytes_length}
+use Rattle.refusal.specs.Order.{passed}
 -- zeros where no packet lies
 pub use Rattle.schedule.proofs.Clearing.{new_cleared, schedule_cleared, taken_cleared, pop_cleared}
 -- the packet that leaves first
@@ -161,17 +157,17 @@ pub first_time_is : (m : Schedule) → state_broken m ≡ false → first_time m
 unfolding first_deadline
 first_time_is m sound = go (ltb 0 m.scheduler.count) refl
   where
-    go : (t : Bool) → ltb 0 m.scheduler.count ≡ t → cond t (deadline.At (time_of (first_record m.records))) deadline.Nothing ≡ first_deadline (waiting m)
+    go : (t : Bool) → ltb 0 m.scheduler.count ≡ t → cond t (Ok (Some (time_of (first_record m.records)))) (Ok None) ≡ first_deadline (waiting m)
     go true e = sym (ap first_deadline (taken_waits m sound (ltb-true 0 m.scheduler.count e)))
     go false e = let l = ltb-false 0 m.scheduler.count e in sym (ap first_deadline (none_waiting m (omega arith)))
 
 pub deadline_is : (m : Schedule) → state_broken m ≡ false → counts_broken m ≡ false → held_late (waiting_records m) ≡ false → next_deadline m ≡ first_deadline (waiting m)
 unfolding next_deadline
-deadline_is m sound counts times = on_accepted deadline.Refused (first_time m.scheduler.count m.records) (none_true_accepted (read_checks m) (sound, (counts, (times, tt)))) ∙ first_time_is m sound
+deadline_is m sound counts times = on_accepted Err (first_time m.scheduler.count m.records) (none_true_accepted (read_checks m) (sound, (counts, (times, tt)))) ∙ first_time_is m sound
 
 -- what `pop_ready_at` answers and leaves, by the list of what waits
 pub record Pops (m : Schedule) (now : ℕ) (out : List ℕ) (c : WaitingCopy) (cs : List WaitingCopy) : Type 0 where
-  pub answer : pop_unchecked m now out ≡ on_pop (without_first m) (c.bytes ++ drop (length c.bytes) out) (ready.Packet (length c.bytes))
+  pub answer : pop_unchecked m now out ≡ on_pop (without_first m) (c.bytes ++ drop (length c.bytes) out) (Ok (Some (length c.bytes)))
   pub rest : waiting (without_first m) ≡ cs
   pub sound : state_broken (without_first m) ≡ false
 
@@ -205,7 +201,7 @@ pub pop_packet : (m : Schedule) (now : ℕ) (out : List ℕ) (c : WaitingCopy) (
 unfolding pop_unchecked
 pop_packet m now out c cs sound h = go (ltb 0 m.scheduler.count) refl
   where
-    same : (x : List ℕ) (k : ℕ) → x ≡ c.bytes → k ≡ length c.bytes → on_pop (without_first m) (x ++ drop k out) (ready.Packet k) ≡ on_pop (without_first m) (c.bytes ++ drop (length c.bytes) out) (ready.Packet (length c.bytes))
+    same : (x : List ℕ) (k : ℕ) → x ≡ c.bytes → k ≡ length c.bytes → on_pop (without_first m) (x ++ drop k out) (Ok (Some k)) ≡ on_pop (without_first m) (c.bytes ++ drop (length c.bytes) out) (Ok (Some (length c.bytes)))
     same x k p q = rw (p, q)
 
     go : (t : Bool) → ltb 0 m.scheduler.count ≡ t → Pops m now out c cs
@@ -218,11 +214,11 @@ pop_packet m now out c cs sound h = go (ltb 0 m.scheduler.count) refl
         let n : record_length (first_record m.records) ≡ length c.bytes = sym (first_length m sound some) ∙ ap length b in
         record { answer = simp (e, f.0) (same (bytes_of m.places (first_record m.records)) (record_length (first_record m.records)) b n); rest = f.2; sound = taken_sound m sound some }
 
-pub pop_nothing : (m : Schedule) (now : ℕ) (out : List ℕ) → state_broken m ≡ false → pop_copies now (waiting m) ≡ nothing → pop_unchecked m now out ≡ on_pop m out ready.Nothing
+pub pop_nothing : (m : Schedule) (now : ℕ) (out : List ℕ) → state_broken m ≡ false → pop_copies now (waiting m) ≡ nothing → pop_unchecked m now out ≡ on_pop m out (Ok None)
 unfolding pop_unchecked
 pop_nothing m now out sound h = go (ltb 0 m.scheduler.count) refl
   where
-    go : (t : Bool) → ltb 0 m.scheduler.count ≡ t → pop_unchecked m now out ≡ on_pop m out ready.Nothing
+    go : (t : Bool) → ltb 0 m.scheduler.count ≡ t → pop_unchecked m now out ≡ on_pop m out (Ok None)
     go false e = simp e
     go true e =
         let some = ltb-true 0 m.scheduler.count e in
@@ -310,26 +306,26 @@ pub pop_leaves : (m : Schedule) (now : ℕ) (out : List ℕ) → state_broken m 
 unfolding pop_unchecked
 pop_leaves m now out sound h = go (ltb 0 m.scheduler.count) refl (leb (time_of (first_record m.records)) now)
   where
-    go : (t : Bool) → ltb 0 m.scheduler.count ≡ t → (u : Bool) → Leaves m (left_by_pop (cond (t && u) (pop_first m out) (on_pop m out ready.Nothing))) 0
+    go : (t : Bool) → ltb 0 m.scheduler.count ≡ t → (u : Bool) → Leaves m (left_by_pop (cond (t && u) (pop_first m out) (on_pop m out (Ok None)))) 0
     go true e true = taken_leaves m sound (ltb-true 0 m.scheduler.count e) h
     go true e false = unchanged sound h
     go false e u = unchanged sound h
 
 -- ---- the answer of a call below the entry point: never a refusal; and where there is nothing to take, all is as it was
-pub pop_never_refused : (m : Schedule) (now : ℕ) (out : List ℕ) (r : Refusal) → (pop_unchecked m now out).result.answer ≡ ready.Refused r → ⊥
+pub pop_never_refused : (m : Schedule) (now : ℕ) (out : List ℕ) (r : Refusal) → (pop_unchecked m now out).result.answer ≡ Err r → ⊥
 unfolding pop_unchecked
 pop_never_refused m now out r = go (due m.scheduler.count m.records now)
   where
-    go : (t : Bool) → (cond t (pop_first m out) (on_pop m out ready.Nothing)).result.answer ≡ ready.Refused r → ⊥
+    go : (t : Bool) → (cond t (pop_first m out) (on_pop m out (Ok None))).result.answer ≡ Err r → ⊥
     go true e = let z : ◌≡◌ {A = ℕ} 0 1 = cc in omega arith
     go false e = let z : ◌≡◌ {A = ℕ} 0 1 = cc in omega arith
 
-pub pop_idle : (m : Schedule) (now : ℕ) (out : List ℕ) → (pop_unchecked m now out).result.answer ≡ ready.Nothing → pop_unchecked m now out ≡ on_pop m out ready.Nothing
+pub pop_idle : (m : Schedule) (now : ℕ) (out : List ℕ) → (pop_unchecked m now out).result.answer ≡ Ok None → pop_unchecked m now out ≡ on_pop m out (Ok None)
 unfolding pop_unchecked
 pop_idle m now out = go (due m.scheduler.count m.records now)
   where
-    go : (t : Bool) → (cond t (pop_first m out) (on_pop m out ready.Nothing)).result.answer ≡ ready.Nothing
-        → cond t (pop_first m out) (on_pop m out ready.Nothing) ≡ on_pop m out ready.Nothing
+    go : (t : Bool) → (cond t (pop_first m out) (on_pop m out (Ok None))).result.answer ≡ Ok None
+        → cond t (pop_first m out) (on_pop m out (Ok None)) ≡ on_pop m out (Ok None)
     go true e = let z : ◌≡◌ {A = ℕ} 0 1 = cc in absurd (omega arith)
     go false e = refl
 
@@ -368,7 +364,7 @@ module _ {P : WaitingCopy → Type 0} where
             let p = pop_packet m now out c cs sound e in
             subst (λ (x : PopExit). All P (waiting (left_by_pop x))) (sym p.answer) (subst (All P) (sym p.rest) (first_rest (subst (All P) (pop_first_lem now (waiting m) c cs e).0 a)).1)
 
-    pub pop_takes : (n : ℕ) → (pop_unchecked m now out).result.answer ≡ ready.Packet n → Takes P m now out n
+    pub pop_takes : (n : ℕ) → (pop_unchecked m now out).result.answer ≡ Ok (Some n) → Takes P m now out n
     pop_takes n h = go (pop_copies now (waiting m)) refl
       where
         go : (z : Popped) → pop_copies now (waiting m) ≡ z → Takes P m now out n
@@ -392,54 +388,54 @@ all_weaker f (of_more {x} h k) = of_more (f x h) (all_weaker f k)
 
 -- ---- an accepted call is the call below its entry point
 module _ (m : Schedule) (now : ℕ) (packet : List ℕ) (ds : Deliveries) where
-  pub schedule_accepted : verdict (schedule_checks m now (length packet) ds) ≡ Accepted → schedule_at m now packet ds ≡ on_schedule (schedule_at_unchecked m now packet ds) done.Done
+  pub schedule_accepted : verdict (schedule_checks m now (length packet) ds) ≡ passed → schedule_at m now packet ds ≡ on_schedule (schedule_at_unchecked m now packet ds) passed
   unfolding schedule_at
   schedule_accepted e = on_accepted _ _ e
 
-  pub schedule_accepts : CanSchedule m now packet ds → late now ≡ false → held_late (waiting_records m) ≡ false → verdict (schedule_checks m now (length packet) ds) ≡ Accepted
+  pub schedule_accepts : CanSchedule m now packet ds → late now ≡ false → held_late (waiting_records m) ≡ false → verdict (schedule_checks m now (length packet) ds) ≡ passed
   schedule_accepts c t h = none_true_accepted (schedule_checks m now (length packet) ds) (c.sound, (c.counts, (or_both _ _ t (or_both _ _ h c.times), (c.short, (c.room, tt)))))
 
-  pub schedule_done : (schedule_at m now packet ds).result.answer ≡ done.Done → verdict (schedule_checks m now (length packet) ds) ≡ Accepted
+  pub schedule_done : (schedule_at m now packet ds).result.answer ≡ passed → verdict (schedule_checks m now (length packet) ds) ≡ passed
   unfolding schedule_at
   schedule_done =
-      either_answer (λ (x : ScheduleExit). x.result.answer ≡ done.Done → verdict (schedule_checks m now (length packet) ds) ≡ Accepted) (verdict (schedule_checks m now (length packet) ds)) _ _
+      either_answer (λ (x : ScheduleExit). x.result.answer ≡ passed → verdict (schedule_checks m now (length packet) ds) ≡ passed) (verdict (schedule_checks m now (length packet) ds)) _ _
       (λ r e. let z : ◌≡◌ {A = ℕ} 0 1 = cc in absurd (omega arith)) (λ v e. v)
 
   -- what an accepted call found of the times
-  pub schedule_times : verdict (schedule_checks m now (length packet) ds) ≡ Accepted → (late now ≡ false) × (held_late (waiting_records m) ≡ false)
+  pub schedule_times : verdict (schedule_checks m now (length packet) ds) ≡ passed → (late now ≡ false) × (held_late (waiting_records m) ≡ false)
   schedule_times e =
       let t = or_false (late now) (held_late (waiting_records m) || deliveries_late now ds) (accepted_none_true (schedule_checks m now (length packet) ds) e).1.1.0 in
       (t.0, (or_false (held_late (waiting_records m)) (deliveries_late now ds) t.1).0)
 
 module _ (m : Schedule) (now : ℕ) (out : List ℕ) where
-  pub pop_accepted : verdict (pop_checks m now (length out)) ≡ Accepted → pop_ready_at m now out ≡ pop_unchecked m now out
+  pub pop_accepted : verdict (pop_checks m now (length out)) ≡ passed → pop_ready_at m now out ≡ pop_unchecked m now out
   unfolding pop_ready_at
   pop_accepted e = on_accepted _ _ e
 
-  pub pop_accepts : CanPop m now out → counts_broken m ≡ false → late now ≡ false → held_late (waiting_records m) ≡ false → verdict (pop_checks m now (length out)) ≡ Accepted
+  pub pop_accepts : CanPop m now out → counts_broken m ≡ false → late now ≡ false → held_late (waiting_records m) ≡ false → verdict (pop_checks m now (length out)) ≡ passed
   pop_accepts c n t h = none_true_accepted (pop_checks m now (length out)) (c.sound, (n, (or_both _ _ t h, (c.room, tt))))
 
-  pub pop_times : verdict (pop_checks m now (length out)) ≡ Accepted → (late now ≡ false) × (held_late (waiting_records m) ≡ false)
+  pub pop_times : verdict (pop_checks m now (length out)) ≡ passed → (late now ≡ false) × (held_late (waiting_records m) ≡ false)
   pop_times e = or_false (late now) (held_late (waiting_records m)) (accepted_none_true (pop_checks m now (length out)) e).1.1.0
 
 module _ (m : Schedule) where
-  pub read_accepts : state_broken m ≡ false → counts_broken m ≡ false → held_late (waiting_records m) ≡ false → verdict (read_checks m) ≡ Accepted
+  pub read_accepts : state_broken m ≡ false → counts_broken m ≡ false → held_late (waiting_records m) ≡ false → verdict (read_checks m) ≡ passed
   read_accepts s n h = none_true_accepted (read_checks m) (s, (n, (h, tt)))
 
-  module _ (e : verdict (read_checks m) ≡ Accepted) where
+  module _ (e : verdict (read_checks m) ≡ passed) where
     pub deadline_accepted : next_deadline m ≡ first_time m.scheduler.count m.records
     unfolding next_deadline
     deadline_accepted = on_accepted _ _ e
 
-    pub len_accepted : len m ≡ counted.Count m.scheduler.count
+    pub len_accepted : len m ≡ Ok m.scheduler.count
     unfolding len
     len_accepted = on_accepted _ _ e
 
-    pub empty_accepted : is_empty m ≡ test.Is (eqb m.scheduler.count 0)
+    pub empty_accepted : is_empty m ≡ Ok (eqb m.scheduler.count 0)
     unfolding is_empty
     empty_accepted = on_accepted _ _ e
 
-    pub room_accepted : room m ≡ counted.Count (room_of m)
+    pub room_accepted : room m ≡ Ok (room_of m)
     unfolding room
     room_accepted = on_accepted _ _ e
 

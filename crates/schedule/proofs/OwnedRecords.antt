@@ -1,4 +1,5 @@
 -- A schedule that holds its records as structs: its rows one by one, and what its first record tells.
+use Rattle.std.specs.Prelude.{None, Ok, Result, Some}
 use mathlib.Core.Path.{◌≡◌, refl, sym, ◌∙◌, ap, subst}
 use Prim.Native.Nat.{ℕ, zero, suc, ◌<◌, ◌≤◌, ◌+◌, ◌-◌, ◌*◌}
 use native.Mathlib.Omega.{arith}
@@ -10,16 +11,15 @@ use lib.ListN.{length, set, get_or, take, drop, replicate, length-set, length-ma
 use lib.Seq.{take-suc, take-set-le, get_or-set_same, take_all}
 use Rattle.schedule.specs.Record.{time_of, record_length, place_of, vacant}
 use Rattle.refusal.specs.Order.{verdict}
-use Rattle.refusal.specs.declared.Verdict.{Verdict}
 use Rattle.schedule.specs.State.{Schedule, schedule, waiting_records}
 use Rattle.schedule.specs.Schedule.{CanPop, scheduler, first_record, placed, pop_exit, on_pop, pop_unchecked, schedule_checks, pop_checks}
 use Rattle.schedule.specs.Structs.{row_of, rows, owned_schedule}
-use Rattle.schedule.specs.declared.ReadyAnswer.TheVariants as ready
 use Rattle.schedule.specs.declared.Scheduled.{Scheduled}
 use Rattle.schedule.specs.declared.Deliveries.{Deliveries}
 use Rattle.schedule.specs.declared.OwnedSchedule.{OwnedSchedule}
 use Rattle.schedule.specs.contracts.OwnedSchedule as S
 use Rattle.schedule.proofs.Calls.{first_not_due, can_take, taken_law}
+use Rattle.refusal.specs.declared.Refusal.{Refusal}
 
 -- ---- rows one by one
 row_at : (s : List Scheduled) (i : ℕ) (d : Scheduled) → i < length s → get_or (rows s) i [] ≡ row_of (get_or s i d)
@@ -41,7 +41,7 @@ packs_all s r i n l k h e = sym (take_all i r (omega arith)) ∙ e ∙ take_all 
 
 -- ---- the first record, as it lies and as it is taken out
 module _ (m : Schedule) (now : ℕ) (out : List ℕ) (some : m.scheduler.count ≡ 0 → ⊥) {r : Scheduled} (first : row_of r ≡ first_record m.records) where
-  pub struct_not_due : now < r.time → on_pop m out ready.Nothing ≡ pop_unchecked m now out
+  pub struct_not_due : now < r.time → on_pop m out (Ok None) ≡ pop_unchecked m now out
   struct_not_due l = first_not_due m now out some (subst (λ (q : List ℕ). now < time_of q) first l)
 
   module _ {t : Scheduled} (taken : row_of t ≡ first_record m.records) where
@@ -54,9 +54,9 @@ module _ (m : Schedule) (now : ℕ) (out : List ℕ) (some : m.scheduler.count �
         → rs ≡ drop 1 (waiting_records m) ++ vacant ∷ drop m.scheduler.count m.records
         → ps ≡ placed m.places t.place (replicate 1410 0)
         → o ≡ take r.length (drop (t.place * 1410) m.places) ++ drop r.length out
-        → pop_exit rs ps o (record { scheduler = scheduler (m.scheduler.count - 1) m.scheduler.next_order; answer = ready.Packet r.length }) ≡ pop_unchecked m now out
+        → pop_exit rs ps o (record { scheduler = scheduler (m.scheduler.count - 1) m.scheduler.next_order; answer = Ok (Some r.length) }) ≡ pop_unchecked m now out
     struct_takes {rs} {ps} {o} l p q k =
-        ap (λ (x : List ℕ). pop_exit rs ps o (record { scheduler = scheduler (m.scheduler.count - 1) m.scheduler.next_order; answer = ready.Packet (record_length x) })) first
+        ap (λ (x : List ℕ). pop_exit rs ps o (record { scheduler = scheduler (m.scheduler.count - 1) m.scheduler.next_order; answer = Ok (Some (record_length x)) })) first
         ∙ taken_law m now out some (subst (λ (x : List ℕ). time_of x ≤ now) first l) p
         (q ∙ ap (λ (x : List ℕ). placed m.places (place_of x) (replicate 1410 0)) taken)
         (k ∙ ap (λ (x : List ℕ). take (record_length x) (drop (t.place * 1410) m.places) ++ drop (record_length x) out) first ∙ ap (λ (x : List ℕ). take (record_length (first_record m.records)) (drop (place_of x * 1410) m.places) ++ drop (record_length (first_record m.records)) out) taken)
@@ -72,8 +72,8 @@ pub first_row : (s : List Scheduled) (d : Scheduled) → 0 < length s → row_of
 first_row s d l = sym (row_at s 0 d l)
 
 -- ---- the verdict on the rows is that on the structs
-pub schedule_verdict_owned : (x : OwnedSchedule) (ps : List ℕ) (now n : ℕ) (ds : Deliveries) {rs : List (List ℕ)} {v : Verdict} → v ≡ verdict (schedule_checks (schedule rs ps x.scheduler) now n ds) → rs ≡ rows x.records → v ≡ verdict (schedule_checks (owned_schedule x ps) now n ds)
+pub schedule_verdict_owned : (x : OwnedSchedule) (ps : List ℕ) (now n : ℕ) (ds : Deliveries) {rs : List (List ℕ)} {v : Result Unit Refusal} → v ≡ verdict (schedule_checks (schedule rs ps x.scheduler) now n ds) → rs ≡ rows x.records → v ≡ verdict (schedule_checks (owned_schedule x ps) now n ds)
 schedule_verdict_owned x ps now n ds e q = e ∙ ap (λ (rs : List (List ℕ)). verdict (schedule_checks (schedule rs ps x.scheduler) now n ds)) q
 
-pub pop_verdict_owned : (x : OwnedSchedule) (ps : List ℕ) (now n : ℕ) {rs : List (List ℕ)} {v : Verdict} → v ≡ verdict (pop_checks (schedule rs ps x.scheduler) now n) → rs ≡ rows x.records → v ≡ verdict (pop_checks (owned_schedule x ps) now n)
+pub pop_verdict_owned : (x : OwnedSchedule) (ps : List ℕ) (now n : ℕ) {rs : List (List ℕ)} {v : Result Unit Refusal} → v ≡ verdict (pop_checks (schedule rs ps x.scheduler) now n) → rs ≡ rows x.records → v ≡ verdict (pop_checks (owned_schedule x ps) now n)
 pop_verdict_owned x ps now n e q = e ∙ ap (λ (rs : List (List ℕ)). verdict (pop_checks (schedule rs ps x.scheduler) now n)) q

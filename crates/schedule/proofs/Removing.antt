@@ -1,4 +1,5 @@
 -- The packet that leaves first: taking it out is removing it where its place and length are known, and these lie within bounds.
+use Rattle.std.specs.Prelude.{None, Ok, Option, Some}
 use mathlib.Core.Path.{◌≡◌, refl}
 use Prim.Native.Nat.{ℕ, ◌+◌, ◌*◌, ◌<◌, ◌≤◌}
 use native.Mathlib.Omega.{arith}
@@ -11,15 +12,12 @@ use Rattle.bounds.specs.Bounds.{max_datagram, place_size}
 use Rattle.schedule.specs.Record.{time_of, record_length, place_of}
 use Rattle.schedule.specs.State.{Schedule, state_broken}
 use Rattle.schedule.specs.Schedule.{first_record, due, first_due, without_first, PopExit, on_pop, pop_first, pop_unchecked}
-use Rattle.schedule.specs.declared.FirstDue.{FirstDue}
-use Rattle.schedule.specs.declared.FirstDue.TheVariants as first
-use Rattle.schedule.specs.declared.ReadyAnswer.TheVariants as ready
 use Rattle.schedule.proofs.Memory.{first_fine, first_inside}
 
 -- what taking leaves and answers, where the first packet is known
-abbrev pub pop_by : FirstDue → Schedule → List ℕ → PopExit
-pop_by first.Nothing m out = on_pop m out ready.Nothing
-pop_by (first.Packet place len) m out = on_pop (without_first m) (take len (drop (place * place_size) m.places) ++ drop len out) (ready.Packet len)
+abbrev pub pop_by : Option (ℕ × ℕ) → Schedule → List ℕ → PopExit
+pop_by None m out = on_pop m out (Ok None)
+pop_by (Some (place, len)) m out = on_pop (without_first m) (take len (drop (place * place_size) m.places) ++ drop len out) (Ok (Some len))
 
 -- such a packet lies in the store, and is no longer than a datagram
 pub record FirstPacket (m : Schedule) (place len : ℕ) : Type 0 where
@@ -32,15 +30,15 @@ module _ (m : Schedule) (now : ℕ) where
   unfolding pop_unchecked first_due
   pop_by_first out = go (due m.scheduler.count m.records now)
     where
-      go : (t : Bool) → cond t (pop_first m out) (on_pop m out ready.Nothing) ≡ pop_by (cond t (first.Packet (place_of (first_record m.records)) (record_length (first_record m.records))) first.Nothing) m out
+      go : (t : Bool) → cond t (pop_first m out) (on_pop m out (Ok None)) ≡ pop_by (cond t (Some (place_of (first_record m.records), record_length (first_record m.records))) None) m out
       go true = refl
       go false = refl
 
-  pub first_packet : (place len : ℕ) → state_broken m ≡ false → first_due m.scheduler.count m.records now ≡ first.Packet place len → FirstPacket m place len
+  pub first_packet : (place len : ℕ) → state_broken m ≡ false → first_due m.scheduler.count m.records now ≡ Some (place, len) → FirstPacket m place len
   unfolding first_due
   first_packet place len sound = go (ltb 0 m.scheduler.count) refl (leb (time_of (first_record m.records)) now)
     where
-      go : (t : Bool) → ltb 0 m.scheduler.count ≡ t → (u : Bool) → cond (t && u) (first.Packet (place_of (first_record m.records)) (record_length (first_record m.records))) first.Nothing ≡ first.Packet place len → FirstPacket m place len
+      go : (t : Bool) → ltb 0 m.scheduler.count ≡ t → (u : Bool) → cond (t && u) (Some (place_of (first_record m.records), record_length (first_record m.records))) None ≡ Some (place, len) → FirstPacket m place len
       go true e true q =
           let some = ltb-true 0 m.scheduler.count e in
           let p : place_of (first_record m.records) ≡ place = cc in

@@ -1,11 +1,9 @@
 -- What the functions below the entry points compute on the way: scans over waiting records, and blocks of their places.
-use Rattle.std.specs.Prelude.{ℕ, zero, suc, ◌+◌, Bool, false, cond, ◌&&◌, ◌||◌, List, [], ◌∷◌, ◌++◌, take, drop, ltb, leb}
+use Rattle.std.specs.Prelude.{ℕ, zero, suc, ◌+◌, Bool, false, cond, ◌&&◌, ◌||◌, List, [], ◌∷◌, ◌++◌, take, drop, ltb, leb, None, Option, Some}
 use Rattle.bounds.specs.Bounds.{max_datagram}
 use Rattle.schedule.specs.Record.{order_of, record_length, place_of, place_in}
 use Rattle.schedule.specs.State.{record_broken}
 use Rattle.schedule.specs.declared.Block.{Block}
-use Rattle.schedule.specs.declared.PlaceSum.{PlaceSum}
-use Rattle.schedule.specs.declared.PlaceSum.TheVariants.{Is, Past}
 
 -- how many stand before the first that leaves after x
 unfoldable pub index_for : {A : Type 0} → (A → A → Bool) → A → List A → ℕ
@@ -70,5 +68,5 @@ place_sum [] = 0
 place_sum (r ∷ rs) = place_of r + place_sum rs
 
 -- n more than that sum, if no place lies past `last`
-unfoldable pub sum_from : ℕ → ℕ → List (List ℕ) → PlaceSum
-sum_from last n rs = cond (outside (suc last) rs) Past (Is (n + place_sum rs))
+unfoldable pub sum_from : ℕ → ℕ → List (List ℕ) → Option ℕ
+sum_from last n rs = cond (outside (suc last) rs) None (Some (n + place_sum rs))

@@ -1,6 +1,6 @@
 -- Document 01, "What the Rust forms turn into" (BinaryHeap), `channel/scheduler.rs` and "Turned away": what each call
 -- on a schedule answers and leaves behind.
-use Rattle.std.specs.Prelude.{ℕ, ◌+◌, ◌-◌, ◌*◌, min, ◌/◌, ◌≡◌, Bool, false, cond, ◌&&◌, ◌||◌, List, [], ◌∷◌, ◌++◌, length, take, drop, get_or, replicate, ltb, leb, eqb}
+use Rattle.std.specs.Prelude.{ℕ, ◌+◌, ◌-◌, ◌*◌, min, ◌/◌, ◌≡◌, Bool, false, cond, ◌&&◌, ◌||◌, List, [], ◌∷◌, ◌++◌, length, take, drop, get_or, replicate, ltb, leb, eqb, Err, None, Ok, Option, Result, Some}
 use Rattle.bounds.specs.Bounds.{max_datagram, place_size}
 use Rattle.refusal.specs.Order.{Check, check, verdict, decide}
 use Rattle.refusal.specs.declared.Refusal.TheVariants.{State, Counts, Time, Long, Full}
@@ -13,19 +13,9 @@ use Rattle.schedule.specs.declared.ChannelScheduler.{ChannelScheduler}
 use Rattle.schedule.specs.declared.Deliveries.{Deliveries}
 use Rattle.schedule.specs.declared.Deliveries.TheVariants.{Lost, One, Two}
 use Rattle.schedule.specs.declared.ScheduleResult.{ScheduleResult}
-use Rattle.refusal.specs.declared.DoneAnswer.{DoneAnswer}
-use Rattle.refusal.specs.declared.DoneAnswer.TheVariants as queued
 use Rattle.schedule.specs.declared.PopResult.{PopResult}
-use Rattle.schedule.specs.declared.ReadyAnswer.{ReadyAnswer}
-use Rattle.schedule.specs.declared.ReadyAnswer.TheVariants as ready
-use Rattle.schedule.specs.declared.FirstDue.{FirstDue}
-use Rattle.schedule.specs.declared.FirstDue.TheVariants as first
-use Rattle.schedule.specs.declared.DeadlineAnswer.{DeadlineAnswer}
-use Rattle.schedule.specs.declared.DeadlineAnswer.TheVariants as deadline
-use Rattle.refusal.specs.declared.CountAnswer.{CountAnswer}
-use Rattle.refusal.specs.declared.CountAnswer.TheVariants as counted
-use Rattle.refusal.specs.declared.TestAnswer.{TestAnswer}
-use Rattle.refusal.specs.declared.TestAnswer.TheVariants as test
+use Rattle.refusal.specs.declared.Refusal.{Refusal}
+use Rattle.refusal.specs.Order.{passed}
 
 abbrev pub scheduler : ℕ → ℕ → ChannelScheduler
 scheduler count next = record { count = count; next_order = next }
@@ -70,7 +60,7 @@ pub record ScheduleExit : Type 0 where
 abbrev pub schedule_exit : List (List ℕ) → List ℕ → ScheduleResult → ScheduleExit
 schedule_exit r p s = record { records = r; places = p; result = s }
 
-abbrev pub on_schedule : Schedule → DoneAnswer → ScheduleExit
+abbrev pub on_schedule : Schedule → Result Unit Refusal → ScheduleExit
 on_schedule m a = schedule_exit m.records m.places (record { scheduler = m.scheduler; answer = a })
 
 -- the checks of `schedule_at`, of a packet of n bytes
@@ -86,8 +76,8 @@ schedule_checks m now n ds =
 unfoldable pub schedule_at : Schedule → ℕ → List ℕ → Deliveries → ScheduleExit
 schedule_at m now packet ds =
     decide (verdict (schedule_checks m now (length packet) ds))
-    (λ r. on_schedule m (queued.Refused r))
-    (on_schedule (schedule_at_unchecked m now packet ds) queued.Done)
+    (λ r. on_schedule m (Err r))
+    (on_schedule (schedule_at_unchecked m now packet ds) passed)
 
 -- the record that leaves first, and whether it may leave now
 abbrev pub first_record : List (List ℕ) → List ℕ
@@ -97,10 +87,10 @@ abbrev pub due : ℕ → List (List ℕ) → ℕ → Bool
 due count rs now = ltb 0 count && leb (time_of (first_record rs)) now
 
 -- its place and length, if it may
-unfoldable pub first_due : ℕ → List (List ℕ) → ℕ → FirstDue
+unfoldable pub first_due : ℕ → List (List ℕ) → ℕ → Option (ℕ × ℕ)
 first_due count rs now =
     let r = first_record rs in
-    cond (due count rs now) (first.Packet (place_of r) (record_length r)) first.Nothing
+    cond (due count rs now) (Some (place_of r, record_length r)) None
 
 -- the bytes of a record's packet
 abbrev pub bytes_of : List ℕ → List ℕ → List ℕ
@@ -123,7 +113,7 @@ pub record PopExit : Type 0 where
 abbrev pub pop_exit : List (List ℕ) → List ℕ → List ℕ → PopResult → PopExit
 pop_exit r p o s = record { records = r; places = p; out = o; result = s }
 
-abbrev pub on_pop : Schedule → List ℕ → ReadyAnswer → PopExit
+abbrev pub on_pop : Schedule → List ℕ → Result (Option ℕ) Refusal → PopExit
 on_pop m out a = pop_exit m.records m.places out (record { scheduler = m.scheduler; answer = a })
 
 -- the schedule that a call leaves
@@ -138,12 +128,12 @@ out_short count rs now size = due count rs now && ltb size (record_length (first
 abbrev pub pop_first : Schedule → List ℕ → PopExit
 pop_first m out =
     let r = first_record m.records in
-    on_pop (without_first m) (bytes_of m.places r ++ drop (record_length r) out) (ready.Packet (record_length r))
+    on_pop (without_first m) (bytes_of m.places r ++ drop (record_length r) out) (Ok (Some (record_length r)))
 
 -- it is taken if it is due
 unfoldable pub pop_unchecked : Schedule → ℕ → List ℕ → PopExit
 pop_unchecked m now out =
-    cond (due m.scheduler.count m.records now) (pop_first m out) (on_pop m out ready.Nothing)
+    cond (due m.scheduler.count m.records now) (pop_first m out) (on_pop m out (Ok None))
 
 -- the checks of `pop_ready_at`, of a buffer of n bytes
 abbrev pub pop_checks : Schedule → ℕ → ℕ → List Check
@@ -156,31 +146,31 @@ pop_checks m now n =
 
 unfoldable pub pop_ready_at : Schedule → ℕ → List ℕ → PopExit
 pop_ready_at m now out =
-    decide (verdict (pop_checks m now (length out))) (λ r. on_pop m out (ready.Refused r)) (pop_unchecked m now out)
+    decide (verdict (pop_checks m now (length out))) (λ r. on_pop m out (Err r)) (pop_unchecked m now out)
 
 -- the checks of a call that only reads
 abbrev pub read_checks : Schedule → List Check
 read_checks m =
     check (state_broken m) State ∷ check (counts_broken m) Counts ∷ check (held_late (waiting_records m)) Time ∷ []
 
-abbrev pub first_time : ℕ → List (List ℕ) → DeadlineAnswer
-first_time count rs = cond (ltb 0 count) (deadline.At (time_of (first_record rs))) deadline.Nothing
+abbrev pub first_time : ℕ → List (List ℕ) → Result (Option ℕ) Refusal
+first_time count rs = cond (ltb 0 count) (Ok (Some (time_of (first_record rs)))) (Ok None)
 
-unfoldable pub next_deadline : Schedule → DeadlineAnswer
-next_deadline m = decide (verdict (read_checks m)) deadline.Refused (first_time m.scheduler.count m.records)
+unfoldable pub next_deadline : Schedule → Result (Option ℕ) Refusal
+next_deadline m = decide (verdict (read_checks m)) Err (first_time m.scheduler.count m.records)
 
-unfoldable pub len : Schedule → CountAnswer
-len m = decide (verdict (read_checks m)) counted.Refused (counted.Count m.scheduler.count)
+unfoldable pub len : Schedule → Result ℕ Refusal
+len m = decide (verdict (read_checks m)) Err (Ok m.scheduler.count)
 
-unfoldable pub is_empty : Schedule → TestAnswer
-is_empty m = decide (verdict (read_checks m)) test.Refused (test.Is (eqb m.scheduler.count 0))
+unfoldable pub is_empty : Schedule → Result Bool Refusal
+is_empty m = decide (verdict (read_checks m)) Err (Ok (eqb m.scheduler.count 0))
 
 -- how many copies more there is room for
 abbrev pub room_of : Schedule → ℕ
 room_of m = min (unused_places m) (unused_records m)
 
-unfoldable pub room : Schedule → CountAnswer
-room m = decide (verdict (read_checks m)) counted.Refused (counted.Count (room_of m))
+unfoldable pub room : Schedule → Result ℕ Refusal
+room m = decide (verdict (read_checks m)) Err (Ok (room_of m))
 
 pub record CanPop (m : Schedule) (now : ℕ) (out : List ℕ) : Type 0 where
   pub sound : state_broken m ≡ false

@@ -1,12 +1,11 @@
 -- Document 01, `channel/scheduler.rs`: what a schedule means, the list of the copies that wait, in leaving order.
-use Rattle.std.specs.Prelude.{ℕ, ◌+◌, Bool, cond, List, [], ◌∷◌, map, leb}
+use Rattle.std.specs.Prelude.{ℕ, ◌+◌, Bool, cond, List, [], ◌∷◌, map, leb, None, Ok, Option, Result, Some}
 use Rattle.schedule.specs.Record.{time_of, order_of, later, inserted}
 use Rattle.schedule.specs.State.{Schedule, waiting_records, leaves_at}
 use Rattle.schedule.specs.declared.Deliveries.{Deliveries}
 use Rattle.schedule.specs.declared.Deliveries.TheVariants.{Lost, One, Two}
-use Rattle.schedule.specs.declared.DeadlineAnswer.{DeadlineAnswer}
-use Rattle.schedule.specs.declared.DeadlineAnswer.TheVariants as deadline
 use Rattle.schedule.specs.Schedule.{bytes_of}
+use Rattle.refusal.specs.declared.Refusal.{Refusal}
 
 -- a copy that waits: when it leaves, how many were scheduled before it, and its bytes
 pub record WaitingCopy : Type 0 where
@@ -55,6 +54,6 @@ pop_copies now [] = nothing
 pop_copies now (c ∷ cs) = cond (leb c.time now) (leaves c cs) nothing
 
 -- when the next copy leaves
-unfoldable pub first_deadline : List WaitingCopy → DeadlineAnswer
-first_deadline [] = deadline.Nothing
-first_deadline (c ∷ cs) = deadline.At c.time
+unfoldable pub first_deadline : List WaitingCopy → Result (Option ℕ) Refusal
+first_deadline [] = Ok None
+first_deadline (c ∷ cs) = Ok (Some c.time)

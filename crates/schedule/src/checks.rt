@@ -11,7 +11,7 @@ ghost use Rattle.schedule.specs.Internal.{bounds_broken, any_record_broken};
 use super::places::place_doubled;
 use super::{ChannelScheduler, Deliveries, Scheduled, ScheduledRow, copies_of, leaves_after};
 use bounds::{COUNT_LIMIT, MAX_DATAGRAM_SIZE, MAX_TIME, PLACE_SIZE};
-use refusal::{Refusal, Verdict};
+use refusal::Refusal;
 
 impl ChannelScheduler {
     // The checks of `schedule_at`, of a packet of `size` bytes.
@@ -22,26 +22,26 @@ impl ChannelScheduler {
         now: u64,
         size: usize,
         deliveries: Deliveries,
-    ) -> Verdict
+    ) -> Result<(), Refusal>
         ensures { result ≡ verdict (schedule_checks (schedule records.now places.now self) now size
             deliveries) }
     {
         if self.state_broken(records, places) {
-            return Verdict::Refused(Refusal::State);
+            return Err(Refusal::State);
         }
         if COUNT_LIMIT <= self.next_order {
-            return Verdict::Refused(Refusal::Counts);
+            return Err(Refusal::Counts);
         }
         if self.time_late(records, now, deliveries) {
-            return Verdict::Refused(Refusal::Time);
+            return Err(Refusal::Time);
         }
         if MAX_DATAGRAM_SIZE < size {
-            return Verdict::Refused(Refusal::Long);
+            return Err(Refusal::Long);
         }
         if self.room_unchecked(records, places) < copies_of(deliveries) {
-            return Verdict::Refused(Refusal::Full);
+            return Err(Refusal::Full);
         }
-        Verdict::Accepted
+        Ok(())
     }
 
     // The checks of `pop_ready_at`, of a buffer of `size` bytes.
@@ -51,38 +51,38 @@ impl ChannelScheduler {
         places: &[u8],
         now: u64,
         size: usize,
-    ) -> Verdict
+    ) -> Result<(), Refusal>
         ensures { result ≡ verdict (pop_checks (schedule records.now places.now self) now size) }
     {
         if self.state_broken(records, places) {
-            return Verdict::Refused(Refusal::State);
+            return Err(Refusal::State);
         }
         if COUNT_LIMIT <= self.next_order {
-            return Verdict::Refused(Refusal::Counts);
+            return Err(Refusal::Counts);
         }
         if self.time_late(records, now, Deliveries::Lost) {
-            return Verdict::Refused(Refusal::Time);
+            return Err(Refusal::Time);
         }
         if self.out_short(records, now, size) {
-            return Verdict::Refused(Refusal::Full);
+            return Err(Refusal::Full);
         }
-        Verdict::Accepted
+        Ok(())
     }
 
     // The checks of a call that only reads.
-    pub(super) fn read_verdict(self, records: &[ScheduledRow], places: &[u8]) -> Verdict
+    pub(super) fn read_verdict(self, records: &[ScheduledRow], places: &[u8]) -> Result<(), Refusal>
         ensures { result ≡ verdict (read_checks (schedule records.now places.now self)) }
     {
         if self.state_broken(records, places) {
-            return Verdict::Refused(Refusal::State);
+            return Err(Refusal::State);
         }
         if COUNT_LIMIT <= self.next_order {
-            return Verdict::Refused(Refusal::Counts);
+            return Err(Refusal::Counts);
         }
         if held_late(records, self.count) {
-            return Verdict::Refused(Refusal::Time);
+            return Err(Refusal::Time);
         }
-        Verdict::Accepted
+        Ok(())
     }
 
     // Check 9.

@@ -5,22 +5,22 @@ ghost use Rattle.schedule.specs.Schedule.{first_due, without_first};
 
 use super::order::remove_first;
 use super::places::clear_place;
-use super::{ChannelScheduler, FirstDue, Scheduled, ScheduledRow};
+use super::{ChannelScheduler, Scheduled, ScheduledRow};
 
 impl ChannelScheduler {
-    pub fn first_due_unchecked(self, records: &[ScheduledRow], now: u64) -> FirstDue
+    pub fn first_due_unchecked(self, records: &[ScheduledRow], now: u64) -> Option<(usize, usize)>
         requires { self.count ≤ length records.now }
         ensures { result ≡ first_due self.count records.now now }
     {
         let count = self.count;
         if count == 0 {
-            return FirstDue::Nothing;
+            return None;
         }
         let first = Scheduled::unpacked(records[0]);
         if now < first.time {
-            return FirstDue::Nothing;
+            return None;
         }
-        FirstDue::Packet(first.place as usize, first.length as usize)
+        Some((first.place as usize, first.length as usize))
     }
 
     pub fn remove_first_unchecked(self, records: &mut [ScheduledRow], places: &mut [u8]) -> Self

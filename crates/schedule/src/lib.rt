@@ -11,7 +11,7 @@ ghost use Rattle.schedule.specs.Schedule.{first_time, next_deadline, len, is_emp
 use bounds::PLACE_SIZE;
 use order::{clear_records, insert, remove_first};
 use places::{fill_place, lowest_free, take_packet};
-use refusal::{CountAnswer, DoneAnswer, Refusal, TestAnswer, Verdict};
+use refusal::Refusal;
 
 mod checks;
 mod first;
@@ -50,35 +50,13 @@ pub enum Deliveries {
 #[derive(Clone, Copy)]
 pub struct ScheduleResult {
     pub scheduler: ChannelScheduler,
-    pub answer: DoneAnswer,
-}
-
-#[derive(Clone, Copy)]
-pub enum ReadyAnswer {
-    // The length of the packet that was written to the lent buffer.
-    Packet(usize),
-    Nothing,
-    Refused(Refusal),
-}
-
-// Of the packet that leaves first, if it is due, the place and the length.
-#[derive(Clone, Copy)]
-pub enum FirstDue {
-    Packet(usize, usize),
-    Nothing,
+    pub answer: Result<(), Refusal>,
 }
 
 #[derive(Clone, Copy)]
 pub struct PopResult {
     pub scheduler: ChannelScheduler,
-    pub answer: ReadyAnswer,
-}
-
-#[derive(Clone, Copy)]
-pub enum DeadlineAnswer {
-    At(u64),
-    Nothing,
-    Refused(Refusal),
+    pub answer: Result<Option<usize>, Refusal>,
 }
 
 // A schedule of eight records that it holds itself, as structs; only its places are lent.
@@ -91,13 +69,13 @@ pub struct OwnedSchedule {
 #[derive(Clone, Copy)]
 pub struct OwnedScheduleResult {
     pub schedule: OwnedSchedule,
-    pub answer: DoneAnswer,
+    pub answer: Result<(), Refusal>,
 }
 
 #[derive(Clone, Copy)]
 pub struct OwnedPopResult {
     pub schedule: OwnedSchedule,
-    pub answer: ReadyAnswer,
+    pub answer: Result<Option<usize>, Refusal>,
 }
 
 // A record taken out, and the records without it.
@@ -113,13 +91,6 @@ struct Block {
     used: [bool; 256],
     doubled: bool,
     beyond: bool,
-}
-
-// The sum of some records' places, where none of them lies past a bound.
-#[derive(Clone, Copy)]
-enum PlaceSum {
-    Is(u64),
-    Past,
 }
 
 impl ChannelScheduler {
@@ -151,17 +122,17 @@ impl ChannelScheduler {
             deliveries }
     {
         match self.schedule_verdict(records, places, now, packet.len(), deliveries) {
-            Verdict::Refused(r) => ScheduleResult {
+            Err(r) => ScheduleResult {
                 scheduler: self,
-                answer: DoneAnswer::Refused(r),
+                answer: Err(r),
             },
-            Verdict::Accepted => {
+            Ok(()) => {
                 let next = self.schedule_at_unchecked(
                     records, places, now, packet, deliveries, false,
                 );
                 ScheduleResult {
                     scheduler: next,
-                    answer: DoneAnswer::Done,
+                    answer: Ok(()),
                 }
             }
         }
@@ -179,50 +150,54 @@ impl ChannelScheduler {
             ≡ pop_ready_at (schedule records.old places.old self) now out.old }
     {
         match self.pop_verdict(records, places, now, out.len()) {
-            Verdict::Refused(r) => PopResult {
+            Err(r) => PopResult {
                 scheduler: self,
-                answer: ReadyAnswer::Refused(r),
+                answer: Err(r),
             },
-            Verdict::Accepted => self.pop_ready_at_unchecked(records, places, now, out),
+            Ok(()) => self.pop_ready_at_unchecked(records, places, now, out),
         }
     }
 
     // When the next packet may leave.
-    pub fn next_deadline(self, records: &[ScheduledRow], places: &[u8]) -> DeadlineAnswer
+    pub fn next_deadline(
+        self,
+        records: &[ScheduledRow],
+        places: &[u8],
+    ) -> Result<Option<u64>, Refusal>
         ensures { result ≡ next_deadline (schedule records.now places.now self) }
     {
         match self.read_verdict(records, places) {
-            Verdict::Refused(r) => DeadlineAnswer::Refused(r),
-            Verdict::Accepted => self.next_deadline_unchecked(records),
+            Err(r) => Err(r),
+            Ok(()) => self.next_deadline_unchecked(records),
         }
     }
 
     // How many copies wait.
-    pub fn len(self, records: &[ScheduledRow], places: &[u8]) -> CountAnswer
+    pub fn len(self, records: &[ScheduledRow], places: &[u8]) -> Result<usize, Refusal>
         ensures { result ≡ len (schedule records.now places.now self) }
     {
         match self.read_verdict(records, places) {
-            Verdict::Refused(r) => CountAnswer::Refused(r),
-            Verdict::Accepted => CountAnswer::Count(self.count),
+            Err(r) => Err(r),
+            Ok(()) => Ok(self.count),
         }
     }
 
-    pub fn is_empty(self, records: &[ScheduledRow], places: &[u8]) -> TestAnswer
+    pub fn is_empty(self, records: &[ScheduledRow], places: &[u8]) -> Result<bool, Refusal>
         ensures { result ≡ is_empty (schedule records.now places.now self) }
     {
         match self.read_verdict(records, places) {
-            Verdict::Refused(r) => TestAnswer::Refused(r),
-            Verdict::Accepted => TestAnswer::Is(self.count == 0),
+            Err(r) => Err(r),
+            Ok(()) => Ok(self.count == 0),
         }
     }
 
     // How many copies more there is room for.
-    pub fn room(self, records: &[ScheduledRow], places: &[u8]) -> CountAnswer
+    pub fn room(self, records: &[ScheduledRow], places: &[u8]) -> Result<usize, Refusal>
         ensures { result ≡ room (schedule records.now places.now self) }
     {
         match self.read_verdict(records, places) {
-            Verdict::Refused(r) => CountAnswer::Refused(r),
-            Verdict::Accepted => CountAnswer::Count(self.room_unchecked(records, places)),
+            Err(r) => Err(r),
+            Ok(()) => Ok(self.room_unchecked(records, places)),
         }
     }
 }
@@ -312,14 +287,14 @@ impl ChannelScheduler {
         if count == 0 {
             return PopResult {
                 scheduler: self,
-                answer: ReadyAnswer::Nothing,
+                answer: Ok(None),
             };
         }
         let first = Scheduled::unpacked(records[0]);
         if now < first.time {
             return PopResult {
                 scheduler: self,
-                answer: ReadyAnswer::Nothing,
+                answer: Ok(None),
             };
         }
         let len = first.length as usize;
@@ -330,20 +305,20 @@ impl ChannelScheduler {
                 count: count - 1,
                 next_order: self.next_order,
             },
-            answer: ReadyAnswer::Packet(len),
+            answer: Ok(Some(len)),
         }
     }
 
-    pub fn next_deadline_unchecked(self, records: &[ScheduledRow]) -> DeadlineAnswer
+    pub fn next_deadline_unchecked(self, records: &[ScheduledRow]) -> Result<Option<u64>, Refusal>
         requires { self.count ≤ length records.now }
         ensures { result ≡ first_time self.count records.now }
     {
         let count = self.count;
         if count == 0 {
-            return DeadlineAnswer::Nothing;
+            return Ok(None);
         }
         let first = Scheduled::unpacked(records[0]);
-        DeadlineAnswer::At(first.time)
+        Ok(Some(first.time))
     }
 
     // How many copies more there is room for.

@@ -8,11 +8,10 @@ ghost use Rattle.schedule.specs.Structs.{rows, owned_schedule, owned_schedule_ex
 
 use super::places::{fill_place, lowest_free, take_packet};
 use super::{
-    ChannelScheduler, Deliveries, OwnedPopResult, OwnedSchedule, OwnedScheduleResult, ReadyAnswer,
-    Scheduled, ScheduledRow, copies_of, delay_of,
+    ChannelScheduler, Deliveries, OwnedPopResult, OwnedSchedule, OwnedScheduleResult, Scheduled,
+    ScheduledRow, copies_of, delay_of,
 };
 use bounds::PLACE_SIZE;
-use refusal::{DoneAnswer, Verdict};
 
 impl OwnedSchedule {
     // An empty schedule; all places become zeros.
@@ -54,15 +53,15 @@ impl OwnedSchedule {
             .scheduler
             .schedule_verdict(&rows, places, now, packet.len(), deliveries)
         {
-            Verdict::Refused(r) => OwnedScheduleResult {
+            Err(r) => OwnedScheduleResult {
                 schedule: self,
-                answer: DoneAnswer::Refused(r),
+                answer: Err(r),
             },
-            Verdict::Accepted => {
+            Ok(()) => {
                 let next = self.schedule_at_unchecked(places, now, packet, deliveries);
                 OwnedScheduleResult {
                     schedule: next,
-                    answer: DoneAnswer::Done,
+                    answer: Ok(()),
                 }
             }
         }
@@ -76,11 +75,11 @@ impl OwnedSchedule {
         let records = self.records;
         let rows = packed_all(records);
         match self.scheduler.pop_verdict(&rows, places, now, out.len()) {
-            Verdict::Refused(r) => OwnedPopResult {
+            Err(r) => OwnedPopResult {
                 schedule: self,
-                answer: ReadyAnswer::Refused(r),
+                answer: Err(r),
             },
-            Verdict::Accepted => self.pop_ready_at_unchecked(places, now, out),
+            Ok(()) => self.pop_ready_at_unchecked(places, now, out),
         }
     }
 
@@ -113,7 +112,7 @@ impl OwnedSchedule {
         if count == 0 {
             return OwnedPopResult {
                 schedule: self,
-                answer: ReadyAnswer::Nothing,
+                answer: Ok(None),
             };
         }
         let records = self.records;
@@ -121,7 +120,7 @@ impl OwnedSchedule {
         if now < first.time {
             return OwnedPopResult {
                 schedule: self,
-                answer: ReadyAnswer::Nothing,
+                answer: Ok(None),
             };
         }
         let len = first.length as usize;
@@ -136,7 +135,7 @@ impl OwnedSchedule {
                     next_order: self.scheduler.next_order,
                 },
             },
-            answer: ReadyAnswer::Packet(len),
+            answer: Ok(Some(len)),
         }
     }
 

@@ -6,7 +6,7 @@ ghost use Rattle.schedule.specs.State.{ZerosFrom};
 ghost use Rattle.schedule.specs.Internal.{block_size, block_at, doubled, outside, first_unset, sum_from, sum_limit};
 ghost use Rattle.schedule.specs.Schedule.{placed, place_bytes};
 
-use super::{Block, PlaceSum, ScheduledRow};
+use super::{Block, ScheduledRow};
 use bounds::PLACE_SIZE;
 
 // Whether two waiting records have the same place, where all places lie below `places`. No block behind the greatest
@@ -36,7 +36,7 @@ pub(super) fn lowest_free(s: &[ScheduledRow], count: usize, places: usize) -> us
 {
     if count <= 65535 {
         let sum = place_sum(s, count);
-        if let PlaceSum::Is(n) = sum {
+        if let Some(n) = sum {
             return count * (count + 1) / 2 - n as usize;
         }
     }
@@ -136,7 +136,7 @@ fn lowest_unmarked(s: &[ScheduledRow], count: usize, places: usize) -> usize
 }
 
 // `sum` and the places of the records from `from` on, if none lies past `count`.
-fn sum_from(s: &[ScheduledRow], count: usize, from: usize, sum: u64) -> PlaceSum
+fn sum_from(s: &[ScheduledRow], count: usize, from: usize, sum: u64) -> Option<u64>
     requires { (from ≤ count) × (count ≤ length s.now) × (count ≤ sum_limit) × (sum ≤ from * sum_limit) }
     ensures { result ≡ sum_from count sum (drop from (take count s.now)) }
 {
@@ -145,15 +145,15 @@ fn sum_from(s: &[ScheduledRow], count: usize, from: usize, sum: u64) -> PlaceSum
     for r in &s[from..count] {
         let p = r[3];
         if last < p {
-            return PlaceSum::Past;
+            return None;
         }
         total += p;
     }
-    PlaceSum::Is(total)
+    Some(total)
 }
 
 // The sum of the places, if none lies past `count`. Four sums at a time don't wait for one another.
-fn place_sum(s: &[ScheduledRow], count: usize) -> PlaceSum
+fn place_sum(s: &[ScheduledRow], count: usize) -> Option<u64>
     requires { (count ≤ length s.now) × (count ≤ sum_limit) }
     ensures { result ≡ sum_from count 0 (take count s.now) }
 {
@@ -170,7 +170,7 @@ fn place_sum(s: &[ScheduledRow], count: usize) -> PlaceSum
         let u = s[i + 2][3];
         let v = s[i + 3][3];
         if ((last < p) | (last < q)) | ((last < u) | (last < v)) {
-            return PlaceSum::Past;
+            return None;
         }
         a += p;
         b += q;

@@ -1,4 +1,5 @@
 -- An ACK, decided before anything is written, and carried out.
+use Rattle.std.specs.Prelude.{Err, Ok, Result}
 use Prim.Native.Nat.{ℕ}
 use mathlib.Core.Path.{◌≡◌, refl, sym, ap, ◌∙◌}
 use mathlib.Core.Bool.{true, false}
@@ -12,7 +13,6 @@ use Rattle.window.specs.Slots.{Sender}
 use Rattle.window.specs.Acknowledgement.{is_in_window, by_reading, ack_decision, ack_exit, by_decision}
 use Rattle.window.specs.declared.AckDecision.{AckDecision}
 use Rattle.window.specs.declared.AckDecision.TheVariants as decision
-use Rattle.window.specs.declared.AckAnswer.TheVariants as answer
 use Rattle.window.proofs.Laws.{sound, not_broken, ack_accepted, ack_read, on_accept, on_not_accepted, on_ack_refused}
 use Rattle.selective_repeat.specs.Sender.{acknowledge_one, base_after, with_base_after, decide_ack, handle_ack}
 use Rattle.selective_repeat.proofs.Due.{in_window}
@@ -24,7 +24,7 @@ pub record Acknowledgeable (v : Sender) (n : ℕ) : Type 0 where
   pub within : is_in_window v.window n ≡ true
 
 module _ (v : Sender) (raw : List ℕ) where
-  pub accepted_within : (n base : ℕ) → ack_decision true v.window v.store raw ≡ decision.Accept n base → Acknowledgeable v n
+  pub accepted_within : (n base : ℕ) → ack_decision true v.window v.store raw ≡ Ok (decision.Accept n base) → Acknowledgeable v n
   accepted_within n base e =
       let a = ack_accepted true v.window v.store raw n base e in
       record { state_sound = not_broken true v.window v.store a.state; within = rw (le-leb _ _ a.from, lt-ltb _ _ a.below) }
@@ -35,30 +35,30 @@ module _ (v : Sender) (raw : List ℕ) where
   unfolding decide_ack
   decide_ack_read e f = ap (with_base_after v) (ack_read true v.window v.store raw e f)
 
-  pub decide_ack_within : (n base : ℕ) → decide_ack v raw ≡ decision.Accept n base → Acknowledgeable v n × (base ≡ base_after v n)
+  pub decide_ack_within : (n base : ℕ) → decide_ack v raw ≡ Ok (decision.Accept n base) → Acknowledgeable v n × (base ≡ base_after v n)
   unfolding decide_ack
   decide_ack_within n base e = by_decision_lem (ack_decision true v.window v.store raw) refl e where
-    by_decision_lem : (d : AckDecision) → ack_decision true v.window v.store raw ≡ d → with_base_after v d ≡ decision.Accept n base
+    by_decision_lem : (d : Result AckDecision Refusal) → ack_decision true v.window v.store raw ≡ d → with_base_after v d ≡ Ok (decision.Accept n base)
         → Acknowledgeable v n × (base ≡ base_after v n)
-    by_decision_lem (decision.Accept m b) f g =
+    by_decision_lem (Ok (decision.Accept m b)) f g =
         let same : m ≡ n = cc in
         let moved : base_after v m ≡ base = cc in
         (rw (← same) (accepted_within m b f), sym moved ∙ ap (base_after v) same)
-    by_decision_lem decision.NotAccepted f g = let z : ◌≡◌ {A = ℕ} 0 1 = cc in absurd (omega arith)
-    by_decision_lem (decision.Refused r) f g = let z : ◌≡◌ {A = ℕ} 0 1 = cc in absurd (omega arith)
+    by_decision_lem (Ok decision.NotAccepted) f g = let z : ◌≡◌ {A = ℕ} 0 1 = cc in absurd (omega arith)
+    by_decision_lem (Err r) f g = let z : ◌≡◌ {A = ℕ} 0 1 = cc in absurd (omega arith)
 
   -- the decision carried out
   pub handle_ack_decided : by_decision (decide_ack v raw) v (acknowledge_one v) ≡ handle_ack v raw
   unfolding decide_ack by_decision
   handle_ack_decided = by_decision_lem (ack_decision true v.window v.store raw) where
-    by_decision_lem : (d : AckDecision) → by_decision (with_base_after v d) v (acknowledge_one v) ≡ by_decision d v (acknowledge_one v)
-    by_decision_lem (decision.Accept n base) = refl
-    by_decision_lem decision.NotAccepted = refl
-    by_decision_lem (decision.Refused r) = refl
+    by_decision_lem : (d : Result AckDecision Refusal) → by_decision (with_base_after v d) v (acknowledge_one v) ≡ by_decision d v (acknowledge_one v)
+    by_decision_lem (Ok (decision.Accept n base)) = refl
+    by_decision_lem (Ok decision.NotAccepted) = refl
+    by_decision_lem (Err r) = refl
 
   -- what `handle_ack` answers and leaves, by what `decide_ack` says
-  pub decide_ack_accept : (n base : ℕ) → decide_ack v raw ≡ decision.Accept n base
-      → (handle_ack v raw ≡ ack_exit answer.Accepted (acknowledge_one v n)) × ((acknowledge_one v n).window.send_base ≡ base)
+  pub decide_ack_accept : (n base : ℕ) → decide_ack v raw ≡ Ok (decision.Accept n base)
+      → (handle_ack v raw ≡ ack_exit (Ok true) (acknowledge_one v n)) × ((acknowledge_one v n).window.send_base ≡ base)
   decide_ack_accept n base e =
       let k = decide_ack_within n base e in
       let within = in_window v.window n k.0.within in (
@@ -66,8 +66,8 @@ module _ (v : Sender) (raw : List ℕ) where
         acknowledge_base v n (sound true v.window v.store k.0.state_sound) within.0 within.1 ∙ sym k.1,
       )
 
-  pub decide_ack_not_accepted : decide_ack v raw ≡ decision.NotAccepted → handle_ack v raw ≡ ack_exit answer.NotAccepted v
+  pub decide_ack_not_accepted : decide_ack v raw ≡ Ok decision.NotAccepted → handle_ack v raw ≡ ack_exit (Ok false) v
   decide_ack_not_accepted e = sym (on_not_accepted v (acknowledge_one v) e ∙ handle_ack_decided)
 
-  pub decide_ack_refused : (r : Refusal) → decide_ack v raw ≡ decision.Refused r → handle_ack v raw ≡ ack_exit (answer.Refused r) v
+  pub decide_ack_refused : (r : Refusal) → decide_ack v raw ≡ Err r → handle_ack v raw ≡ ack_exit (Err r) v
   decide_ack_refused r e = sym (on_ack_refused v (acknowledge_one v) r e ∙ handle_ack_decided)

@@ -1,4 +1,5 @@
 -- Numbers of the window that aren't acknowledged: one that is due, and how many there are.
+use Rattle.std.specs.Prelude.{Err, Ok}
 use Prim.Native.Nat.{ℕ, ◌+◌, ◌≤◌, ◌<◌}
 use mathlib.Core.Path.{◌≡◌, refl}
 use mathlib.Core.Bool.{Bool, true, false, cond, and-eq-true_iff}
@@ -6,7 +7,6 @@ use native.Mathlib.Omega.{arith}
 use borrow.Author.Tests.{ltb-true, leb-true}
 use lib.Dec.{ltb, leb}
 use Rattle.refusal.specs.Order.{held_checks}
-use Rattle.refusal.specs.declared.CountAnswer.TheVariants as count
 use Rattle.refusal.proofs.Laws.{none_true_accepted, on_accepted}
 use Rattle.window.specs.State.{state_broken, counts_broken}
 use Rattle.window.specs.Slots.{Sender}
@@ -31,7 +31,7 @@ due_range v n some = by_due_lem (due v n) refl some where
 
 -- their count, on a state that isn't refused
 pub in_flight_count_unchecked_lem : (v : Sender) → state_broken true v.window v.store ≡ false → counts_broken v.window ≡ false
-    → in_flight_count v ≡ count.Count (in_flight_count_unchecked v)
+    → in_flight_count v ≡ Ok (in_flight_count_unchecked v)
 unfolding in_flight_count
 in_flight_count_unchecked_lem v e f =
-    on_accepted count.Refused _ (none_true_accepted (held_checks (state_broken true v.window v.store) (counts_broken v.window)) (e, (f, tt)))
+    on_accepted Err _ (none_true_accepted (held_checks (state_broken true v.window v.store) (counts_broken v.window)) (e, (f, tt)))

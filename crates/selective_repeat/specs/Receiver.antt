@@ -1,6 +1,6 @@
 -- arq/sr.rs, `SelectiveRepeatReceiver`, and document 01, "Turned away": Data in the window from base on is acknowledged
 -- and held once, Data of the window before base is acknowledged and counted as a duplicate, any other is not answered.
-use Rattle.std.specs.Prelude.{ℕ, ◌+◌, ◌-◌, ◌*◌, ◌%◌, ◌≤◌, ◌<◌, List, [], ◌∷◌, ◌++◌, Bool, true, false, cond, ◌&&◌, ◌≡◌, length, drop, replicate, ltb, leb, eqb}
+use Rattle.std.specs.Prelude.{ℕ, ◌+◌, ◌-◌, ◌*◌, ◌%◌, ◌≤◌, ◌<◌, List, [], ◌∷◌, ◌++◌, Bool, true, false, cond, ◌&&◌, ◌≡◌, length, drop, replicate, ltb, leb, eqb, Err, None, Ok, Option, Result, Some}
 use Rattle.bounds.specs.Bounds.{max_window, seq_num_limit, slot_size}
 use Rattle.refusal.specs.declared.Refusal.TheVariants.{State, Setup}
 use Rattle.refusal.specs.Clauses.{any_of}
@@ -10,8 +10,6 @@ use Rattle.store.specs.Slot.{fill_slot}
 use Rattle.store.specs.Sound.{receiver_slots_broken}
 use Rattle.store.specs.Numbers.{marked, marked_run, marked_count, payloads_from}
 use Rattle.window.specs.State.{window_broken, store_short}
-use Rattle.refusal.specs.declared.CountAnswer.{CountAnswer}
-use Rattle.refusal.specs.declared.CountAnswer.TheVariants as count
 use Rattle.window.specs.Slots.{empty_from}
 use Rattle.window.specs.Sending.{MakeExit, make_exit}
 use Rattle.receiver.specs.State.{counts_broken}
@@ -19,14 +17,11 @@ use Rattle.receiver.specs.Reading.{read_packet}
 use Rattle.receiver.specs.Receive.{ReceiveExit, Reception, receive, receive_unchecked}
 use Rattle.receiver.specs.declared.PacketReading.{PacketReading}
 use Rattle.receiver.specs.declared.PacketReading.TheVariants as reading
-use Rattle.receiver.specs.declared.Reply.{Reply}
-use Rattle.receiver.specs.declared.Reply.TheVariants as reply
 use Rattle.selective_repeat.specs.declared.SelectiveRepeatReceiver.{SelectiveRepeatReceiver}
 use Rattle.selective_repeat.specs.declared.SelectiveRepeatDecision.{SelectiveRepeatDecision}
-use Rattle.selective_repeat.specs.declared.SelectiveRepeatReceiverAnswer.{SelectiveRepeatReceiverAnswer}
-use Rattle.selective_repeat.specs.declared.SelectiveRepeatReceiverAnswer.TheVariants as made
 use Rattle.selective_repeat.specs.declared.SlotChange.{SlotChange}
 use Rattle.selective_repeat.specs.declared.SlotChange.TheVariants as slotChange
+use Rattle.refusal.specs.declared.Refusal.{Refusal}
 
 -- nothing received
 abbrev pub new_receiver : ℕ → SelectiveRepeatReceiver
@@ -106,11 +101,11 @@ abbrev pub receiver : SelectiveRepeatReceiver → List ℕ → Receiver
 receiver r store = record { state = r; store = store }
 
 -- making: nothing received, all slots empty
-unfoldable pub make_receiver : ℕ → List ℕ → MakeExit SelectiveRepeatReceiverAnswer
+unfoldable pub make_receiver : ℕ → List ℕ → MakeExit (Result SelectiveRepeatReceiver Refusal)
 make_receiver w store =
     decide (verdict (check (store_short store w) State ∷ check (window_broken w) Setup ∷ []))
-    (λ r. make_exit (made.Refused r) store)
-    (make_exit (made.Receiver (new_receiver w)) (replicate (w * slot_size) 0 ++ drop (w * slot_size) store))
+    (λ r. make_exit (Err r) store)
+    (make_exit (Ok (new_receiver w)) (replicate (w * slot_size) 0 ++ drop (w * slot_size) store))
 
 -- 9, but for the fill mark
 unfoldable pub state_broken : SelectiveRepeatReceiver → List ℕ → Bool
@@ -139,14 +134,14 @@ held_run v =
     marked_run 1 v.store v.state.window_size (v.state.recv_base + 1) (v.state.window_size - 1)
 
 -- how many payloads are held
-unfoldable pub buffered_count : Receiver → CountAnswer
+unfoldable pub buffered_count : Receiver → Result ℕ Refusal
 buffered_count v =
     let window = v.state.window_size in
     decide (verdict (held_checks (state_broken v.state v.store) (counters_broken v.state)))
-    count.Refused
-    (count.Count (marked_count 1 v.store window v.state.recv_base window))
+    Err
+    (Ok (marked_count 1 v.store window v.state.recv_base window))
 
-abbrev pub decided : SelectiveRepeatReceiver → Bool → Reply → SlotChange → SelectiveRepeatDecision
+abbrev pub decided : SelectiveRepeatReceiver → Bool → Option ℕ → SlotChange → SelectiveRepeatDecision
 decided r deliver reply change =
     record { receiver = r; decision = record { deliver = deliver; reply = reply }; change = change }
 
@@ -154,18 +149,18 @@ decided r deliver reply change =
 abbrev pub in_order : Receiver → ℕ → SelectiveRepeatDecision
 in_order v n =
     let run = held_run v in
-    decided (with_base v.state (v.state.recv_base + 1 + run)) true (reply.Ack n) (slotChange.Release run)
+    decided (with_base v.state (v.state.recv_base + 1 + run)) true (Some n) (slotChange.Release run)
 
 -- Data that is to be held
 abbrev pub out_of_order : Receiver → ℕ → SelectiveRepeatDecision
-out_of_order v n = decided (count_buffered v.state) false (reply.Ack n) (slotChange.Hold n)
+out_of_order v n = decided (count_buffered v.state) false (Some n) (slotChange.Hold n)
 
 -- Data that is held or was delivered
 abbrev pub duplicate : Receiver → ℕ → SelectiveRepeatDecision
-duplicate v n = decided (count_duplicate v.state) false (reply.Ack n) slotChange.Unchanged
+duplicate v n = decided (count_duplicate v.state) false (Some n) slotChange.Unchanged
 
 abbrev pub unanswered : SelectiveRepeatReceiver → SelectiveRepeatDecision
-unanswered r = decided r false reply.Silent slotChange.Unchanged
+unanswered r = decided r false None slotChange.Unchanged
 
 unfoldable pub data_decision : Receiver → ℕ → SelectiveRepeatDecision
 data_decision v n =
@@ -180,7 +175,7 @@ data_decision v n =
 -- Fin is acknowledged by its own number; an ACK and a corrupted packet are not answered
 abbrev pub by_kind : Receiver → PacketReading → SelectiveRepeatDecision
 by_kind v (reading.Data n) = data_decision v n
-by_kind v (reading.Fin n) = decided v.state false (reply.Ack n) slotChange.Unchanged
+by_kind v (reading.Fin n) = decided v.state false (Some n) slotChange.Unchanged
 by_kind v reading.Ack = unanswered v.state
 by_kind v reading.Corrupted = unanswered v.state
 

@@ -1,6 +1,6 @@
 -- arq/sr.rs, `SelectiveRepeatSender`, and document 01, "Turned away". An ACK of a number above `send_base` that is
 -- marked already is accepted again.
-use Rattle.std.specs.Prelude.{ℕ, ◌+◌, ◌-◌, List, Bool, true, cond, not, ◌&&◌, eqb}
+use Rattle.std.specs.Prelude.{ℕ, ◌+◌, ◌-◌, List, Bool, true, cond, not, ◌&&◌, eqb, Err, Ok, Result}
 use Rattle.refusal.specs.Order.{verdict, decide, held_checks}
 use Rattle.store.specs.Slot.{set_mark}
 use Rattle.store.specs.Numbers.{marked, marked_run, marked_count}
@@ -11,16 +11,13 @@ use Rattle.window.specs.Resending.{TimeoutExit, resend, timeout_decision}
 use Rattle.window.specs.declared.AckDecision.{AckDecision}
 use Rattle.window.specs.declared.AckDecision.TheVariants as ackDecisions
 use Rattle.window.specs.declared.TimeoutDecision.{TimeoutDecision}
-use Rattle.refusal.specs.declared.CountAnswer.{CountAnswer}
-use Rattle.refusal.specs.declared.CountAnswer.TheVariants as windowCount
-use Rattle.window.specs.declared.SendWindowAnswer.{SendWindowAnswer}
-use Rattle.window.specs.declared.SendWindowAnswer.TheVariants as makeAnswer
-use Rattle.selective_repeat.specs.declared.SelectiveRepeatSenderAnswer.{SelectiveRepeatSenderAnswer}
-use Rattle.selective_repeat.specs.declared.SelectiveRepeatSenderAnswer.TheVariants as made
+use Rattle.refusal.specs.declared.Refusal.{Refusal}
+use Rattle.selective_repeat.specs.declared.SelectiveRepeatSender.{SelectiveRepeatSender}
+use Rattle.window.specs.declared.SendWindow.{SendWindow}
 
-abbrev pub made_window : SelectiveRepeatSenderAnswer → SendWindowAnswer
-made_window (made.Sender s) = makeAnswer.Window s.window
-made_window (made.Refused r) = makeAnswer.Refused r
+abbrev pub made_window : Result SelectiveRepeatSender Refusal → Result SendWindow Refusal
+made_window (Ok s) = Ok s.window
+made_window (Err r) = Err r
 
 -- number n marked as acknowledged
 abbrev pub mark_acknowledged : Sender → ℕ → Sender
@@ -49,12 +46,12 @@ abbrev pub base_after : Sender → ℕ → ℕ
 base_after v n = v.window.send_base + advance v n
 
 -- decided before anything is written, with the base after it
-abbrev pub with_base_after : Sender → AckDecision → AckDecision
-with_base_after v (ackDecisions.Accept n base) = ackDecisions.Accept n (base_after v n)
-with_base_after v ackDecisions.NotAccepted = ackDecisions.NotAccepted
-with_base_after v (ackDecisions.Refused r) = ackDecisions.Refused r
+abbrev pub with_base_after : Sender → Result AckDecision Refusal → Result AckDecision Refusal
+with_base_after v (Ok (ackDecisions.Accept n base)) = Ok (ackDecisions.Accept n (base_after v n))
+with_base_after v (Ok ackDecisions.NotAccepted) = Ok ackDecisions.NotAccepted
+with_base_after v (Err r) = Err r
 
-unfoldable pub decide_ack : Sender → List ℕ → AckDecision
+unfoldable pub decide_ack : Sender → List ℕ → Result AckDecision Refusal
 decide_ack v raw = with_base_after v (ack_decision true v.window v.store raw)
 
 -- an accepted ACK acknowledges its number alone
@@ -71,7 +68,7 @@ handle_timeout v n out =
     resend (state_broken true v.window v.store) (counts_broken v.window) v n (cond (due v n) 1 0) out
 
 -- decided before anything is written
-abbrev pub decide_timeout : Sender → ℕ → TimeoutDecision
+abbrev pub decide_timeout : Sender → ℕ → Result TimeoutDecision Refusal
 decide_timeout v n =
     timeout_decision (state_broken true v.window v.store) (counts_broken v.window) n (cond (due v n) 1 0)
 
@@ -80,8 +77,8 @@ abbrev pub in_flight_count_unchecked : Sender → ℕ
 in_flight_count_unchecked v =
     marked_count 1 v.store v.window.window_size v.window.send_base (outstanding v.window)
 
-unfoldable pub in_flight_count : Sender → CountAnswer
+unfoldable pub in_flight_count : Sender → Result ℕ Refusal
 in_flight_count v =
     decide (verdict (held_checks (state_broken true v.window v.store) (counts_broken v.window)))
-    windowCount.Refused
-    (windowCount.Count (in_flight_count_unchecked v))
+    Err
+    (Ok (in_flight_count_unchecked v))

@@ -21,12 +21,9 @@ ghost use Rattle.selective_repeat.specs.Receiver.{delivered_bytes, changed_slots
 ghost use Rattle.selective_repeat.specs.Receiver.{handle_packet_unchecked};
 
 use packet::Packet;
-use receiver::{Decision, PacketReading, ReadingAnswer, ReceiveAnswer, Reply};
-use refusal::{CountAnswer, Refusal, TestAnswer, Verdict};
-use window::{
-    AckAnswer, AckDecision, SendAnswer, SendWindow, SendWindowAnswer, TimeoutAnswer,
-    TimeoutDecision,
-};
+use receiver::{Decision, PacketReading};
+use refusal::Refusal;
+use window::{AckDecision, SendWindow, TimeoutDecision};
 
 #[derive(Clone, Copy)]
 pub struct SelectiveRepeatSender {
@@ -34,38 +31,30 @@ pub struct SelectiveRepeatSender {
 }
 
 #[derive(Clone, Copy)]
-pub enum SelectiveRepeatSenderAnswer {
-    Sender(SelectiveRepeatSender),
-    Refused(Refusal),
-}
-
-#[derive(Clone, Copy)]
 pub struct SelectiveRepeatSendResult {
     pub sender: SelectiveRepeatSender,
-    pub answer: SendAnswer,
+    pub answer: Result<Option<usize>, Refusal>,
 }
 
 #[derive(Clone, Copy)]
 pub struct SelectiveRepeatAckResult {
     pub sender: SelectiveRepeatSender,
-    pub answer: AckAnswer,
+    pub answer: Result<bool, Refusal>,
 }
 
 #[derive(Clone, Copy)]
 pub struct SelectiveRepeatTimeoutResult {
     pub sender: SelectiveRepeatSender,
-    pub answer: TimeoutAnswer,
+    pub answer: Result<Option<usize>, Refusal>,
 }
 
 impl SelectiveRepeatSender {
-    pub fn new(window_size: usize, store: &mut [u8]) -> SelectiveRepeatSenderAnswer
+    pub fn new(window_size: usize, store: &mut [u8]) -> Result<SelectiveRepeatSender, Refusal>
         ensures { make_exit (made_window result) store.new ≡ make_window window_size store.old }
     {
         match SendWindow::new(window_size, store) {
-            SendWindowAnswer::Window(window) => {
-                SelectiveRepeatSenderAnswer::Sender(SelectiveRepeatSender { window })
-            }
-            SendWindowAnswer::Refused(r) => SelectiveRepeatSenderAnswer::Refused(r),
+            Ok(window) => { Ok(SelectiveRepeatSender { window }) }
+            Err(r) => Err(r),
         }
     }
 
@@ -95,20 +84,20 @@ impl SelectiveRepeatSender {
             ≡ handle_ack (sender self.window store.old) raw.now }
     {
         match self.decide_ack(store, raw) {
-            AckDecision::Accept { seq_num, base } => {
+            Ok(AckDecision::Accept { seq_num, base }) => {
                 let window = acknowledge_one(self.window, store, seq_num, base, false);
                 SelectiveRepeatAckResult {
                     sender: SelectiveRepeatSender { window },
-                    answer: AckAnswer::Accepted,
+                    answer: Ok(true),
                 }
             }
-            AckDecision::NotAccepted => SelectiveRepeatAckResult {
+            Ok(AckDecision::NotAccepted) => SelectiveRepeatAckResult {
                 sender: self,
-                answer: AckAnswer::NotAccepted,
+                answer: Ok(false),
             },
-            AckDecision::Refused(r) => SelectiveRepeatAckResult {
+            Err(r) => SelectiveRepeatAckResult {
                 sender: self,
-                answer: AckAnswer::Refused(r),
+                answer: Err(r),
             },
         }
     }
@@ -125,7 +114,7 @@ impl SelectiveRepeatSender {
     {
         let window = self.window;
         match self.decide_timeout(store, seq_num) {
-            TimeoutDecision::Resend { first, count } => {
+            Ok(TimeoutDecision::Resend { first, count }) => {
                 let result = window.resend_unchecked(store, first, count, out);
                 let window = result.window;
                 let answer = result.answer;
@@ -134,53 +123,53 @@ impl SelectiveRepeatSender {
                     answer,
                 }
             }
-            TimeoutDecision::Nothing => SelectiveRepeatTimeoutResult {
+            Ok(TimeoutDecision::Nothing) => SelectiveRepeatTimeoutResult {
                 sender: self,
-                answer: TimeoutAnswer::Nothing,
+                answer: Ok(None),
             },
-            TimeoutDecision::Refused(r) => SelectiveRepeatTimeoutResult {
+            Err(r) => SelectiveRepeatTimeoutResult {
                 sender: self,
-                answer: TimeoutAnswer::Refused(r),
+                answer: Err(r),
             },
         }
     }
 
     // What a datagram as an ACK does: the number that it acknowledges, and the base after it.
-    pub fn decide_ack(self, store: &[u8], raw: &[u8]) -> AckDecision
+    pub fn decide_ack(self, store: &[u8], raw: &[u8]) -> Result<AckDecision, Refusal>
         ensures { result ≡ decide_ack (sender self.window store.now) raw.now }
     {
         let window = self.window;
         match window.decide_ack(true, store, raw) {
-            AckDecision::Accept { seq_num, base: _ } => AckDecision::Accept {
+            Ok(AckDecision::Accept { seq_num, base: _ }) => Ok(AckDecision::Accept {
                 seq_num,
                 base: base_after(window, store, seq_num),
-            },
-            AckDecision::NotAccepted => AckDecision::NotAccepted,
-            AckDecision::Refused(r) => AckDecision::Refused(r),
+            }),
+            Ok(AckDecision::NotAccepted) => Ok(AckDecision::NotAccepted),
+            Err(r) => Err(r),
         }
     }
 
     // What a number's timeout does.
-    pub fn decide_timeout(self, store: &[u8], seq_num: u32) -> TimeoutDecision
+    pub fn decide_timeout(self, store: &[u8], seq_num: u32) -> Result<TimeoutDecision, Refusal>
         ensures { result ≡ decide_timeout (sender self.window store.now) seq_num }
     {
         let window = self.window;
         if window.state_broken(true, store) {
-            return TimeoutDecision::Refused(Refusal::State);
+            return Err(Refusal::State);
         }
         if window.counts_broken() {
-            return TimeoutDecision::Refused(Refusal::Counts);
+            return Err(Refusal::Counts);
         }
         if !self.is_due_unchecked(store, seq_num) {
-            return TimeoutDecision::Nothing;
+            return Ok(TimeoutDecision::Nothing);
         }
-        TimeoutDecision::Resend {
+        Ok(TimeoutDecision::Resend {
             first: seq_num,
             count: 1,
-        }
+        })
     }
 
-    pub fn can_send(self) -> TestAnswer
+    pub fn can_send(self) -> Result<bool, Refusal>
         ensures { result ≡ can_send self.window }
     {
         let window = self.window;
@@ -188,13 +177,13 @@ impl SelectiveRepeatSender {
     }
 
     // How many numbers are outstanding and not acknowledged.
-    pub fn in_flight_count(self, store: &[u8]) -> CountAnswer
+    pub fn in_flight_count(self, store: &[u8]) -> Result<usize, Refusal>
         ensures { result ≡ in_flight_count (sender self.window store.now) }
     {
         let window = self.window;
         match refusal::held_verdict(window.state_broken(true, store), window.counts_broken()) {
-            Verdict::Accepted => CountAnswer::Count(self.in_flight_count_unchecked(store)),
-            Verdict::Refused(r) => CountAnswer::Refused(r),
+            Ok(()) => Ok(self.in_flight_count_unchecked(store)),
+            Err(r) => Err(r),
         }
     }
 
@@ -289,12 +278,6 @@ pub struct SelectiveRepeatReceiver {
     pub duplicates_count: u64,
 }
 
-#[derive(Clone, Copy)]
-pub enum SelectiveRepeatReceiverAnswer {
-    Receiver(SelectiveRepeatReceiver),
-    Refused(Refusal),
-}
-
 // What a packet does to the slots.
 #[derive(Clone, Copy)]
 pub enum SlotChange {
@@ -316,7 +299,7 @@ pub struct SelectiveRepeatDecision {
 #[derive(Clone, Copy)]
 pub struct SelectiveRepeatReceiveResult {
     pub receiver: SelectiveRepeatReceiver,
-    pub answer: ReceiveAnswer,
+    pub answer: Result<Option<u32>, Refusal>,
 }
 
 impl SlotChange {
@@ -332,17 +315,17 @@ impl SlotChange {
 }
 
 impl SelectiveRepeatReceiver {
-    pub fn new(window_size: usize, store: &mut [u8]) -> SelectiveRepeatReceiverAnswer
+    pub fn new(window_size: usize, store: &mut [u8]) -> Result<SelectiveRepeatReceiver, Refusal>
         ensures { make_exit result store.new ≡ make_receiver window_size store.old }
     {
         if window::store_short(store, window_size) {
-            return SelectiveRepeatReceiverAnswer::Refused(Refusal::State);
+            return Err(Refusal::State);
         }
         if window::window_broken(window_size) {
-            return SelectiveRepeatReceiverAnswer::Refused(Refusal::Setup);
+            return Err(Refusal::Setup);
         }
         store::empty_all_unchecked(store, window_size);
-        SelectiveRepeatReceiverAnswer::Receiver(SelectiveRepeatReceiver {
+        Ok(SelectiveRepeatReceiver {
             window_size,
             recv_base: 0,
             filled: 0,
@@ -370,27 +353,27 @@ impl SelectiveRepeatReceiver {
             self.counts_broken(),
         );
         match receiver::read_after(verdict, raw) {
-            ReadingAnswer::Reading(reading) => {
+            Ok(reading) => {
                 self.handle_packet_unchecked(store, reading, Packet::payload(raw), output, ack)
             }
-            ReadingAnswer::Refused(r) => SelectiveRepeatReceiveResult {
+            Err(r) => SelectiveRepeatReceiveResult {
                 receiver: self,
-                answer: ReceiveAnswer::Refused(r),
+                answer: Err(r),
             },
         }
     }
 
     // How many payloads are held.
-    pub fn buffered_count(self, store: &[u8]) -> CountAnswer
+    pub fn buffered_count(self, store: &[u8]) -> Result<usize, Refusal>
         ensures { result ≡ buffered_count (receiver self store.now) }
     {
         match refusal::held_verdict(self.state_broken(store), self.counts_broken()) {
-            Verdict::Accepted => {
+            Ok(()) => {
                 let window = self.window_size;
                 let base = self.recv_base;
-                CountAnswer::Count(store::marked_count_unchecked(store, window, base, window, 1))
+                Ok(store::marked_count_unchecked(store, window, base, window, 1))
             }
-            Verdict::Refused(r) => CountAnswer::Refused(r),
+            Err(r) => Err(r),
         }
     }
 
@@ -435,7 +418,7 @@ impl SelectiveRepeatReceiver {
         if receiver::room_missing_unchecked(decision, size, self.filled, output, ack) {
             return SelectiveRepeatReceiveResult {
                 receiver: self,
-                answer: ReceiveAnswer::Refused(Refusal::Full),
+                answer: Err(Refusal::Full),
             };
         }
         let filled = self.apply_in_room(store, decision, change, payload, output, ack);
@@ -444,7 +427,7 @@ impl SelectiveRepeatReceiver {
         receiver.filled = filled;
         SelectiveRepeatReceiveResult {
             receiver,
-            answer: reply.answer(),
+            answer: Ok(reply),
         }
     }
 
@@ -461,9 +444,9 @@ impl SelectiveRepeatReceiver {
         self.total_received += 1;
         match reading {
             PacketReading::Data(n) => self.decide_data(store, n),
-            PacketReading::Fin(n) => self.decided(false, Reply::Ack(n), SlotChange::Unchanged),
-            PacketReading::Ack => self.decided(false, Reply::Silent, SlotChange::Unchanged),
-            PacketReading::Corrupted => self.decided(false, Reply::Silent, SlotChange::Unchanged),
+            PacketReading::Fin(n) => self.decided(false, Some(n), SlotChange::Unchanged),
+            PacketReading::Ack => self.decided(false, None, SlotChange::Unchanged),
+            PacketReading::Corrupted => self.decided(false, None, SlotChange::Unchanged),
         }
     }
 
@@ -477,25 +460,30 @@ impl SelectiveRepeatReceiver {
         if n == base {
             let released = store::marked_run_unchecked(store, window, base + 1, window - 1, 1);
             self.recv_base = base + 1 + released as u32;
-            return self.decided(true, Reply::Ack(n), SlotChange::Release(released));
+            return self.decided(true, Some(n), SlotChange::Release(released));
         }
         if base + window as u32 <= n {
-            return self.decided(false, Reply::Silent, SlotChange::Unchanged);
+            return self.decided(false, None, SlotChange::Unchanged);
         }
         if n + (window as u32) < base {
-            return self.decided(false, Reply::Silent, SlotChange::Unchanged);
+            return self.decided(false, None, SlotChange::Unchanged);
         }
         if base < n {
             if store::mark_unchecked(store, n as usize % window) != 1 {
                 self.buffered_out_of_order += 1;
-                return self.decided(false, Reply::Ack(n), SlotChange::Hold(n));
+                return self.decided(false, Some(n), SlotChange::Hold(n));
             }
         }
         self.duplicates_count += 1;
-        self.decided(false, Reply::Ack(n), SlotChange::Unchanged)
+        self.decided(false, Some(n), SlotChange::Unchanged)
     }
 
-    fn decided(self, deliver: bool, reply: Reply, change: SlotChange) -> SelectiveRepeatDecision
+    fn decided(
+        self,
+        deliver: bool,
+        reply: Option<u32>,
+        change: SlotChange,
+    ) -> SelectiveRepeatDecision
         ensures { result ≡ decided self deliver reply change }
     {
         SelectiveRepeatDecision {

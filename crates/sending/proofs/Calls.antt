@@ -1,4 +1,5 @@
 -- What the calls of `send_one` ask, what it leaves, and what is kept.
+use Rattle.std.specs.Prelude.{Ok, Option, Some}
 use Prim.Native.Nat.{ℕ, ◌+◌, ◌-◌, ◌≤◌, ◌<◌}
 use native.Mathlib.Omega.{arith}
 use native.Mathlib.Nat.{le_trans}
@@ -19,7 +20,6 @@ use Rattle.chunks.proofs.Laws.{chunk_length}
 use Rattle.window.specs.State.{numbers_broken, outstanding}
 use Rattle.window.specs.Slots.{first_datagram}
 use Rattle.window.specs.Sending.{SendExit, send_exit}
-use Rattle.window.specs.declared.SendAnswer.TheVariants as sendAnswer
 use Rattle.window.proofs.Laws.{sound}
 use Rattle.delivery.specs.Ends.{bytes_sent}
 use Rattle.multi_timer.proofs.Laws.{Within}
@@ -28,7 +28,6 @@ use Rattle.clock.specs.declared.Timing.{Timing}
 use Rattle.clock.proofs.Laws.{running}
 use Rattle.session.specs.Sending.{SenderEnd, window_of, window_end, can_send, oldest_outstanding, send_chunk}
 use Rattle.session.specs.GoodSender.{is_selective, CleanSender, GoodSender, CanSendChunk}
-use Rattle.session.specs.declared.Oldest.{Oldest}
 use Rattle.session.specs.declared.Sender.{Sender}
 use Rattle.session.proofs.Laws.{good_can_send, good_numbers, send_good}
 use Rattle.submission.specs.Submission.{SubmitExit, submit, CanSubmit}
@@ -112,7 +111,7 @@ module _ {t : Timing} {rolls : List Float} {size : ℕ} {file : List ℕ} {total
     window_next : Within (window_of s.sender.sender).send_base (next_number s + 1) (running s.outgoing.clock)
     window_next = record { bounds = λ key h. let b = can.good.timers key h in (b.0, omega (arith, b.1)) }
 
-    pub can_submit_sent : (oldest : Oldest) (wire : List ℕ) → length wire ≤ max_datagram → CanSubmit t rolls (record { time = now; seq = seq; rto = rto; retransmission = false; oldest = oldest }) wire s.outgoing
+    pub can_submit_sent : (oldest : Option ℕ) (wire : List ℕ) → length wire ≤ max_datagram → CanSubmit t rolls (record { time = now; seq = seq; rto = rto; retransmission = false; oldest = oldest }) wire s.outgoing
     can_submit_sent oldest wire short =
         can_submit rolls (record { time = now; seq = seq; rto = rto; retransmission = false; oldest = oldest }) wire s.outgoing t can.good.outgoing short can.good.timeout (before e number_left can.good.rows) window_next
         (let o = window_ordered in omega (arith, o, e)) (omega (arith, e)) (λ k. le_trans in_window (can.good.entries k))
@@ -152,9 +151,9 @@ module _ (t : Timing) (rolls : List Float) (chunks : List (List ℕ)) (rto now :
       ap (λ (v : SenderEnd). submitted seq v (bytes_sent (send_chunk s.sender payload a).answer (send_chunk s.sender payload a).out)) (sent_same payload a b s.sender h k)
       ∙ ap (submitted seq (send_chunk s.sender payload b).after) (written_same s.sender payload a b h k)
 
-  pub sends_one : {seq : ℕ} {payload old out wire : List ℕ} {after : SenderEnd} {oldest : Oldest} {y : SubmitExit} → seq ≡ next_number s → payload ≡ get_or chunks seq []
+  pub sends_one : {seq : ℕ} {payload old out wire : List ℕ} {after : SenderEnd} {oldest : Option ℕ} {y : SubmitExit} → seq ≡ next_number s → payload ≡ get_or chunks seq []
       → CanSendChunk s.sender payload old → CanSendChunk s.sender payload (replicate max_datagram 0)
-      → send_exit (sendAnswer.Sent (header_size + length payload)) after out ≡ send_chunk s.sender payload old → oldest ≡ oldest_outstanding after.sender
+      → send_exit (Ok (Some (header_size + length payload))) after out ≡ send_chunk s.sender payload old → oldest ≡ oldest_outstanding after.sender
       → wire ≡ take (header_size + length payload) out → y ≡ submit t rolls (record { time = now; seq = seq; rto = rto; retransmission = false; oldest = oldest }) wire s.outgoing
       → pump_exit (pump_state after y.outgoing) true y.stop ≡ send_one t rolls chunks rto now s
   unfolding send_one

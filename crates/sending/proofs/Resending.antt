@@ -1,4 +1,5 @@
 -- Several packets again: what each call asks, what is kept, and the loop.
+use Rattle.std.specs.Prelude.{Option}
 use Prim.Native.Nat.{ℕ, zero, suc, ◌+◌, ◌-◌, ◌*◌, ◌^◌, ◌≤◌, ◌<◌}
 use native.Mathlib.Omega.{arith}
 use native.Mathlib.Nat.{le_trans}
@@ -25,7 +26,6 @@ use Rattle.clock.proofs.Laws.{running}
 use Rattle.session.specs.Sending.{SenderEnd, window_of, window_end, oldest_outstanding}
 use Rattle.session.specs.GoodSender as session
 use Rattle.session.specs.GoodSender.{is_selective, sender_broken}
-use Rattle.session.specs.declared.Oldest.{Oldest}
 use Rattle.session.proofs.Laws.{datagram_number, datagram_short}
 use Rattle.submission.specs.Submission.{Outgoing, GoodOutgoing}
 use Rattle.submission.proofs.Laws.{SubmitKeeps, submit_within, submit_written, submit_used, going_used}
@@ -40,7 +40,7 @@ abbrev pub packets_from : SenderEnd → ℕ → ℕ → List (List ℕ)
 packets_from v first count = map (datagram_for (window_end v)) (up_from first count)
 
 -- ---- one packet
-module _ (t : Timing) (rolls : List Float) (rto now : ℕ) (oldest : Oldest) (seq : ℕ) (packet : List ℕ) (r : Resends) (o : Outgoing) where
+module _ (t : Timing) (rolls : List Float) (rto now : ℕ) (oldest : Option ℕ) (seq : ℕ) (packet : List ℕ) (r : Resends) (o : Outgoing) where
   abbrev again : Submission
   again = record { time = now; seq = seq; rto = rto; retransmission = true; oldest = oldest }
 
@@ -63,7 +63,7 @@ module _ (t : Timing) (rolls : List Float) (rto now : ℕ) (oldest : Oldest) (se
   unfolding retransmit
   retransmit_going_used g = going_used t rolls again packet o (going_is _ g)
 
-module _ {t : Timing} {rolls : List Float} {rto now : ℕ} {v : SenderEnd} {seq : ℕ} {r : Resends} {o : Outgoing} (can : CanRetransmit t rolls rto now v seq r o) (oldest : Oldest) (packet : List ℕ) (short : length packet ≤ max_datagram) where
+module _ {t : Timing} {rolls : List Float} {rto now : ℕ} {v : SenderEnd} {seq : ℕ} {r : Resends} {o : Outgoing} (can : CanRetransmit t rolls rto now v seq r o) (oldest : Option ℕ) (packet : List ℕ) (short : length packet ≤ max_datagram) where
   pub retransmit_timers : TimersWithin (window_of v.sender) (retransmit t rolls rto now oldest seq packet r o).outgoing.clock
   unfolding retransmit
   retransmit_timers =
@@ -109,7 +109,7 @@ module _ {t : Timing} {rolls : List Float} {rto now : ℕ} {v : SenderEnd} {firs
   pub first_short : length (datagram_for (window_end v) first) ≤ max_datagram
   first_short = datagram_short v first can.sender within_first
 
-  module _ (oldest : Oldest) where
+  module _ (oldest : Option ℕ) where
     abbrev x : RetransmitExit
     x = retransmit t rolls rto now oldest first (datagram_for (window_end v) first) r o
 
@@ -133,7 +133,7 @@ module _ {t : Timing} {rolls : List Float} {rto now : ℕ} {v : SenderEnd} {firs
         }
 
 -- ---- the turns
-module _ (limit : ℕ) (t : Timing) (rolls : List Float) (rto now : ℕ) (oldest : Oldest) where
+module _ (limit : ℕ) (t : Timing) (rolls : List Float) (rto now : ℕ) (oldest : Option ℕ) where
   abbrev sends : ℕ → List ℕ → Resends → Outgoing → RetransmitExit
   sends seq packet r o = retransmit t rolls rto now oldest seq packet r o
 
@@ -217,7 +217,7 @@ keeps_again h k =
 pub keeps_same : (o : Outgoing) → SubmitKeeps o o
 keeps_same o = record { forward = record { config = refl; records = refl; places = refl }; rows = refl; events = refl; keys = refl; deadlines = refl }
 
-module _ (t : Timing) (rolls : List Float) (rto now : ℕ) (v : SenderEnd) (oldest : Oldest) (o₀ : Outgoing) where
+module _ (t : Timing) (rolls : List Float) (rto now : ℕ) (v : SenderEnd) (oldest : Option ℕ) (o₀ : Outgoing) where
   record Before (first count : ℕ) (r : Resends) (o : Outgoing) : Type 0 where
     can : CanRetransmitAll t rolls rto now v first count r o
     keeps : SubmitKeeps o₀ o
@@ -253,7 +253,7 @@ module _ (t : Timing) (rolls : List Float) (rto now : ℕ) (v : SenderEnd) (olde
         let k = sent_kept in
         record { can = can_retransmit_rest b.can oldest g; keeps = k.keeps; notes = k.notes; written = k.written; used = k.used }
 
-pub resend_keeps : (limit : ℕ) {t : Timing} {rolls : List Float} {rto now : ℕ} {v : SenderEnd} {first count : ℕ} {r : Resends} {o : Outgoing} → CanRetransmitAll t rolls rto now v first count r o → (oldest : Oldest)
+pub resend_keeps : (limit : ℕ) {t : Timing} {rolls : List Float} {rto now : ℕ} {v : SenderEnd} {first count : ℕ} {r : Resends} {o : Outgoing} → CanRetransmitAll t rolls rto now v first count r o → (oldest : Option ℕ)
     → ResendKeeps rolls now v o (retransmit_all limit t rolls rto now oldest (packets_from v first count) r o)
 resend_keeps limit {t} {rolls} {rto} {now} {v} {first} {count} {r} {o} can oldest =
     by_numbers limit t rolls rto now oldest v (Before t rolls rto now v oldest o) (ResendKeeps rolls now v o)
@@ -274,7 +274,7 @@ still_counts a b c n m h e = omega arith
 still_uses : (a b c n : ℕ) → a + suc n * packet_rolls ≡ b → c ≡ a + packet_rolls → c + n * packet_rolls ≡ b
 still_uses a b c n h e = omega arith
 
-pub all_submitted : (limit : ℕ) (t : Timing) (rolls : List Float) (rto now : ℕ) (v : SenderEnd) (oldest : Oldest) (first count : ℕ) (r : Resends) (o : Outgoing)
+pub all_submitted : (limit : ℕ) (t : Timing) (rolls : List Float) (rto now : ℕ) (v : SenderEnd) (oldest : Option ℕ) (first count : ℕ) (r : Resends) (o : Outgoing)
     → is_going (retransmit_all limit t rolls rto now oldest (packets_from v first count) r o).stop ≡ true → (retransmit_all limit t rolls rto now oldest (packets_from v first count) r o).resends.exhausted ≡ false
     → AllSubmitted count r o (retransmit_all limit t rolls rto now oldest (packets_from v first count) r o)
 all_submitted limit t rolls rto now v oldest first count r o =

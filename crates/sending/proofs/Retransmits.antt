@@ -1,4 +1,5 @@
 -- What the calls of `retransmit` ask, and what it leaves and keeps.
+use Rattle.std.specs.Prelude.{Option}
 use Prim.Native.Nat.{ℕ, ◌+◌, ◌-◌, ◌^◌, ◌≤◌, ◌<◌}
 use native.Mathlib.Omega.{arith}
 use native.Mathlib.Nat.{le_trans}
@@ -20,7 +21,6 @@ use Rattle.clock.proofs.Laws.{running}
 use Rattle.notes.specs.Notes.{is_premature}
 use Rattle.session.specs.Sending.{SenderEnd, window_of, window_end, oldest_outstanding}
 use Rattle.session.specs.GoodSender.{is_selective, CanWriteDatagram}
-use Rattle.session.specs.declared.Oldest.{Oldest}
 use Rattle.session.proofs.Laws.{unbroken_numbers}
 use Rattle.submission.specs.Submission.{Outgoing, SubmitExit, submit, GoodOutgoing, CanSubmit}
 use Rattle.submission.proofs.Laws.{SubmitKeeps, can_submit, submit_good, submit_keeps, submit_again_notes}
@@ -59,7 +59,7 @@ module _ {t : Timing} {rolls : List Float} {rto now : ℕ} {v : SenderEnd} {seq 
   pub can_write : (out : List ℕ) → max_datagram ≤ length out → CanWriteDatagram v seq out
   can_write out room = record { state = can.sender; within = can.within; room = room }
 
-  pub can_resubmit : (oldest : Oldest) (wire : List ℕ) → length wire ≤ max_datagram → CanSubmit t rolls (record { time = now; seq = seq; rto = rto; retransmission = true; oldest = oldest }) wire o
+  pub can_resubmit : (oldest : Option ℕ) (wire : List ℕ) → length wire ≤ max_datagram → CanSubmit t rolls (record { time = now; seq = seq; rto = rto; retransmission = true; oldest = oldest }) wire o
   can_resubmit oldest wire short =
       can_submit rolls (record { time = now; seq = seq; rto = rto; retransmission = true; oldest = oldest }) wire o t can.good short can.timeout can.row window can.within.from
       (let b = can.within.below in omega (arith, b)) (λ k. le_trans few (can.entries k))
@@ -71,7 +71,7 @@ module _ {t : Timing} {rolls : List Float} {rto now : ℕ} {v : SenderEnd} {seq 
       few = (sound (is_selective v.sender.state) (window_of v.sender) v.store can.sender).few
 
 module _ (t : Timing) (rolls : List Float) (rto now : ℕ) (v : SenderEnd) (seq : ℕ) (r : Resends) (o : Outgoing) where
-  pub resends : {b : Bool} {r' : Resends} {oldest : Oldest} {wire : List ℕ} {y : SubmitExit} → oldest ≡ oldest_outstanding v.sender → b ≡ is_premature o.metas seq → r' ≡ counted_again r b → wire ≡ datagram_for (window_end v) seq
+  pub resends : {b : Bool} {r' : Resends} {oldest : Option ℕ} {wire : List ℕ} {y : SubmitExit} → oldest ≡ oldest_outstanding v.sender → b ≡ is_premature o.metas seq → r' ≡ counted_again r b → wire ≡ datagram_for (window_end v) seq
       → y ≡ submit t rolls (record { time = now; seq = seq; rto = rto; retransmission = true; oldest = oldest }) wire o
       → retransmit_exit r' y.outgoing y.stop ≡ retransmit t rolls rto now (oldest_outstanding v.sender) seq (datagram_for (window_end v) seq) r o
   unfolding retransmit
@@ -80,7 +80,7 @@ module _ (t : Timing) (rolls : List Float) (rto now : ℕ) (v : SenderEnd) (seq 
       ∙ ap (λ (c : Resends). retransmit_exit c (submit t rolls (record { time = now; seq = seq; rto = rto; retransmission = true; oldest = oldest_outstanding v.sender }) (datagram_for (window_end v) seq) o).outgoing (submit t rolls (record { time = now; seq = seq; rto = rto; retransmission = true; oldest = oldest_outstanding v.sender }) (datagram_for (window_end v) seq) o).stop) (g ∙ ap (counted_again r) f)
 
 -- ---- what is kept; the numbers noted are the same
-module _ {t : Timing} {rolls : List Float} {rto now : ℕ} {v : SenderEnd} {seq : ℕ} {r : Resends} {o : Outgoing} (can : CanRetransmit t rolls rto now v seq r o) (oldest : Oldest) (packet : List ℕ) (short : length packet ≤ max_datagram) where
+module _ {t : Timing} {rolls : List Float} {rto now : ℕ} {v : SenderEnd} {seq : ℕ} {r : Resends} {o : Outgoing} (can : CanRetransmit t rolls rto now v seq r o) (oldest : Option ℕ) (packet : List ℕ) (short : length packet ≤ max_datagram) where
   abbrev again : Submission
   again = record { time = now; seq = seq; rto = rto; retransmission = true; oldest = oldest }
 

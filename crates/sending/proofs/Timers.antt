@@ -1,4 +1,5 @@
 -- The timers beside the sender: each number that has one stays outstanding and unacknowledged.
+use Rattle.std.specs.Prelude.{Option}
 use Prim.Native.Nat.{ℕ, ◌≤◌}
 use mathlib.Core.Path.{◌≡◌}
 use mathlib.Core.Bool.{true}
@@ -12,7 +13,6 @@ use Rattle.clock.specs.declared.Timing.{Timing}
 use Rattle.clock.specs.declared.Timing.TheVariants.{PerNumber}
 use Rattle.clock.proofs.Laws.{timers_after}
 use Rattle.session.specs.Sending.{SenderEnd, is_due, send_chunk}
-use Rattle.session.specs.declared.Oldest.{Oldest}
 use Rattle.session.proofs.Laws.{send_due, send_due_new, send_size}
 use Rattle.submission.specs.Submission.{Outgoing}
 use Rattle.submission.proofs.Laws.{submit_timers}
@@ -42,7 +42,7 @@ pub pump_timers : {t : Timing} {rolls : List Float} {size : ℕ} {file : List �
 pump_timers {t = t} {s = s} can g = pump_keeps (λ (y : PumpState). GoodTimers t y.sender y.outgoing.clock) (λ y c free q. send_timers c free q) s can g
 
 -- a due number again
-pub retransmit_good_timers : {t : Timing} {rolls : List Float} {rto now : ℕ} {v : SenderEnd} {seq : ℕ} {r : Resends} {o : Outgoing} → CanRetransmit t rolls rto now v seq r o → (oldest : Oldest) (packet : List ℕ) → length packet ≤ max_datagram
+pub retransmit_good_timers : {t : Timing} {rolls : List Float} {rto now : ℕ} {v : SenderEnd} {seq : ℕ} {r : Resends} {o : Outgoing} → CanRetransmit t rolls rto now v seq r o → (oldest : Option ℕ) (packet : List ℕ) → length packet ≤ max_datagram
     → (t ≡ PerNumber → is_due v seq ≡ true) → GoodTimers t v o.clock → GoodTimers t v (retransmit t rolls rto now oldest seq packet r o).outgoing.clock
 unfolding retransmit
 retransmit_good_timers {t} {rolls} {rto} {now} {v} {seq} {r} {o} can oldest packet short due g =

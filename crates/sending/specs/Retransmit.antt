@@ -1,5 +1,5 @@
 -- app/transfer.rs, `retransmit`: packets that were sent before, again.
-use Rattle.std.specs.Prelude.{ℕ, ◌+◌, ◌*◌, ◌≤◌, ◌<◌, ◌≡◌, Bool, true, false, cond, List, [], ◌∷◌, leb, Float, length}
+use Rattle.std.specs.Prelude.{ℕ, ◌+◌, ◌*◌, ◌≤◌, ◌<◌, ◌≡◌, Bool, true, false, cond, List, [], ◌∷◌, leb, Float, length, Option}
 use Rattle.bounds.specs.Bounds.{count_limit, max_duration}
 use Rattle.rows.specs.Rows.{as_number}
 use Rattle.delivery.specs.Calls.{number_of}
@@ -13,7 +13,6 @@ use Rattle.clock.specs.declared.Timing.{Timing}
 use Rattle.clock.specs.declared.Timing.TheVariants.{PerNumber}
 use Rattle.session.specs.Sending.{SenderEnd, window_of}
 use Rattle.session.specs.GoodSender.{sender_broken, Within}
-use Rattle.session.specs.declared.Oldest.{Oldest}
 use Rattle.submission.specs.Submission.{Outgoing, submit, GoodOutgoing}
 use Rattle.sending.specs.Good.{TimersWithin}
 use Rattle.sending.specs.declared.Resends.{Resends}
@@ -35,7 +34,7 @@ abbrev pub retransmit_exit : Resends → Outgoing → Stop → RetransmitExit
 retransmit_exit r o st = record { resends = r; outgoing = o; stop = st }
 
 -- the packet of a number; both counts stand also where it ends the run
-unfoldable pub retransmit : Timing → List Float → ℕ → ℕ → Oldest → ℕ → List ℕ → Resends → Outgoing → RetransmitExit
+unfoldable pub retransmit : Timing → List Float → ℕ → ℕ → Option ℕ → ℕ → List ℕ → Resends → Outgoing → RetransmitExit
 retransmit t rolls rto now oldest seq packet r o =
     let given : Submission = record { time = now; seq = seq; rto = rto; retransmission = true; oldest = oldest } in
     let y = submit t rolls given packet o in
@@ -61,7 +60,7 @@ ceiling_met limit r = leb limit r.retx_submitted
 abbrev pub exhausted : Resends → Resends
 exhausted r = record { retx_submitted = r.retx_submitted; premature = r.premature; exhausted = true }
 
-unfoldable pub retransmit_all : ℕ → Timing → List Float → ℕ → ℕ → Oldest → List (List ℕ) → Resends → Outgoing
+unfoldable pub retransmit_all : ℕ → Timing → List Float → ℕ → ℕ → Option ℕ → List (List ℕ) → Resends → Outgoing
     → RetransmitExit
 retransmit_all limit t rolls rto now oldest [] r o = retransmit_exit r o stop.Going
 retransmit_all limit t rolls rto now oldest (packet ∷ packets) r o =

@@ -1,4 +1,5 @@
 -- Any datagram given as an ACK leaves a sender's protocol, window size, next number, counts and length of the store; its base does not fall.
+use Rattle.std.specs.Prelude.{Err, Ok, Result}
 use Prim.Native.Nat.{ℕ, ◌+◌, ◌-◌, ◌*◌, ◌≤◌, ◌<◌}
 use mathlib.Core.Path.{◌≡◌, refl, sym, ap, ◌∙◌, subst}
 use mathlib.Core.Bool.{Bool, true, false, cond}
@@ -20,6 +21,7 @@ use Rattle.session.specs.declared.SenderState.TheVariants as senderState
 use Rattle.session.specs.Sending.{SenderEnd, sender_in, window_in, window_of, handle_ack, acknowledged_in}
 use Rattle.session.specs.GoodSender.{is_selective}
 use Rattle.session.proofs.Acks.{ack_decided}
+use Rattle.refusal.specs.declared.Refusal.{Refusal}
 
 pub record AckKeepsSender (v v' : SenderEnd) : Type 0 where
   pub selective : is_selective v'.sender.state ≡ is_selective v.sender.state
@@ -90,7 +92,7 @@ ack_keeps_sender v raw =
     let s = v.sender.state in
     rw (ack_decided s v.store raw) (by_decision_lem (ack_decision (is_selective s) (window_in s) v.store raw) (λ n m e. ack_accepted (is_selective s) (window_in s) v.store raw n m e))
   where
-    by_decision_lem : (d : AckDecision) → ((n m : ℕ) → d ≡ decision.Accept n m → Accepted (is_selective v.sender.state) (window_in v.sender.state) v.store n m) → AckKeepsSender v (by_decision d v (acknowledged_in v.sender.state v.store)).after
-    by_decision_lem (decision.Accept n m) h = accepted_keeps v.sender.state v.store n m (h n m refl)
-    by_decision_lem decision.NotAccepted h = sender_keeps_same v
-    by_decision_lem (decision.Refused r) h = sender_keeps_same v
+    by_decision_lem : (d : Result AckDecision Refusal) → ((n m : ℕ) → d ≡ Ok (decision.Accept n m) → Accepted (is_selective v.sender.state) (window_in v.sender.state) v.store n m) → AckKeepsSender v (by_decision d v (acknowledged_in v.sender.state v.store)).after
+    by_decision_lem (Ok (decision.Accept n m)) h = accepted_keeps v.sender.state v.store n m (h n m refl)
+    by_decision_lem (Ok decision.NotAccepted) h = sender_keeps_same v
+    by_decision_lem (Err r) h = sender_keeps_same v

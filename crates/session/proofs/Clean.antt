@@ -1,4 +1,5 @@
 -- The slots of a session's sender stay clean.
+use Rattle.std.specs.Prelude.{Err, Ok, Result}
 use Prim.Native.Nat.{ℕ, ◌+◌, ◌*◌, ◌%◌, ◌≤◌, ◌<◌}
 use mathlib.Core.Path.{◌≡◌, sym, subst}
 use mathlib.Core.Bool.{true, false}
@@ -29,6 +30,7 @@ use Rattle.session.specs.Sending.{SenderEnd, sender_in, window_in, window_of, wi
 use Rattle.session.specs.GoodSender.{is_selective, sender_broken, CleanSender, CanSendChunk}
 use Rattle.session.proofs.Acks.{ack_decided}
 use Rattle.session.proofs.Due.{sent_window}
+use Rattle.refusal.specs.declared.Refusal.{Refusal}
 
 pub new_clean : (p : ProtocolType) (w limit : ℕ) (store : List ℕ) → Clean (window_end (new_sender p w limit store))
 unfolding new_sender slots.fresh
@@ -52,11 +54,11 @@ module _ (n : ℕ) where
       let u = mark_acknowledged (slots.sender s.window store) n in
       release_clean u some (rw length-set room) (byte_clean store w room c (n % w) 2 2 (omega arith) (omega arith)) (s.window.send_base + acknowledged_run u)
 
-decided_clean : (d : AckDecision) (v : SenderEnd) (accept : ℕ → SenderEnd) → Clean (window_end v) → ((n : ℕ) → Clean (window_end (accept n))) → Clean (window_end (by_decision d v accept).after)
+decided_clean : (d : Result AckDecision Refusal) (v : SenderEnd) (accept : ℕ → SenderEnd) → Clean (window_end v) → ((n : ℕ) → Clean (window_end (accept n))) → Clean (window_end (by_decision d v accept).after)
 unfolding by_decision
-decided_clean (decision.Accept n base) v accept c f = f n
-decided_clean decision.NotAccepted v accept c f = c
-decided_clean (decision.Refused r) v accept c f = c
+decided_clean (Ok (decision.Accept n base)) v accept c f = f n
+decided_clean (Ok decision.NotAccepted) v accept c f = c
+decided_clean (Err r) v accept c f = c
 
 pub ack_clean : (v : SenderEnd) (raw : List ℕ) → CleanSender v → Clean (window_end (handle_ack v raw).after)
 unfolding handle_ack

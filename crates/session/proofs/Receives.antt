@@ -1,4 +1,5 @@
 -- What a session's call of a receiver is below the entry point.
+use Rattle.std.specs.Prelude.{Err, Ok, Result}
 use Prim.Native.Nat.{ℕ, ◌*◌, ◌≤◌}
 use mathlib.Core.Path.{◌≡◌, refl, sym, ap, ◌∙◌, subst}
 use mathlib.Core.Bool.{Bool, true, false, cond, ◌&&◌}
@@ -19,8 +20,6 @@ use Rattle.packet.proofs.Laws.{Taken, valid_taken, corrupted_taken}
 use Rattle.receiver.specs.Reading.{packet_reading, is_number_high, number_high, reading_of, read_packet, reading_answer, read_after}
 use Rattle.receiver.specs.Receive.{ReceiveExit, receive_exit, Reception, refused_exit, receive, receive_unchecked}
 use Rattle.receiver.specs.declared.PacketReading.{PacketReading}
-use Rattle.receiver.specs.declared.ReadingAnswer.TheVariants as read
-use Rattle.receiver.specs.declared.ReceiveAnswer.TheVariants as receiveAnswer
 use Rattle.receiver.proofs.Laws.{receive_refused, receive_unchecked_lem}
 use Rattle.stop_and_wait.specs.Receiver as stop_and_wait
 use Rattle.stop_and_wait.specs.declared.StopAndWaitReceiver.{StopAndWaitReceiver}
@@ -32,6 +31,7 @@ use Rattle.session.specs.declared.ReceiverState.{ReceiverState}
 use Rattle.session.specs.declared.ReceiverState.TheVariants as receiverState
 use Rattle.session.specs.Receiving.{ReceiverEnd, receiver_in, stop_and_wait_receiver_end, go_back_nReceiver_end, selective_repeat_receiver_end, receiver_slot_count, new_receiver, base, is_cumulative, gbn_already_delivered, received_as, handle_packet_in, handle_packet, handle_reading_in, handle_reading, is_high, handle_packet_unchecked}
 use Rattle.session.specs.GoodReceiver.{ReceiverUnbroken, CanHandlePacket}
+use Rattle.refusal.specs.declared.Refusal.{Refusal}
 
 -- ---- making
 pub receiver_made_in : (p q : ProtocolType) (w : ℕ) (store : List ℕ) → p ≡ q → {r : ReceiverEnd} → r ≡ new_receiver q w store → r ≡ new_receiver p w store
@@ -77,21 +77,21 @@ module _ (x y : ReceiverState) (store : List ℕ) (e : x ≡ y) where
   read_in h payload output ack f = f ∙ ap (λ (z : ReceiverState). handle_reading_in z store h payload output ack) (sym e)
 
 module _ (v : ReceiverEnd) (p : Packet) (valid : Bool) (payload output ack : List ℕ) where
-  pub packet_high : {b : Bool} → b ≡ is_high p valid → b ≡ true → receive_exit (receiveAnswer.Refused Numbers) v output ack ≡ handle_packet_unchecked v p valid payload output ack
+  pub packet_high : {b : Bool} → b ≡ is_high p valid → b ≡ true → receive_exit (Err Numbers) v output ack ≡ handle_packet_unchecked v p valid payload output ack
   unfolding handle_packet_unchecked
-  packet_high e t = ap (λ (b : Bool). cond b (receive_exit (receiveAnswer.Refused Numbers) v output ack) (handle_reading v (packet_reading p valid) payload output ack)) (sym t ∙ e)
+  packet_high e t = ap (λ (b : Bool). cond b (receive_exit (Err Numbers) v output ack) (handle_reading v (packet_reading p valid) payload output ack)) (sym t ∙ e)
 
   pub packet_low : {b : Bool} {h : PacketReading} {r : ReceiveExit ReceiverEnd} → b ≡ is_high p valid → b ≡ false → h ≡ packet_reading p valid → r ≡ handle_reading v h payload output ack
       → r ≡ handle_packet_unchecked v p valid payload output ack
   unfolding handle_packet_unchecked
   packet_low e t f g =
       g ∙ ap (λ (k : PacketReading). handle_reading v k payload output ack) f
-      ∙ ap (λ (b : Bool). cond b (receive_exit (receiveAnswer.Refused Numbers) v output ack) (handle_reading v (packet_reading p valid) payload output ack)) (sym t ∙ e)
+      ∙ ap (λ (b : Bool). cond b (receive_exit (Err Numbers) v output ack) (handle_reading v (packet_reading p valid) payload output ack)) (sym t ∙ e)
 
 -- ---- of a datagram that reads as the packet: the entry point's call
-abbrev pub read_as : Packet → Bool → DatagramReading
-read_as p true = datagram.Valid p
-read_as p false = datagram.Corrupted p
+abbrev pub read_as : Packet → Bool → Result DatagramReading Refusal
+read_as p true = Ok (datagram.Valid p)
+read_as p false = Ok (datagram.Corrupted p)
 
 read_as_lem : (p : Packet) (valid : Bool) → reading_of (read_as p valid) ≡ packet_reading p valid
 read_as_lem p true = refl
@@ -105,24 +105,24 @@ pub taken_as : (raw : List ℕ) (p : Packet) (valid : Bool) → read_datagram ra
 taken_as raw p true e = valid_taken raw e
 taken_as raw p false e = corrupted_taken raw e
 
-answer_high : (p : Packet) (valid : Bool) → is_high p valid ≡ true → reading_answer (read_as p valid) ≡ read.Refused Numbers
+answer_high : (p : Packet) (valid : Bool) → is_high p valid ≡ true → reading_answer (read_as p valid) ≡ Err Numbers
 answer_high p true h = rw h
 answer_high p false h = let z : ◌≡◌ {A = ℕ} 0 1 = cc in absurd (omega arith)
 
 module _ {R : Type 0} (x : Reception R) (raw output ack : List ℕ) (p : Packet) (valid : Bool) (e : read_datagram raw ≡ read_as p valid) (state : x.state_broken ≡ false) (counts : x.counts_broken ≡ false) where
-  refused_high : is_high p valid ≡ true → receive x raw output ack ≡ refused_exit x output ack (receiveAnswer.Refused Numbers)
+  refused_high : is_high p valid ≡ true → receive x raw output ack ≡ refused_exit x output ack (Err Numbers)
   unfolding read_after
   refused_high h =
       sym (receive_refused x raw output ack Numbers
-      (rw (state, counts) (on_accepted read.Refused (reading_answer (read_datagram raw)) held_none ∙ ap reading_answer e ∙ answer_high p valid h)))
+      (rw (state, counts) (on_accepted Err (reading_answer (read_datagram raw)) held_none ∙ ap reading_answer e ∙ answer_high p valid h)))
 
   received_low : is_high p valid ≡ false → receive x raw output ack ≡ receive_unchecked x output ack
   received_low h = sym (receive_unchecked_lem x raw output ack state counts (taken_as raw p valid e) (ap number_high e ∙ high_as p valid ∙ h))
 
-  read_received : receive x raw output ack ≡ cond (is_high p valid) (refused_exit x output ack (receiveAnswer.Refused Numbers)) (receive_unchecked x output ack)
+  read_received : receive x raw output ack ≡ cond (is_high p valid) (refused_exit x output ack (Err Numbers)) (receive_unchecked x output ack)
   read_received = by_test_lem (is_high p valid) refl
     where
-      by_test_lem : (b : Bool) → is_high p valid ≡ b → receive x raw output ack ≡ cond (is_high p valid) (refused_exit x output ack (receiveAnswer.Refused Numbers)) (receive_unchecked x output ack)
+      by_test_lem : (b : Bool) → is_high p valid ≡ b → receive x raw output ack ≡ cond (is_high p valid) (refused_exit x output ack (Err Numbers)) (receive_unchecked x output ack)
       by_test_lem true h = rw h (refused_high h)
       by_test_lem false h = rw h (received_low h)
 
@@ -137,7 +137,7 @@ module _ (raw output ack : List ℕ) (p : Packet) (valid : Bool) (e : read_datag
 
   by_state : (s : ReceiverState) (store : List ℕ) → ReceiverUnbroken (receiver_in s store) output
       → handle_packet_in s store raw output ack
-      ≡ cond (is_high p valid) (receive_exit (receiveAnswer.Refused Numbers) (receiver_in s store) output ack) (handle_reading_in s store (packet_reading p valid) (payload_of raw) output ack)
+      ≡ cond (is_high p valid) (receive_exit (Err Numbers) (receiver_in s store) output ack) (handle_reading_in s store (packet_reading p valid) (payload_of raw) output ack)
   by_state (receiverState.StopAndWait r) store g =
       ap (λ (k : PacketReading). received_as (stop_and_wait_receiver_end store) (receive (stop_and_wait.reception r k (payload_of raw) output) raw output ack)) reading_is
       ∙ ap (received_as (stop_and_wait_receiver_end store)) (read_received (stop_and_wait.reception r (packet_reading p valid) (payload_of raw) output) raw output ack p valid e g.state g.counts)

@@ -1,4 +1,5 @@
 -- What a session's receiver leaves in the buffer for the ACK.
+use Rattle.std.specs.Prelude.{Err, None, Ok, Option, Result, Some}
 use Prim.Native.Nat.{ℕ}
 use mathlib.Core.Path.{◌≡◌, refl, sym, ap, ◌∙◌}
 use mathlib.Core.Bool.{Bool, true, false, cond}
@@ -14,10 +15,6 @@ use Rattle.receiver.specs.Reading.{read_packet}
 use Rattle.receiver.specs.Reply.{answer_of, ack_after, ApplyExit, applied}
 use Rattle.receiver.specs.Receive.{ReceiveExit, Reception, receive}
 use Rattle.receiver.specs.declared.Decision.{Decision}
-use Rattle.receiver.specs.declared.Reply.{Reply}
-use Rattle.receiver.specs.declared.Reply.TheVariants as reply
-use Rattle.receiver.specs.declared.ReceiveAnswer.{ReceiveAnswer}
-use Rattle.receiver.specs.declared.ReceiveAnswer.TheVariants as receiveAnswer
 use Rattle.receiver.proofs.Laws.{receive_either}
 use Rattle.stop_and_wait.specs.Receiver as stop_and_wait
 use Rattle.go_back_n.specs.Receiver as go_back_n
@@ -28,17 +25,18 @@ use Rattle.delivery.proofs.Laws.{datagrams_flatten, made_framed}
 use Rattle.session.specs.declared.ReceiverState.{ReceiverState}
 use Rattle.session.specs.declared.ReceiverState.TheVariants as receiverState
 use Rattle.session.specs.Receiving.{ReceiverEnd, handle_packet_in, handle_packet}
+use Rattle.refusal.specs.declared.Refusal.{Refusal}
 
 -- the buffer after an answer
-abbrev pub answered_buffer : ReceiveAnswer → List ℕ → List ℕ
-answered_buffer (receiveAnswer.Ack n) ack = made (new_packet n Ack) [] ++ drop header_size ack
-answered_buffer receiveAnswer.Silent ack = ack
-answered_buffer (receiveAnswer.Refused r) ack = ack
+abbrev pub answered_buffer : Result (Option ℕ) Refusal → List ℕ → List ℕ
+answered_buffer (Ok (Some n)) ack = made (new_packet n Ack) [] ++ drop header_size ack
+answered_buffer (Ok None) ack = ack
+answered_buffer (Err r) ack = ack
 
-by_reply : (r : Reply) (ack : List ℕ) → ack_after r ack ≡ answered_buffer (answer_of r) ack
+by_reply : (r : Option ℕ) (ack : List ℕ) → ack_after r ack ≡ answered_buffer (answer_of r) ack
 unfolding ack_after
-by_reply (reply.Ack n) ack = refl
-by_reply reply.Silent ack = refl
+by_reply (Some n) ack = refl
+by_reply None ack = refl
 
 applied_ack : (d : Decision) (payload : List ℕ) (filled : ℕ) (output ack : List ℕ) → (applied d payload filled output ack).ack ≡ ack_after d.reply ack
 unfolding applied
@@ -66,18 +64,18 @@ answered_buffer_lem v raw output ack = by_state v.receiver.state v.store
 abbrev pub replied_packets : ReceiveExit ReceiverEnd → List (List ℕ)
 replied_packets x = datagrams (bytes_replied x.answer x.ack)
 
-abbrev pub ack_packets : ReceiveAnswer → List (List ℕ)
-ack_packets (receiveAnswer.Ack n) = made (new_packet n Ack) [] ∷ []
-ack_packets receiveAnswer.Silent = []
-ack_packets (receiveAnswer.Refused r) = []
+abbrev pub ack_packets : Result (Option ℕ) Refusal → List (List ℕ)
+ack_packets (Ok (Some n)) = made (new_packet n Ack) [] ∷ []
+ack_packets (Ok None) = []
+ack_packets (Err r) = []
 
-answer_packets : (a : ReceiveAnswer) (ack : List ℕ) → datagrams (bytes_replied a (answered_buffer a ack)) ≡ ack_packets a
+answer_packets : (a : Result (Option ℕ) Refusal) (ack : List ℕ) → datagrams (bytes_replied a (answered_buffer a ack)) ≡ ack_packets a
 unfolding datagrams flatten
-answer_packets (receiveAnswer.Ack n) ack =
+answer_packets (Ok (Some n)) ack =
     ap datagrams (take_at (made (new_packet n Ack) []) (drop header_size ack) header_size (made_length (new_packet n Ack) []) ∙ sym (append-nil (made (new_packet n Ack) [])))
     ∙ datagrams_flatten (made (new_packet n Ack) [] ∷ []) (made_framed (new_packet n Ack) [], tt)
-answer_packets receiveAnswer.Silent ack = refl
-answer_packets (receiveAnswer.Refused r) ack = refl
+answer_packets (Ok None) ack = refl
+answer_packets (Err r) ack = refl
 
 pub replied_packets_lem : (v : ReceiverEnd) (raw output ack : List ℕ) → replied_packets (handle_packet v raw output ack) ≡ ack_packets (handle_packet v raw output ack).answer
 replied_packets_lem v raw output ack =

@@ -1,4 +1,5 @@
 -- What a timeout sends again, by the numbers: marking them and writing one after the other is the whole call.
+use Rattle.std.specs.Prelude.{None, Ok, Some}
 use Prim.Native.Nat.{ℕ, zero, suc, ◌+◌, ◌-◌, ◌*◌, ◌≤◌, ◌<◌, min}
 use mathlib.Core.Path.{◌≡◌, refl, sym, ap, ◌∙◌, subst}
 use mathlib.Core.Bool.{Bool, true, false, cond}
@@ -15,7 +16,6 @@ use Rattle.window.specs.Slots as slots
 use Rattle.window.specs.Slots.{mark_retransmitted, datagram_for}
 use Rattle.window.specs.Resending.{datagrams_from, mark_from, sent_again, TimeoutExit, timeout_exit, resend}
 use Rattle.window.specs.declared.SendWindow.{SendWindow}
-use Rattle.window.specs.declared.TimeoutAnswer.TheVariants as timeoutAnswer
 use Rattle.window.proofs.Laws.{sound, resend_nothing, resend_some}
 use Rattle.window.proofs.Resending.{mark_one, mark_from_lem}
 use Rattle.stop_and_wait.specs.Sender as stop_and_wait
@@ -47,13 +47,13 @@ pieces v n k rest =
     ap datagrams (take-append_seam (datagrams_from v n k) rest ∙ datagrams_are v n k) ∙ datagrams_flatten (map (datagram_for v) (up_from n k)) (all_framed v n k)
 
 pub nothing_resent : (broken counts : Bool) (v : slots.Sender) (n : ℕ) (out : List ℕ) → broken ≡ false → counts ≡ false
-    → resend broken counts v n 0 out ≡ timeout_exit timeoutAnswer.Nothing v out
+    → resend broken counts v n 0 out ≡ timeout_exit (Ok None) v out
 nothing_resent broken counts v n out e f = sym (resend_nothing broken counts v n 0 out e f refl)
 
 module _ (selective : Bool) (v : slots.Sender) (n k : ℕ) (out : List ℕ) (state : state_broken selective v.window v.store ≡ false) (counts : counts_broken v.window ≡ false)
     (within : Within v.window n (suc k)) (room : v.window.window_size * max_datagram ≤ length out) where
   some_resent : resend (state_broken selective v.window v.store) (counts_broken v.window) v n (suc k) out
-      ≡ timeout_exit (timeoutAnswer.Resent (length (sent_again v n (suc k)))) (mark_from v n (suc k)) (sent_again v n (suc k) ++ drop (length (sent_again v n (suc k))) out)
+      ≡ timeout_exit (Ok (Some (length (sent_again v n (suc k))))) (mark_from v n (suc k)) (sent_again v n (suc k) ++ drop (length (sent_again v n (suc k))) out)
   some_resent =
       let from = within.from in
       let below = within.below in

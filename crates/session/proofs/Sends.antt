@@ -1,4 +1,5 @@
 -- What a session's calls of send and ACK are below the entry points.
+use Rattle.std.specs.Prelude.{Ok}
 use Prim.Native.Nat.{ℕ, ◌*◌, ◌≤◌}
 use mathlib.Core.Path.{◌≡◌, refl, sym, ap, ◌∙◌, subst}
 use mathlib.Core.Bool.{Bool, true, false, cond, ◌&&◌}
@@ -14,7 +15,6 @@ use Rattle.window.specs.Slots as slots
 use Rattle.window.specs.Sending as window
 use Rattle.window.specs.Sending.{SendExit, window_free, send_checks}
 use Rattle.window.specs.Acknowledgement.{is_in_window, ack_exit}
-use Rattle.window.specs.declared.AckAnswer.TheVariants as ackAnswer
 use Rattle.window.specs.declared.SendWindow.{SendWindow}
 use Rattle.window.proofs.Laws.{sound, counts_low}
 use Rattle.stop_and_wait.specs.Sender as stop_and_wait
@@ -109,10 +109,10 @@ pub acknowledged_in_lem : (x y : SenderState) (store : List ℕ) (n : ℕ) → x
 unfolding acknowledged
 acknowledged_in_lem x y store n e f = f ∙ ap (λ (z : SenderState). acknowledged_in z store n) (sym e)
 
-pub ack_accepted : (v : SenderEnd) (n : ℕ) {r : SenderEnd} → is_in_window (window_of v.sender) n ≡ true → r ≡ acknowledged v n → ack_exit ackAnswer.Accepted r ≡ handle_ack_unchecked v n
+pub ack_accepted : (v : SenderEnd) (n : ℕ) {r : SenderEnd} → is_in_window (window_of v.sender) n ≡ true → r ≡ acknowledged v n → ack_exit (Ok true) r ≡ handle_ack_unchecked v n
 unfolding handle_ack_unchecked
-ack_accepted v n i f = ap (ack_exit ackAnswer.Accepted) f ∙ ap (λ (b : Bool). ack_exit (ack_answer_of b) (cond b (acknowledged v n) v)) (sym i)
+ack_accepted v n i f = ap (ack_exit (Ok true)) f ∙ ap (λ (b : Bool). ack_exit (ack_answer_of b) (cond b (acknowledged v n) v)) (sym i)
 
-pub ack_not_accepted : (v : SenderEnd) (n : ℕ) → is_in_window (window_of v.sender) n ≡ false → ack_exit ackAnswer.NotAccepted v ≡ handle_ack_unchecked v n
+pub ack_not_accepted : (v : SenderEnd) (n : ℕ) → is_in_window (window_of v.sender) n ≡ false → ack_exit (Ok false) v ≡ handle_ack_unchecked v n
 unfolding handle_ack_unchecked
 ack_not_accepted v n i = ap (λ (b : Bool). ack_exit (ack_answer_of b) (cond b (acknowledged v n) v)) (sym i)

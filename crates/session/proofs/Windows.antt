@@ -1,4 +1,5 @@
 -- A sender's window: what is known of one that isn't broken.
+use Rattle.std.specs.Prelude.{None, Some}
 use Prim.Native.Nat.{ℕ, ◌+◌, ◌-◌, ◌*◌, ◌≤◌, ◌<◌}
 use mathlib.Core.Path.{◌≡◌, sym, ap, ◌∙◌}
 use mathlib.Core.Bool.{Bool, true, false, cond, and-eq-true_iff}
@@ -20,7 +21,6 @@ use Rattle.window.proofs.Laws.{sound, numbers, sound_numbers, numbers_not_broken
 use Rattle.delivery.specs.Calls.{number_of}
 use Rattle.delivery.proofs.Laws.{made_number}
 use Rattle.session.specs.declared.Sender.{Sender}
-use Rattle.session.specs.declared.Oldest.TheVariants as oldest
 use Rattle.session.specs.Sending.{SenderEnd, window_of, window_end, can_send, has_outstanding, oldest_outstanding}
 use Rattle.session.specs.GoodSender.{is_selective, sender_broken, SenderUnbroken, GoodSender, CanSendChunk, Within, CanWriteDatagram}
 
@@ -31,11 +31,11 @@ unbroken_numbers v e = numbers_not_broken _ (sound_numbers (sound (is_selective 
 pub window_ordered : (s : SendWindow) {w : SendWindow} → numbers_broken s ≡ false → w ≡ s → w.send_base ≤ w.next_seq_num
 window_ordered s h e = rw e (numbers s h).ordered
 
-pub oldest_some : (s : Sender) {n : ℕ} {b : Bool} → n ≡ (window_of s).send_base → b ≡ has_outstanding s → b ≡ true → oldest.Number n ≡ oldest_outstanding s
-oldest_some s e f t = ap oldest.Number e ∙ ap (λ (b : Bool). cond b (oldest.Number (window_of s).send_base) oldest.Nothing) (sym t ∙ f)
+pub oldest_some : (s : Sender) {n : ℕ} {b : Bool} → n ≡ (window_of s).send_base → b ≡ has_outstanding s → b ≡ true → Some n ≡ oldest_outstanding s
+oldest_some s e f t = ap Some e ∙ ap (λ (b : Bool). cond b (Some (window_of s).send_base) None) (sym t ∙ f)
 
-pub oldest_none : (s : Sender) {b : Bool} → b ≡ has_outstanding s → b ≡ false → oldest.Nothing ≡ oldest_outstanding s
-oldest_none s f t = ap (λ (b : Bool). cond b (oldest.Number (window_of s).send_base) oldest.Nothing) (sym t ∙ f)
+pub oldest_none : (s : Sender) {b : Bool} → b ≡ has_outstanding s → b ≡ false → None ≡ oldest_outstanding s
+oldest_none s f t = ap (λ (b : Bool). cond b (Some (window_of s).send_base) None) (sym t ∙ f)
 
 -- an outstanding number of such a state
 pub record Outstanding (s : SendWindow) (store : List ℕ) (n : ℕ) : Type 0 where

@@ -1,6 +1,6 @@
 -- app/transfer.rs, `Session`: a receiver of any of the three protocols with a store, which only Selective Repeat uses.
 -- Its call is the protocol's own.
-use Rattle.std.specs.Prelude.{ℕ, ◌*◌, List, ◌++◌, Bool, true, false, cond, ◌&&◌, drop, replicate, ltb}
+use Rattle.std.specs.Prelude.{ℕ, ◌*◌, List, ◌++◌, Bool, true, false, cond, ◌&&◌, drop, replicate, ltb, Err}
 use Rattle.bounds.specs.Bounds.{slot_size}
 use Rattle.refusal.specs.declared.Refusal.TheVariants.{Numbers}
 use Rattle.protocol.specs.declared.ProtocolType.{ProtocolType}
@@ -9,7 +9,6 @@ use Rattle.packet.specs.declared.Packet.{Packet}
 use Rattle.receiver.specs.Reading.{packet_reading, is_number_high}
 use Rattle.receiver.specs.Receive.{ReceiveExit, receive_exit}
 use Rattle.receiver.specs.declared.PacketReading.{PacketReading}
-use Rattle.receiver.specs.declared.ReceiveAnswer.TheVariants as receiveAnswer
 use Rattle.stop_and_wait.specs.Receiver as stop_and_wait
 use Rattle.stop_and_wait.specs.declared.StopAndWaitReceiver.{StopAndWaitReceiver}
 use Rattle.go_back_n.specs.Receiver as go_back_n
@@ -127,5 +126,5 @@ is_high p valid = valid && is_number_high p
 
 unfoldable pub handle_packet_unchecked : ReceiverEnd → Packet → Bool → List ℕ → List ℕ → List ℕ → ReceiveExit ReceiverEnd
 handle_packet_unchecked v p valid payload output ack =
-    cond (is_high p valid) (receive_exit (receiveAnswer.Refused Numbers) v output ack)
+    cond (is_high p valid) (receive_exit (Err Numbers) v output ack)
     (handle_reading v (packet_reading p valid) payload output ack)

@@ -1,5 +1,5 @@
 -- app/transfer.rs, `Session`: a sender of any of the three protocols with its store. Each call is the protocol's own.
-use Rattle.std.specs.Prelude.{ℕ, ◌*◌, List, map, Bool, true, false, cond, replicate, ltb}
+use Rattle.std.specs.Prelude.{ℕ, ◌*◌, List, map, Bool, true, false, cond, replicate, ltb, None, Ok, Option, Result, Some}
 use Rattle.bounds.specs.Bounds.{max_datagram}
 use Rattle.protocol.specs.Runs.{up_from}
 use Rattle.protocol.specs.declared.ProtocolType.{ProtocolType}
@@ -12,8 +12,6 @@ use Rattle.window.specs.Sending.{SendExit, send_exit, window_free}
 use Rattle.window.specs.Acknowledgement.{is_in_window, AckExit, ack_exit}
 use Rattle.window.specs.Resending.{TimeoutExit, timeout_exit}
 use Rattle.window.specs.declared.SendWindow.{SendWindow}
-use Rattle.window.specs.declared.AckAnswer.{AckAnswer}
-use Rattle.window.specs.declared.AckAnswer.TheVariants as ackAnswer
 use Rattle.stop_and_wait.specs.Sender as stop_and_wait
 use Rattle.go_back_n.specs.Sender as go_back_n
 use Rattle.selective_repeat.specs.Sender as selective_repeat
@@ -22,10 +20,9 @@ use Rattle.delivery.specs.Ends.{bytes_resent}
 use Rattle.session.specs.declared.Sender.{Sender}
 use Rattle.session.specs.declared.SenderState.{SenderState}
 use Rattle.session.specs.declared.SenderState.TheVariants as senderState
-use Rattle.session.specs.declared.Oldest.{Oldest}
-use Rattle.session.specs.declared.Oldest.TheVariants as oldest
 use Rattle.session.specs.declared.Timeout.{Timeout}
 use Rattle.session.specs.declared.Timeout.TheVariants as timeout
+use Rattle.refusal.specs.declared.Refusal.{Refusal}
 
 -- a sender and its store
 pub record SenderEnd : Type 0 where
@@ -66,8 +63,8 @@ can_send s = window_free (window_of s)
 abbrev pub has_outstanding : Sender → Bool
 has_outstanding s = ltb 0 (outstanding (window_of s))
 
-abbrev pub oldest_outstanding : Sender → Oldest
-oldest_outstanding s = cond (has_outstanding s) (oldest.Number (window_of s).send_base) oldest.Nothing
+abbrev pub oldest_outstanding : Sender → Option ℕ
+oldest_outstanding s = cond (has_outstanding s) (Some (window_of s).send_base) None
 
 -- Selective Repeat: a number that is outstanding and not acknowledged
 abbrev pub is_due : SenderEnd → ℕ → Bool
@@ -126,8 +123,8 @@ acknowledged_in (senderState.SelectiveRepeat s) store n =
 unfoldable pub acknowledged : SenderEnd → ℕ → SenderEnd
 acknowledged v n = acknowledged_in v.sender.state v.store n
 
-abbrev pub ack_answer_of : Bool → AckAnswer
-ack_answer_of accepted = cond accepted ackAnswer.Accepted ackAnswer.NotAccepted
+abbrev pub ack_answer_of : Bool → Result Bool Refusal
+ack_answer_of accepted = cond accepted (Ok true) (Ok false)
 
 unfoldable pub handle_ack_unchecked : SenderEnd → ℕ → AckExit SenderEnd
 handle_ack_unchecked v n =

@@ -8,7 +8,6 @@ ghost use Rattle.window.specs.State.{numbers_broken, outstanding};
 ghost use Rattle.window.specs.Slots.{datagram_for};
 ghost use Rattle.window.specs.Sending.{send_exit};
 ghost use Rattle.window.specs.Acknowledgement.{is_in_window, ack_exit};
-ghost use Rattle.window.specs.declared.SendAnswer.TheVariants as sendAnswer;
 ghost use Rattle.stop_and_wait.specs.Sender.{retries_left};
 ghost use Rattle.stop_and_wait.specs.Sender as stop_and_wait;
 ghost use Rattle.session.specs.Sending.{sender_end, sender_in, window_of, window_end, slot_count, new_sender, can_send};
@@ -25,7 +24,7 @@ ghost use Rattle.session.specs.GoodReceiver.{CanHandlePacket};
 use go_back_n::{GoBackNReceiver, GoBackNSender};
 use packet::Packet;
 use protocol::ProtocolType;
-use receiver::{PacketReading, ReceiveAnswer};
+use receiver::PacketReading;
 use refusal::Refusal;
 use selective_repeat::{SelectiveRepeatReceiver, SelectiveRepeatSender};
 use stop_and_wait::{StopAndWaitReceiver, StopAndWaitSender};
@@ -55,13 +54,6 @@ pub struct Receiver {
     pub state: ReceiverState,
 }
 
-// The lowest outstanding number.
-#[derive(Clone, Copy)]
-pub enum Oldest {
-    Number(u32),
-    Nothing,
-}
-
 // What a timeout is of: Go-Back-N's of all outstanding numbers or of the earliest, Selective Repeat's of a number.
 // Stop-and-Wait has one.
 #[derive(Clone, Copy)]
@@ -88,7 +80,7 @@ pub struct TimeoutResult {
 #[derive(Clone, Copy)]
 pub struct ReceiveResult {
     pub receiver: Receiver,
-    pub answer: ReceiveAnswer,
+    pub answer: Result<Option<u32>, Refusal>,
 }
 
 impl Sender {
@@ -176,21 +168,21 @@ impl Sender {
         0 < window.next_seq_num - window.send_base
     }
 
-    pub fn oldest_outstanding_unchecked(self) -> Oldest
+    pub fn oldest_outstanding_unchecked(self) -> Option<u32>
         requires { numbers_broken (window_of self) ≡ false }
         ensures { result ≡ oldest_outstanding self }
     {
         let base = self.send_base_unchecked();
         if self.has_outstanding_unchecked() {
-            return Oldest::Number(base);
+            return Some(base);
         }
-        Oldest::Nothing
+        None
     }
 
     // A chunk into its slot and as a datagram to the start of out.
     pub fn send_chunk_unchecked(self, store: &mut [u8], payload: &[u8], out: &mut [u8]) -> Sender
         requires { CanSendChunk (sender_end self store.old) payload.now out.old }
-        ensures { send_exit (sendAnswer.Sent (header_size + length payload.now))
+        ensures { send_exit (Ok (Some (header_size + length payload.now)))
             (sender_end result store.new) out.new
             ≡ send_chunk (sender_end self store.old) payload.now out.old }
     {
@@ -521,7 +513,7 @@ impl Receiver {
         if is_high(packet, valid) {
             return ReceiveResult {
                 receiver: self,
-                answer: ReceiveAnswer::Refused(Refusal::Numbers),
+                answer: Err(Refusal::Numbers),
             };
         }
         let reading = receiver::packet_reading(packet, valid);

@@ -1,4 +1,5 @@
 -- The tests of a start, one after the other.
+use Rattle.std.specs.Prelude.{Err, Ok, Result}
 use mathlib.Core.Path.{◌≡◌, refl, subst}
 use mathlib.Core.Bool.{Bool, true, false, not, cond, ◌||◌, ◌&&◌}
 use mathlib.Core.List.{List, [], ◌∷◌}
@@ -8,13 +9,13 @@ use lib.Dec.{ltb, eqb}
 use borrow.Author.Tests.{lt-ltb, le-ltb, ltb-false, not-true, not-false, eq-eqb}
 use Rattle.refusal.proofs.Laws.{or_false}
 use Rattle.refusal.specs.Order.{Check, check, verdict, first_of, numbered, or_else, order}
-use Rattle.refusal.specs.declared.Verdict.{Verdict}
-use Rattle.refusal.specs.declared.Verdict.TheVariants.{Accepted, Refused}
 use Rattle.refusal.specs.declared.Refusal.TheVariants.{Short, Kind, Cut, Setup, Full, Long, Numbers, Counts, State, Time, Roll}
 use Rattle.window.specs.State.{window_broken}
 use Rattle.rto.specs.declared.RtoConfig.{RtoConfig}
 use Rattle.setup.specs.Setup.{edition_times, chunks_broken, setup_broken}
 use Rattle.setup.specs.declared.TransferConfig.{TransferConfig}
+use Rattle.refusal.specs.declared.Refusal.{Refusal}
+use Rattle.refusal.specs.Order.{passed}
 
 -- ---- 5: a count that is read, against its definition
 module _ {a b k m n : ℕ} (t : Bool) where
@@ -55,7 +56,7 @@ times_4 c p q r = simp (eq-eqb _ _ p, eq-eqb _ _ q, eq-eqb _ _ r)
 abbrev pub four_checks : Bool → Bool → Bool → Bool → List Check
 four_checks state roll setup full = check state State ∷ check roll Roll ∷ check setup Setup ∷ check full Full ∷ []
 
-pub four_is : (a b d e : Bool) → verdict (four_checks a b d e) ≡ cond a (Refused State) (cond b (Refused Roll) (cond d (Refused Setup) (cond e (Refused Full) Accepted)))
+pub four_is : (a b d e : Bool) → verdict (four_checks a b d e) ≡ cond a (Err State) (cond b (Err Roll) (cond d (Err Setup) (cond e (Err Full) passed)))
 unfolding verdict first_of numbered or_else order
 four_is true b d e = refl
 four_is false true d e = refl
@@ -64,35 +65,35 @@ four_is false false false true = refl
 four_is false false false false = refl
 
 module _ (a b d e : Bool) where
-  pub state_first : a ≡ true → Refused State ≡ verdict (four_checks a b d e)
+  pub state_first : a ≡ true → Err State ≡ verdict (four_checks a b d e)
   state_first p = simp (four_is, p)
 
-  pub roll_next : a ≡ false → b ≡ true → Refused Roll ≡ verdict (four_checks a b d e)
+  pub roll_next : a ≡ false → b ≡ true → Err Roll ≡ verdict (four_checks a b d e)
   roll_next p q = simp (four_is, p, q)
 
-  pub setup_next : a ≡ false → b ≡ false → d ≡ true → Refused Setup ≡ verdict (four_checks a b d e)
+  pub setup_next : a ≡ false → b ≡ false → d ≡ true → Err Setup ≡ verdict (four_checks a b d e)
   setup_next p q r = simp (four_is, p, q, r)
 
-  pub full_last : a ≡ false → b ≡ false → d ≡ false → e ≡ true → Refused Full ≡ verdict (four_checks a b d e)
+  pub full_last : a ≡ false → b ≡ false → d ≡ false → e ≡ true → Err Full ≡ verdict (four_checks a b d e)
   full_last p q r s = simp (four_is, p, q, r, s)
 
-  pub none_true : a ≡ false → b ≡ false → d ≡ false → e ≡ false → Accepted ≡ verdict (four_checks a b d e)
+  pub none_true : a ≡ false → b ≡ false → d ≡ false → e ≡ false → passed ≡ verdict (four_checks a b d e)
   none_true p q r s = simp (four_is, p, q, r, s)
 
 -- what a verdict says of the four
-abbrev pub Reasons : Bool → Bool → Bool → Bool → Verdict → Type 0
-Reasons a b d e Accepted = (a ≡ false) × (b ≡ false) × (d ≡ false) × (e ≡ false)
-Reasons a b d e (Refused State) = a ≡ true
-Reasons a b d e (Refused Roll) = (a ≡ false) × (b ≡ true)
-Reasons a b d e (Refused Setup) = (a ≡ false) × (b ≡ false) × (d ≡ true)
-Reasons a b d e (Refused Full) = (a ≡ false) × (b ≡ false) × (d ≡ false) × (e ≡ true)
-Reasons a b d e (Refused (Short n)) = ⊥
-Reasons a b d e (Refused (Kind n)) = ⊥
-Reasons a b d e (Refused (Cut n m)) = ⊥
-Reasons a b d e (Refused Long) = ⊥
-Reasons a b d e (Refused Numbers) = ⊥
-Reasons a b d e (Refused Counts) = ⊥
-Reasons a b d e (Refused Time) = ⊥
+abbrev pub Reasons : Bool → Bool → Bool → Bool → Result Unit Refusal → Type 0
+Reasons a b d e (Ok tt) = (a ≡ false) × (b ≡ false) × (d ≡ false) × (e ≡ false)
+Reasons a b d e (Err State) = a ≡ true
+Reasons a b d e (Err Roll) = (a ≡ false) × (b ≡ true)
+Reasons a b d e (Err Setup) = (a ≡ false) × (b ≡ false) × (d ≡ true)
+Reasons a b d e (Err Full) = (a ≡ false) × (b ≡ false) × (d ≡ false) × (e ≡ true)
+Reasons a b d e (Err (Short n)) = ⊥
+Reasons a b d e (Err (Kind n)) = ⊥
+Reasons a b d e (Err (Cut n m)) = ⊥
+Reasons a b d e (Err Long) = ⊥
+Reasons a b d e (Err Numbers) = ⊥
+Reasons a b d e (Err Counts) = ⊥
+Reasons a b d e (Err Time) = ⊥
 
 reasons : (a b d e : Bool) → Reasons a b d e (verdict (four_checks a b d e))
 unfolding verdict first_of numbered or_else order
@@ -102,5 +103,5 @@ reasons false false true e = (refl, refl, refl)
 reasons false false false true = (refl, refl, refl, refl)
 reasons false false false false = (refl, refl, refl, refl)
 
-pub reasons_for : (a b d e : Bool) (v : Verdict) → verdict (four_checks a b d e) ≡ v → Reasons a b d e v
-reasons_for a b d e v h = subst (λ (w : Verdict). Reasons a b d e w) h (reasons a b d e)
+pub reasons_for : (a b d e : Bool) (v : Result Unit Refusal) → verdict (four_checks a b d e) ≡ v → Reasons a b d e v
+reasons_for a b d e v h = subst (λ (w : Result Unit Refusal). Reasons a b d e w) h (reasons a b d e)

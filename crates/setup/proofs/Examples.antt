@@ -1,4 +1,5 @@
 -- Document 01's `linkrun` at its start, and the same setup turned away.
+use Rattle.std.specs.Prelude.{Err}
 use mathlib.Core.Path.{◌≡◌, refl, sym}
 use mathlib.Core.Bool.{true, false, ◌||◌}
 use mathlib.Core.List.{List, [], ◌∷◌}
@@ -9,7 +10,6 @@ use lib.Ieee.{le, eq}
 use Rattle.bounds.specs.Bounds.{max_chunks, slot_size}
 use Rattle.refusal.specs.Clauses.{any_of}
 use Rattle.refusal.specs.Order.{verdict}
-use Rattle.refusal.specs.declared.Verdict.TheVariants.{Accepted, Refused}
 use Rattle.refusal.specs.declared.Refusal.TheVariants.{Setup, Full}
 use Rattle.protocol.specs.declared.ProtocolType.{ProtocolType}
 use Rattle.protocol.specs.declared.ProtocolType.TheVariants.{StopAndWait, GoBackN, SelectiveRepeat}
@@ -27,6 +27,7 @@ use Rattle.setup.specs.declared.ClockChoice.TheVariants.{Source, Edition}
 use Rattle.setup.specs.declared.TransferConfig.{TransferConfig}
 use Rattle.setup.proofs.Checks.{none_true}
 use Rattle.setup.proofs.Laws.{refuses_setup, refuses_full, many_chunks}
+use Rattle.refusal.specs.Order.{passed}
 
 -- linkrun's but for protocol, clock and largest RTO
 abbrev config : ProtocolType → ClockChoice → ℕ → TransferConfig
@@ -71,7 +72,7 @@ room_ok : start_room (linkrun one one) ≡ false
 unfolding room_missing chunks_of pieces
 room_ok = refl
 
-pub linkrun_accepted : verdict (start_checks (linkrun one one)) ≡ Accepted
+pub linkrun_accepted : verdict (start_checks (linkrun one one)) ≡ passed
 linkrun_accepted = sym (none_true _ _ _ _ (state_ok SelectiveRepeat Source 60000000000 one one) rolls_ok setup_ok room_ok)
 
 -- the empty file is one chunk and takes one note
@@ -83,7 +84,7 @@ empty_room : start_room (linkrun [] []) ≡ false
 unfolding room_missing chunks_of pieces
 empty_room = refl
 
-pub empty_accepted : verdict (start_checks (linkrun [] [])) ≡ Accepted
+pub empty_accepted : verdict (start_checks (linkrun [] [])) ≡ passed
 empty_accepted = sym (none_true _ _ _ _ (state_ok SelectiveRepeat Source 60000000000 [] []) rolls_ok empty_setup empty_room)
 
 -- without space for the byte: 5
@@ -91,7 +92,7 @@ no_room : start_room (linkrun one []) ≡ true
 unfolding room_missing
 no_room = refl
 
-pub short_output : verdict (start_checks (linkrun one [])) ≡ Refused Full
+pub short_output : verdict (start_checks (linkrun one [])) ≡ Err Full
 short_output = refuses_full _ (state_ok SelectiveRepeat Source 60000000000 one []) rolls_ok setup_ok no_room
 
 -- Selective Repeat on the edition clock: 4
@@ -102,7 +103,7 @@ edition_selective : start_setup (edition SelectiveRepeat 60000000000) ≡ true
 unfolding setup_broken window_broken any_of chunks_of pieces config_broken config_in_bounds clock_broken le
 edition_selective = refl
 
-pub edition_selective_refused : verdict (start_checks (edition SelectiveRepeat 60000000000)) ≡ Refused Setup
+pub edition_selective_refused : verdict (start_checks (edition SelectiveRepeat 60000000000)) ≡ Err Setup
 edition_selective_refused = refuses_setup _ (state_ok SelectiveRepeat Edition 60000000000 one one) rolls_ok edition_selective
 
 -- Go-Back-N on it is fine, but not with another largest RTO
@@ -114,18 +115,18 @@ edition_room : start_room (edition GoBackN 60000000000) ≡ false
 unfolding room_missing chunks_of pieces
 edition_room = refl
 
-pub edition_accepted : verdict (start_checks (edition GoBackN 60000000000)) ≡ Accepted
+pub edition_accepted : verdict (start_checks (edition GoBackN 60000000000)) ≡ passed
 edition_accepted = sym (none_true _ _ _ _ (state_ok GoBackN Edition 60000000000 one one) rolls_ok edition_ok edition_room)
 
 edition_longer : start_setup (edition GoBackN 61000000000) ≡ true
 unfolding setup_broken window_broken any_of chunks_of pieces config_broken config_in_bounds clock_broken le
 edition_longer = refl
 
-pub edition_longer_refused : verdict (start_checks (edition GoBackN 61000000000)) ≡ Refused Setup
+pub edition_longer_refused : verdict (start_checks (edition GoBackN 61000000000)) ≡ Err Setup
 edition_longer_refused = refuses_setup _ (state_ok GoBackN Edition 61000000000 one one) rolls_ok edition_longer
 
 -- 65,537 bytes in chunks of 1 are a 4, though the output is short as well
-pub too_many : (file : List ℕ) → length file ≡ 65537 → verdict (start_checks (linkrun file [])) ≡ Refused Setup
+pub too_many : (file : List ℕ) → length file ≡ 65537 → verdict (start_checks (linkrun file [])) ≡ Err Setup
 too_many file e =
     let some : length file ≡ 0 → ⊥ = λ z. omega arith in
     let count = count_full 1 file (omega arith) some in

@@ -1,4 +1,5 @@
 -- What crates above may cite of a run's start: what holds where it isn't refused, and which of 9, 11, 4 and 5 is answered.
+use Rattle.std.specs.Prelude.{Err, Result}
 use mathlib.Core.Path.{◌≡◌, refl, sym, ap}
 use mathlib.Core.Bool.{Bool, true, false, not, ◌||◌, and-eq-true_iff}
 use mathlib.Core.List.{List, [], ◌∷◌}
@@ -12,8 +13,6 @@ use Rattle.refusal.proofs.Laws.{or_false, none_of, any_of_none, has, refused_one
 use Rattle.refusal.specs.Refusal.{entry_of}
 use Rattle.refusal.specs.declared.Refusal.{Refusal}
 use Rattle.refusal.specs.Order.{verdict}
-use Rattle.refusal.specs.declared.Verdict.{Verdict}
-use Rattle.refusal.specs.declared.Verdict.TheVariants.{Accepted, Refused}
 use Rattle.refusal.specs.declared.Refusal.TheVariants.{Setup, Full, State, Roll}
 use Rattle.protocol.specs.declared.ProtocolType.{ProtocolType}
 use Rattle.protocol.specs.declared.ProtocolType.TheVariants.{StopAndWait, GoBackN, SelectiveRepeat}
@@ -29,39 +28,40 @@ use Rattle.setup.specs.Setup.{stores_short, state_broken, chunks_broken, clock_b
 use Rattle.setup.specs.declared.TransferConfig.{TransferConfig}
 use Rattle.setup.specs.declared.ClockChoice.TheVariants.{Edition}
 use Rattle.setup.proofs.Checks.{reasons_for, state_first, roll_next, setup_next, full_last, none_true}
+use Rattle.refusal.specs.Order.{passed}
 pub use Rattle.setup.proofs.Checks.{Reasons}
 
 -- ---- the order: each number, both ways
 module _ (s : Start) where
-  pub start_reasons : (v : Verdict) → verdict (start_checks s) ≡ v → Reasons (start_state s) (start_rolls s) (start_setup s) (start_room s) v
+  pub start_reasons : (v : Result Unit Refusal) → verdict (start_checks s) ≡ v → Reasons (start_state s) (start_rolls s) (start_setup s) (start_room s) v
   start_reasons v h = reasons_for (start_state s) (start_rolls s) (start_setup s) (start_room s) v h
 
-  pub refused_state : verdict (start_checks s) ≡ Refused State → start_state s ≡ true
-  refused_state h = start_reasons (Refused State) h
+  pub refused_state : verdict (start_checks s) ≡ Err State → start_state s ≡ true
+  refused_state h = start_reasons (Err State) h
 
-  pub refuses_state : start_state s ≡ true → verdict (start_checks s) ≡ Refused State
+  pub refuses_state : start_state s ≡ true → verdict (start_checks s) ≡ Err State
   refuses_state p = sym (state_first (start_state s) (start_rolls s) (start_setup s) (start_room s) p)
 
-  pub refused_roll : verdict (start_checks s) ≡ Refused Roll → (start_state s ≡ false) × (start_rolls s ≡ true)
-  refused_roll h = start_reasons (Refused Roll) h
+  pub refused_roll : verdict (start_checks s) ≡ Err Roll → (start_state s ≡ false) × (start_rolls s ≡ true)
+  refused_roll h = start_reasons (Err Roll) h
 
-  pub refuses_roll : start_state s ≡ false → start_rolls s ≡ true → verdict (start_checks s) ≡ Refused Roll
+  pub refuses_roll : start_state s ≡ false → start_rolls s ≡ true → verdict (start_checks s) ≡ Err Roll
   refuses_roll p q = sym (roll_next (start_state s) (start_rolls s) (start_setup s) (start_room s) p q)
 
-  pub refused_setup : verdict (start_checks s) ≡ Refused Setup → (start_state s ≡ false) × (start_rolls s ≡ false) × (start_setup s ≡ true)
-  refused_setup h = start_reasons (Refused Setup) h
+  pub refused_setup : verdict (start_checks s) ≡ Err Setup → (start_state s ≡ false) × (start_rolls s ≡ false) × (start_setup s ≡ true)
+  refused_setup h = start_reasons (Err Setup) h
 
-  pub refuses_setup : start_state s ≡ false → start_rolls s ≡ false → start_setup s ≡ true → verdict (start_checks s) ≡ Refused Setup
+  pub refuses_setup : start_state s ≡ false → start_rolls s ≡ false → start_setup s ≡ true → verdict (start_checks s) ≡ Err Setup
   refuses_setup p q r = sym (setup_next (start_state s) (start_rolls s) (start_setup s) (start_room s) p q r)
 
-  pub refused_full : verdict (start_checks s) ≡ Refused Full → (start_state s ≡ false) × (start_rolls s ≡ false) × (start_setup s ≡ false) × (start_room s ≡ true)
-  refused_full h = start_reasons (Refused Full) h
+  pub refused_full : verdict (start_checks s) ≡ Err Full → (start_state s ≡ false) × (start_rolls s ≡ false) × (start_setup s ≡ false) × (start_room s ≡ true)
+  refused_full h = start_reasons (Err Full) h
 
-  pub refuses_full : start_state s ≡ false → start_rolls s ≡ false → start_setup s ≡ false → start_room s ≡ true → verdict (start_checks s) ≡ Refused Full
+  pub refuses_full : start_state s ≡ false → start_rolls s ≡ false → start_setup s ≡ false → start_room s ≡ true → verdict (start_checks s) ≡ Err Full
   refuses_full p q r t = sym (full_last (start_state s) (start_rolls s) (start_setup s) (start_room s) p q r t)
 
   -- no other number is
-  pub refused_numbers : (r : Refusal) → verdict (start_checks s) ≡ Refused r → has (entry_of r).number (9 ∷ 11 ∷ 4 ∷ 5 ∷ []) ≡ true
+  pub refused_numbers : (r : Refusal) → verdict (start_checks s) ≡ Err r → has (entry_of r).number (9 ∷ 11 ∷ 4 ∷ 5 ∷ []) ≡ true
   refused_numbers r h = refused_one_of (λ (q : Refusal). has (entry_of q).number (9 ∷ 11 ∷ 4 ∷ 5 ∷ []) ≡ true) r (start_checks s) (refl, (refl, (refl, (refl, tt)))) h
 
 -- ---- by protocol
@@ -174,9 +174,9 @@ many_chunks c file h = or_right (window_broken c.window_size) _ (or_left (chunks
 
 -- ---- Accepted exactly where all that is asked is met
 module _ (s : Start) where
-  pub start_accepted : verdict (start_checks s) ≡ Accepted → CanStart s
+  pub start_accepted : verdict (start_checks s) ≡ passed → CanStart s
   start_accepted h =
-      let f = start_reasons s Accepted h in
+      let f = start_reasons s passed h in
       let state = not_state s f.0 in
       let stores = stores_enough s.config.window_size s.config.protocol s.sender_store s.receiver_store state.stores in
       let rolls = or_false (rolls_broken s.forward_rolls) (rolls_broken s.reverse_rolls) f.1 in
@@ -228,7 +228,7 @@ module _ (s : Start) where
     pub room_fine : start_room s ≡ false
     room_fine = room_not s record { output = h.output_room; notes = h.notes_room; timers = enough_timers s.config.window_size s.config.protocol s.keys h.timers_room }
 
-    pub start_accepts : verdict (start_checks s) ≡ Accepted
+    pub start_accepts : verdict (start_checks s) ≡ passed
     start_accepts = sym (none_true (start_state s) (start_rolls s) (start_setup s) (start_room s) state_fine rolls_fine setup_fine room_fine)
 
     -- in the words of the ends' makers

@@ -11,7 +11,7 @@ ghost use Rattle.setup.specs.Setup.{is_edition, edition_times, edition_factors};
 
 use channel::ChannelConfig;
 use protocol::ProtocolType;
-use refusal::{Refusal, Verdict};
+use refusal::Refusal;
 use rto::RtoConfig;
 
 // The source's timing, or document 01's edition clock.
@@ -46,7 +46,7 @@ pub fn start_verdict(
     notes: &[[u64; 7]],
     keys: &[u32],
     deadlines: &[u64],
-) -> Verdict
+) -> Result<(), Refusal>
     ensures { (result ≡ verdict (start_checks (start config file.now forward_rolls.now
         reverse_rolls.now sender_store.now receiver_store.now
         output.now notes.now keys.now deadlines.now)))
@@ -55,18 +55,18 @@ pub fn start_verdict(
     let state = state_broken(config, sender_store, receiver_store, keys, deadlines);
     let rolls = any_rolls_broken(forward_rolls, reverse_rolls);
     if state {
-        return Verdict::Refused(Refusal::State);
+        return Err(Refusal::State);
     }
     if rolls {
-        return Verdict::Refused(Refusal::Roll);
+        return Err(Refusal::Roll);
     }
     if setup_broken(config, file) {
-        return Verdict::Refused(Refusal::Setup);
+        return Err(Refusal::Setup);
     }
     if room_missing(config, file, output, notes, keys) {
-        return Verdict::Refused(Refusal::Full);
+        return Err(Refusal::Full);
     }
-    Verdict::Accepted
+    Ok(())
 }
 
 // Check 9: timer slices of unequal length, stores shorter than their slots.

@@ -1,4 +1,5 @@
 -- What is due on both lines: where the reverse line is sized for as many ACKs as copies may come, no ACK ends the run.
+use Rattle.std.specs.Prelude.{Ok, Some}
 use Prim.Native.Nat.{ℕ, ◌+◌, ◌*◌, ◌≤◌, ◌<◌}
 use native.Mathlib.Omega.{arith}
 use mathlib.Core.Path.{◌≡◌, refl, sym, ap, ◌∙◌, subst}
@@ -15,7 +16,6 @@ use Rattle.schedule.specs.State.{copies, lacks_room}
 use Rattle.schedule.specs.Schedule.{put_copy, schedule_at_unchecked}
 use Rattle.schedule.specs.declared.Deliveries.{Deliveries}
 use Rattle.schedule.specs.declared.Deliveries.TheVariants.{One}
-use Rattle.schedule.specs.declared.ReadyAnswer.TheVariants as ready
 use Rattle.channel.proofs.NoFaults.{NoFaults}
 use Rattle.path.specs.Rolls.{packet_rolls}
 use Rattle.path.specs.Direction.{Direction, schedule_of}
@@ -131,12 +131,12 @@ module _ (m : ℕ) (rolls : List Float) (total now : ℕ) where
   abbrev Can : Direction → Inbound → Type 0
   Can f c = CanServeForward f c rolls now × (Replies m rolls c × (c.side.data_received + f.path.scheduler.count ≤ m))
 
-  turn_sized : (f : Direction) (c : Inbound) (n : ℕ) → (next_taken now f).result.answer ≡ ready.Packet n → Can f c → Replied m rolls (next_exit rolls total now f c n)
+  turn_sized : (f : Direction) (c : Inbound) (n : ℕ) → (next_taken now f).result.answer ≡ Ok (Some n) → Can f c → Replied m rolls (next_exit rolls total now f c n)
   turn_sized f c n e h =
       forward_sized (take n (next_taken now f).out) c (can_hand_over rolls total now f c h.0 n e) h.1.0
       (ack_few c.side.ack_sent c.side.data_received f.path.scheduler.count _ h.0.good.acks h.1.1 (take_count f now packet_buffer n e))
 
-  turn_can : (f : Direction) (c : Inbound) (n : ℕ) → (next_taken now f).result.answer ≡ ready.Packet n → Can f c → Can (left_by_take (next_taken now f)) (next_exit rolls total now f c n).inbound
+  turn_can : (f : Direction) (c : Inbound) (n : ℕ) → (next_taken now f).result.answer ≡ Ok (Some n) → Can f c → Can (left_by_take (next_taken now f)) (next_exit rolls total now f c n).inbound
   turn_can f c n e h = (
     turn_good rolls total now f c h.0 n e,
     (

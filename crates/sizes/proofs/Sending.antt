@@ -1,4 +1,5 @@
 -- The timers and the window: where both lines are sized for a run, no packet of theirs ends it.
+use Rattle.std.specs.Prelude.{Option}
 use Prim.Native.Nat.{ℕ, zero, suc, ◌+◌, ◌≤◌, ◌<◌}
 use native.Mathlib.Omega.{arith}
 use mathlib.Core.Path.{◌≡◌, refl, sym, ap, ◌∙◌, subst}
@@ -16,7 +17,6 @@ use Rattle.clock.specs.declared.Timing.{Timing}
 use Rattle.clock.specs.declared.Timing.TheVariants.{PerNumber}
 use Rattle.session.specs.Sending.{SenderEnd, window_of, window_end, oldest_outstanding, resent}
 use Rattle.session.specs.GoodSender.{Within}
-use Rattle.session.specs.declared.Oldest.{Oldest}
 use Rattle.session.specs.declared.Timeout.{Timeout}
 use Rattle.session.specs.declared.Timeout.TheVariants as timeout
 use Rattle.session.proofs.Laws.{ResentAs, resent_as, datagram_number}
@@ -92,7 +92,7 @@ module _ {t : Timing} {rolls : List Float} {size : ℕ} {file : List ℕ} {total
       (λ s can free g q. absurd (true≢false (sym (ap is_going (send_goes can free q)) ∙ g)))
 
 -- ---- packets sent again
-module _ (total limit : ℕ) (t : Timing) (rolls : List Float) (rto now : ℕ) (v : SenderEnd) (oldest : Oldest) (next : ℕ) where
+module _ (total limit : ℕ) (t : Timing) (rolls : List Float) (rto now : ℕ) (v : SenderEnd) (oldest : Option ℕ) (next : ℕ) where
   abbrev sends : ℕ → Resends → Outgoing → RetransmitExit
   sends first r o = retransmit t rolls rto now oldest first (datagram_for (window_end v) first) r o
 

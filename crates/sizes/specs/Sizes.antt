@@ -1,5 +1,5 @@
 -- What a host gives and lends `run_transfer` so that its run ends by itself, in no other way.
-use Rattle.std.specs.Prelude.{ℕ, ◌+◌, ◌*◌, ◌≤◌, ◌≡◌, length}
+use Rattle.std.specs.Prelude.{ℕ, ◌+◌, ◌*◌, ◌≤◌, ◌≡◌, length, Ok}
 use Rattle.bounds.specs.Bounds.{place_size}
 use Rattle.setup.specs.declared.TransferConfig.{TransferConfig}
 use Rattle.step.specs.State.{Given, Lent}
@@ -7,7 +7,6 @@ use Rattle.step.specs.declared.End.TheVariants.{Ended}
 use Rattle.transfer.specs.Transfer.{run_transfer}
 use Rattle.transfer.specs.declared.Ceilings.{Ceilings}
 use Rattle.transfer.specs.declared.Outcome.{Outcome}
-use Rattle.transfer.specs.declared.RunAnswer.TheVariants as answer
 
 -- each chunk is sent once, and `resends` packets are sent again at most
 abbrev pub packets : ℕ → ℕ → ℕ
@@ -26,4 +25,4 @@ pub record Sizes (chunks resends : ℕ) (g : Given) (l : Lent) : Type 0 where
 
 -- no rolls are spent, no events and no schedule full: a run that isn't refused ends as `Ended`
 abbrev pub EndsByItself : Ceilings → TransferConfig → Given → Lent → Type 0
-EndsByItself k c g l = (o : Outcome) → (run_transfer k c g l).answer ≡ answer.Outcome o → o.end ≡ Ended
+EndsByItself k c g l = (o : Outcome) → (run_transfer k c g l).answer ≡ Ok o → o.end ≡ Ended

@@ -1,4 +1,5 @@
 -- The next deadline, and what a moment in which nothing is left to do makes of the run.
+use Rattle.std.specs.Prelude.{None, Option, Some}
 use Prim.Native.Nat.{ℕ, ◌+◌, ◌-◌, ◌≤◌, ◌<◌, min}
 use native.Mathlib.Nat.{le_trans}
 use native.Mathlib.Omega.{arith}
@@ -7,12 +8,8 @@ use mathlib.Core.Bool.{Bool, true, false, cond, ◌&&◌, true≢false, false≢
 use mathlib.Core.Logic.{◌⊎◌, inl, inr, ⊎_elim}
 use lib.Dec.{ltb, leb, eqb}
 use borrow.Author.Tests.{leb-true, leb-false, ltb-true, ltb-false, eqb-true, eqb-false}
-use Rattle.timer.specs.declared.Deadline.{Deadline}
-use Rattle.timer.specs.declared.Deadline.TheVariants as deadline
 use Rattle.path.specs.Path as path
 use Rattle.path.specs.Direction.{Direction}
-use Rattle.path.specs.declared.NextDeadline.{NextDeadline}
-use Rattle.path.specs.declared.NextDeadline.TheVariants as next
 use Rattle.clock.specs.Clock.{ClockState}
 use Rattle.clock.specs.Clock as clock
 use Rattle.clock.specs.declared.Timing.{Timing}
@@ -26,87 +23,87 @@ use Rattle.step.specs.declared.Course.TheVariants.{Going, Over}
 use Rattle.step.proofs.Settling.{settle_done, settle_next, move_none, move_past, move_beyond, move_within, moved_last, moved_on}
 
 -- ---- the earlier of two deadlines
-same_time : {t u : ℕ} → deadline.At t ≡ deadline.At u → t ≡ u
+same_time : {t u : ℕ} → Some t ≡ Some u → t ≡ u
 same_time e = cc
 
-unset_at : {t : ℕ} {A : Type 0} → deadline.Unset ≡ deadline.At t → A
+unset_at : {t : ℕ} {A : Type 0} → None ≡ Some t → A
 unset_at {t} e = absurd (true≢false (ap is_unset e))
   where
-    is_unset : Deadline → Bool
-    is_unset deadline.Unset = true
-    is_unset (deadline.At t) = false
+    is_unset : Option ℕ → Bool
+    is_unset None = true
+    is_unset (Some t) = false
 
-earlier_left : (a b : Deadline) {t u : ℕ} → earlier a b ≡ deadline.At t → a ≡ deadline.At u → t ≤ u
-earlier_left deadline.Unset b e f = unset_at f
-earlier_left (deadline.At x) deadline.Unset e f = let k = same_time e in let l = same_time f in omega (arith, k, l)
-earlier_left (deadline.At x) (deadline.At y) e f = let k = same_time e in let l = same_time f in omega (arith, k, l)
+earlier_left : (a b : Option ℕ) {t u : ℕ} → earlier a b ≡ Some t → a ≡ Some u → t ≤ u
+earlier_left None b e f = unset_at f
+earlier_left (Some x) None e f = let k = same_time e in let l = same_time f in omega (arith, k, l)
+earlier_left (Some x) (Some y) e f = let k = same_time e in let l = same_time f in omega (arith, k, l)
 
-earlier_right : (a b : Deadline) {t u : ℕ} → earlier a b ≡ deadline.At t → b ≡ deadline.At u → t ≤ u
-earlier_right deadline.Unset b e f = let k = same_time (sym e ∙ f) in omega (arith, k)
-earlier_right (deadline.At x) deadline.Unset e f = unset_at f
-earlier_right (deadline.At x) (deadline.At y) e f = let k = same_time e in let l = same_time f in omega (arith, k, l)
+earlier_right : (a b : Option ℕ) {t u : ℕ} → earlier a b ≡ Some t → b ≡ Some u → t ≤ u
+earlier_right None b e f = let k = same_time (sym e ∙ f) in omega (arith, k)
+earlier_right (Some x) None e f = unset_at f
+earlier_right (Some x) (Some y) e f = let k = same_time e in let l = same_time f in omega (arith, k, l)
 
-earlier_one : (a b : Deadline) {t : ℕ} → earlier a b ≡ deadline.At t → (a ≡ deadline.At t) ⊎ (b ≡ deadline.At t)
-earlier_one deadline.Unset b e = inr e
-earlier_one (deadline.At x) deadline.Unset e = inl e
-earlier_one (deadline.At x) (deadline.At y) {t} e = go (leb x y) refl
+earlier_one : (a b : Option ℕ) {t : ℕ} → earlier a b ≡ Some t → (a ≡ Some t) ⊎ (b ≡ Some t)
+earlier_one None b e = inr e
+earlier_one (Some x) None e = inl e
+earlier_one (Some x) (Some y) {t} e = go (leb x y) refl
   where
-    go : (b : Bool) → leb x y ≡ b → (deadline.At x ≡ deadline.At t) ⊎ (deadline.At y ≡ deadline.At t)
-    go true k = let h = leb-true x y k in let l = same_time e in inl (ap deadline.At (omega (arith, h, l)))
-    go false k = let h = leb-false x y k in let l = same_time e in inr (ap deadline.At (omega (arith, h, l)))
+    go : (b : Bool) → leb x y ≡ b → (Some x ≡ Some t) ⊎ (Some y ≡ Some t)
+    go true k = let h = leb-true x y k in let l = same_time e in inl (ap Some (omega (arith, h, l)))
+    go false k = let h = leb-false x y k in let l = same_time e in inr (ap Some (omega (arith, h, l)))
 
-earlier_none : (a b : Deadline) → earlier a b ≡ deadline.Unset → (a ≡ deadline.Unset) × (b ≡ deadline.Unset)
-earlier_none deadline.Unset b e = (refl, e)
-earlier_none (deadline.At x) deadline.Unset e = unset_at (sym e)
-earlier_none (deadline.At x) (deadline.At y) e = unset_at (sym e)
+earlier_none : (a b : Option ℕ) → earlier a b ≡ None → (a ≡ None) × (b ≡ None)
+earlier_none None b e = (refl, e)
+earlier_none (Some x) None e = unset_at (sym e)
+earlier_none (Some x) (Some y) e = unset_at (sym e)
 
 -- of three
-module _ (a b c : Deadline) {t : ℕ} (e : earlier a (earlier b c) ≡ deadline.At t) {u : ℕ} where
-  by_second : ((v : ℕ) → earlier b c ≡ deadline.At v → v ≤ u) → (earlier b c ≡ deadline.Unset → ⊥) → t ≤ u
+module _ (a b c : Option ℕ) {t : ℕ} (e : earlier a (earlier b c) ≡ Some t) {u : ℕ} where
+  by_second : ((v : ℕ) → earlier b c ≡ Some v → v ≤ u) → (earlier b c ≡ None → ⊥) → t ≤ u
   by_second f g = go (earlier b c) refl
     where
-      go : (d : Deadline) → earlier b c ≡ d → t ≤ u
-      go deadline.Unset h = absurd (g h)
-      go (deadline.At v) h = le_trans (earlier_right a (earlier b c) e h) (f v h)
+      go : (d : Option ℕ) → earlier b c ≡ d → t ≤ u
+      go None h = absurd (g h)
+      go (Some v) h = le_trans (earlier_right a (earlier b c) e h) (f v h)
 
-  middle_later : b ≡ deadline.At u → t ≤ u
+  middle_later : b ≡ Some u → t ≤ u
   middle_later f = by_second (λ v h. earlier_left b c h f) (λ h. unset_at (sym (earlier_none b c h).0 ∙ f))
 
-  last_later : c ≡ deadline.At u → t ≤ u
+  last_later : c ≡ Some u → t ≤ u
   last_later f = by_second (λ v h. earlier_right b c h f) (λ h. unset_at (sym (earlier_none b c h).1 ∙ f))
 
-path_time : (d : NextDeadline) {t : ℕ} → of_path d ≡ deadline.At t → d ≡ next.At t
-path_time (next.At x) e = ap next.At (same_time e)
-path_time next.Nothing e = unset_at e
+path_time : (d : Option ℕ) {t : ℕ} → of_path d ≡ Some t → d ≡ Some t
+path_time (Some x) e = ap Some (same_time e)
+path_time None e = unset_at e
 
-path_none : (d : NextDeadline) → of_path d ≡ deadline.Unset → d ≡ next.Nothing
-path_none (next.At x) e = unset_at (sym e)
-path_none next.Nothing e = refl
+path_none : (d : Option ℕ) → of_path d ≡ None → d ≡ None
+path_none (Some x) e = unset_at (sym e)
+path_none None e = refl
 
 -- ---- the next deadline is the earliest of its three parts
 pub record Earliest (time : ℕ) (t : Timing) (forward reverse : Direction) (c : ClockState) : Type 0 where
-  pub forward_later : {u : ℕ} → path.next_deadline forward.path forward.records ≡ next.At u → time ≤ u
-  pub reverse_later : {u : ℕ} → path.next_deadline reverse.path reverse.records ≡ next.At u → time ≤ u
-  pub timer_later : {u : ℕ} → clock.next_deadline t c ≡ deadline.At u → time ≤ u
-  pub one : (path.next_deadline forward.path forward.records ≡ next.At time)
-      ⊎ ((path.next_deadline reverse.path reverse.records ≡ next.At time) ⊎ (clock.next_deadline t c ≡ deadline.At time))
+  pub forward_later : {u : ℕ} → path.next_deadline forward.path forward.records ≡ Some u → time ≤ u
+  pub reverse_later : {u : ℕ} → path.next_deadline reverse.path reverse.records ≡ Some u → time ≤ u
+  pub timer_later : {u : ℕ} → clock.next_deadline t c ≡ Some u → time ≤ u
+  pub one : (path.next_deadline forward.path forward.records ≡ Some time)
+      ⊎ ((path.next_deadline reverse.path reverse.records ≡ Some time) ⊎ (clock.next_deadline t c ≡ Some time))
 
 pub record NoDeadline (t : Timing) (forward reverse : Direction) (c : ClockState) : Type 0 where
-  pub forward_none : path.next_deadline forward.path forward.records ≡ next.Nothing
-  pub reverse_none : path.next_deadline reverse.path reverse.records ≡ next.Nothing
-  pub timer_none : clock.next_deadline t c ≡ deadline.Unset
+  pub forward_none : path.next_deadline forward.path forward.records ≡ None
+  pub reverse_none : path.next_deadline reverse.path reverse.records ≡ None
+  pub timer_none : clock.next_deadline t c ≡ None
 
 module _ (t : Timing) (forward reverse : Direction) (c : ClockState) where
-  abbrev on_forward : NextDeadline
+  abbrev on_forward : Option ℕ
   on_forward = path.next_deadline forward.path forward.records
 
-  abbrev on_reverse : NextDeadline
+  abbrev on_reverse : Option ℕ
   on_reverse = path.next_deadline reverse.path reverse.records
 
-  abbrev later : Deadline
+  abbrev later : Option ℕ
   later = earlier (of_path on_reverse) (clock.next_deadline t c)
 
-  pub earliest : {time : ℕ} → next_deadline t forward reverse c ≡ deadline.At time → Earliest time t forward reverse c
+  pub earliest : {time : ℕ} → next_deadline t forward reverse c ≡ Some time → Earliest time t forward reverse c
   unfolding next_deadline
   earliest {time} e = record {
     forward_later = λ f. earlier_left (of_path on_forward) later e (ap of_path f);
@@ -117,7 +114,7 @@ module _ (t : Timing) (forward reverse : Direction) (c : ClockState) where
         (earlier_one (of_path on_forward) later e);
   }
 
-  pub no_deadline : next_deadline t forward reverse c ≡ deadline.Unset → NoDeadline t forward reverse c
+  pub no_deadline : next_deadline t forward reverse c ≡ None → NoDeadline t forward reverse c
   unfolding next_deadline
   no_deadline e =
       let x = earlier_none (of_path on_forward) later e in
@@ -125,28 +122,28 @@ module _ (t : Timing) (forward reverse : Direction) (c : ClockState) where
       record { forward_none = path_none on_forward x.0; reverse_none = path_none on_reverse y.0; timer_none = y.1 }
 
 -- ---- what a moment in which nothing is left to do makes of the run
-abbrev pub next_time : Plan → RunState → Deadline
+abbrev pub next_time : Plan → RunState → Option ℕ
 next_time p s = next_deadline p.timing s.arrivals.forward s.arrivals.inbound.reverse s.arrivals.clock
 
-module _ (p : Plan) (s : RunState) (P : StepExit → Type 0) (same : (time : ℕ) → P (over s end.Ended time)) (spent : (t : ℕ) → next_time p s ≡ deadline.At t → t ≤ s.time → P (over (exhausted s) end.Ended s.time))
-    (last : (t : ℕ) → next_time p s ≡ deadline.At t → s.time < t → t ≤ p.max_virtual_time → s.moves ≡ 0 → P (over (at s t s.moves s.rounds) end.Ended t))
-    (on : (t : ℕ) → next_time p s ≡ deadline.At t → s.time < t → t ≤ p.max_virtual_time → 0 < s.moves → P (step_exit (at s t (s.moves - 1) p.rounds) Going)) where
-  moved_cases : (t : ℕ) → next_time p s ≡ deadline.At t → s.time < t → t ≤ p.max_virtual_time → P (moved p s t)
+module _ (p : Plan) (s : RunState) (P : StepExit → Type 0) (same : (time : ℕ) → P (over s end.Ended time)) (spent : (t : ℕ) → next_time p s ≡ Some t → t ≤ s.time → P (over (exhausted s) end.Ended s.time))
+    (last : (t : ℕ) → next_time p s ≡ Some t → s.time < t → t ≤ p.max_virtual_time → s.moves ≡ 0 → P (over (at s t s.moves s.rounds) end.Ended t))
+    (on : (t : ℕ) → next_time p s ≡ Some t → s.time < t → t ≤ p.max_virtual_time → 0 < s.moves → P (step_exit (at s t (s.moves - 1) p.rounds) Going)) where
+  moved_cases : (t : ℕ) → next_time p s ≡ Some t → s.time < t → t ≤ p.max_virtual_time → P (moved p s t)
   moved_cases t e h k = go (eqb s.moves 0) refl
     where
       go : (b : Bool) → eqb s.moves 0 ≡ b → P (moved p s t)
       go true l = let z = eqb-true s.moves 0 l in subst P (moved_last p s t z refl) (last t e h k z)
       go false l = let z = eqb-false s.moves 0 l in subst P (moved_on p s t z refl) (on t e h k (omega (arith, z)))
 
-  move_cases : (d : Deadline) → d ≡ next_time p s → P (move_to p s d)
-  move_cases deadline.Unset e = same s.time
-  move_cases (deadline.At t) e = go (leb t s.time) refl
+  move_cases : (d : Option ℕ) → d ≡ next_time p s → P (move_to p s d)
+  move_cases None e = same s.time
+  move_cases (Some t) e = go (leb t s.time) refl
     where
-      within : s.time < t → (b : Bool) → ltb p.max_virtual_time t ≡ b → P (move_to p s (deadline.At t))
+      within : s.time < t → (b : Bool) → ltb p.max_virtual_time t ≡ b → P (move_to p s (Some t))
       within h true k = subst P (move_beyond p s refl h (ltb-true p.max_virtual_time t k) refl) (same p.max_virtual_time)
       within h false k = let l = ltb-false p.max_virtual_time t k in subst P (move_within p s refl h l refl) (moved_cases t (sym e) h l)
 
-      go : (b : Bool) → leb t s.time ≡ b → P (move_to p s (deadline.At t))
+      go : (b : Bool) → leb t s.time ≡ b → P (move_to p s (Some t))
       go true k = let h = leb-true t s.time k in subst P (move_past p s refl h refl refl) (spent t (sym e) h)
       go false k = within (leb-false t s.time k) (ltb p.max_virtual_time t) refl
 
@@ -164,7 +161,7 @@ is_on (Over e t) = false
 -- the run goes on: only the time, the moves and the rounds change
 pub record SettleGoing (p : Plan) (s u : RunState) : Type 0 where
   pub same : u ≡ at s u.time u.moves u.rounds
-  pub time : next_time p s ≡ deadline.At u.time
+  pub time : next_time p s ≡ Some u.time
   pub later : s.time < u.time
   pub within : u.time ≤ p.max_virtual_time
   pub moves : u.moves + 1 ≡ s.moves

@@ -1,19 +1,16 @@
 -- One law a return, over plain values: what the calls give is what the definition says.
+use Rattle.std.specs.Prelude.{None, Option, Some}
 use Prim.Native.Nat.{ℕ, ◌-◌, ◌≤◌, ◌<◌, min}
 use mathlib.Core.Path.{◌≡◌, refl, sym, ap, ◌∙◌}
 use mathlib.Core.Bool.{Bool, true, false, cond, not, ◌&&◌, true≢false}
 use lib.Dec.{ltb, leb, eqb}
 use borrow.Author.Tests.{not-true, not-false, lt-ltb, le-ltb, le-leb, lt-leb, eq-eqb, ne_eqb}
-use Rattle.timer.specs.declared.Deadline.{Deadline}
-use Rattle.timer.specs.declared.Deadline.TheVariants as deadline
 use Rattle.path.specs.Path.{is_empty, is_going}
 use Rattle.path.specs.Path as path
 use Rattle.path.specs.Direction.{Direction}
 use Rattle.path.specs.declared.Path.{Path}
 use Rattle.path.specs.declared.Stop.{Stop}
 use Rattle.path.specs.declared.Stop.TheVariants as stop
-use Rattle.path.specs.declared.NextDeadline.{NextDeadline}
-use Rattle.path.specs.declared.NextDeadline.TheVariants as next
 use Rattle.clock.specs.Clock.{ClockState}
 use Rattle.clock.specs.Clock as clock
 use Rattle.clock.specs.declared.Clock.{Clock}
@@ -49,17 +46,17 @@ pub stopped_by : (s : RunState) (rest : StepExit) {st st' : Stop} {x : StepExit}
 stopped_by s rest e h = h ∙ ap (λ (z : Stop). unless_stopped z s rest) (sym e)
 
 -- ---- the earlier of two deadlines
-pub of_path_at : {d : NextDeadline} {t : ℕ} → d ≡ next.At t → deadline.At t ≡ of_path d
+pub of_path_at : {d : Option ℕ} {t : ℕ} → d ≡ Some t → Some t ≡ of_path d
 of_path_at e = sym (ap of_path e)
 
-module _ {a b : Deadline} {t : ℕ} (e : a ≡ deadline.At t) where
-  pub earlier_first : b ≡ deadline.Unset → deadline.At t ≡ earlier a b
+module _ {a b : Option ℕ} {t : ℕ} (e : a ≡ Some t) where
+  pub earlier_first : b ≡ None → Some t ≡ earlier a b
   earlier_first f = rw (e, f)
 
-  pub earlier_both : {u m : ℕ} → b ≡ deadline.At u → m ≡ min t u → deadline.At m ≡ earlier a b
+  pub earlier_both : {u m : ℕ} → b ≡ Some u → m ≡ min t u → Some m ≡ earlier a b
   earlier_both f g = rw (e, f, g)
 
-pub next_law : (t : Timing) (forward reverse : Direction) (c : ClockState) {a b : NextDeadline} {pa pb d due r : Deadline} → a ≡ path.next_deadline forward.path forward.records
+pub next_law : (t : Timing) (forward reverse : Direction) (c : ClockState) {a b : Option ℕ} {pa pb d due r : Option ℕ} → a ≡ path.next_deadline forward.path forward.records
     → b ≡ path.next_deadline reverse.path reverse.records → d ≡ clock.next_deadline t c → pb ≡ of_path b → due ≡ earlier pb d → pa ≡ of_path a → r ≡ earlier pa due → r ≡ next_deadline t forward reverse c
 unfolding next_deadline
 next_law t forward reverse c ea eb ed fb fd fa fr = rw (← ea, ← eb, ← ed, ← fb, ← fd, ← fa, ← fr)
@@ -106,11 +103,11 @@ module _ (p : Plan) (s : RunState) (time : ℕ) {x : StepExit} where
   pub moved_on : (s.moves ≡ 0 → ⊥) → x ≡ step_exit (at s time (s.moves - 1) p.rounds) Going → x ≡ moved p s time
   moved_on h e = e ∙ ap (λ (b : Bool). cond b (over (at s time s.moves s.rounds) end.Ended time) (step_exit (at s time (s.moves - 1) p.rounds) Going)) (sym (ne_eqb s.moves 0 h))
 
-module _ (p : Plan) (s : RunState) {d : Deadline} where
-  pub move_none : {x : StepExit} → d ≡ deadline.Unset → x ≡ over s end.Ended s.time → x ≡ move_to p s d
+module _ (p : Plan) (s : RunState) {d : Option ℕ} where
+  pub move_none : {x : StepExit} → d ≡ None → x ≡ over s end.Ended s.time → x ≡ move_to p s d
   move_none f e = e ∙ ap (move_to p s) (sym f)
 
-  module _ {t : ℕ} (f : d ≡ deadline.At t) where
+  module _ {t : ℕ} (f : d ≡ Some t) where
     pub move_past : {u : RunState} {x : StepExit} → t ≤ s.time → u ≡ exhausted s → x ≡ over u end.Ended s.time → x ≡ move_to p s d
     move_past h g e = e ∙ ap (λ (u : RunState). over u end.Ended s.time) g ∙ rw (f, le-leb t s.time h)
 
@@ -127,6 +124,6 @@ module _ (p : Plan) (s : RunState) {b : Bool} (e : b ≡ (s.arrivals.inbound.sid
   unfolding settle
   settle_done h f = rw (← e, h) f
 
-  pub settle_next : b ≡ false → {d : Deadline} → d ≡ next_deadline p.timing s.arrivals.forward s.arrivals.inbound.reverse s.arrivals.clock → x ≡ move_to p s d → x ≡ settle p s
+  pub settle_next : b ≡ false → {d : Option ℕ} → d ≡ next_deadline p.timing s.arrivals.forward s.arrivals.inbound.reverse s.arrivals.clock → x ≡ move_to p s d → x ≡ settle p s
   unfolding settle
   settle_next h g f = rw (← e, h, ← g) f

@@ -1,16 +1,12 @@
 -- app/transfer.rs, `run_transfer`: how a run ends, and where nothing is left to do at a moment the move to the next
 -- deadline: `sender_idle`, `next_deadline`.
-use Rattle.std.specs.Prelude.{ℕ, ◌-◌, min, Bool, cond, not, ◌&&◌, ltb, leb, eqb}
-use Rattle.timer.specs.declared.Deadline.{Deadline}
-use Rattle.timer.specs.declared.Deadline.TheVariants as deadline
+use Rattle.std.specs.Prelude.{ℕ, ◌-◌, min, Bool, cond, not, ◌&&◌, ltb, leb, eqb, None, Option, Some}
 use Rattle.path.specs.Path.{is_empty}
 use Rattle.path.specs.Path as path
 use Rattle.path.specs.Direction.{Direction}
 use Rattle.path.specs.declared.Path.{Path}
 use Rattle.path.specs.declared.Stop.{Stop}
 use Rattle.path.specs.declared.Stop.TheVariants as stop
-use Rattle.path.specs.declared.NextDeadline.{NextDeadline}
-use Rattle.path.specs.declared.NextDeadline.TheVariants as next
 use Rattle.clock.specs.Clock.{ClockState}
 use Rattle.clock.specs.Clock as clock
 use Rattle.clock.specs.declared.Clock.{Clock}
@@ -56,16 +52,16 @@ sender_idle total sender forward reverse clock =
     && (is_empty reverse && (not (has_outstanding sender) && eqb clock.timers.count 0)))
 
 -- ---- `next_deadline`: the earliest of both directions and of the timers
-abbrev pub of_path : NextDeadline → Deadline
-of_path (next.At t) = deadline.At t
-of_path next.Nothing = deadline.Unset
+abbrev pub of_path : Option ℕ → Option ℕ
+of_path (Some t) = Some t
+of_path None = None
 
-abbrev pub earlier : Deadline → Deadline → Deadline
-earlier deadline.Unset d = d
-earlier (deadline.At t) deadline.Unset = deadline.At t
-earlier (deadline.At t) (deadline.At u) = deadline.At (min t u)
+abbrev pub earlier : Option ℕ → Option ℕ → Option ℕ
+earlier None d = d
+earlier (Some t) None = Some t
+earlier (Some t) (Some u) = Some (min t u)
 
-unfoldable pub next_deadline : Timing → Direction → Direction → ClockState → Deadline
+unfoldable pub next_deadline : Timing → Direction → Direction → ClockState → Option ℕ
 next_deadline t forward reverse c =
     earlier (of_path (path.next_deadline forward.path forward.records))
     (earlier (of_path (path.next_deadline reverse.path reverse.records)) (clock.next_deadline t c))
@@ -77,9 +73,9 @@ moved p s time =
     (step_exit (at s time (s.moves - 1) p.rounds) Going)
 
 -- a deadline that is not later than now ends the run as exhausted, one past the limit at the limit
-abbrev pub move_to : Plan → RunState → Deadline → StepExit
-move_to p s deadline.Unset = over s end.Ended s.time
-move_to p s (deadline.At t) =
+abbrev pub move_to : Plan → RunState → Option ℕ → StepExit
+move_to p s None = over s end.Ended s.time
+move_to p s (Some t) =
     cond (leb t s.time) (over (exhausted s) end.Ended s.time)
     (cond (ltb p.max_virtual_time t) (over s end.Ended p.max_virtual_time) (moved p s t))
 

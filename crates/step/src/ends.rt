@@ -13,10 +13,9 @@ ghost use Rattle.step.specs.declared.Course.TheVariants.{Going};
 
 use super::{Course, End, Plan, State, StepResult};
 use clock::{Clock, Timing};
-use path::{NextDeadline, Path, Stop};
+use path::{Path, Stop};
 use schedule::ScheduledRow;
 use session::Sender;
-use timer::Deadline;
 
 pub(super) fn going(state: State) -> StepResult
     ensures { (l : Lent) → step_exit (run_of result.state l) result.course ≡ step_exit (run_of state l) Going }
@@ -78,23 +77,23 @@ fn min(a: u64, b: u64) -> u64
     if a < b { a } else { b }
 }
 
-fn of_path(d: NextDeadline) -> Deadline
+fn of_path(d: Option<u64>) -> Option<u64>
     ensures { result ≡ of_path d }
 {
     match d {
-        NextDeadline::At(t) => Deadline::At(t),
-        NextDeadline::Nothing => Deadline::Unset,
+        Some(t) => Some(t),
+        None => None,
     }
 }
 
-fn earlier(a: Deadline, b: Deadline) -> Deadline
+fn earlier(a: Option<u64>, b: Option<u64>) -> Option<u64>
     ensures { result ≡ earlier a b }
 {
     match a {
-        Deadline::Unset => b,
-        Deadline::At(t) => match b {
-            Deadline::Unset => a,
-            Deadline::At(u) => Deadline::At(min(t, u)),
+        None => b,
+        Some(t) => match b {
+            None => a,
+            Some(u) => Some(min(t, u)),
         },
     }
 }
@@ -109,7 +108,7 @@ fn next_deadline(
     reverse_records: &[ScheduledRow],
     keys: &[u32],
     deadlines: &[u64],
-) -> Deadline
+) -> Option<u64>
     requires count_in_bounds { (forward.scheduler.count ≤ length forward_records.now)
         × (reverse.scheduler.count ≤ length reverse_records.now) }
     requires held { Held (timers_exit clock keys.now deadlines.now) }
@@ -189,13 +188,13 @@ fn moved(plan: Plan, state: State, now: u64) -> StepResult
 }
 
 // The next deadline, if it is later than now and within the limit.
-fn move_to(plan: Plan, state: State, deadline: Deadline) -> StepResult
+fn move_to(plan: Plan, state: State, deadline: Option<u64>) -> StepResult
     ensures { (l : Lent) → step_exit (run_of result.state l) result.course ≡ move_to plan (run_of state l) deadline }
 {
     let now = state.now;
     match deadline {
-        Deadline::Unset => over(state, End::Ended, now),
-        Deadline::At(time) => {
+        None => over(state, End::Ended, now),
+        Some(time) => {
             if time <= now {
                 return over(exhausted(state), End::Ended, now);
             }

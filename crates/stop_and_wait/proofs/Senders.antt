@@ -1,4 +1,5 @@
 -- Laws of the sender's window, and of its answers by those of the window.
+use Rattle.std.specs.Prelude.{Option, Result}
 use Prim.Native.Nat.{ℕ, ◌+◌, ◌-◌, ◌≤◌, ◌<◌, min}
 use mathlib.Core.Path.{◌≡◌, refl, sym, ap, ◌∙◌}
 use mathlib.Core.Bool.{Bool, true, false, cond}
@@ -12,11 +13,10 @@ use Rattle.window.specs.Slots.{Sender, sender, release}
 use Rattle.window.specs.Sending.{SendExit, send_exit}
 use Rattle.window.specs.Resending.{TimeoutExit, timeout_exit}
 use Rattle.window.specs.declared.SendWindow.{SendWindow}
-use Rattle.window.specs.declared.SendAnswer.{SendAnswer}
-use Rattle.window.specs.declared.TimeoutAnswer.{TimeoutAnswer}
 use Rattle.window.proofs.Laws.{or_false_right}
 use Rattle.stop_and_wait.specs.Sender.{state, window_of, End, end_of, window_end, by_send, sent, acknowledged, retries_left, by_timeout, timed_out}
 use Rattle.stop_and_wait.specs.declared.StopAndWaitSender.{StopAndWaitSender}
+use Rattle.refusal.specs.declared.Refusal.{Refusal}
 
 abbrev pub with_next : StopAndWaitSender → ℕ → SendWindow
 with_next s next = record { window_size = 1; send_base = s.current_seq; next_seq_num = next; total_sent = s.total_sent; retransmissions = s.retransmissions }
@@ -43,11 +43,11 @@ pub broken_idle : (s : StopAndWaitSender) → s.in_flight ≡ false → ltb 4294
 broken_idle s e = numbers_of_one s s.current_seq (omega arith) (omega arith) ∙ ap numbers_broken (window_is s false e)
 
 -- the answers, by what the window did
-pub sent_is : (s : StopAndWaitSender) (a : SendAnswer) (w : SendWindow) (store out : List ℕ) {r : StopAndWaitSender} {t : SendExit Sender} → r ≡ by_send s a w → send_exit a (sender w store) out ≡ t
+pub sent_is : (s : StopAndWaitSender) (a : Result (Option ℕ) Refusal) (w : SendWindow) (store out : List ℕ) {r : StopAndWaitSender} {t : SendExit Sender} → r ≡ by_send s a w → send_exit a (sender w store) out ≡ t
     → send_exit a (end_of r store) out ≡ sent s t
 sent_is s a w store out e f = ap (λ (u : StopAndWaitSender). send_exit a (end_of u store) out) e ∙ ap (sent s) f
 
-pub timed_out_is : (s : StopAndWaitSender) (a : TimeoutAnswer) (w : SendWindow) (store out : List ℕ) {r : StopAndWaitSender} {t : TimeoutExit Sender} → r ≡ by_timeout s a w → timeout_exit a (sender w store) out ≡ t
+pub timed_out_is : (s : StopAndWaitSender) (a : Result (Option ℕ) Refusal) (w : SendWindow) (store out : List ℕ) {r : StopAndWaitSender} {t : TimeoutExit Sender} → r ≡ by_timeout s a w → timeout_exit a (sender w store) out ≡ t
     → timeout_exit a (end_of r store) out ≡ timed_out s t
 timed_out_is s a w store out e f = ap (λ (u : StopAndWaitSender). timeout_exit a (end_of u store) out) e ∙ ap (timed_out s) f
 

@@ -1,14 +1,12 @@
 -- arq/sw.rs, `StopAndWaitReceiver`; document 01, "Turned away" and "Every receiver acknowledges any valid Fin by its
 -- own number".
-use Rattle.std.specs.Prelude.{ℕ, ◌+◌, ◌-◌, List, Bool, true, false, cond, ltb, eqb}
+use Rattle.std.specs.Prelude.{ℕ, ◌+◌, ◌-◌, List, Bool, true, false, cond, ltb, eqb, None, Option, Some}
 use Rattle.packet.specs.Reading.{payload_of}
 use Rattle.receiver.specs.State.{state_broken, counts_broken}
 use Rattle.receiver.specs.Reading.{read_packet}
 use Rattle.receiver.specs.Receive.{ReceiveExit, Reception, receive, receive_unchecked}
 use Rattle.receiver.specs.declared.PacketReading.{PacketReading}
 use Rattle.receiver.specs.declared.PacketReading.TheVariants as reading
-use Rattle.receiver.specs.declared.Reply.{Reply}
-use Rattle.receiver.specs.declared.Reply.TheVariants as reply
 use Rattle.stop_and_wait.specs.declared.StopAndWaitReceiver.{StopAndWaitReceiver}
 use Rattle.stop_and_wait.specs.declared.StopAndWaitDecision.{StopAndWaitDecision}
 
@@ -25,7 +23,7 @@ state expected filled received duplicates corrupted =
 abbrev pub new_receiver : StopAndWaitReceiver
 new_receiver = state 0 0 0 0 0
 
-abbrev pub decided : StopAndWaitReceiver → Bool → Reply → StopAndWaitDecision
+abbrev pub decided : StopAndWaitReceiver → Bool → Option ℕ → StopAndWaitDecision
 decided r deliver reply = record { receiver = r; decision = record { deliver = deliver; reply = reply } }
 
 -- Data in order is delivered and acknowledged; an older number is acknowledged again, and counted; a newer one is
@@ -34,20 +32,20 @@ unfoldable pub data_decision : StopAndWaitReceiver → ℕ → StopAndWaitDecisi
 data_decision r n =
     cond (eqb n r.expected_seq)
     (decided (state (r.expected_seq + 1) r.filled r.total_received r.duplicates_count
-    r.corrupted_count) true (reply.Ack n))
+    r.corrupted_count) true (Some n))
     (cond (ltb n r.expected_seq)
     (decided (state r.expected_seq r.filled r.total_received (r.duplicates_count + 1)
-    r.corrupted_count) false (reply.Ack n))
-    (decided r false (reply.Ack (r.expected_seq - 1))))
+    r.corrupted_count) false (Some n))
+    (decided r false (Some (r.expected_seq - 1))))
 
 -- every packet is counted; Fin is acknowledged by its own number; an ACK and a corrupted packet, which is counted
 -- apart, are not answered
 abbrev pub by_kind : StopAndWaitReceiver → PacketReading → StopAndWaitDecision
 by_kind r (reading.Data n) = data_decision r n
-by_kind r (reading.Fin n) = decided r false (reply.Ack n)
-by_kind r reading.Ack = decided r false reply.Silent
+by_kind r (reading.Fin n) = decided r false (Some n)
+by_kind r reading.Ack = decided r false None
 by_kind r reading.Corrupted = decided (state r.expected_seq r.filled r.total_received
-    r.duplicates_count (r.corrupted_count + 1)) false reply.Silent
+    r.duplicates_count (r.corrupted_count + 1)) false None
 
 unfoldable pub decision : StopAndWaitReceiver → PacketReading → StopAndWaitDecision
 decision r h = by_kind (state r.expected_seq r.filled (r.total_received + 1) r.duplicates_count

@@ -1,5 +1,5 @@
 -- arq/sw.rs, `StopAndWaitSender`; document 01, "Turned away".
-use Rattle.std.specs.Prelude.{ℕ, ◌+◌, List, [], ◌∷◌, Bool, true, false, cond, not, ltb}
+use Rattle.std.specs.Prelude.{ℕ, ◌+◌, List, [], ◌∷◌, Bool, true, false, cond, not, ltb, Err, None, Ok, Option, Result, Some}
 use Rattle.refusal.specs.declared.Refusal.TheVariants.{State}
 use Rattle.refusal.specs.Order.{check, verdict, decide}
 use Rattle.window.specs.State.{store_short}
@@ -10,16 +10,9 @@ use Rattle.window.specs.Acknowledgement.{ack_decision, AckExit, by_decision}
 use Rattle.window.specs.Resending.{TimeoutExit, timeout_exit, resend_outstanding, outstanding_decision}
 use Rattle.window.specs.declared.AckDecision.{AckDecision}
 use Rattle.window.specs.declared.SendWindow.{SendWindow}
-use Rattle.window.specs.declared.SendAnswer.{SendAnswer}
-use Rattle.window.specs.declared.SendAnswer.TheVariants as sendAnswer
-use Rattle.window.specs.declared.TimeoutAnswer.{TimeoutAnswer}
-use Rattle.window.specs.declared.TimeoutAnswer.TheVariants as timeoutAnswer
 use Rattle.window.specs.declared.TimeoutDecision.{TimeoutDecision}
-use Rattle.refusal.specs.declared.TestAnswer.{TestAnswer}
-use Rattle.refusal.specs.declared.TestAnswer.TheVariants as windowTest
 use Rattle.stop_and_wait.specs.declared.StopAndWaitSender.{StopAndWaitSender}
-use Rattle.stop_and_wait.specs.declared.StopAndWaitSenderAnswer.{StopAndWaitSenderAnswer}
-use Rattle.stop_and_wait.specs.declared.StopAndWaitSenderAnswer.TheVariants as made
+use Rattle.refusal.specs.declared.Refusal.{Refusal}
 
 abbrev pub state : ℕ → Bool → ℕ → ℕ → ℕ → ℕ → StopAndWaitSender
 state current in_flight limit retries sent again =
@@ -53,16 +46,16 @@ end_of s store = record { sender = s; store = store }
 abbrev pub window_end : End → Sender
 window_end v = sender (window_of v.sender) v.store
 
-unfoldable pub new_sender : ℕ → List ℕ → window.MakeExit StopAndWaitSenderAnswer
+unfoldable pub new_sender : ℕ → List ℕ → window.MakeExit (Result StopAndWaitSender Refusal)
 new_sender limit store =
-    decide (verdict (check (store_short store 1) State ∷ [])) (λ r. window.make_exit (made.Refused r) store)
-    (window.make_exit (made.Sender (state 0 false limit 0 0 0)) (fresh 1 store).store)
+    decide (verdict (check (store_short store 1) State ∷ [])) (λ r. window.make_exit (Err r) store)
+    (window.make_exit (Ok (state 0 false limit 0 0 0)) (fresh 1 store).store)
 
-abbrev pub can_send : StopAndWaitSender → TestAnswer
-can_send s = unless_broken (window_of s) windowTest.Refused (windowTest.Is (not s.in_flight))
+abbrev pub can_send : StopAndWaitSender → Result Bool Refusal
+can_send s = unless_broken (window_of s) Err (Ok (not s.in_flight))
 
-abbrev pub is_waiting_for_ack : StopAndWaitSender → TestAnswer
-is_waiting_for_ack s = unless_broken (window_of s) windowTest.Refused (windowTest.Is s.in_flight)
+abbrev pub is_waiting_for_ack : StopAndWaitSender → Result Bool Refusal
+is_waiting_for_ack s = unless_broken (window_of s) Err (Ok s.in_flight)
 
 -- the state by what its window w of 1 has counted
 abbrev pub counted : StopAndWaitSender → Bool → ℕ → SendWindow → StopAndWaitSender
@@ -70,10 +63,10 @@ counted s in_flight retries w =
     state s.current_seq in_flight s.max_retries retries w.total_sent w.retransmissions
 
 -- a send: what its window does; the chunk is in flight, with no retries yet
-abbrev pub by_send : StopAndWaitSender → SendAnswer → SendWindow → StopAndWaitSender
-by_send s (sendAnswer.Sent n) w = counted s true 0 w
-by_send s sendAnswer.WindowFull w = s
-by_send s (sendAnswer.Refused r) w = s
+abbrev pub by_send : StopAndWaitSender → Result (Option ℕ) Refusal → SendWindow → StopAndWaitSender
+by_send s (Ok (Some n)) w = counted s true 0 w
+by_send s (Ok None) w = s
+by_send s (Err r) w = s
 
 abbrev pub sent : StopAndWaitSender → window.SendExit Sender → window.SendExit End
 sent s t = window.send_exit t.answer (end_of (by_send s t.answer t.after.window) t.after.store) t.out
@@ -92,7 +85,7 @@ acknowledged v n =
     v.sender.retransmissions)
     (release (window_end v) (n + 1)).store
 
-abbrev pub decide_ack : End → List ℕ → AckDecision
+abbrev pub decide_ack : End → List ℕ → Result AckDecision Refusal
 decide_ack v raw = ack_decision false (window_of v.sender) v.store raw
 
 abbrev pub handle_ack : End → List ℕ → AckExit End
@@ -102,10 +95,10 @@ handle_ack v raw = by_decision (decide_ack v raw) v (acknowledged v)
 abbrev pub retries_left : StopAndWaitSender → ℕ
 retries_left s = cond (ltb s.current_retries s.max_retries) 1 0
 
-abbrev pub by_timeout : StopAndWaitSender → TimeoutAnswer → SendWindow → StopAndWaitSender
-by_timeout s (timeoutAnswer.Resent n) w = counted s s.in_flight (s.current_retries + 1) w
-by_timeout s timeoutAnswer.Nothing w = s
-by_timeout s (timeoutAnswer.Refused r) w = s
+abbrev pub by_timeout : StopAndWaitSender → Result (Option ℕ) Refusal → SendWindow → StopAndWaitSender
+by_timeout s (Ok (Some n)) w = counted s s.in_flight (s.current_retries + 1) w
+by_timeout s (Ok None) w = s
+by_timeout s (Err r) w = s
 
 abbrev pub timed_out : StopAndWaitSender → TimeoutExit Sender → TimeoutExit End
 timed_out s t = timeout_exit t.answer (end_of (by_timeout s t.answer t.after.window) t.after.store) t.out
@@ -120,5 +113,5 @@ marked_again v =
     end_of (counted v.sender v.sender.in_flight (v.sender.current_retries + 1) w.window) w.store
 
 -- decided before anything is written
-abbrev pub decide_timeout : End → TimeoutDecision
+abbrev pub decide_timeout : End → Result TimeoutDecision Refusal
 decide_timeout v = outstanding_decision (window_of v.sender) v.store (retries_left v.sender)

@@ -9,8 +9,6 @@ ghost use Rattle.window.specs.Outstanding.{unless_broken};
 ghost use Rattle.window.specs.Sending.{make_exit, send_exit, CanSendChunk};
 ghost use Rattle.window.specs.Acknowledgement.{ack_exit};
 ghost use Rattle.window.specs.Resending.{timeout_exit};
-ghost use Rattle.window.specs.declared.TimeoutAnswer.TheVariants as timeoutAnswer;
-ghost use Rattle.refusal.specs.declared.TestAnswer.TheVariants as windowTest;
 ghost use Rattle.stop_and_wait.specs.Sender.{window_of, window_end, end_of, new_sender, can_send, is_waiting_for_ack};
 ghost use Rattle.stop_and_wait.specs.Sender.{by_send, send_chunk, send_chunk_unchecked, decide_ack, acknowledged};
 ghost use Rattle.stop_and_wait.specs.Sender.{handle_ack, retries_left, marked_again, by_timeout, decide_timeout};
@@ -22,9 +20,9 @@ ghost use Rattle.receiver.specs.State as receiverState;
 ghost use Rattle.receiver.specs.State.{counts_broken};
 
 use packet::Packet;
-use receiver::{Decision, PacketReading, ReadingAnswer, ReceiveAnswer, Reply};
-use refusal::{Refusal, TestAnswer};
-use window::{AckAnswer, AckDecision, SendAnswer, SendWindow, TimeoutAnswer, TimeoutDecision};
+use receiver::{Decision, PacketReading};
+use refusal::Refusal;
+use window::{AckDecision, SendWindow, TimeoutDecision};
 
 #[derive(Clone, Copy)]
 pub struct StopAndWaitSender {
@@ -37,38 +35,32 @@ pub struct StopAndWaitSender {
 }
 
 #[derive(Clone, Copy)]
-pub enum StopAndWaitSenderAnswer {
-    Sender(StopAndWaitSender),
-    Refused(Refusal),
-}
-
-#[derive(Clone, Copy)]
 pub struct StopAndWaitSendResult {
     pub sender: StopAndWaitSender,
-    pub answer: SendAnswer,
+    pub answer: Result<Option<usize>, Refusal>,
 }
 
 #[derive(Clone, Copy)]
 pub struct StopAndWaitAckResult {
     pub sender: StopAndWaitSender,
-    pub answer: AckAnswer,
+    pub answer: Result<bool, Refusal>,
 }
 
 #[derive(Clone, Copy)]
 pub struct StopAndWaitTimeoutResult {
     pub sender: StopAndWaitSender,
-    pub answer: TimeoutAnswer,
+    pub answer: Result<Option<usize>, Refusal>,
 }
 
 impl StopAndWaitSender {
-    pub fn new(max_retries: u32, store: &mut [u8]) -> StopAndWaitSenderAnswer
+    pub fn new(max_retries: u32, store: &mut [u8]) -> Result<StopAndWaitSender, Refusal>
         ensures { make_exit result store.new ≡ new_sender max_retries store.old }
     {
         if window::store_short(store, 1) {
-            return StopAndWaitSenderAnswer::Refused(Refusal::State);
+            return Err(Refusal::State);
         }
         store::empty_all_unchecked(store, 1);
-        StopAndWaitSenderAnswer::Sender(StopAndWaitSender {
+        Ok(StopAndWaitSender {
             current_seq: 0,
             in_flight: false,
             max_retries,
@@ -78,13 +70,13 @@ impl StopAndWaitSender {
         })
     }
 
-    pub fn can_send(self) -> TestAnswer
+    pub fn can_send(self) -> Result<bool, Refusal>
         ensures { result ≡ can_send self }
     {
         self.unless_broken(!self.in_flight)
     }
 
-    pub fn is_waiting_for_ack(self) -> TestAnswer
+    pub fn is_waiting_for_ack(self) -> Result<bool, Refusal>
         ensures { result ≡ is_waiting_for_ack self }
     {
         self.unless_broken(self.in_flight)
@@ -103,7 +95,7 @@ impl StopAndWaitSender {
         if self.numbers_broken() {
             return StopAndWaitSendResult {
                 sender: self,
-                answer: SendAnswer::Refused(Refusal::State),
+                answer: Err(Refusal::State),
             };
         }
         let window = self.window_unchecked();
@@ -122,17 +114,17 @@ impl StopAndWaitSender {
             ≡ handle_ack (end_of self store.old) raw.now }
     {
         match self.decide_ack(store, raw) {
-            AckDecision::Accept { seq_num, base: _ } => StopAndWaitAckResult {
+            Ok(AckDecision::Accept { seq_num, base: _ }) => StopAndWaitAckResult {
                 sender: self.acknowledge_unchecked(store, seq_num, false),
-                answer: AckAnswer::Accepted,
+                answer: Ok(true),
             },
-            AckDecision::NotAccepted => StopAndWaitAckResult {
+            Ok(AckDecision::NotAccepted) => StopAndWaitAckResult {
                 sender: self,
-                answer: AckAnswer::NotAccepted,
+                answer: Ok(false),
             },
-            AckDecision::Refused(r) => StopAndWaitAckResult {
+            Err(r) => StopAndWaitAckResult {
                 sender: self,
-                answer: AckAnswer::Refused(r),
+                answer: Err(r),
             },
         }
     }
@@ -143,7 +135,7 @@ impl StopAndWaitSender {
             ≡ handle_timeout (end_of self store.old) out.old }
     {
         match self.decide_timeout(store) {
-            TimeoutDecision::Resend { first, count } => {
+            Ok(TimeoutDecision::Resend { first, count }) => {
                 let window = self.window_unchecked();
                 let result = window.resend_unchecked(store, first, count, out);
                 let answer = result.answer;
@@ -153,34 +145,34 @@ impl StopAndWaitSender {
                     answer,
                 }
             }
-            TimeoutDecision::Nothing => StopAndWaitTimeoutResult {
+            Ok(TimeoutDecision::Nothing) => StopAndWaitTimeoutResult {
                 sender: self,
-                answer: TimeoutAnswer::Nothing,
+                answer: Ok(None),
             },
-            TimeoutDecision::Refused(r) => StopAndWaitTimeoutResult {
+            Err(r) => StopAndWaitTimeoutResult {
                 sender: self,
-                answer: TimeoutAnswer::Refused(r),
+                answer: Err(r),
             },
         }
     }
 
     // What a datagram as an ACK does.
-    pub fn decide_ack(self, store: &[u8], raw: &[u8]) -> AckDecision
+    pub fn decide_ack(self, store: &[u8], raw: &[u8]) -> Result<AckDecision, Refusal>
         ensures { result ≡ decide_ack (end_of self store.now) raw.now }
     {
         if self.numbers_broken() {
-            return AckDecision::Refused(Refusal::State);
+            return Err(Refusal::State);
         }
         let window = self.window_unchecked();
         window.decide_ack(false, store, raw)
     }
 
     // What a timeout does.
-    pub fn decide_timeout(self, store: &[u8]) -> TimeoutDecision
+    pub fn decide_timeout(self, store: &[u8]) -> Result<TimeoutDecision, Refusal>
         ensures { result ≡ decide_timeout (end_of self store.now) }
     {
         if self.numbers_broken() {
-            return TimeoutDecision::Refused(Refusal::State);
+            return Err(Refusal::State);
         }
         let window = self.window_unchecked();
         window.decide_timeout(store, self.retries_left())
@@ -198,14 +190,14 @@ impl StopAndWaitSender {
         requires self_value { numbers_broken (window_of self) ≡ false }
         requires can_send_chunk { CanSendChunk (window_end (end_of self store.old)) payload.now out.old }
         requires clean { clean ≡ true → Clean (window_end (end_of self store.old)) }
-        ensures { send_exit (SendAnswer.Sent (header_size + length payload.now))
+        ensures { send_exit (Ok (Some (header_size + length payload.now)))
             (end_of result store.new) out.new
             ≡ send_chunk_unchecked (end_of self store.old) payload.now out.old }
     {
         let window = self.window_unchecked();
         let window = window.send_chunk_unchecked(store, payload, out, clean);
         let size = Packet::HEADER_SIZE + payload.len();
-        self.after_send(SendAnswer::Sent(size), window)
+        self.after_send(Ok(Some(size)), window)
     }
 
     // What the accepted ACK of the packet in flight does.
@@ -244,17 +236,17 @@ impl StopAndWaitSender {
         sender
     }
 
-    fn unless_broken(self, answer: bool) -> TestAnswer
-        ensures { result ≡ unless_broken (window_of self) windowTest.Refused (windowTest.Is answer) }
+    fn unless_broken(self, answer: bool) -> Result<bool, Refusal>
+        ensures { result ≡ unless_broken (window_of self) Err (Ok answer) }
     {
         if self.numbers_broken() {
-            return TestAnswer::Refused(Refusal::State);
+            return Err(Refusal::State);
         }
         let window = self.window_unchecked();
         if window.counts_broken() {
-            return TestAnswer::Refused(Refusal::Counts);
+            return Err(Refusal::Counts);
         }
-        TestAnswer::Is(answer)
+        Ok(answer)
     }
 
     // Whether its window breaks the clauses of line 9 that don't speak of the store.
@@ -286,39 +278,43 @@ impl StopAndWaitSender {
         window
     }
 
-    fn after_send(mut self, answer: SendAnswer, window: SendWindow) -> StopAndWaitSender
+    fn after_send(
+        mut self,
+        answer: Result<Option<usize>, Refusal>,
+        window: SendWindow,
+    ) -> StopAndWaitSender
         ensures { result ≡ by_send self answer window }
     {
         match answer {
-            SendAnswer::Sent(_) => {
+            Ok(Some(_)) => {
                 self.in_flight = true;
                 self.current_retries = 0;
                 self.total_sent = window.total_sent;
                 self.retransmissions = window.retransmissions;
                 self
             }
-            SendAnswer::WindowFull => self,
-            SendAnswer::Refused(_) => self,
+            Ok(None) => self,
+            Err(_) => self,
         }
     }
 
     fn after_timeout_unchecked(
         mut self,
-        answer: TimeoutAnswer,
+        answer: Result<Option<usize>, Refusal>,
         window: SendWindow,
     ) -> StopAndWaitSender
-        requires { (n : ℕ) → answer ≡ timeoutAnswer.Resent n → self.current_retries < self.max_retries }
+        requires { (n : ℕ) → answer ≡ Ok (Some n) → self.current_retries < self.max_retries }
         ensures { result ≡ by_timeout self answer window }
     {
         match answer {
-            TimeoutAnswer::Resent(_) => {
+            Ok(Some(_)) => {
                 self.current_retries += 1;
                 self.total_sent = window.total_sent;
                 self.retransmissions = window.retransmissions;
                 self
             }
-            TimeoutAnswer::Nothing => self,
-            TimeoutAnswer::Refused(_) => self,
+            Ok(None) => self,
+            Err(_) => self,
         }
     }
 
@@ -353,7 +349,7 @@ pub struct StopAndWaitDecision {
 #[derive(Clone, Copy)]
 pub struct StopAndWaitReceiveResult {
     pub receiver: StopAndWaitReceiver,
-    pub answer: ReceiveAnswer,
+    pub answer: Result<Option<u32>, Refusal>,
 }
 
 impl StopAndWaitReceiver {
@@ -388,12 +384,12 @@ impl StopAndWaitReceiver {
             raw,
             output,
         ) {
-            ReadingAnswer::Reading(reading) => {
+            Ok(reading) => {
                 self.handle_packet_unchecked(reading, Packet::payload(raw), output, ack)
             }
-            ReadingAnswer::Refused(r) => StopAndWaitReceiveResult {
+            Err(r) => StopAndWaitReceiveResult {
                 receiver: self,
-                answer: ReceiveAnswer::Refused(r),
+                answer: Err(r),
             },
         }
     }
@@ -416,7 +412,7 @@ impl StopAndWaitReceiver {
         let decision = after.decision;
         let result = receiver::apply_unchecked(decision, payload, self.filled, output, ack);
         let answer = result.answer;
-        if answer.is_refused() {
+        if answer.is_err() {
             return StopAndWaitReceiveResult {
                 receiver: self,
                 answer,
@@ -437,11 +433,11 @@ impl StopAndWaitReceiver {
         self.total_received += 1;
         match reading {
             PacketReading::Data(n) => self.decide_data(n),
-            PacketReading::Fin(n) => self.decided(false, Reply::Ack(n)),
-            PacketReading::Ack => self.decided(false, Reply::Silent),
+            PacketReading::Fin(n) => self.decided(false, Some(n)),
+            PacketReading::Ack => self.decided(false, None),
             PacketReading::Corrupted => {
                 self.corrupted_count += 1;
-                self.decided(false, Reply::Silent)
+                self.decided(false, None)
             }
         }
     }
@@ -453,16 +449,16 @@ impl StopAndWaitReceiver {
         let expected = self.expected_seq;
         if n == expected {
             self.expected_seq = expected + 1;
-            return self.decided(true, Reply::Ack(n));
+            return self.decided(true, Some(n));
         }
         if n < expected {
             self.duplicates_count += 1;
-            return self.decided(false, Reply::Ack(n));
+            return self.decided(false, Some(n));
         }
-        self.decided(false, Reply::Ack(last_number(expected)))
+        self.decided(false, Some(last_number(expected)))
     }
 
-    fn decided(self, deliver: bool, reply: Reply) -> StopAndWaitDecision
+    fn decided(self, deliver: bool, reply: Option<u32>) -> StopAndWaitDecision
         ensures { result ≡ decided self deliver reply }
     {
         StopAndWaitDecision {

@@ -13,7 +13,6 @@ use events::Event;
 use notes::{Note, Notes};
 use path::{Carriage, Path, Stop};
 use schedule::{Deliveries, ScheduledRow, copies_of};
-use session::Oldest;
 
 // What a submission changes besides the lent slices.
 #[derive(Clone, Copy)]
@@ -38,7 +37,7 @@ pub fn submit_unchecked(
     timing: Timing,
     now: u64,
     rto: u64,
-    oldest: Oldest,
+    oldest: Option<u32>,
     seq: u32,
     retransmission: bool,
     wire: &mut [u8],

@@ -1,4 +1,5 @@
 -- The definitions on short lists of calls, and on short histories of readings, the latest first.
+use Rattle.std.specs.Prelude.{Err, Ok, Some, true}
 use Prim.Native.Nat.{ℕ}
 use mathlib.Core.Path.{◌≡◌, refl}
 use mathlib.Core.List.{List, [], ◌∷◌}
@@ -15,14 +16,10 @@ use Rattle.window.specs.State.{window_broken, store_short, numbers_broken, state
 use Rattle.window.specs.Slots.{fresh, hold, mark_retransmitted, datagram_for}
 use Rattle.window.specs.Sending.{send_checks, send_chunk}
 use Rattle.window.specs.Resending.{datagrams_from, mark_from, resend}
-use Rattle.window.specs.declared.AckAnswer.TheVariants as ackAnswer
-use Rattle.window.specs.declared.SendAnswer.TheVariants as sendAnswer
-use Rattle.window.specs.declared.TimeoutAnswer.TheVariants as timeoutAnswer
 use Rattle.receiver.specs.State as receiver
 use Rattle.receiver.specs.Receive.{receive_exit}
 use Rattle.receiver.specs.declared.PacketReading.{PacketReading}
 use Rattle.receiver.specs.declared.PacketReading.TheVariants.{Data, Fin, Corrupted}
-use Rattle.receiver.specs.declared.ReceiveAnswer.TheVariants as receiveAnswer
 use Rattle.stop_and_wait.specs.Receiver as stop_and_wait
 use Rattle.go_back_n.specs.Receiver as go_back_n
 use Rattle.selective_repeat.specs.Receiver as selective_repeat
@@ -47,19 +44,19 @@ use Rattle.tallies.proofs.Limits.{go_back_n_sender_no_8, go_back_n_receiver_no_8
 
 -- a chunk sent; two datagrams of ten bytes sent again; an ACK accepted, one that isn't; a send refused
 abbrev chunk : Answered
-chunk = sent (sendAnswer.Sent 10) (replicate 10 0)
+chunk = sent (Ok (Some 10)) (replicate 10 0)
 
 abbrev two_again : Answered
-two_again = resent (timeoutAnswer.Resent 20) (replicate 25 0)
+two_again = resent (Ok (Some 20)) (replicate 25 0)
 
 abbrev accepted : Answered
-accepted = acknowledged ackAnswer.Accepted
+accepted = acknowledged (Ok true)
 
 abbrev not_accepted : Answered
-not_accepted = acknowledged ackAnswer.NotAccepted
+not_accepted = acknowledged (Ok false)
 
 abbrev refused_send : Answered
-refused_send = sent (sendAnswer.Refused Full) (replicate 10 0)
+refused_send = sent (Err Full) (replicate 10 0)
 
 abbrev answers_given : List Answered
 answers_given = chunk ∷ two_again ∷ accepted ∷ two_again ∷ not_accepted ∷ refused_send ∷ []
@@ -81,7 +78,7 @@ unfolding retries_from datagrams
 since_the_send = refl
 
 -- a refused call leaves no reading
-pub refused_none : (raw : List ℕ) (hs : List PacketReading) → readings_with (receive_exit (receiveAnswer.Refused Full) stop_and_wait.new_receiver [] []) raw hs ≡ hs
+pub refused_none : (raw : List ℕ) (hs : List PacketReading) → readings_with (receive_exit (Err Full) stop_and_wait.new_receiver [] []) raw hs ≡ hs
 refused_none raw hs = refl
 
 -- Stop-and-Wait: 0 in order, 0 again, 5 too new, one corrupted, 1 in order, a Fin

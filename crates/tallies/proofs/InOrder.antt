@@ -1,4 +1,5 @@
 -- Stop-and-Wait and Go-Back-N receivers: each call's reading is counted.
+use Rattle.std.specs.Prelude.{Option}
 use Prim.Native.Nat.{ℕ, suc, ◌+◌}
 use mathlib.Core.Path.{◌≡◌, refl, ap, ◌∙◌}
 use mathlib.Core.Bool.{Bool, true, false, cond, not, ◌&&◌}
@@ -12,7 +13,6 @@ use Rattle.receiver.specs.Reading.{read_packet}
 use Rattle.receiver.specs.State as receiverState
 use Rattle.receiver.specs.declared.PacketReading.{PacketReading}
 use Rattle.receiver.specs.declared.PacketReading.TheVariants as reading
-use Rattle.receiver.specs.declared.Reply.{Reply}
 use Rattle.stop_and_wait.specs.Receiver as stop_and_wait
 use Rattle.stop_and_wait.specs.declared.StopAndWaitReceiver.{StopAndWaitReceiver}
 use Rattle.go_back_n.specs.Receiver as go_back_n
@@ -28,7 +28,7 @@ plus_one n = omega arith
 not_older : (n e : ℕ) → eqb n e ≡ true → ltb n e ≡ false
 not_older n e p = let q : n ≡ e = eqb-true n e p in le-ltb n e (omega arith)
 
-stop_and_wait_data : (e f l d k mark : ℕ) (x y z : Reply) (same older : Bool) → (same ≡ true → older ≡ false)
+stop_and_wait_data : (e f l d k mark : ℕ) (x y z : Option ℕ) (same older : Bool) → (same ≡ true → older ≡ false)
     → stop_and_wait.with_mark
     (cond same (stop_and_wait.decided (stop_and_wait.state (e + 1) f (l + 1) d k) true x)
     (cond older (stop_and_wait.decided (stop_and_wait.state e f (l + 1) (d + 1) k) false y) (stop_and_wait.decided (stop_and_wait.state e f (l + 1) d k) false z))
@@ -63,7 +63,7 @@ stop_and_wait_receiver cs =
     every_list stop_and_wait.handle_packet stop_and_wait_counted stop_and_wait_each [] stop_and_wait.new_receiver refl cs
 
 -- ---- Go-Back-N
-go_back_n_data : (e f l d k mark : ℕ) (x y z : Reply) (same first : Bool)
+go_back_n_data : (e f l d k mark : ℕ) (x y z : Option ℕ) (same first : Bool)
     → go_back_n.with_mark
     (cond same (go_back_n.decided (go_back_n.state (e + 1) f (l + 1) d k) true x)
     (cond first (go_back_n.decided (go_back_n.state e f (l + 1) (d + 1) k) false y) (go_back_n.decided (go_back_n.state e f (l + 1) (d + 1) (k + 1)) false z))

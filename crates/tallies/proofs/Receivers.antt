@@ -1,4 +1,5 @@
 -- A receiver's counters are what the history of calls says: one law over the receivers.
+use Rattle.std.specs.Prelude.{None, Option, Some}
 use Prim.Native.Nat.{ℕ}
 use mathlib.Core.Path.{◌≡◌, refl}
 use mathlib.Core.Bool.{true}
@@ -7,8 +8,6 @@ use Rattle.receiver.specs.Reading.{read_packet}
 use Rattle.receiver.specs.Reply.{answer_of}
 use Rattle.receiver.specs.Receive.{ReceiveExit, Reception, receive}
 use Rattle.receiver.specs.declared.PacketReading.{PacketReading}
-use Rattle.receiver.specs.declared.Reply.{Reply}
-use Rattle.receiver.specs.declared.Reply.TheVariants as reply
 use Rattle.receiver.proofs.Laws.{ReceiveKnown, receive_either}
 use Rattle.delivery.specs.Ends.{is_received}
 use Rattle.tallies.specs.Receivers.{Call, Handling, after_calls, readings_with, readings_after}
@@ -25,9 +24,9 @@ every_list handle Counted each hs r start [] = start
 every_list handle Counted each hs r start (c ∷ cs) = every_list handle Counted each (readings_with (handle r c.raw c.output c.ack) c.raw hs) (handle r c.raw c.output c.ack).receiver (each hs r start c.raw c.output c.ack) cs
 
 -- a call is refused and changes nothing, or its reading is counted
-reply_received : (r : Reply) → is_received (answer_of r) ≡ true
-reply_received (reply.Ack n) = refl
-reply_received reply.Silent = refl
+reply_received : (r : Option ℕ) → is_received (answer_of r) ≡ true
+reply_received (Some n) = refl
+reply_received None = refl
 
 pub one_call : {R : Type 0} (Counted : List PacketReading → R → Type 0) (hs : List PacketReading) (x : Reception R) (raw output ack : List ℕ)
     → Counted hs x.state → (ReceiveKnown x raw output ack → (n : ℕ) → Counted (read_packet raw ∷ hs) (x.after n))

@@ -1,4 +1,5 @@
 -- The Selective Repeat receiver: each call's reading is counted.
+use Rattle.std.specs.Prelude.{None, Option, Some}
 use Prim.Native.Nat.{ℕ, suc, ◌+◌, ◌-◌, ◌%◌, ◌≤◌, ◌<◌}
 use mathlib.Core.Path.{◌≡◌, refl, sym, ap, ◌∙◌}
 use mathlib.Core.Bool.{Bool, true, false, cond, not, ◌&&◌}
@@ -16,8 +17,6 @@ use Rattle.store.specs.Sound.{slot_of}
 use Rattle.receiver.specs.Reading.{read_packet}
 use Rattle.receiver.specs.declared.PacketReading.{PacketReading}
 use Rattle.receiver.specs.declared.PacketReading.TheVariants as reading
-use Rattle.receiver.specs.declared.Reply.{Reply}
-use Rattle.receiver.specs.declared.Reply.TheVariants as reply
 use Rattle.selective_repeat.specs.Receiver.{Receiver, receiver, reception, state_broken, held_run, decided, decision, changed_slots, after_packet, handle_packet, Ready}
 use Rattle.selective_repeat.specs.declared.SelectiveRepeatReceiver.{SelectiveRepeatReceiver}
 use Rattle.selective_repeat.specs.declared.SlotChange.{SlotChange}
@@ -76,7 +75,7 @@ module _ (w : ℕ) (hs : List PacketReading) (filled : ℕ) (store payload : Lis
   After h = Kept w (h ∷ hs) (after_packet before payload (decision before h) mark)
 
   -- by what was decided
-  kept_by : (h : PacketReading) (c x y : ℕ) (deliver : Bool) (r : Reply) (change : SlotChange)
+  kept_by : (h : PacketReading) (c x y : ℕ) (deliver : Bool) (r : Option ℕ) (change : SlotChange)
       → decision before h ≡ decided (state w c filled (length hs + 1) x y) deliver r change
       → c ≡ base w (h ∷ hs) → x ≡ count (is_buffered w) (h ∷ hs) → y ≡ count (is_duplicate w) (h ∷ hs) → Slots w (noted w (h ∷ hs)) (changed_slots before payload change)
       → After h
@@ -89,7 +88,7 @@ module _ (w : ℕ) (hs : List PacketReading) (filled : ℕ) (store payload : Lis
       }
 
   -- nothing noted, nothing held
-  unchanged : (h : PacketReading) (y : Bool) (r : Reply) → noted w (h ∷ hs) ≡ noted w hs
+  unchanged : (h : PacketReading) (y : Bool) (r : Option ℕ) → noted w (h ∷ hs) ≡ noted w hs
       → decision before h ≡ decided (state w b filled (length hs + 1) buffered (cond y (suc duplicates) duplicates)) false r slotChange.Unchanged
       → is_buffered w hs h ≡ false → is_duplicate w hs h ≡ y
       → After h
@@ -101,9 +100,9 @@ module _ (w : ℕ) (hs : List PacketReading) (filled : ℕ) (store payload : Lis
 
   -- one duplicate more, as it is decided
   duplicate_more : (n : ℕ)
-      → decided (state w b filled (length hs + 1) buffered (duplicates + 1)) false (reply.Ack n) slotChange.Unchanged
-      ≡ decided (state w b filled (length hs + 1) buffered (suc duplicates)) false (reply.Ack n) slotChange.Unchanged
-  duplicate_more n = ap (λ (m : ℕ). decided (state w b filled (length hs + 1) buffered m) false (reply.Ack n) slotChange.Unchanged) (plus_one duplicates)
+      → decided (state w b filled (length hs + 1) buffered (duplicates + 1)) false (Some n) slotChange.Unchanged
+      ≡ decided (state w b filled (length hs + 1) buffered (suc duplicates)) false (Some n) slotChange.Unchanged
+  duplicate_more n = ap (λ (m : ℕ). decided (state w b filled (length hs + 1) buffered m) false (Some n) slotChange.Unchanged) (plus_one duplicates)
 
   data_kept : (n : ℕ) → DataCase before n
       → After (reading.Data n)
@@ -117,7 +116,7 @@ module _ (w : ℕ) (hs : List PacketReading) (filled : ℕ) (store payload : Lis
       let older : leb (b - w) n ≡ true = le-leb (b - w) n (omega arith) in
       let new : is_noted w hs n ≡ false = ap (λ (m : ℕ). get_or (noted w hs) m false) e ∙ lead_stop (noted w hs) in
       let all : noted w (reading.Data n ∷ hs) ≡ note (noted w hs) b = rw (low, below) (ap (note (noted w hs)) e) in
-      kept_by (reading.Data n) (b + 1 + held_run before) buffered duplicates true (reply.Ack n) (slotChange.Release (held_run before)) d
+      kept_by (reading.Data n) (b + 1 + held_run before) buffered duplicates true (Some n) (slotChange.Release (held_run before)) d
       (sym (ap lead all ∙ base_delivered w (noted w hs) store p ok.room sound slots))
       (counted_as (is_buffered w) hs (reading.Data n) false (rw (low, below, same)))
       (counted_as (is_duplicate w) hs (reading.Data n) false (rw (low, below, new, older, not_below)))
@@ -128,7 +127,7 @@ module _ (w : ℕ) (hs : List PacketReading) (filled : ℕ) (store payload : Lis
       let below : ltb n (b + w) ≡ true = lt-ltb n (b + w) k in
       let all : noted w (reading.Data n ∷ hs) ≡ noted w hs = rw (low, below) (note_on (noted w hs) n noted_before) in
       let again = duplicate_more n in
-      unchanged (reading.Data n) true (reply.Ack n) all (d ∙ again) (rw (low, below, noted_before) (not_and (eqb n b))) (rw (low, below, noted_before))
+      unchanged (reading.Data n) true (Some n) all (d ∙ again) (rw (low, below, noted_before) (not_and (eqb n b))) (rw (low, below, noted_before))
   data_kept n (to_be_held h k m d) =
       let p = ok.positive in
       let new : is_noted w hs n ≡ false = sym (slots.held n h k) ∙ ne_eqb (slot_mark (slot_at store (n % w))) 1 m in
@@ -138,7 +137,7 @@ module _ (w : ℕ) (hs : List PacketReading) (filled : ℕ) (store payload : Lis
       let not_below : ltb n b ≡ false = le-ltb n b (omega arith) in
       let older : leb (b - w) n ≡ true = le-leb (b - w) n (omega arith) in
       let all : noted w (reading.Data n ∷ hs) ≡ note (noted w hs) n = rw (low, below) refl in
-      kept_by (reading.Data n) b (buffered + 1) duplicates false (reply.Ack n) (slotChange.Hold n) d
+      kept_by (reading.Data n) b (buffered + 1) duplicates false (Some n) (slotChange.Hold n) d
       (sym (ap lead all ∙ base_kept w (noted w hs) store p ok.room sound slots n payload h k short))
       (plus_one buffered ∙ counted_as (is_buffered w) hs (reading.Data n) true (rw (low, below, other, new)))
       (counted_as (is_duplicate w) hs (reading.Data n) false (rw (low, below, new, older, not_below)))
@@ -147,24 +146,24 @@ module _ (w : ℕ) (hs : List PacketReading) (filled : ℕ) (store payload : Lis
       let low : leb b n ≡ false = lt-leb b n h in
       let older : leb (b - w) n ≡ true = le-leb (b - w) n (omega arith) in
       let below : ltb n b ≡ true = lt-ltb n b h in
-      unchanged (reading.Data n) true (reply.Ack n) (rw low) (d ∙ duplicate_more n) (rw low) (rw (low, older, below))
+      unchanged (reading.Data n) true (Some n) (rw low) (d ∙ duplicate_more n) (rw low) (rw (low, older, below))
   data_kept n (old h d) =
       let low : leb b n ≡ false = lt-leb b n (omega arith) in
       let older : leb (b - w) n ≡ false = lt-leb (b - w) n (omega arith) in
-      unchanged (reading.Data n) false reply.Silent (rw low) d (rw low) (rw (low, older))
+      unchanged (reading.Data n) false None (rw low) d (rw low) (rw (low, older))
   data_kept n (high h d) =
       let low : leb b n ≡ true = le-leb b n (omega arith) in
       let above : ltb n (b + w) ≡ false = le-ltb n (b + w) h in
       let older : leb (b - w) n ≡ true = le-leb (b - w) n (omega arith) in
       let not_below : ltb n b ≡ false = le-ltb n b (omega arith) in
-      unchanged (reading.Data n) false reply.Silent (rw (low, above)) d (rw (low, above)) (rw (low, above, older, not_below))
+      unchanged (reading.Data n) false None (rw (low, above)) d (rw (low, above)) (rw (low, above, older, not_below))
 
   reading_kept : (h : PacketReading) → After h
   unfolding noted decision
   reading_kept (reading.Data n) = data_kept n (data_case before n ok.positive)
-  reading_kept (reading.Fin n) = unchanged (reading.Fin n) false (reply.Ack n) refl refl refl refl
-  reading_kept reading.Ack = unchanged reading.Ack false reply.Silent refl refl refl refl
-  reading_kept reading.Corrupted = unchanged reading.Corrupted false reply.Silent refl refl refl refl
+  reading_kept (reading.Fin n) = unchanged (reading.Fin n) false (Some n) refl refl refl refl
+  reading_kept reading.Ack = unchanged reading.Ack false None refl refl refl refl
+  reading_kept reading.Corrupted = unchanged reading.Corrupted false None refl refl refl refl
 
 -- from any state that the readings say
 kept_after : (w : ℕ) (hs : List PacketReading) (v : Receiver) (payload : List ℕ) (mark : ℕ) → Kept w hs v → state_broken v.state v.store ≡ false → length payload ≤ 1400 → (h : PacketReading)

@@ -1,4 +1,5 @@
 -- A sender's counters are what the history of calls says.
+use Rattle.std.specs.Prelude.{Err, None, Ok, Result, Some}
 use Prim.Native.Nat.{ℕ, zero, suc, ◌+◌, ◌≤◌}
 use mathlib.Core.Path.{◌≡◌, refl, sym, ap, ◌∙◌}
 use mathlib.Core.Bool.{Bool, true, false, cond}
@@ -19,12 +20,8 @@ use Rattle.window.specs.Slots.{Sender, hold, first_datagram, mark_retransmitted,
 use Rattle.window.specs.Sending.{SendExit, send_exit, window_free, send_checks, send_chunk}
 use Rattle.window.specs.Acknowledgement.{ack_decision, AckExit, ack_exit, by_decision}
 use Rattle.window.specs.Resending.{mark_from, sent_again, TimeoutExit, timeout_exit, resend}
-use Rattle.window.specs.declared.AckAnswer.{AckAnswer}
-use Rattle.window.specs.declared.AckAnswer.TheVariants as ackAnswer
 use Rattle.window.specs.declared.AckDecision.{AckDecision}
 use Rattle.window.specs.declared.AckDecision.TheVariants as decision
-use Rattle.window.specs.declared.SendAnswer.TheVariants as sendAnswer
-use Rattle.window.specs.declared.TimeoutAnswer.TheVariants as timeoutAnswer
 use Rattle.selective_repeat.specs.Sender.{acknowledge_one}
 use Rattle.refinement.proofs.Resending.{datagrams_are}
 use Rattle.delivery.specs.Calls.{datagrams}
@@ -32,6 +29,7 @@ use Rattle.delivery.specs.Ends.{is_resent, all, earliest}
 use Rattle.delivery.specs.AnyBytes.{SenderCall, send, timeout, ack}
 use Rattle.delivery.proofs.Datagrams.{AllFramed, made_framed, datagrams_flatten}
 use Rattle.tallies.specs.Senders.{Answered, sent, resent, acknowledged, SenderCalls, after_call, answer_to, after_calls, answers, sent_by, resent_by, total, SenderCounted, is_accepted, go_back_nSender, selective_repeat_sender}
+use Rattle.refusal.specs.declared.Refusal.{Refusal}
 
 -- a call raised the counters by the datagrams that it wrote
 pub record Counted {S : Type 0} (sentOf resent_of : S → ℕ) (before after : S) (a : Answered) : Type 0 where
@@ -105,7 +103,7 @@ send_counted selective v payload out =
     decided (SendCounted v) (send_checks selective v payload out) _ _ (λ r. record { sent_count = rw none_written (omega arith); resent_count = omega arith }) (λ none. by_window (window_free v.window))
   where
     by_window : (free : Bool)
-        → SendCounted v (cond free (send_exit (sendAnswer.Sent (10 + length payload)) (hold v payload) (first_datagram v payload ++ drop (10 + length payload) out)) (send_exit sendAnswer.WindowFull v out))
+        → SendCounted v (cond free (send_exit (Ok (Some (10 + length payload))) (hold v payload) (first_datagram v payload ++ drop (10 + length payload) out)) (send_exit (Ok None) v out))
     by_window false = record { sent_count = rw none_written (omega arith); resent_count = omega arith }
     by_window true = record { sent_count = rw (one_written _ payload (drop (10 + length payload) out)) (omega arith); resent_count = omega arith }
 
@@ -124,7 +122,7 @@ ResendCounted v r = WindowCounted v r.after (resent r.answer r.out)
 
 module _ (broken counts : Bool) (v : Sender) (n k : ℕ) (out : List ℕ) where
   abbrev some : TimeoutExit Sender
-  some = timeout_exit (timeoutAnswer.Resent (length (sent_again v n k))) (mark_from v n k) (sent_again v n k ++ drop (length (sent_again v n k)) out)
+  some = timeout_exit (Ok (Some (length (sent_again v n k)))) (mark_from v n k) (sent_again v n k ++ drop (length (sent_again v n k)) out)
 
   pub resend_counted : ResendCounted v (resend broken counts v n k out)
   unfolding resend
@@ -132,7 +130,7 @@ module _ (broken counts : Bool) (v : Sender) (n k : ℕ) (out : List ℕ) where
       decided (ResendCounted v) (check broken State ∷ check counts Counts ∷ check (ltb (length out) (length (sent_again v n k))) Full ∷ []) _ _
       (λ r. record { sent_count = rw none_written (omega arith); resent_count = rw none_written (omega arith) }) (λ none. by_count (eqb k 0))
     where
-      by_count : (zero : Bool) → ResendCounted v (cond zero (timeout_exit timeoutAnswer.Nothing v out) some)
+      by_count : (zero : Bool) → ResendCounted v (cond zero (timeout_exit (Ok None) v out) some)
       by_count true = record { sent_count = rw none_written (omega arith); resent_count = rw none_written (omega arith) }
       by_count false =
           let all = all_written v n k (drop (length (sent_again v n k)) out) in
@@ -147,29 +145,29 @@ module _ (broken counts : Bool) (v : Sender) (n k : ℕ) (out : List ℕ) where
   resend_one few =
       decided OneResent (check broken State ∷ check counts Counts ∷ check (ltb (length out) (length (sent_again v n k))) Full ∷ []) _ _ (λ r. none_written) (λ none. by_count (eqb k 0) refl)
     where
-      by_count : (zero : Bool) → eqb k 0 ≡ zero → OneResent (cond zero (timeout_exit timeoutAnswer.Nothing v out) some)
+      by_count : (zero : Bool) → eqb k 0 ≡ zero → OneResent (cond zero (timeout_exit (Ok None) v out) some)
       by_count true e = none_written
       by_count false e = let ne = eqb-false k 0 e in all_written v n k (drop (length (sent_again v n k)) out) ∙ omega arith
 
 -- what holds of the state as it was, and of what an accepted ACK makes of it
-pub by_ack : {S : Type 0} (P : AckExit S → Type 0) (d : AckDecision) (v : S) (accept : ℕ → S) → ((a : AckAnswer) → is_accepted a ≡ false → P (ack_exit a v)) → ((n : ℕ) → P (ack_exit ackAnswer.Accepted (accept n)))
+pub by_ack : {S : Type 0} (P : AckExit S → Type 0) (d : Result AckDecision Refusal) (v : S) (accept : ℕ → S) → ((a : Result Bool Refusal) → is_accepted a ≡ false → P (ack_exit a v)) → ((n : ℕ) → P (ack_exit (Ok true) (accept n)))
     → P (by_decision d v accept)
 unfolding by_decision
-by_ack P (decision.Accept n base) v accept h k = k n
-by_ack P decision.NotAccepted v accept h k = h ackAnswer.NotAccepted refl
-by_ack P (decision.Refused r) v accept h k = h (ackAnswer.Refused r) refl
+by_ack P (Ok (decision.Accept n base)) v accept h k = k n
+by_ack P (Ok decision.NotAccepted) v accept h k = h (Ok false) refl
+by_ack P (Err r) v accept h k = h (Err r) refl
 
 abbrev AckCounted : Sender → AckExit Sender → Type 0
 AckCounted v r = WindowCounted v r.after (acknowledged r.answer)
 
-same_counts : (v : Sender) (a : AckAnswer) → WindowCounted v v (acknowledged a)
+same_counts : (v : Sender) (a : Result Bool Refusal) → WindowCounted v v (acknowledged a)
 same_counts v a = record { sent_count = omega arith; resent_count = omega arith }
 
-release_counted : (v : Sender) (n : ℕ) (a : AckAnswer) → WindowCounted v (release v n) (acknowledged a)
+release_counted : (v : Sender) (n : ℕ) (a : Result Bool Refusal) → WindowCounted v (release v n) (acknowledged a)
 unfolding release
 release_counted v n a = record { sent_count = omega arith; resent_count = omega arith }
 
-acknowledge_counted : (v : Sender) (n : ℕ) (a : AckAnswer) → WindowCounted v (acknowledge_one v n) (acknowledged a)
+acknowledge_counted : (v : Sender) (n : ℕ) (a : Result Bool Refusal) → WindowCounted v (acknowledge_one v n) (acknowledged a)
 unfolding acknowledge_one release
 acknowledge_counted v n a = record { sent_count = omega arith; resent_count = omega arith }
 
@@ -177,9 +175,9 @@ pub go_back_n_counted : EachCallCounted go_back_nSender
 go_back_n_counted v (send payload out) = send_counted false v payload out
 go_back_n_counted v (timeout all out) = resend_counted _ _ v _ _ out
 go_back_n_counted v (timeout earliest out) = resend_counted _ _ v _ _ out
-go_back_n_counted v (ack raw) = by_ack (AckCounted v) (ack_decision false v.window v.store raw) v _ (λ a e. same_counts v a) (λ n. release_counted v (n + 1) ackAnswer.Accepted)
+go_back_n_counted v (ack raw) = by_ack (AckCounted v) (ack_decision false v.window v.store raw) v _ (λ a e. same_counts v a) (λ n. release_counted v (n + 1) (Ok true))
 
 pub selective_repeat_counted : EachCallCounted selective_repeat_sender
 selective_repeat_counted v (send payload out) = send_counted true v payload out
 selective_repeat_counted v (timeout n out) = resend_counted _ _ v n _ out
-selective_repeat_counted v (ack raw) = by_ack (AckCounted v) (ack_decision true v.window v.store raw) v _ (λ a e. same_counts v a) (λ n. acknowledge_counted v n ackAnswer.Accepted)
+selective_repeat_counted v (ack raw) = by_ack (AckCounted v) (ack_decision true v.window v.store raw) v _ (λ a e. same_counts v a) (λ n. acknowledge_counted v n (Ok true))

@@ -1,4 +1,5 @@
 -- The Stop-and-Wait sender: each call is counted, and the retries since the last chunk sent or acknowledged.
+use Rattle.std.specs.Prelude.{Err, None, Ok, Option, Result, Some}
 use Prim.Native.Nat.{ℕ, ◌+◌, ◌≤◌, min}
 use mathlib.Core.Path.{◌≡◌, refl, ap, ◌∙◌}
 use mathlib.Core.Bool.{Bool, true, false, cond}
@@ -10,30 +11,27 @@ use Rattle.window.specs.State.{outstanding}
 use Rattle.window.specs.Acknowledgement.{ack_decision, AckExit}
 use Rattle.window.specs.Resending.{TimeoutExit, resend_outstanding}
 use Rattle.window.specs.Sending as window
-use Rattle.window.specs.declared.SendAnswer.{SendAnswer}
-use Rattle.window.specs.declared.SendAnswer.TheVariants as sendAnswer
-use Rattle.window.specs.declared.TimeoutAnswer.{TimeoutAnswer}
-use Rattle.window.specs.declared.TimeoutAnswer.TheVariants as timeoutAnswer
 use Rattle.stop_and_wait.specs.Sender.{End, end_of, window_of, window_end, by_send, acknowledged, retries_left, by_timeout}
 use Rattle.delivery.specs.Ends.{is_resent, SingleTimeout}
 use Rattle.delivery.specs.AnyBytes.{SenderCall, send, timeout, ack}
 use Rattle.tallies.specs.Senders as senders
 use Rattle.tallies.specs.Senders.{Answered, after_call, answer_to, after_calls, answers, resent_by, starts_anew, retries_from, stop_and_wait_sender}
 use Rattle.tallies.proofs.Senders.{Counted, EachCallCounted, WindowCounted, none_written, send_counted, resend_counted, resend_one, by_ack}
+use Rattle.refusal.specs.declared.Refusal.{Refusal}
 
 -- the counters follow those of the window where a datagram was written, and stay as they were elsewhere
 abbrev EndCounted : End → End → Answered → Type 0
 EndCounted v w a = Counted (λ (u : End). u.sender.total_sent) (λ (u : End). u.sender.retransmissions) v w a
 
-by_send_lem : (v : End) (w : Sender) (out : List ℕ) (a : SendAnswer) → WindowCounted (window_end v) w (senders.sent a out) → EndCounted v (end_of (by_send v.sender a w.window) w.store) (senders.sent a out)
-by_send_lem v w out (sendAnswer.Sent n) h = record { sent_count = h.sent_count; resent_count = h.resent_count }
-by_send_lem v w out sendAnswer.WindowFull h = record { sent_count = rw none_written (omega arith); resent_count = omega arith }
-by_send_lem v w out (sendAnswer.Refused r) h = record { sent_count = rw none_written (omega arith); resent_count = omega arith }
+by_send_lem : (v : End) (w : Sender) (out : List ℕ) (a : Result (Option ℕ) Refusal) → WindowCounted (window_end v) w (senders.sent a out) → EndCounted v (end_of (by_send v.sender a w.window) w.store) (senders.sent a out)
+by_send_lem v w out (Ok (Some n)) h = record { sent_count = h.sent_count; resent_count = h.resent_count }
+by_send_lem v w out (Ok None) h = record { sent_count = rw none_written (omega arith); resent_count = omega arith }
+by_send_lem v w out (Err r) h = record { sent_count = rw none_written (omega arith); resent_count = omega arith }
 
-by_timeout_lem : (v : End) (w : Sender) (out : List ℕ) (a : TimeoutAnswer) → WindowCounted (window_end v) w (senders.resent a out) → EndCounted v (end_of (by_timeout v.sender a w.window) w.store) (senders.resent a out)
-by_timeout_lem v w out (timeoutAnswer.Resent n) h = record { sent_count = h.sent_count; resent_count = h.resent_count }
-by_timeout_lem v w out timeoutAnswer.Nothing h = record { sent_count = rw none_written (omega arith); resent_count = rw none_written (omega arith) }
-by_timeout_lem v w out (timeoutAnswer.Refused r) h = record { sent_count = rw none_written (omega arith); resent_count = rw none_written (omega arith) }
+by_timeout_lem : (v : End) (w : Sender) (out : List ℕ) (a : Result (Option ℕ) Refusal) → WindowCounted (window_end v) w (senders.resent a out) → EndCounted v (end_of (by_timeout v.sender a w.window) w.store) (senders.resent a out)
+by_timeout_lem v w out (Ok (Some n)) h = record { sent_count = h.sent_count; resent_count = h.resent_count }
+by_timeout_lem v w out (Ok None) h = record { sent_count = rw none_written (omega arith); resent_count = rw none_written (omega arith) }
+by_timeout_lem v w out (Err r) h = record { sent_count = rw none_written (omega arith); resent_count = rw none_written (omega arith) }
 
 -- what the window does
 abbrev sends : End → List ℕ → List ℕ → window.SendExit Sender
@@ -54,16 +52,16 @@ stop_and_wait_counted_lem v (ack raw) =
 abbrev RetriesCounted : End → End → Answered → Type 0
 RetriesCounted v w a = w.sender.current_retries ≡ cond (starts_anew a) 0 (resent_by a + v.sender.current_retries)
 
-send_retries : (v : End) (w : Sender) (out : List ℕ) (a : SendAnswer) → RetriesCounted v (end_of (by_send v.sender a w.window) w.store) (senders.sent a out)
-send_retries v w out (sendAnswer.Sent n) = refl
-send_retries v w out sendAnswer.WindowFull = omega arith
-send_retries v w out (sendAnswer.Refused r) = omega arith
+send_retries : (v : End) (w : Sender) (out : List ℕ) (a : Result (Option ℕ) Refusal) → RetriesCounted v (end_of (by_send v.sender a w.window) w.store) (senders.sent a out)
+send_retries v w out (Ok (Some n)) = refl
+send_retries v w out (Ok None) = omega arith
+send_retries v w out (Err r) = omega arith
 
-timeout_retries : (v : End) (w : Sender) (out : List ℕ) (a : TimeoutAnswer) → resent_by (senders.resent a out) ≡ cond (is_resent a) 1 0
+timeout_retries : (v : End) (w : Sender) (out : List ℕ) (a : Result (Option ℕ) Refusal) → resent_by (senders.resent a out) ≡ cond (is_resent a) 1 0
     → RetriesCounted v (end_of (by_timeout v.sender a w.window) w.store) (senders.resent a out)
-timeout_retries v w out (timeoutAnswer.Resent n) e = rw e (omega arith)
-timeout_retries v w out timeoutAnswer.Nothing e = rw e (omega arith)
-timeout_retries v w out (timeoutAnswer.Refused r) e = rw e (omega arith)
+timeout_retries v w out (Ok (Some n)) e = rw e (omega arith)
+timeout_retries v w out (Ok None) e = rw e (omega arith)
+timeout_retries v w out (Err r) e = rw e (omega arith)
 
 one_at_most : (b : Bool) (m : ℕ) → min (cond b 1 0) m ≤ 1
 one_at_most true m = omega arith

@@ -1,26 +1,23 @@
 -- Document 01, "Invented tallies: .. from the history of calls": what a list of calls with any bytes says of a sender's
 -- counters.
-use Rattle.std.specs.Prelude.{ℕ, ◌+◌, ◌≡◌, List, [], ◌∷◌, Bool, true, false, cond, length}
+use Rattle.std.specs.Prelude.{ℕ, ◌+◌, ◌≡◌, List, [], ◌∷◌, Bool, true, false, cond, length, Err, Ok, Option, Result}
 use Rattle.window.specs.Slots as slots
 use Rattle.window.specs.Sending.{SendExit, send_chunk}
 use Rattle.window.specs.Acknowledgement.{AckExit}
 use Rattle.window.specs.Resending.{TimeoutExit}
-use Rattle.window.specs.declared.SendAnswer.{SendAnswer}
-use Rattle.window.specs.declared.AckAnswer.{AckAnswer}
-use Rattle.window.specs.declared.AckAnswer.TheVariants as ackAnswer
-use Rattle.window.specs.declared.TimeoutAnswer.{TimeoutAnswer}
 use Rattle.stop_and_wait.specs.Sender as stop_and_wait
 use Rattle.go_back_n.specs.Sender as go_back_n
 use Rattle.selective_repeat.specs.Sender as selective_repeat
 use Rattle.delivery.specs.Calls.{datagrams}
 use Rattle.delivery.specs.Ends.{bytes_sent, is_sent, bytes_resent, SingleTimeout, GoBackNTimeout, go_back_nTimeout}
 use Rattle.delivery.specs.AnyBytes.{SenderCall, send, timeout, ack}
+use Rattle.refusal.specs.declared.Refusal.{Refusal}
 
 -- what a call answered, and the buffer lent to it when it returned
 pub data Answered : Type 0 where
-  sent : SendAnswer → List ℕ → Answered
-  resent : TimeoutAnswer → List ℕ → Answered
-  acknowledged : AckAnswer → Answered
+  sent : Result (Option ℕ) Refusal → List ℕ → Answered
+  resent : Result (Option ℕ) Refusal → List ℕ → Answered
+  acknowledged : Result Bool Refusal → Answered
 
 -- the calls of a protocol's sender, and its two counters
 pub record SenderCalls : Type 1 where
@@ -73,10 +70,10 @@ pub record SenderCounted (P : SenderCalls) (xs : List Answered) (s : P.Sender) :
 
 -- Stop-and-Wait's retries: the datagrams sent again since the last chunk that was sent and the last ACK that was
 -- accepted
-abbrev pub is_accepted : AckAnswer → Bool
-is_accepted ackAnswer.Accepted = true
-is_accepted ackAnswer.NotAccepted = false
-is_accepted (ackAnswer.Refused r) = false
+abbrev pub is_accepted : Result Bool Refusal → Bool
+is_accepted (Ok true) = true
+is_accepted (Ok false) = false
+is_accepted (Err r) = false
 
 abbrev pub starts_anew : Answered → Bool
 starts_anew (sent a out) = is_sent a

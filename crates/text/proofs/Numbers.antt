@@ -1,4 +1,5 @@
 -- Text at places: what is written there, what is read there, how long it is.
+use Rattle.std.specs.Prelude.{None, Ok, Some}
 use Prim.Native.Nat.{ℕ, ◌+◌, ◌-◌, ◌*◌, ◌^◌, ◌≤◌, ◌<◌}
 use mathlib.Core.Path.{◌≡◌, refl, sym, ap, subst, ◌∙◌}
 use mathlib.Core.Bool.{Bool, true, false, cond}
@@ -13,8 +14,6 @@ use Rattle.text.specs.Decimal.{is_digit, value, is_plain, digits, right_in, left
 use Rattle.text.specs.Reading.{digit_run, capped_reading, plain_reading, read_decimal}
 use Rattle.text.specs.Hexadecimal.{hex_text, all_hex, octets_of}
 use Rattle.text.specs.Place.{written_at, hex_exit, letters_at, are_letters, read_hex}
-use Rattle.text.specs.declared.HexReading.TheVariants as hex
-use Rattle.text.specs.declared.DecimalReading.TheVariants.{Number, NotANumber}
 use Rattle.text.proofs.Digits.{digits_decimal, digits_length, digits_some}
 use Rattle.text.proofs.Hex.{length_hex, hex_letters, octets_hex, hex_octets}
 use Rattle.text.proofs.Hex.{both}
@@ -109,7 +108,7 @@ stops_at b bs h = run_other b bs (simp (lt-leb digit_zero b h))
 
 -- a number that stands at a place before no further digit is read, with the place after it
 pub read_digits : (s : List ℕ) (at max n : ℕ) (rest : List ℕ) → drop at s ≡ digits n ++ rest → digit_run rest ≡ [] → n ≤ max
-    → read_decimal s at max ≡ Number n (at + length (digits n))
+    → read_decimal s at max ≡ Some (n, at + length (digits n))
 unfolding read_decimal plain_reading capped_reading
 read_digits s at max n rest e r h =
     let d = digits_decimal n in
@@ -118,7 +117,7 @@ read_digits s at max n rest e r h =
 -- what was written at a place is read there, whatever follows but a digit
 pub read_written : (s : List ℕ) (at max n : ℕ) → at + length (digits n) ≤ length s → n ≤ max
     → digit_run (drop (at + length (digits n)) s) ≡ []
-    → read_decimal (written_at s at (digits n)) at max ≡ Number n (at + length (digits n))
+    → read_decimal (written_at s at (digits n)) at max ≡ Some (n, at + length (digits n))
 read_written s at max n room h r =
     read_digits (written_at s at (digits n)) at max n (drop (at + length (digits n)) s)
     (ap (drop at) (append_assoc (take at s) (digits n) (drop (at + length (digits n)) s))
@@ -134,7 +133,7 @@ pub record Accepted (s : List ℕ) (at max n next : ℕ) : Type 0 where
 
 module _ (s : List ℕ) (at max n next : ℕ) where
   accepted_capped : (run : List ℕ) → run ≡ digit_run (drop at s) → is_plain run ≡ true → (t : Bool) → leb (value run) max ≡ t
-      → cond t (Number (value run) (at + length run)) NotANumber ≡ Number n next → Accepted s at max n next
+      → cond t (Some (value run, at + length run)) None ≡ Some (n, next) → Accepted s at max n next
   accepted_capped run r p true l e =
       let v : value run ≡ n = cc in
       let m : at + length run ≡ next = cc in
@@ -149,30 +148,30 @@ module _ (s : List ℕ) (at max n next : ℕ) where
       }
   accepted_capped run r p false l e = absurd (none e)
     where
-      none : NotANumber ≡ Number n next → ⊥
+      none : None ≡ Some (n, next) → ⊥
       none e = let z : ◌≡◌ {A = ℕ} 0 1 = cc in omega arith
 
   accepted_plain : (t : Bool) → is_plain (digit_run (drop at s)) ≡ t
-      → cond t (capped_reading max (digit_run (drop at s)) at) NotANumber ≡ Number n next → Accepted s at max n next
+      → cond t (capped_reading max (digit_run (drop at s)) at) None ≡ Some (n, next) → Accepted s at max n next
   unfolding capped_reading
   accepted_plain true p e = accepted_capped (digit_run (drop at s)) refl p (leb (value (digit_run (drop at s))) max) refl e
   accepted_plain false p e = absurd (none e)
     where
-      none : NotANumber ≡ Number n next → ⊥
+      none : None ≡ Some (n, next) → ⊥
       none e = let z : ◌≡◌ {A = ℕ} 0 1 = cc in omega arith
 
   -- what is accepted is what the writer writes
-  pub read_accepted : read_decimal s at max ≡ Number n next → Accepted s at max n next
+  pub read_accepted : read_decimal s at max ≡ Some (n, next) → Accepted s at max n next
   unfolding read_decimal plain_reading
   read_accepted e = accepted_plain (is_plain (digit_run (drop at s))) refl e
 
   -- and nothing else decides
-  pub accepted_read : Accepted s at max n next → read_decimal s at max ≡ Number n next
-  accepted_read a = read_digits s at max n (drop next s) a.text a.stops a.bound ∙ ap (Number n) (sym a.after)
+  pub accepted_read : Accepted s at max n next → read_decimal s at max ≡ Some (n, next)
+  accepted_read a = read_digits s at max n (drop next s) a.text a.stops a.bound ∙ ap ((λ x. Some (n, x))) (sym a.after)
 
 -- octets written in hexadecimal at a place are read there
 pub read_hex_written : (s bs buffer : List ℕ) (at : ℕ) → ((i : ℕ) → get_or bs i 0 < 256) → at + length (hex_text bs) ≤ length s → length bs ≤ length buffer
-    → read_hex (written_at s at (hex_text bs)) at (length bs) buffer ≡ hex_exit (bs ++ drop (length bs) buffer) (hex.Next (at + length bs * 2))
+    → read_hex (written_at s at (hex_text bs)) at (length bs) buffer ≡ hex_exit (bs ++ drop (length bs) buffer) (Ok (Some (at + length bs * 2)))
 unfolding read_hex are_letters
 read_hex_written s bs buffer at o h l =
     let k = length_hex bs in

@@ -1,4 +1,5 @@
 -- Runs of digits, and the loop that reads one.
+use Rattle.std.specs.Prelude.{None, Option, Some}
 use Prim.Native.Nat.{ℕ, ◌+◌, ◌-◌, ◌*◌, ◌/◌, ◌^◌, ◌≤◌, ◌<◌}
 use mathlib.Core.Path.{◌≡◌, refl, ap, ◌∙◌}
 use mathlib.Core.Bool.{Bool, true, false, cond}
@@ -12,8 +13,6 @@ use lib.Dec.{leb}
 use borrow.Author.Tests.{leb-true, leb-false, le-leb, lt-leb}
 use Rattle.text.specs.Decimal.{is_digit, all_digits, value}
 use Rattle.text.specs.Reading.{digit_run, capped_reading}
-use Rattle.text.specs.declared.DecimalReading.{DecimalReading}
-use Rattle.text.specs.declared.DecimalReading.TheVariants.{Number, NotANumber}
 use Rattle.text.proofs.Digits.{all_cons}
 use Rattle.text.specs.Letters.{digit_zero}
 
@@ -61,19 +60,19 @@ run_split [] = record { letters = refl; joined = refl; stops = refl }
 run_split (x ∷ xs) = run_split_step x xs (run_split xs) (is_digit x) refl
 
 -- what is left of a run to read, with the sum so far
-unfoldable pub run_from : ℕ → ℕ → ℕ → List ℕ → DecimalReading
-run_from max sum i [] = Number sum i
+unfoldable pub run_from : ℕ → ℕ → ℕ → List ℕ → Option (ℕ × ℕ)
+run_from max sum i [] = Some (sum, i)
 run_from max sum i (b ∷ bs) =
     cond (is_digit b)
-    (cond (leb (sum * 10 + (b - digit_zero)) max) (run_from max (sum * 10 + (b - digit_zero)) (i + 1) bs) NotANumber)
-    (Number sum i)
+    (cond (leb (sum * 10 + (b - digit_zero)) max) (run_from max (sum * 10 + (b - digit_zero)) (i + 1) bs) None)
+    (Some (sum, i))
 
 -- a sum and a run of digits after it
 unfoldable total : ℕ → List ℕ → ℕ
 total sum run = sum * 10 ^ length run + value run
 
-unfoldable capped : ℕ → ℕ → ℕ → DecimalReading
-capped max v next = cond (leb v max) (Number v next) NotANumber
+unfoldable capped : ℕ → ℕ → ℕ → Option (ℕ × ℕ)
+capped max v next = cond (leb v max) (Some (v, next)) None
 
 total_none : (sum : ℕ) → total sum [] ≡ sum
 unfolding total value
@@ -96,7 +95,7 @@ total_least sum run = go sum (10 ^ length run) (value run) (one-le-pow (length r
 run_from_digit : (max sum i b : ℕ) (bs : List ℕ)
     → (sum * 10 + (b - digit_zero) ≤ max → run_from max (sum * 10 + (b - digit_zero)) (i + 1) bs ≡ capped max (total (sum * 10 + (b - digit_zero)) (digit_run bs)) (i + 1 + length (digit_run bs)))
     → (t : Bool) → leb (sum * 10 + (b - digit_zero)) max ≡ t
-    → cond (leb (sum * 10 + (b - digit_zero)) max) (run_from max (sum * 10 + (b - digit_zero)) (i + 1) bs) NotANumber
+    → cond (leb (sum * 10 + (b - digit_zero)) max) (run_from max (sum * 10 + (b - digit_zero)) (i + 1) bs) None
     ≡ capped max (total (sum * 10 + (b - digit_zero)) (digit_run bs)) (i + 1 + length (digit_run bs))
 unfolding capped
 run_from_digit max sum i b bs f true e = simp e (f (leb-true (sum * 10 + (b - digit_zero)) max e))
@@ -112,11 +111,11 @@ unfolding run_from capped
 run_from_step max sum i b bs h f true e =
     rw (run_digit b bs e, e, total_step sum b (digit_run bs))
     (run_from_digit max sum i b bs f (leb (sum * 10 + (b - digit_zero)) max) refl ∙ ap (capped max (total (sum * 10 + (b - digit_zero)) (digit_run bs))) (omega arith))
-run_from_step max sum i b bs h f false e = rw (run_other b bs e, e, total_none sum, le-leb sum max h) (ap (Number sum) (omega arith))
+run_from_step max sum i b bs h f false e = rw (run_other b bs e, e, total_none sum, le-leb sum max h) (ap ((λ x. Some (sum, x))) (omega arith))
 
 run_from_lem : (max sum i : ℕ) (xs : List ℕ) → sum ≤ max → run_from max sum i xs ≡ capped max (total sum (digit_run xs)) (i + length (digit_run xs))
 unfolding run_from capped digit_run
-run_from_lem max sum i [] h = rw (total_none sum, le-leb sum max h) (ap (Number sum) (omega arith))
+run_from_lem max sum i [] h = rw (total_none sum, le-leb sum max h) (ap ((λ x. Some (sum, x))) (omega arith))
 run_from_lem max sum i (b ∷ bs) h = run_from_step max sum i b bs h (run_from_lem max (sum * 10 + (b - digit_zero)) (i + 1) bs) (is_digit b) refl
 
 total_zero : (run : List ℕ) → total 0 run ≡ value run
@@ -130,16 +129,16 @@ run_from_start max at xs =
     run_from_lem max 0 at xs (omega arith) ∙ ap (λ (v : ℕ). capped max v (at + length (digit_run xs))) (total_zero (digit_run xs))
 
 -- the steps of the loop, at a place of a text
-pub from_end : (s : List ℕ) (max sum i : ℕ) → length s ≤ i → run_from max sum i (drop i s) ≡ Number sum i
+pub from_end : (s : List ℕ) (max sum i : ℕ) → length s ≤ i → run_from max sum i (drop i s) ≡ Some (sum, i)
 unfolding run_from
 from_end s max sum i h = rw (drop_of_length-le s h)
 
 module _ (s : List ℕ) (max sum i : ℕ) (h : i < length s) where
-  pub from_other : is_digit (get_or s i 0) ≡ false → run_from max sum i (drop i s) ≡ Number sum i
+  pub from_other : is_digit (get_or s i 0) ≡ false → run_from max sum i (drop i s) ≡ Some (sum, i)
   unfolding run_from
   from_other e = rw (drop-cons s i 0 h, e)
 
-  pub from_large : is_digit (get_or s i 0) ≡ true → max < sum * 10 + (get_or s i 0 - digit_zero) → run_from max sum i (drop i s) ≡ NotANumber
+  pub from_large : is_digit (get_or s i 0) ≡ true → max < sum * 10 + (get_or s i 0 - digit_zero) → run_from max sum i (drop i s) ≡ None
   unfolding run_from
   from_large e l = rw (drop-cons s i 0 h, e, lt-leb (sum * 10 + (get_or s i 0 - digit_zero)) max l)
 

@@ -14,28 +14,6 @@ use refusal::Refusal;
 
 mod letters;
 
-// The place after what was written.
-#[derive(Clone, Copy)]
-pub enum PlaceAnswer {
-    Next(usize),
-    Refused(Refusal),
-}
-
-// The number, and the place after its last digit.
-#[derive(Clone, Copy)]
-pub enum DecimalReading {
-    Number(u64, usize),
-    NotANumber,
-}
-
-// The place after the last letter.
-#[derive(Clone, Copy)]
-pub enum HexReading {
-    Next(usize),
-    NotHex,
-    Refused(Refusal),
-}
-
 pub fn decimal_length(n: u64) -> usize
     ensures { result ≡ length (digits n) }
 {
@@ -49,102 +27,102 @@ pub fn decimal_length(n: u64) -> usize
 }
 
 // Writes n at a place.
-pub fn write_decimal(n: u64, out: &mut [u8], at: usize) -> PlaceAnswer
+pub fn write_decimal(n: u64, out: &mut [u8], at: usize) -> Result<usize, Refusal>
     ensures { place_exit out.new result ≡ place out.old at (digits n) }
 {
     let room = out.len().saturating_sub(at);
     if room < decimal_length(n) {
-        return PlaceAnswer::Refused(Refusal::Full);
+        return Err(Refusal::Full);
     }
     let next = write_decimal_unchecked(n, out, at);
-    PlaceAnswer::Next(next)
+    Ok(next)
 }
 
 // Writes a word at a place.
-pub fn write_word(word: &[u8], out: &mut [u8], at: usize) -> PlaceAnswer
+pub fn write_word(word: &[u8], out: &mut [u8], at: usize) -> Result<usize, Refusal>
     ensures { place_exit out.new result ≡ place out.old at word.now }
 {
     if out.len() < at {
-        return PlaceAnswer::Refused(Refusal::Full);
+        return Err(Refusal::Full);
     }
     let room = out.len() - at;
     if room < word.len() {
-        return PlaceAnswer::Refused(Refusal::Full);
+        return Err(Refusal::Full);
     }
     let next = write_word_unchecked(word, out, at);
-    PlaceAnswer::Next(next)
+    Ok(next)
 }
 
 // Writes n at the right end of a column that starts at a place. A number wider than the column takes its own width.
-pub fn write_right(n: u64, width: usize, out: &mut [u8], at: usize) -> PlaceAnswer
+pub fn write_right(n: u64, width: usize, out: &mut [u8], at: usize) -> Result<usize, Refusal>
     ensures { place_exit out.new result ≡ place out.old at (right_in width (digits n)) }
 {
     let room = out.len().saturating_sub(at);
     if room < right_length(n, width) {
-        return PlaceAnswer::Refused(Refusal::Full);
+        return Err(Refusal::Full);
     }
     let next = write_right_unchecked(n, width, out, at);
-    PlaceAnswer::Next(next)
+    Ok(next)
 }
 
 // Reads the plain decimal number up to max that starts at a place and ends before the first letter that is no digit.
-pub fn read_decimal(s: &[u8], at: usize, max: u64) -> DecimalReading
+pub fn read_decimal(s: &[u8], at: usize, max: u64) -> Option<(u64, usize)>
     ensures { result ≡ read_decimal s.now at max }
 {
     if starts_plain(s, at) {
         return read_run(s, at, max);
     }
-    DecimalReading::NotANumber
+    None
 }
 
 // Reads a number up to max at a place and the letter after it.
-pub fn read_field(s: &[u8], at: usize, max: u64, letter: u8) -> DecimalReading
+pub fn read_field(s: &[u8], at: usize, max: u64, letter: u8) -> Option<(u64, usize)>
     ensures { result ≡ read_field s.now at max letter }
 {
     match read_decimal(s, at, max) {
-        DecimalReading::Number(n, next) => {
+        Some((n, next)) => {
             if s.len() <= next {
-                return DecimalReading::NotANumber;
+                return None;
             }
             let b = s[next];
             if b != letter {
-                return DecimalReading::NotANumber;
+                return None;
             }
-            DecimalReading::Number(n, next + 1)
+            Some((n, next + 1))
         }
-        DecimalReading::NotANumber => DecimalReading::NotANumber,
+        None => None,
     }
 }
 
 // Writes octets in hexadecimal at a place.
-pub fn write_hex(src: &[u8], out: &mut [u8], at: usize) -> PlaceAnswer
+pub fn write_hex(src: &[u8], out: &mut [u8], at: usize) -> Result<usize, Refusal>
     ensures { place_exit out.new result ≡ place out.old at (hex_text src.now) }
 {
     if out.len() < at {
-        return PlaceAnswer::Refused(Refusal::Full);
+        return Err(Refusal::Full);
     }
     let room = (out.len() - at) / 2;
     if room < src.len() {
-        return PlaceAnswer::Refused(Refusal::Full);
+        return Err(Refusal::Full);
     }
     let next = at + src.len() * 2;
     write_hex_unchecked(src, &mut out[at..next]);
-    PlaceAnswer::Next(next)
+    Ok(next)
 }
 
 // Reads count octets from letters at a place into the front of out.
-pub fn read_hex(s: &[u8], at: usize, count: usize, out: &mut [u8]) -> HexReading
+pub fn read_hex(s: &[u8], at: usize, count: usize, out: &mut [u8]) -> Result<Option<usize>, Refusal>
     ensures { hex_exit out.new result ≡ read_hex s.now at count out.old }
 {
     if !are_letters(s, at, count) {
-        return HexReading::NotHex;
+        return Ok(None);
     }
     if out.len() < count {
-        return HexReading::Refused(Refusal::Full);
+        return Err(Refusal::Full);
     }
     let next = at + count * 2;
     read_hex_unchecked(&s[at..next], &mut out[..count]);
-    HexReading::Next(next)
+    Ok(Some(next))
 }
 
 // Whether each letter is hexadecimal, lower-case.
@@ -311,25 +289,25 @@ fn starts_plain(s: &[u8], at: usize) -> bool
 }
 
 // Reads the digits at a place, as many as there are, as a number up to max.
-fn read_run(s: &[u8], at: usize, max: u64) -> DecimalReading
+fn read_run(s: &[u8], at: usize, max: u64) -> Option<(u64, usize)>
     ensures { result ≡ capped_reading max (digit_run (drop at s.now)) at }
 {
     let mut sum: u64 = 0;
     for i in at..s.len() {
         let b = s[i];
         if !is_digit(b) {
-            return DecimalReading::Number(sum, i);
+            return Some((sum, i));
         }
         let d = digit_value(b);
         if max / 10 < sum {
-            return DecimalReading::NotANumber;
+            return None;
         }
         let tens = sum * 10;
         if max - tens < d {
-            return DecimalReading::NotANumber;
+            return None;
         }
         sum = tens + d;
     }
     // A place past the end is given back as it is.
-    DecimalReading::Number(sum, at.max(s.len()))
+    Some((sum, at.max(s.len())))
 }

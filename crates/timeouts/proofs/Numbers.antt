@@ -1,4 +1,5 @@
 -- One number's timer: what `fire_number` leaves, and what it keeps.
+use Rattle.std.specs.Prelude.{Option}
 use Prim.Native.Nat.{ℕ, suc, ◌+◌, ◌*◌, ◌≤◌, ◌<◌}
 use native.Mathlib.Omega.{arith}
 use native.Mathlib.Nat.{le_refl}
@@ -31,7 +32,6 @@ use Rattle.clock.proofs.Laws as clock
 use Rattle.clock.proofs.Laws.{held_lengths, running, cancel_number_good, cancel_number_keys, cancel_number_entries, submit_entries, back_off_counts}
 use Rattle.session.specs.Sending.{SenderEnd, selective_repeat_end, window_of, window_end, oldest_outstanding, is_due, Resent, resent}
 use Rattle.session.specs.GoodSender.{is_selective, CleanSender, SenderUnbroken, Within}
-use Rattle.session.specs.declared.Oldest.{Oldest}
 use Rattle.session.specs.declared.Timeout.TheVariants as timeout
 use Rattle.session.proofs.Laws.{due_within, timeout_due, timeout_not_due, timeout_due_one, datagram_number, datagram_short}
 use Rattle.submission.specs.Submission.{Outgoing, GoodOutgoing}
@@ -44,7 +44,7 @@ use Rattle.timeouts.specs.Good.{Counted, GoodFire, CanFire}
 use Rattle.timeouts.proofs.Single.{timed_out_by, sender_unbroken, backed_off_estimator, can_resend_all, after_good, FireKeeps, timed_out_keeps}
 
 -- ---- one packet: the ceiling is not met
-one_packet : (limit : ℕ) (t : Timing) (rolls : List Float) (rto now : ℕ) (oldest : Oldest) (seq : ℕ) (packet : List ℕ) (r : Resends) (o : Outgoing) → number_of packet ≡ seq → ceiling_met limit r ≡ false
+one_packet : (limit : ℕ) (t : Timing) (rolls : List Float) (rto now : ℕ) (oldest : Option ℕ) (seq : ℕ) (packet : List ℕ) (r : Resends) (o : Outgoing) → number_of packet ≡ seq → ceiling_met limit r ≡ false
     → retransmit_all limit t rolls rto now oldest (packet ∷ []) r o ≡ retransmit t rolls rto now oldest seq packet r o
 one_packet limit t rolls rto now oldest seq packet r o n c = by_stop_lem (is_going one.stop) refl
   where
@@ -136,7 +136,7 @@ module _ {rolls : List Float} {samples now : ℕ} {s : FireState} (g : GoodFire 
       abbrev packet : List ℕ
       packet = datagram_for (window_end (marked_again s.sender n)) n
 
-      abbrev oldest : Oldest
+      abbrev oldest : Option ℕ
       oldest = oldest_outstanding (marked_again s.sender n).sender
 
       abbrev given : Submission

@@ -1,5 +1,6 @@
 -- `fire_numbers` by its turns, what it keeps, and its loop: the due numbers from the cursor on make of the present what
 -- all of them make of the start.
+use Rattle.std.specs.Prelude.{None, Some}
 use Prim.Native.Nat.{ℕ, ◌+◌, ◌-◌, ◌^◌, ◌≤◌, ◌<◌, zero-le}
 use native.Mathlib.Omega.{arith}
 use native.Mathlib.Nat.{le_trans}
@@ -15,8 +16,6 @@ use Rattle.bounds.specs.Bounds.{seq_num_limit}
 use Rattle.window.proofs.Laws.{sound}
 use Rattle.multi_timer.specs.Map.{keys_of, ascending, lookup, is_some, due_at, due_keys_from}
 use Rattle.multi_timer.specs.MultiTimer.{next_expired_unchecked}
-use Rattle.multi_timer.specs.declared.NextKey.{NextKey}
-use Rattle.multi_timer.specs.declared.NextKey.TheVariants.{Key, Nothing}
 use Rattle.multi_timer.proofs.Laws.{used_ascending, due_from_all, due_from_next, due_from_first, next_key_lem, next_nothing}
 use Rattle.path.specs.Path.{is_going}
 use Rattle.path.specs.declared.Stop.TheVariants.{Going}
@@ -153,12 +152,12 @@ timer_set : (now : ℕ) (o : Option ℕ) → due_at now o ≡ true → is_some o
 timer_set now none e = e
 timer_set now (some d) e = refl
 
-module _ {limit : ℕ} {rolls : List Float} {now : ℕ} {u v : FireState} {from : ℕ} (l : Left limit rolls now u v from) {k : NextKey}
+module _ {limit : ℕ} {rolls : List Float} {now : ℕ} {u v : FireState} {from : ℕ} (l : Left limit rolls now u v from) {k : Option ℕ}
     (next : k ≡ next_expired_unchecked (timers_of v.outgoing.clock) v.outgoing.clock.keys v.outgoing.clock.deadlines from now) where
-  pub left_none : k ≡ Nothing → fire_exit v true Going ≡ fire_numbers limit rolls now (expired u.outgoing.clock now) u
+  pub left_none : k ≡ None → fire_exit v true Going ≡ fire_numbers limit rolls now (expired u.outgoing.clock now) u
   left_none e = sym (numbers_none limit rolls now v) ∙ ap (λ (ks : List ℕ). fire_numbers limit rolls now ks v) (sym (next_nothing (due_keys_from from now (running v.outgoing.clock)) (sym next ∙ e))) ∙ l.eq
 
-  module _ {n : ℕ} (e : k ≡ Key n) where
+  module _ {n : ℕ} (e : k ≡ Some n) where
     found : (rest : List ℕ) × (due_keys_from from now (running v.outgoing.clock) ≡ n ∷ rest)
     found = next_key_lem (due_keys_from from now (running v.outgoing.clock)) n (sym next ∙ e)
 

@@ -1,4 +1,5 @@
 -- `fire_timers`: by what is due, what it leaves and what it keeps.
+use Rattle.std.specs.Prelude.{Option}
 use Prim.Native.Nat.{ℕ, ◌≤◌}
 use native.Mathlib.Omega.{arith}
 use native.Mathlib.Nat.{le_trans}
@@ -25,7 +26,6 @@ use Rattle.clock.specs.declared.Due.{Due}
 use Rattle.clock.specs.declared.Due.TheVariants as ran
 use Rattle.clock.proofs.Laws.{running}
 use Rattle.session.specs.Sending.{window_of, has_outstanding}
-use Rattle.session.specs.declared.Oldest.{Oldest}
 use Rattle.session.specs.declared.Timeout.TheVariants as timeout
 use Rattle.session.proofs.Laws.{SameWindow, unbroken_numbers}
 use Rattle.submission.specs.Submission.{Outgoing}
@@ -191,7 +191,7 @@ module _ (limit : ℕ) (rolls : List Float) (now : ℕ) where
       (λ i e. absurd (true≢false (sym (numbers_progress (expired s.outgoing.clock now) s) ∙ e)))
 
 -- ---- the single timer leaves the numbers' timers alone
-retransmit_running : (t : Timing) (rolls : List Float) (rto now : ℕ) (oldest : Oldest) (seq : ℕ) (packet : List ℕ) (r : Resends) (o : Outgoing) → (t ≡ timing.PerNumber → ⊥) → running (retransmit t rolls rto now oldest seq packet r o).outgoing.clock ≡ running o.clock
+retransmit_running : (t : Timing) (rolls : List Float) (rto now : ℕ) (oldest : Option ℕ) (seq : ℕ) (packet : List ℕ) (r : Resends) (o : Outgoing) → (t ≡ timing.PerNumber → ⊥) → running (retransmit t rolls rto now oldest seq packet r o).outgoing.clock ≡ running o.clock
 unfolding retransmit
 retransmit_running timing.Single rolls rto now oldest seq packet r o i = single_running rolls _ packet o
 retransmit_running timing.PerNumber rolls rto now oldest seq packet r o i = absurd (i refl)

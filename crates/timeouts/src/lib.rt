@@ -14,7 +14,6 @@ ghost use Rattle.timeouts.specs.Good.{CanFire};
 
 use clock::{Due, Timing};
 use events::Event;
-use multi_timer::NextKey;
 use notes::Note;
 use path::Stop;
 use rto::RtoEstimator;
@@ -377,7 +376,7 @@ fn fire_numbers(
         let timers = clock.timers;
         let next = timers.next_expired_unchecked(keys, deadlines, from, now);
         match next {
-            NextKey::Nothing => {
+            None => {
                 return FireResult {
                     sender,
                     estimator,
@@ -387,7 +386,7 @@ fn fire_numbers(
                     stop: Stop::Going,
                 };
             }
-            NextKey::Key(n) => {
+            Some(n) => {
                 let met = sending::ceiling_met(resends, max_retransmissions);
                 if met {
                     let resends = sending::exhausted(resends);

@@ -1,44 +1,43 @@
 -- What crates above may cite of the retransmission timer.
+use Rattle.std.specs.Prelude.{Err, Ok, Result}
 use Rattle.std.proofs.Common.{◌≡◌, ℕ, ◌-◌, ◌^◌, ◌<◌, ◌≤◌, true, false, refl, ap, ◌∙◌, arith, le-ltb, ne_eqb}
 use Rattle.bounds.specs.Bounds.{max_duration, max_time}
 use Rattle.duration.proofs.Laws.{start_in_time, start_late_within}
 use Rattle.refusal.specs.declared.Refusal.TheVariants.{Time}
 use Rattle.timer.specs.Timer.{deadline_too_late, start_too_late, read_too_late, expired_at, next_generation, new_timer, started_at_unchecked, cancelled_unchecked, timer_result, started_at, cancelled, is_expired_at, is_expired_for_at}
 use Rattle.timer.specs.declared.RetransmissionTimer.{RetransmissionTimer}
-use Rattle.timer.specs.declared.TimerAnswer.{TimerAnswer}
-use Rattle.timer.specs.declared.TimerAnswer.TheVariants.{Id, Refused}
 use Rattle.timer.specs.declared.TimerResult.{TimerResult}
-use Rattle.refusal.specs.declared.TestAnswer as Test
 use Rattle.timer.proofs.Checks.{time_check}
+use Rattle.refusal.specs.declared.Refusal.{Refusal}
 
 -- a refused start changes nothing
-pub start_refused : (t : RetransmissionTimer) (now duration : ℕ) → start_too_late t now duration ≡ true → started_at t now duration ≡ timer_result t (Refused Time)
+pub start_refused : (t : RetransmissionTimer) (now duration : ℕ) → start_too_late t now duration ≡ true → started_at t now duration ≡ timer_result t (Err Time)
 unfolding started_at
 start_refused t now duration e = simp (time_check, e)
 
-pub start_accepted : (t : RetransmissionTimer) (now duration : ℕ) → start_too_late t now duration ≡ false → started_at t now duration ≡ timer_result (started_at_unchecked t now duration) (Id (next_generation t.generation))
+pub start_accepted : (t : RetransmissionTimer) (now duration : ℕ) → start_too_late t now duration ≡ false → started_at t now duration ≡ timer_result (started_at_unchecked t now duration) (Ok (next_generation t.generation))
 unfolding started_at
 start_accepted t now duration e = simp (time_check, e)
 
-pub cancel_refused : (t : RetransmissionTimer) → deadline_too_late t.deadline ≡ true → cancelled t ≡ timer_result t (Refused Time)
+pub cancel_refused : (t : RetransmissionTimer) → deadline_too_late t.deadline ≡ true → cancelled t ≡ timer_result t (Err Time)
 unfolding cancelled
 cancel_refused t e = simp (time_check, e)
 
-pub cancel_accepted : (t : RetransmissionTimer) → deadline_too_late t.deadline ≡ false → cancelled t ≡ timer_result (cancelled_unchecked t) (Id (next_generation t.generation))
+pub cancel_accepted : (t : RetransmissionTimer) → deadline_too_late t.deadline ≡ false → cancelled t ≡ timer_result (cancelled_unchecked t) (Ok (next_generation t.generation))
 unfolding cancelled
 cancel_accepted t e = simp (time_check, e)
 
-pub expired_accepted : (t : RetransmissionTimer) (now : ℕ) → read_too_late t now ≡ false → is_expired_at t now ≡ Test.TheVariants.Is (expired_at t.deadline now)
+pub expired_accepted : (t : RetransmissionTimer) (now : ℕ) → read_too_late t now ≡ false → is_expired_at t now ≡ Ok (expired_at t.deadline now)
 unfolding is_expired_at
 expired_accepted t now e = simp (time_check, e)
 
 -- so a timer lent to a refused call is as it was
-pub lent_start_refused : (t t' : RetransmissionTimer) (a : TimerAnswer) (now duration : ℕ) → timer_result t' a ≡ started_at t now duration → start_too_late t now duration ≡ true → (t' ≡ t) × (a ≡ Refused Time)
+pub lent_start_refused : (t t' : RetransmissionTimer) (a : Result ℕ Refusal) (now duration : ℕ) → timer_result t' a ≡ started_at t now duration → start_too_late t now duration ≡ true → (t' ≡ t) × (a ≡ Err Time)
 lent_start_refused t t' a now duration p e =
     let q = p ∙ start_refused t now duration e in
     (ap (λ (c : TimerResult). c.timer) q, ap (λ (c : TimerResult). c.answer) q)
 
-pub lent_cancel_refused : (t t' : RetransmissionTimer) (a : TimerAnswer) → timer_result t' a ≡ cancelled t → deadline_too_late t.deadline ≡ true → (t' ≡ t) × (a ≡ Refused Time)
+pub lent_cancel_refused : (t t' : RetransmissionTimer) (a : Result ℕ Refusal) → timer_result t' a ≡ cancelled t → deadline_too_late t.deadline ≡ true → (t' ≡ t) × (a ≡ Err Time)
 lent_cancel_refused t t' a p e =
     let q = p ∙ cancel_refused t e in
     (ap (λ (c : TimerResult). c.timer) q, ap (λ (c : TimerResult). c.answer) q)
@@ -67,11 +66,11 @@ cancel_held t = refl
 other : (g : ℕ) → g < 2 ^ 64 → next_generation g ≡ g → ⊥
 other g h e = omega arith
 
-pub stale_after_start : (t : RetransmissionTimer) (now duration later : ℕ) → t.generation < 2 ^ 64 → read_too_late (started_at_unchecked t now duration) later ≡ false → is_expired_for_at (started_at_unchecked t now duration) t.generation later ≡ Test.TheVariants.Is false
+pub stale_after_start : (t : RetransmissionTimer) (now duration later : ℕ) → t.generation < 2 ^ 64 → read_too_late (started_at_unchecked t now duration) later ≡ false → is_expired_for_at (started_at_unchecked t now duration) t.generation later ≡ Ok false
 unfolding is_expired_for_at started_at_unchecked
 stale_after_start t now duration later h e = simp (time_check, e, ne_eqb _ _ (other t.generation h))
 
-pub stale_after_cancel : (t : RetransmissionTimer) (later : ℕ) → t.generation < 2 ^ 64 → read_too_late (cancelled_unchecked t) later ≡ false → is_expired_for_at (cancelled_unchecked t) t.generation later ≡ Test.TheVariants.Is false
+pub stale_after_cancel : (t : RetransmissionTimer) (later : ℕ) → t.generation < 2 ^ 64 → read_too_late (cancelled_unchecked t) later ≡ false → is_expired_for_at (cancelled_unchecked t) t.generation later ≡ Ok false
 unfolding is_expired_for_at cancelled_unchecked
 stale_after_cancel t later h e = simp (time_check, e, ne_eqb _ _ (other t.generation h))
 

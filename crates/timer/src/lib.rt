@@ -8,38 +8,18 @@ ghost use Rattle.timer.specs.Timer.{new_timer, timer_result, started_at, cancell
 ghost use Rattle.timer.specs.Timer.{is_expired_at, is_expired_for_at};
 
 use bounds::MAX_TIME;
-use refusal::{Refusal, TestAnswer};
-
-#[derive(Clone, Copy)]
-pub enum Deadline {
-    Unset,
-    At(u64),
-}
+use refusal::Refusal;
 
 #[derive(Clone, Copy)]
 pub struct RetransmissionTimer {
-    pub deadline: Deadline,
+    pub deadline: Option<u64>,
     pub generation: u64,
-}
-
-#[derive(Clone, Copy)]
-pub enum TimerAnswer {
-    // The timer's new generation.
-    Id(u64),
-    Refused(Refusal),
 }
 
 #[derive(Clone, Copy)]
 pub struct TimerResult {
     pub timer: RetransmissionTimer,
-    pub answer: TimerAnswer,
-}
-
-#[derive(Clone, Copy)]
-pub enum Remaining {
-    Inactive,
-    For(u64),
-    Refused(Refusal),
+    pub answer: Result<u64, Refusal>,
 }
 
 impl RetransmissionTimer {
@@ -47,7 +27,7 @@ impl RetransmissionTimer {
         ensures { result ≡ new_timer }
     {
         RetransmissionTimer {
-            deadline: Deadline::Unset,
+            deadline: None,
             generation: 0,
         }
     }
@@ -59,13 +39,13 @@ impl RetransmissionTimer {
         if start_too_late(self, now, duration) {
             return TimerResult {
                 timer: self,
-                answer: TimerAnswer::Refused(Refusal::Time),
+                answer: Err(Refusal::Time),
             };
         }
         let t = self.started_at_unchecked(now, duration);
         TimerResult {
             timer: t,
-            answer: TimerAnswer::Id(t.generation),
+            answer: Ok(t.generation),
         }
     }
 
@@ -76,18 +56,18 @@ impl RetransmissionTimer {
         if deadline_too_late(d) {
             return TimerResult {
                 timer: self,
-                answer: TimerAnswer::Refused(Refusal::Time),
+                answer: Err(Refusal::Time),
             };
         }
         let t = self.cancelled_unchecked();
         TimerResult {
             timer: t,
-            answer: TimerAnswer::Id(t.generation),
+            answer: Ok(t.generation),
         }
     }
 
     // Starts or restarts the lent timer.
-    pub fn start_at(&mut self, now: u64, duration: u64) -> TimerAnswer
+    pub fn start_at(&mut self, now: u64, duration: u64) -> Result<u64, Refusal>
         ensures { timer_result self.new result ≡ started_at self.old now duration }
     {
         let c = (*self).started_at(now, duration);
@@ -95,7 +75,7 @@ impl RetransmissionTimer {
         c.answer
     }
 
-    pub fn cancel(&mut self) -> TimerAnswer
+    pub fn cancel(&mut self) -> Result<u64, Refusal>
         ensures { timer_result self.new result ≡ cancelled self.old }
     {
         let c = (*self).cancelled();
@@ -127,46 +107,46 @@ impl RetransmissionTimer {
         }
     }
 
-    pub fn is_active(self) -> TestAnswer
+    pub fn is_active(self) -> Result<bool, Refusal>
         ensures { result ≡ is_active self }
     {
         let d = self.deadline;
         if deadline_too_late(d) {
-            return TestAnswer::Refused(Refusal::Time);
+            return Err(Refusal::Time);
         }
-        TestAnswer::Is(deadline_set(d))
+        Ok(deadline_set(d))
     }
 
-    pub fn remaining_at(self, now: u64) -> Remaining
+    pub fn remaining_at(self, now: u64) -> Result<Option<u64>, Refusal>
         ensures { result ≡ remaining_at self now }
     {
         if read_too_late(self, now) {
-            return Remaining::Refused(Refusal::Time);
+            return Err(Refusal::Time);
         }
         let d = self.deadline;
         deadline_remaining(d, now)
     }
 
-    pub fn is_expired_at(self, now: u64) -> TestAnswer
+    pub fn is_expired_at(self, now: u64) -> Result<bool, Refusal>
         ensures { result ≡ is_expired_at self now }
     {
         if read_too_late(self, now) {
-            return TestAnswer::Refused(Refusal::Time);
+            return Err(Refusal::Time);
         }
-        TestAnswer::Is(self.is_expired_at_unchecked(now))
+        Ok(self.is_expired_at_unchecked(now))
     }
 
     // An event of an older generation is stale.
-    pub fn is_expired_for_at(self, expected: u64, now: u64) -> TestAnswer
+    pub fn is_expired_for_at(self, expected: u64, now: u64) -> Result<bool, Refusal>
         ensures { result ≡ is_expired_for_at self expected now }
     {
         if read_too_late(self, now) {
-            return TestAnswer::Refused(Refusal::Time);
+            return Err(Refusal::Time);
         }
         if self.generation != expected {
-            return TestAnswer::Is(false);
+            return Ok(false);
         }
-        TestAnswer::Is(self.is_expired_at_unchecked(now))
+        Ok(self.is_expired_at_unchecked(now))
     }
 
     pub fn started_at_unchecked(self, now: u64, duration: u64) -> RetransmissionTimer
@@ -174,7 +154,7 @@ impl RetransmissionTimer {
         ensures { result ≡ started_at_unchecked self now duration }
     {
         RetransmissionTimer {
-            deadline: Deadline::At(now + duration),
+            deadline: Some(now + duration),
             generation: self.generation.wrapping_add(1),
         }
     }
@@ -184,7 +164,7 @@ impl RetransmissionTimer {
         ensures { result ≡ cancelled_unchecked self }
     {
         RetransmissionTimer {
-            deadline: Deadline::Unset,
+            deadline: None,
             generation: self.generation.wrapping_add(1),
         }
     }
@@ -218,38 +198,38 @@ fn read_too_late(t: RetransmissionTimer, now: u64) -> bool
     now > MAX_TIME
 }
 
-fn deadline_too_late(d: Deadline) -> bool
+fn deadline_too_late(d: Option<u64>) -> bool
     ensures { result ≡ deadline_too_late d }
 {
     match d {
-        Deadline::Unset => false,
-        Deadline::At(t) => t > MAX_TIME,
+        None => false,
+        Some(t) => t > MAX_TIME,
     }
 }
 
-fn deadline_expired(d: Deadline, now: u64) -> bool
+fn deadline_expired(d: Option<u64>, now: u64) -> bool
     ensures { result ≡ expired_at d now }
 {
     match d {
-        Deadline::Unset => false,
-        Deadline::At(t) => now >= t,
+        None => false,
+        Some(t) => now >= t,
     }
 }
 
-fn deadline_set(d: Deadline) -> bool
+fn deadline_set(d: Option<u64>) -> bool
     ensures { result ≡ active d }
 {
     match d {
-        Deadline::Unset => false,
-        Deadline::At(_) => true,
+        None => false,
+        Some(_) => true,
     }
 }
 
-fn deadline_remaining(d: Deadline, now: u64) -> Remaining
+fn deadline_remaining(d: Option<u64>, now: u64) -> Result<Option<u64>, Refusal>
     ensures { result ≡ deadline_remaining d now }
 {
     match d {
-        Deadline::Unset => Remaining::Inactive,
-        Deadline::At(t) => Remaining::For(t.saturating_sub(now)),
+        None => Ok(None),
+        Some(t) => Ok(Some(t.saturating_sub(now))),
     }
 }

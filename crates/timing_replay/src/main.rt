@@ -26,18 +26,13 @@
 // counts of samples, rejected ones, timeouts and backoffs, the most consecutive timeouts and the mean RTT in ms.
 #![tactic(auto)]
 
-use multi_timer::{
-    CancelAnswer, EarliestAnswer, MultiTimer, MultiTimerAnswer, PopAnswer, StartAnswer,
-};
-use refusal::{DoneAnswer, TestAnswer};
+use multi_timer::MultiTimer;
+use refusal::Refusal;
 use replay_io::{Fields, Lines};
-use rto::{
-    EstimatorAnswer, MaybeDuration, MeanAnswer, RtoAnswer, RtoConfig, RtoEstimator, RtoStats,
-    UpdateAnswer,
-};
+use rto::{RtoConfig, RtoEstimator, RtoStats};
 use std::io;
 use std::io::Write;
-use timer::{Remaining, RetransmissionTimer, TimerAnswer, TimerResult};
+use timer::{RetransmissionTimer, TimerResult};
 
 #[derive(Clone, Copy)]
 struct State {
@@ -180,11 +175,11 @@ fn new_estimator(
         rto_multiplier: replay_io::real(v[7]),
     };
     match RtoEstimator::with_config(c) {
-        EstimatorAnswer::Made(e) => {
+        Ok(e) => {
             print_estimator(writer, e)?;
             Ok(e)
         }
-        EstimatorAnswer::Refused(r) => {
+        Err(r) => {
             replay_io::print_refusal(writer, r)?;
             Ok(before)
         }
@@ -206,8 +201,8 @@ fn sample_call(
     let next = c.estimator;
     let a = c.answer;
     match a {
-        UpdateAnswer::Accepted(b) => replay_io::print_test(writer, b)?,
-        UpdateAnswer::Refused(r) => replay_io::print_refusal(writer, r)?,
+        Ok(b) => replay_io::print_test(writer, b)?,
+        Err(r) => replay_io::print_refusal(writer, r)?,
     }
     print_estimator(writer, next)?;
     Ok(next)
@@ -218,8 +213,8 @@ fn timeout_call(writer: &mut impl Write, e: RtoEstimator) -> io::Result<RtoEstim
     let next = c.estimator;
     let a = c.answer;
     match a {
-        RtoAnswer::Rto(rto) => replay_io::print_number(writer, rto)?,
-        RtoAnswer::Refused(r) => replay_io::print_refusal(writer, r)?,
+        Ok(rto) => replay_io::print_number(writer, rto)?,
+        Err(r) => replay_io::print_refusal(writer, r)?,
     }
     print_estimator(writer, next)?;
     Ok(next)
@@ -256,10 +251,10 @@ fn print_stats(writer: &mut impl Write, s: RtoStats) -> io::Result<()> {
     replay_io::print_number(writer, wide(s.max_consecutive_timeouts))
 }
 
-fn print_mean(writer: &mut impl Write, a: MeanAnswer) -> io::Result<()> {
+fn print_mean(writer: &mut impl Write, a: Result<f64, Refusal>) -> io::Result<()> {
     match a {
-        MeanAnswer::Millis(x) => print_bits(writer, x),
-        MeanAnswer::Refused(r) => replay_io::print_refusal(writer, r),
+        Ok(x) => print_bits(writer, x),
+        Err(r) => replay_io::print_refusal(writer, r),
     }
 }
 
@@ -272,10 +267,10 @@ fn print_bits(writer: &mut impl Write, x: f64) -> io::Result<()> {
     }
 }
 
-fn print_rtt(writer: &mut impl Write, r: MaybeDuration) -> io::Result<()> {
+fn print_rtt(writer: &mut impl Write, r: Option<u64>) -> io::Result<()> {
     match r {
-        MaybeDuration::Unset => print_none(writer),
-        MaybeDuration::Set(x) => replay_io::print_number(writer, x),
+        None => print_none(writer),
+        Some(x) => replay_io::print_number(writer, x),
     }
 }
 
@@ -336,17 +331,17 @@ fn print_change(writer: &mut impl Write, c: TimerResult) -> io::Result<Retransmi
     let t = c.timer;
     let a = c.answer;
     match a {
-        TimerAnswer::Id(g) => replay_io::print_number(writer, g)?,
-        TimerAnswer::Refused(r) => replay_io::print_refusal(writer, r)?,
+        Ok(g) => replay_io::print_number(writer, g)?,
+        Err(r) => replay_io::print_refusal(writer, r)?,
     }
     Ok(t)
 }
 
-fn print_remaining(writer: &mut impl Write, a: Remaining) -> io::Result<()> {
+fn print_remaining(writer: &mut impl Write, a: Result<Option<u64>, Refusal>) -> io::Result<()> {
     match a {
-        Remaining::Inactive => print_none(writer),
-        Remaining::For(d) => replay_io::print_number(writer, d),
-        Remaining::Refused(r) => replay_io::print_refusal(writer, r),
+        Ok(None) => print_none(writer),
+        Ok(Some(d)) => replay_io::print_number(writer, d),
+        Err(r) => replay_io::print_refusal(writer, r),
     }
 }
 
@@ -385,11 +380,11 @@ fn new_set_within(
     fill_keys(keys, 1);
     fill_deadlines(deadlines, 1);
     match multi_timer::new_timers(keys, deadlines) {
-        MultiTimerAnswer::Made(t) => {
+        Ok(t) => {
             replay_io::print(writer, b" made")?;
             Ok(t)
         }
-        MultiTimerAnswer::Refused(r) => {
+        Err(r) => {
             replay_io::print_refusal(writer, r)?;
             Ok(no_timers())
         }
@@ -490,8 +485,8 @@ fn start_call(
     let next = c.timers;
     let a = c.answer;
     match a {
-        StartAnswer::Id(g) => replay_io::print_number(writer, g)?,
-        StartAnswer::Refused(r) => replay_io::print_refusal(writer, r)?,
+        Ok(g) => replay_io::print_number(writer, g)?,
+        Err(r) => replay_io::print_refusal(writer, r)?,
     }
     Ok(next)
 }
@@ -507,8 +502,8 @@ fn cancel_call(
     let next = c.timers;
     let a = c.answer;
     match a {
-        CancelAnswer::Existed(x) => replay_io::print_test(writer, x)?,
-        CancelAnswer::Refused(r) => replay_io::print_refusal(writer, r)?,
+        Ok(x) => replay_io::print_test(writer, x)?,
+        Err(r) => replay_io::print_refusal(writer, r)?,
     }
     Ok(next)
 }
@@ -553,8 +548,8 @@ fn pop_to(
     let next = c.timers;
     let a = c.answer;
     match a {
-        PopAnswer::Keys(n) => replay_io::print_number(writer, n as u64)?,
-        PopAnswer::Refused(r) => replay_io::print_refusal(writer, r)?,
+        Ok(n) => replay_io::print_number(writer, n as u64)?,
+        Err(r) => replay_io::print_refusal(writer, r)?,
     }
     print_keys(writer, out)?;
     Ok(next)
@@ -574,11 +569,11 @@ fn clear_call(
     Ok(next)
 }
 
-fn print_earliest(writer: &mut impl Write, a: EarliestAnswer) -> io::Result<()> {
+fn print_earliest(writer: &mut impl Write, a: Result<Option<u64>, Refusal>) -> io::Result<()> {
     match a {
-        EarliestAnswer::Nothing => print_none(writer),
-        EarliestAnswer::At(x) => replay_io::print_number(writer, x),
-        EarliestAnswer::Refused(r) => replay_io::print_refusal(writer, r),
+        Ok(None) => print_none(writer),
+        Ok(Some(x)) => replay_io::print_number(writer, x),
+        Err(r) => replay_io::print_refusal(writer, r),
     }
 }
 
@@ -607,10 +602,10 @@ fn duration_call(writer: &mut impl Write, f: Fields) -> io::Result<()> {
     replay_io::print_bad_line(writer)
 }
 
-fn print_nanos(writer: &mut impl Write, a: duration::FromSecs) -> io::Result<()> {
+fn print_nanos(writer: &mut impl Write, a: Option<u64>) -> io::Result<()> {
     match a {
-        duration::FromSecs::Nanos(n) => replay_io::print_number(writer, n),
-        duration::FromSecs::OutOfRange => print_none(writer),
+        Some(n) => replay_io::print_number(writer, n),
+        None => print_none(writer),
     }
 }
 
@@ -618,17 +613,17 @@ fn wide(x: u32) -> u64 {
     x as u64
 }
 
-fn print_test(writer: &mut impl Write, a: TestAnswer) -> io::Result<()> {
+fn print_test(writer: &mut impl Write, a: Result<bool, Refusal>) -> io::Result<()> {
     match a {
-        TestAnswer::Is(b) => replay_io::print_test(writer, b),
-        TestAnswer::Refused(r) => replay_io::print_refusal(writer, r),
+        Ok(b) => replay_io::print_test(writer, b),
+        Err(r) => replay_io::print_refusal(writer, r),
     }
 }
 
-fn print_done(writer: &mut impl Write, a: DoneAnswer) -> io::Result<()> {
+fn print_done(writer: &mut impl Write, a: Result<(), Refusal>) -> io::Result<()> {
     match a {
-        DoneAnswer::Done => replay_io::print(writer, b" done"),
-        DoneAnswer::Refused(r) => replay_io::print_refusal(writer, r),
+        Ok(()) => replay_io::print(writer, b" done"),
+        Err(r) => replay_io::print_refusal(writer, r),
     }
 }
 

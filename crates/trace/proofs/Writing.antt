@@ -1,4 +1,5 @@
 -- The cases of the writer.
+use Rattle.std.specs.Prelude.{Err}
 use Prim.Native.Nat.{ℕ, ◌≤◌, ◌<◌}
 use mathlib.Core.Path.{◌≡◌}
 use mathlib.Core.List.{List, map}
@@ -7,11 +8,10 @@ use borrow.Author.Tests.{lt-ltb, le-ltb}
 use Rattle.refusal.specs.declared.Refusal.TheVariants.{State}
 use Rattle.events.specs.Events.{event_of, events_of}
 use Rattle.text.specs.Place.{PlaceExit, place_exit, place}
-use Rattle.text.specs.declared.PlaceAnswer.TheVariants.{Refused}
 use Rattle.trace.specs.Text.{events_text, write_events}
 
 module _ (buffer : List ℕ) (count : ℕ) (rows : List (List ℕ)) where
-  pub write_refused : length rows < count → place_exit buffer (Refused State) ≡ write_events buffer count rows
+  pub write_refused : length rows < count → place_exit buffer (Err State) ≡ write_events buffer count rows
   unfolding write_events
   write_refused h = rw (lt-ltb (length rows) count h)
 

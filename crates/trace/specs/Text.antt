@@ -1,5 +1,5 @@
 -- The text of a run's forward events (document 01, at its end): a head line, then a line for each event.
-use Rattle.std.specs.Prelude.{ℕ, cond, List, [], ◌∷◌, ◌++◌, map, length, ltb}
+use Rattle.std.specs.Prelude.{ℕ, cond, List, [], ◌∷◌, ◌++◌, map, length, ltb, Err}
 use Rattle.refusal.specs.Refusal.{ascii}
 use Rattle.refusal.specs.declared.Refusal.TheVariants.{State}
 use Rattle.rows.specs.Rows.{as_number}
@@ -7,7 +7,6 @@ use Rattle.events.specs.Events.{ForwardEvent, events_of}
 use Rattle.text.specs.Letters.{tab, comma, line_feed}
 use Rattle.text.specs.Decimal.{digits}
 use Rattle.text.specs.Place.{PlaceExit, place_exit, place}
-use Rattle.text.specs.declared.PlaceAnswer.TheVariants.{Refused}
 
 -- texts with a letter between each and the next
 unfoldable pub parted : ℕ → List (List ℕ) → List ℕ
@@ -44,7 +43,7 @@ events_text es = head_line ++ event_lines es
 -- a text of the events in the first rows at the front of a lent buffer; 9 where the rows are fewer than the count
 abbrev pub from_rows : List ℕ → ℕ → List (List ℕ) → (List ForwardEvent → List ℕ) → PlaceExit
 from_rows buffer count rows text =
-    cond (ltb (length rows) count) (place_exit buffer (Refused State)) (place buffer 0 (text (events_of count rows)))
+    cond (ltb (length rows) count) (place_exit buffer (Err State)) (place buffer 0 (text (events_of count rows)))
 
 unfoldable pub write_events : List ℕ → ℕ → List (List ℕ) → PlaceExit
 write_events buffer count rows = from_rows buffer count rows events_text

@@ -11,7 +11,6 @@ ghost use Rattle.trace.specs.Text.{events_text, write_events};
 
 use events::Event;
 use refusal::Refusal;
-use text::PlaceAnswer;
 
 // The columns of a row.
 const SEQ: usize = 0;
@@ -29,33 +28,33 @@ const FIRST_FOLD: usize = 5;
 const SECOND_FOLD: usize = 6;
 
 // Writes the head line and a line for each of the first `count` rows.
-pub fn write_events(rows: &[Event], count: usize, out: &mut [u8]) -> PlaceAnswer
+pub fn write_events(rows: &[Event], count: usize, out: &mut [u8]) -> Result<usize, Refusal>
     ensures { place_exit out.new result ≡ write_events out.old count rows.now }
 {
     if rows.len() < count {
-        return PlaceAnswer::Refused(Refusal::State);
+        return Err(Refusal::State);
     }
     place_events(&rows[..count], out)
 }
 
 // Writes the head line and a line for each row.
-fn place_events(rows: &[Event], out: &mut [u8]) -> PlaceAnswer
+fn place_events(rows: &[Event], out: &mut [u8]) -> Result<usize, Refusal>
     ensures { place_exit out.new result
         ≡ place out.old 0 (events_text (map event_of rows.now)) }
 {
     let head = b"seq\tagain\tdelays\tfolds\n";
     let size = head.len();
     if out.len() < size {
-        return PlaceAnswer::Refused(Refusal::Full);
+        return Err(Refusal::Full);
     }
     let room = out.len() - size;
     let fit = lines_fit(rows, room);
     if !fit {
-        return PlaceAnswer::Refused(Refusal::Full);
+        return Err(Refusal::Full);
     }
     let at = text::write_word_unchecked(head, out, 0);
     let next = write_lines(rows, out, at);
-    PlaceAnswer::Next(next)
+    Ok(next)
 }
 
 // Whether the lines of all rows take at most so many bytes.

@@ -1,4 +1,5 @@
 -- What every step asks holds of a run that is just made and not refused.
+use Rattle.std.specs.Prelude.{Err, Ok, Result}
 use Prim.Native.Nat.{ℕ, ◌+◌, ◌*◌, ◌≤◌, ◌<◌}
 use native.Mathlib.Omega.{arith}
 use mathlib.Core.Path.{◌≡◌, refl, sym, ap, ◌∙◌, subst}
@@ -13,8 +14,6 @@ use Rattle.rows.specs.Rows.{vacant}
 use Rattle.refusal.proofs.Laws.{or_false, on_accepted, on_refused}
 use Rattle.refusal.specs.Order.{verdict}
 use Rattle.refusal.specs.declared.Refusal.{Refusal}
-use Rattle.refusal.specs.declared.Verdict.{Verdict}
-use Rattle.refusal.specs.declared.Verdict.TheVariants.{Accepted, Refused}
 use Rattle.protocol.specs.declared.ProtocolType.{ProtocolType}
 use Rattle.protocol.specs.declared.ProtocolType.TheVariants.{StopAndWait, GoBackN, SelectiveRepeat}
 use Rattle.window.specs.State.{window_broken, store_short}
@@ -51,8 +50,8 @@ use Rattle.transfer.specs.Start.{single_timing, timing_of, plan_of, plan_for, re
 use Rattle.transfer.specs.Run.{run}
 use Rattle.transfer.specs.Transfer.{default_ceilings, outcome_of, lent_of, run_exit, ended, run_transfer}
 use Rattle.transfer.specs.declared.Outcome.{Outcome}
-use Rattle.transfer.specs.declared.RunAnswer.TheVariants as answer
 use Rattle.transfer.specs.declared.Ceilings.{Ceilings}
+use Rattle.refusal.specs.Order.{passed}
 
 -- ---- in the words of the ends' makers
 slots_same : (p : ProtocolType) (w : ℕ) → sender_slots p w ≡ slot_count p w
@@ -157,12 +156,12 @@ module _ (k : Ceilings) (c : TransferConfig) (g : Given) (l : Lent) (h : CanStar
         }
 
 -- ---- the entry point, over plain variables
-module _ (c : TransferConfig) (g : Given) (l : Lent) {v : Verdict} (e : v ≡ verdict (start_checks (start_of c g l))) where
-  pub transfer_refused : {r : Refusal} → v ≡ Refused r → run_exit (answer.Refused r) l ≡ run_transfer default_ceilings c g l
+module _ (c : TransferConfig) (g : Given) (l : Lent) {v : Result Unit Refusal} (e : v ≡ verdict (start_checks (start_of c g l))) where
+  pub transfer_refused : {r : Refusal} → v ≡ Err r → run_exit (Err r) l ≡ run_transfer default_ceilings c g l
   unfolding run_transfer
-  transfer_refused a = sym (on_refused (λ (r : Refusal). run_exit (answer.Refused r) l) _ (sym e ∙ a))
+  transfer_refused a = sym (on_refused (λ (r : Refusal). run_exit (Err r) l) _ (sym e ∙ a))
 
-  module _ (a : v ≡ Accepted) where
+  module _ (a : v ≡ passed) where
     pub can_start : CanStart (start_of c g l)
     can_start = start_accepted (start_of c g l) (sym e ∙ a)
 
@@ -190,9 +189,9 @@ module _ (c : TransferConfig) (g : Given) (l : Lent) {v : Verdict} (e : v ≡ ve
         good_run forward reverse factors =
             subst (λ (x : Plan). GoodRun x g s) (sym plan_for_lem) (subst (λ (x : RunState). GoodRun (plan_for k c g) g x) (sym made) (start_good k c g l can_start forward reverse factors))
 
-        pub transfer_runs : {x : StepExit} {o : Outcome} → x ≡ run p g s → o ≡ outcome_of x → run_exit (answer.Outcome o) (lent_of x.state) ≡ run_transfer default_ceilings c g l
+        pub transfer_runs : {x : StepExit} {o : Outcome} → x ≡ run p g s → o ≡ outcome_of x → run_exit (Ok o) (lent_of x.state) ≡ run_transfer default_ceilings c g l
         unfolding run_transfer
         transfer_runs {x} {o} ran outcome =
             let same : run p g s ≡ run (plan_for default_ceilings c g) g (new_run default_ceilings c l) = rw (made, plan_for_lem, is) in
-            ap (λ (y : Outcome). run_exit (answer.Outcome y) (lent_of x.state)) outcome ∙ ap ended (ran ∙ same)
-            ∙ sym (on_accepted (λ (r : Refusal). run_exit (answer.Refused r) l) (ended (run (plan_for default_ceilings c g) g (new_run default_ceilings c l))) (sym e ∙ a))
+            ap (λ (y : Outcome). run_exit (Ok y) (lent_of x.state)) outcome ∙ ap ended (ran ∙ same)
+            ∙ sym (on_accepted (λ (r : Refusal). run_exit (Err r) l) (ended (run (plan_for default_ceilings c g) g (new_run default_ceilings c l))) (sym e ∙ a))

@@ -1,5 +1,5 @@
 -- app/transfer.rs, `run_transfer`: a transfer from its start to its end.
-use Rattle.std.specs.Prelude.{ℕ}
+use Rattle.std.specs.Prelude.{ℕ, Err, Ok, Result}
 use Rattle.refusal.specs.Order.{verdict, decide}
 use Rattle.setup.specs.Setup.{start_checks}
 use Rattle.setup.specs.declared.TransferConfig.{TransferConfig}
@@ -14,8 +14,7 @@ use Rattle.transfer.specs.Run.{run}
 use Rattle.transfer.specs.declared.Ceilings.{Ceilings}
 use Rattle.transfer.specs.declared.DriverCounts.{DriverCounts}
 use Rattle.transfer.specs.declared.Outcome.{Outcome}
-use Rattle.transfer.specs.declared.RunAnswer.{RunAnswer}
-use Rattle.transfer.specs.declared.RunAnswer.TheVariants as answer
+use Rattle.refusal.specs.declared.Refusal.{Refusal}
 
 -- MAX_EVENTS, MAX_SAME_TIME_SPINS; the source gives Stop-and-Wait u32::MAX retries
 abbrev pub default_ceilings : Ceilings
@@ -73,16 +72,16 @@ lent_of s =
 -- ---- `run_transfer`: refused by the four checks of a start, with nothing written; else the outcome, and what every
 -- slice holds at the end
 pub record RunExit : Type 0 where
-  pub answer : RunAnswer
+  pub answer : Result Outcome Refusal
   pub lent : Lent
 
-abbrev pub run_exit : RunAnswer → Lent → RunExit
+abbrev pub run_exit : Result Outcome Refusal → Lent → RunExit
 run_exit a l = record { answer = a; lent = l }
 
 abbrev pub ended : StepExit → RunExit
-ended x = run_exit (answer.Outcome (outcome_of x)) (lent_of x.state)
+ended x = run_exit (Ok (outcome_of x)) (lent_of x.state)
 
 unfoldable pub run_transfer : Ceilings → TransferConfig → Given → Lent → RunExit
 run_transfer k c g l =
-    decide (verdict (start_checks (start_of c g l))) (λ r. run_exit (answer.Refused r) l)
+    decide (verdict (start_checks (start_of c g l))) (λ r. run_exit (Err r) l)
     (ended (run (plan_for k c g) g (new_run k c l)))

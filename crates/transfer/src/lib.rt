@@ -19,7 +19,7 @@ use notes::{Note, Notes};
 use path::Path;
 use protocol::ProtocolType;
 use receiving::ReceivingSide;
-use refusal::{Refusal, Verdict};
+use refusal::Refusal;
 use rto::RtoEstimator;
 use schedule::ScheduledRow;
 use sending::Resends;
@@ -63,12 +63,6 @@ pub struct Outcome {
     pub estimator: RtoEstimator,
     pub forward: ChannelStats,
     pub reverse: ChannelStats,
-}
-
-#[derive(Clone, Copy)]
-pub enum RunAnswer {
-    Outcome(Outcome),
-    Refused(Refusal),
 }
 
 pub fn default_ceilings() -> Ceilings
@@ -354,7 +348,7 @@ pub fn run_transfer(
     reverse_places: &mut [u8],
     keys: &mut [u32],
     deadlines: &mut [u64],
-) -> RunAnswer
+) -> Result<Outcome, Refusal>
     ensures { run_exit result (lent sender_store.new receiver_store.new
         output.new rows.new events.new forward_records.new
         forward_places.new reverse_records.new reverse_places.new keys.new
@@ -378,8 +372,8 @@ pub fn run_transfer(
         deadlines,
     );
     match verdict {
-        Verdict::Refused(r) => RunAnswer::Refused(r),
-        Verdict::Accepted => {
+        Err(r) => Err(r),
+        Ok(()) => {
             let ceilings = default_ceilings();
             let total = chunks::chunk_count_unchecked(file, config.chunk_size) as u32;
             let plan = plan_of(config, total, ceilings.rounds);
@@ -416,7 +410,7 @@ pub fn run_transfer(
                 deadlines,
             );
             let outcome = outcome_of(last);
-            RunAnswer::Outcome(outcome)
+            Ok(outcome)
         }
     }
 }

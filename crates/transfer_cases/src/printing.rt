@@ -1,20 +1,21 @@
 // The answer of a run, and the lent slices.
 use channel::ChannelStats;
 use go_back_n::GoBackNReceiver;
-use rto::{MaybeDuration, RtoConfig, RtoEstimator, RtoStats};
+use refusal::Refusal;
+use rto::{RtoConfig, RtoEstimator, RtoStats};
 use selective_repeat::SelectiveRepeatReceiver;
 use session::{Receiver, ReceiverState, Sender, SenderState};
 use std::io;
 use std::io::Write;
 use step::End;
 use stop_and_wait::{StopAndWaitReceiver, StopAndWaitSender};
-use transfer::{DriverCounts, Outcome, RunAnswer};
+use transfer::{DriverCounts, Outcome};
 use window::SendWindow;
 
-pub fn print_answer(writer: &mut impl Write, a: RunAnswer) -> io::Result<()> {
+pub fn print_answer(writer: &mut impl Write, a: Result<Outcome, Refusal>) -> io::Result<()> {
     match a {
-        RunAnswer::Outcome(o) => print_outcome(writer, o),
-        RunAnswer::Refused(r) => replay_io::print_refusal(writer, r),
+        Ok(o) => print_outcome(writer, o),
+        Err(r) => replay_io::print_refusal(writer, r),
     }
 }
 
@@ -175,10 +176,10 @@ fn print_stats(writer: &mut impl Write, s: RtoStats) -> io::Result<()> {
     replay_io::print_number(writer, wide(s.max_consecutive_timeouts))
 }
 
-fn print_duration(writer: &mut impl Write, d: MaybeDuration) -> io::Result<()> {
+fn print_duration(writer: &mut impl Write, d: Option<u64>) -> io::Result<()> {
     match d {
-        MaybeDuration::Unset => replay_io::print(writer, b" none"),
-        MaybeDuration::Set(x) => replay_io::print_number(writer, x),
+        None => replay_io::print(writer, b" none"),
+        Some(x) => replay_io::print_number(writer, x),
     }
 }
 

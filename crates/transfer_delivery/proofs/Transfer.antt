@@ -1,4 +1,5 @@
 -- Demand 3 of `run_transfer`.
+use Rattle.std.specs.Prelude.{Ok}
 use Prim.Native.Nat.{ℕ, ◌+◌, ◌*◌, ◌≤◌, ◌<◌, ◌/◌}
 use native.Mathlib.Omega.{arith}
 use mathlib.Core.Path.{◌≡◌, refl, sym, ap, ◌∙◌, subst}
@@ -22,7 +23,6 @@ use Rattle.transfer.specs.Run.{run}
 use Rattle.transfer.specs.Transfer.{outcome_of, lent_of, run_transfer}
 use Rattle.transfer.specs.declared.Ceilings.{Ceilings}
 use Rattle.transfer.specs.declared.Outcome.{Outcome}
-use Rattle.transfer.specs.declared.RunAnswer.TheVariants as answer
 use Rattle.transfer.proofs.Laws.{reverse_no_faults, start_plan, start_good, sender_window, sender_store, start_completed_is, by_outcome}
 use Rattle.transfer_delivery.specs.Delivered.{Delivered}
 use Rattle.transfer_delivery.proofs.Steps.{At, run_keeps}
@@ -76,6 +76,6 @@ module _ (k : Ceilings) (c : TransferConfig) (g : Given) (l : Lent) (h : CanStar
 
 -- ---- of every call that isn't refused. Octets, Doubles and Factors say what the lent bytes and doubles are by their types.
 module _ (k : Ceilings) (c : TransferConfig) (g : Given) (l : Lent) where
-  pub transfer_delivered : Octets l.sender_store → Octets g.file → Doubles g.forward_rolls → Doubles g.reverse_rolls → Factors c.rto → (o : Outcome) → (run_transfer k c g l).answer ≡ answer.Outcome o
+  pub transfer_delivered : Octets l.sender_store → Octets g.file → Doubles g.forward_rolls → Doubles g.reverse_rolls → Factors c.rto → (o : Outcome) → (run_transfer k c g l).answer ≡ Ok o
       → Delivered c g l o (run_transfer k c g l).lent
   transfer_delivered store file forward reverse factors = by_outcome k c g l (Delivered c g l) (λ h. run_delivered k c g l h store file forward reverse factors)

@@ -2,12 +2,11 @@
 // in ms; of a receiver the answer and the buffer for the ACK are printed.
 #![tactic(auto)]
 
-use channel::{Channel, ChannelConfig, ChannelStats, ProcessAnswer, Rolls};
+use channel::{Channel, ChannelConfig, ChannelStats, Rolls};
 use go_back_n::GoBackNReceiver;
-use packet::{ChecksumAnswer, Packet, PacketAnswer, ValidityAnswer};
-use receiver::ReceiveAnswer;
+use packet::Packet;
 use refusal::Refusal;
-use rto::{EstimatorAnswer, RtoAnswer, RtoConfig, RtoEstimator};
+use rto::{RtoConfig, RtoEstimator};
 use schedule::Deliveries;
 use selective_repeat::SelectiveRepeatReceiver;
 use std::io;
@@ -88,8 +87,8 @@ fn jitter(writer: &mut impl Write) -> io::Result<()> {
     let answer = done.answer;
     print(writer, b"J1")?;
     match answer {
-        ProcessAnswer::Delivered(d) => print_deliveries(writer, d)?,
-        ProcessAnswer::Refused(r) => print_refusal(writer, r)?,
+        Ok(d) => print_deliveries(writer, d)?,
+        Err(r) => print_refusal(writer, r)?,
     }
     print_line_end(writer)
 }
@@ -106,7 +105,7 @@ fn print_deliveries(writer: &mut impl Write, d: Deliveries) -> io::Result<()> {
 }
 
 // k 4, granularity 1 ms, multiplier 1.
-fn estimator(initial: u64, min: u64, max: u64) -> EstimatorAnswer {
+fn estimator(initial: u64, min: u64, max: u64) -> Result<RtoEstimator, Refusal> {
     RtoEstimator::with_config(RtoConfig {
         initial_rto: initial,
         min_rto: min,
@@ -122,12 +121,12 @@ fn estimator(initial: u64, min: u64, max: u64) -> EstimatorAnswer {
 fn first_sample(writer: &mut impl Write, min: u64) -> io::Result<()> {
     print(writer, b"R1")?;
     match estimator(1000000000, min, 60000000000) {
-        EstimatorAnswer::Made(e) => {
+        Ok(e) => {
             let done = e.update_rtt(100000000, false);
             let after = done.estimator;
             print_number(writer, after.current_rto / 1000000)?;
         }
-        EstimatorAnswer::Refused(r) => print_refusal(writer, r)?,
+        Err(r) => print_refusal(writer, r)?,
     }
     print_line_end(writer)
 }
@@ -135,20 +134,20 @@ fn first_sample(writer: &mut impl Write, min: u64) -> io::Result<()> {
 fn timeout(writer: &mut impl Write) -> io::Result<()> {
     print(writer, b"R2")?;
     match estimator(300000000, 1000000, 500000000) {
-        EstimatorAnswer::Made(e) => {
+        Ok(e) => {
             let done = e.on_timeout();
             let answer = done.answer;
             print_rto(writer, answer)?;
         }
-        EstimatorAnswer::Refused(r) => print_refusal(writer, r)?,
+        Err(r) => print_refusal(writer, r)?,
     }
     print_line_end(writer)
 }
 
-fn print_rto(writer: &mut impl Write, a: RtoAnswer) -> io::Result<()> {
+fn print_rto(writer: &mut impl Write, a: Result<u64, Refusal>) -> io::Result<()> {
     match a {
-        RtoAnswer::Rto(rto) => print_number(writer, rto / 1000000),
-        RtoAnswer::Refused(r) => print_refusal(writer, r),
+        Ok(rto) => print_number(writer, rto / 1000000),
+        Err(r) => print_refusal(writer, r),
     }
 }
 
@@ -198,7 +197,7 @@ fn stop_and_wait(writer: &mut impl Write) -> io::Result<()> {
 
 // Data with one byte.
 fn write_data(seq_num: u32, out: &mut [u8]) {
-    if let PacketAnswer::Packet(p) = Packet::new_data(seq_num).compute_and_set_checksum(b"A") {
+    if let Ok(p) = Packet::new_data(seq_num).compute_and_set_checksum(b"A") {
         p.to_bytes(b"A", out);
     }
 }
@@ -206,14 +205,14 @@ fn write_data(seq_num: u32, out: &mut [u8]) {
 fn print_received(
     writer: &mut impl Write,
     name: &[u8],
-    answer: ReceiveAnswer,
+    answer: Result<Option<u32>, Refusal>,
     ack: &[u8],
 ) -> io::Result<()> {
     print(writer, name)?;
     match answer {
-        ReceiveAnswer::Ack(n) => print_number(writer, n as u64)?,
-        ReceiveAnswer::Silent => print(writer, b"\t-")?,
-        ReceiveAnswer::Refused(r) => print_refusal(writer, r)?,
+        Ok(Some(n)) => print_number(writer, n as u64)?,
+        Ok(None) => print(writer, b"\t-")?,
+        Err(r) => print_refusal(writer, r)?,
     }
     print_bytes(writer, ack)?;
     print_line_end(writer)
@@ -248,29 +247,29 @@ fn print_checksum(
 
 fn print_computed(writer: &mut impl Write, packet: Packet, payload: &[u8]) -> io::Result<()> {
     match packet.compute_checksum(payload) {
-        ChecksumAnswer::Checksum(k) => print_word(writer, k),
-        ChecksumAnswer::Refused(r) => print_refusal(writer, r),
+        Ok(k) => print_word(writer, k),
+        Err(r) => print_refusal(writer, r),
     }
 }
 
 fn print_reading(writer: &mut impl Write, name: &[u8], raw: &[u8]) -> io::Result<()> {
     print(writer, name)?;
     match Packet::from_bytes(raw) {
-        PacketAnswer::Packet(p) => {
+        Ok(p) => {
             print_number(writer, p.seq_num as u64)?;
             print_validity(writer, raw)?;
             print_bytes(writer, Packet::payload(raw))?;
         }
-        PacketAnswer::Refused(r) => print_refusal(writer, r)?,
+        Err(r) => print_refusal(writer, r)?,
     }
     print_line_end(writer)
 }
 
 fn print_validity(writer: &mut impl Write, raw: &[u8]) -> io::Result<()> {
     match Packet::is_valid(raw) {
-        ValidityAnswer::Valid => print(writer, b"\tvalid"),
-        ValidityAnswer::Invalid => print(writer, b"\tinvalid"),
-        ValidityAnswer::Refused(r) => print_refusal(writer, r),
+        Ok(true) => print(writer, b"\tvalid"),
+        Ok(false) => print(writer, b"\tinvalid"),
+        Err(r) => print_refusal(writer, r),
     }
 }
 

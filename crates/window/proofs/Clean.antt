@@ -1,4 +1,5 @@
 -- A window's slots stay clean, whatever its sender does to them.
+use Rattle.std.specs.Prelude.{Err, None, Ok, Option, Result}
 use Prim.Native.Nat.{ℕ, zero, suc, ◌+◌, ◌-◌, ◌*◌, ◌%◌, ◌≤◌, ◌<◌}
 use mathlib.Core.List.{List}
 use mathlib.Core.Path.{◌≡◌, refl, ◌∙◌}
@@ -9,16 +10,12 @@ use lib.Dec.{eqb}
 use lib.ListN.{length, drop, replicate, length-replicate}
 use Rattle.refusal.specs.Order.{decide}
 use Rattle.refusal.specs.declared.Refusal.{Refusal}
-use Rattle.refusal.specs.declared.Verdict.{Verdict}
-use Rattle.refusal.specs.declared.Verdict.TheVariants.{Accepted, Refused}
 use Rattle.store.specs.Slot.{empty_slot}
 use Rattle.store.specs.Clean.{CleanSlots}
 use Rattle.store.proofs.Laws.{slot_in, slot_bytes_length}
 use Rattle.store.proofs.Clean.{filled_clean, empty_clean, put_clean, byte_clean, made_clean}
 use Rattle.window.specs.Slots.{Sender, Clean, fresh, hold, mark_retransmitted, empty_from, release}
 use Rattle.window.specs.Resending.{mark_from, timeout_exit, resend}
-use Rattle.window.specs.declared.TimeoutAnswer.{TimeoutAnswer}
-use Rattle.window.specs.declared.TimeoutAnswer.TheVariants as timeoutAnswer
 use Rattle.window.proofs.Slots.{empty_length}
 use Rattle.window.proofs.Resending.{mark_one}
 
@@ -65,14 +62,14 @@ marked_clean v n (suc k) some room c =
     let kept = marked_clean (mark_retransmitted v n) (n + 1) k (rw one.window_size some) (rw (one.window_size, one.store_length) room) (again_clean v some room c n) in
     record { clean = kept.clean; size = kept.size ∙ one.window_size }
 
-by_verdict : (P : Sender → Type 0) (x : Verdict) (t : Bool) (f : Refusal → TimeoutAnswer) (a b : TimeoutAnswer) (v u : Sender) (out last : List ℕ) → P v → P u
+by_verdict : (P : Sender → Type 0) (x : Result Unit Refusal) (t : Bool) (f : Refusal → Result (Option ℕ) Refusal) (a b : Result (Option ℕ) Refusal) (v u : Sender) (out last : List ℕ) → P v → P u
     → P (decide x (λ r. timeout_exit (f r) v out) (cond t (timeout_exit a v out) (timeout_exit b u last))).after
 unfolding decide
-by_verdict P Accepted true f a b v u out last p q = p
-by_verdict P Accepted false f a b v u out last p q = q
-by_verdict P (Refused r) t f a b v u out last p q = p
+by_verdict P (Ok tt) true f a b v u out last p q = p
+by_verdict P (Ok tt) false f a b v u out last p q = q
+by_verdict P (Err r) t f a b v u out last p q = p
 
 pub resend_clean : (broken counts : Bool) (v : Sender) (n k : ℕ) (out : List ℕ) → 0 < v.window.window_size → v.window.window_size * 1404 ≤ length v.store → Clean v → SlotsKept v (resend broken counts v n k out).after
 unfolding resend
 resend_clean broken counts v n k out some room c =
-    by_verdict (SlotsKept v) _ (eqb k 0) timeoutAnswer.Refused timeoutAnswer.Nothing _ v (mark_from v n k) out _ (record { clean = c; size = refl }) (marked_clean v n k some room c)
+    by_verdict (SlotsKept v) _ (eqb k 0) Err (Ok None) _ v (mark_from v n k) out _ (record { clean = c; size = refl }) (marked_clean v n k some room c)

@@ -1,4 +1,5 @@
 -- Laws of the numbers that are sent again.
+use Rattle.std.specs.Prelude.{Err, None, Ok, Some}
 use Prim.Native.Nat.{ℕ, zero, suc, ◌+◌, ◌-◌, ◌*◌, ◌/◌, ◌≤◌, ◌<◌}
 use mathlib.Core.Path.{◌≡◌, refl, sym, ap, ◌∙◌}
 use mathlib.Core.Bool.{Bool, true, false}
@@ -11,7 +12,6 @@ use lib.Seq.{get_or-set_other, length-take-le, take_all, take_at, drop-append-ad
 use Rattle.refusal.specs.declared.Refusal.{Refusal}
 use Rattle.refusal.specs.declared.Refusal.TheVariants.{State, Counts, Full}
 use Rattle.refusal.specs.Order.{check, verdict, order, or_else, numbered, first_of, decide}
-use Rattle.refusal.specs.declared.Verdict.TheVariants.{Accepted}
 use Rattle.refusal.proofs.Laws.{none_true_accepted, on_accepted}
 use Rattle.store.specs.Slot.{slot_at, slot_length, slot_flags}
 use Rattle.store.proofs.Laws.{slot_byte, slot_in}
@@ -20,9 +20,9 @@ use Rattle.packet.proofs.Laws.{made_length}
 use Rattle.window.specs.Slots.{Sender, slot_for, packet_for, mark_retransmitted, datagram_for}
 use Rattle.window.specs.Resending.{datagrams_from, mark_from, sent_again, timeout_exit, resend, Resendable}
 use Rattle.window.specs.declared.SendWindow.{SendWindow}
-use Rattle.window.specs.declared.TimeoutAnswer.TheVariants as timeoutAnswer
 use Rattle.window.proofs.Sound.{Sound, slot_low}
 use Rattle.window.proofs.Slots.{slot_payload_length}
+use Rattle.refusal.specs.Order.{passed}
 
 -- outstanding numbers of a sound state can be sent again
 pub resendable : (selective : Bool) (s : SendWindow) (store : List ℕ) (n k : ℕ) → Sound selective s store → s.send_base ≤ n → n + k ≤ s.next_seq_num → Resendable s store n k
@@ -185,34 +185,34 @@ module _ (out part datagram : List ℕ) (at : ℕ) (fit : at + length datagram �
 
 -- the answers of `resend`, one law for each
 module _ (broken counts : Bool) (v : Sender) (n k : ℕ) (out : List ℕ) where
-  pub resend_state : broken ≡ true → timeout_exit (timeoutAnswer.Refused State) v out ≡ resend broken counts v n k out
+  pub resend_state : broken ≡ true → timeout_exit (Err State) v out ≡ resend broken counts v n k out
   unfolding resend verdict first_of numbered or_else order decide
   resend_state e = rw e
 
-  pub resend_counts : broken ≡ false → counts ≡ true → timeout_exit (timeoutAnswer.Refused Counts) v out ≡ resend broken counts v n k out
+  pub resend_counts : broken ≡ false → counts ≡ true → timeout_exit (Err Counts) v out ≡ resend broken counts v n k out
   unfolding resend verdict first_of numbered or_else order decide
   resend_counts e f = rw (e, f)
 
-  pub resend_full : broken ≡ false → counts ≡ false → length out < length (sent_again v n k) → timeout_exit (timeoutAnswer.Refused Full) v out ≡ resend broken counts v n k out
+  pub resend_full : broken ≡ false → counts ≡ false → length out < length (sent_again v n k) → timeout_exit (Err Full) v out ≡ resend broken counts v n k out
   unfolding resend verdict first_of numbered or_else order decide
   resend_full e f h = rw (e, f, lt-ltb _ _ h)
 
   fits : broken ≡ false → counts ≡ false → length (sent_again v n k) ≤ length out
-      → verdict (check broken State ∷ check counts Counts ∷ check (ltb (length out) (length (sent_again v n k))) Full ∷ []) ≡ Accepted
+      → verdict (check broken State ∷ check counts Counts ∷ check (ltb (length out) (length (sent_again v n k))) Full ∷ []) ≡ passed
   fits e f h = none_true_accepted _ (e, (f, (le-ltb _ _ h, tt)))
 
-  pub resend_nothing : broken ≡ false → counts ≡ false → k ≡ 0 → timeout_exit timeoutAnswer.Nothing v out ≡ resend broken counts v n k out
+  pub resend_nothing : broken ≡ false → counts ≡ false → k ≡ 0 → timeout_exit (Ok None) v out ≡ resend broken counts v n k out
   unfolding resend
   resend_nothing e f z =
       let none = ap length (datagrams_done (mark_from v n k) n k z) in
-      sym (on_accepted (λ (r : Refusal). timeout_exit (timeoutAnswer.Refused r) v out) _ (fits e f (omega arith)) ∙ rw (eq-eqb k 0 z))
+      sym (on_accepted (λ (r : Refusal). timeout_exit (Err r) v out) _ (fits e f (omega arith)) ∙ rw (eq-eqb k 0 z))
 
   pub resend_some : (total : ℕ) (w : Sender) (last : List ℕ) → broken ≡ false → counts ≡ false → (k ≡ 0 → ⊥) → length (sent_again v n k) ≤ length out
       → total ≡ length (sent_again v n k) → w ≡ mark_from v n k → last ≡ sent_again v n k ++ drop (length (sent_again v n k)) out
-      → timeout_exit (timeoutAnswer.Resent total) w last ≡ resend broken counts v n k out
+      → timeout_exit (Ok (Some total)) w last ≡ resend broken counts v n k out
   unfolding resend
   resend_some total w last e f z h t m l =
-      rw (t, m, l) (sym (on_accepted (λ (r : Refusal). timeout_exit (timeoutAnswer.Refused r) v out) _ (fits e f h) ∙ rw (ne_eqb k 0 z)))
+      rw (t, m, l) (sym (on_accepted (λ (r : Refusal). timeout_exit (Err r) v out) _ (fits e f h) ∙ rw (ne_eqb k 0 z)))
 
 -- how many numbers matters only where the state isn't Refused
 pub resend_count : (broken counts : Bool) (v : Sender) (n k m : ℕ) (out : List ℕ) → (broken ≡ false → k ≡ m) → resend broken counts v n k out ≡ resend broken counts v n m out

@@ -1,4 +1,5 @@
 -- Laws of what a sender does to its slots.
+use Rattle.std.specs.Prelude.{Err, Option, Result}
 use Prim.Native.Nat.{ℕ, zero, suc, ◌+◌, ◌-◌, ◌%◌, ◌<◌}
 use mathlib.Core.Path.{◌≡◌, refl, ap}
 use mathlib.Core.Bool.{Bool, true}
@@ -13,8 +14,7 @@ pub use Rattle.store.proofs.Laws.{slot_payload_length}
 use Rattle.window.specs.Slots.{Sender, empty_from}
 use Rattle.window.specs.State.{state_broken}
 use Rattle.window.specs.Sending.{send_exit, send_checks, send_chunk}
-use Rattle.window.specs.declared.SendAnswer.{SendAnswer}
-use Rattle.window.specs.declared.SendAnswer.TheVariants as sendAnswer
+use Rattle.refusal.specs.declared.Refusal.{Refusal}
 
 -- one slot more emptied
 pub empty_more : (store : List ℕ) (w n k : ℕ) → 0 < k → empty_from (empty_slot store (n % w)) w (n + 1) (k - 1) ≡ empty_from store w n k
@@ -30,9 +30,9 @@ pub empty_length : (store : List ℕ) (j : ℕ) → SlotIn store j → length (e
 empty_length store j h = put_length store j (replicate 1404 0) h (length-replicate {A = ℕ} 1404 0)
 
 -- the parts of what a send leaves
-pub sending_is : {S : Type 0} (a : SendAnswer) {v w : S} {out last : List ℕ} → v ≡ w → out ≡ last → send_exit a v out ≡ send_exit a w last
+pub sending_is : {S : Type 0} (a : Result (Option ℕ) Refusal) {v w : S} {out last : List ℕ} → v ≡ w → out ≡ last → send_exit a v out ≡ send_exit a w last
 sending_is a e f = rw (e, f)
 
-pub send_state : (selective : Bool) (v : Sender) (payload out : List ℕ) → state_broken selective v.window v.store ≡ true → send_exit (sendAnswer.Refused State) v out ≡ send_chunk selective v payload out
+pub send_state : (selective : Bool) (v : Sender) (payload out : List ℕ) → state_broken selective v.window v.store ≡ true → send_exit (Err State) v out ≡ send_chunk selective v payload out
 unfolding send_chunk send_checks verdict first_of numbered or_else order decide
 send_state selective v payload out e = rw e

@@ -1,6 +1,6 @@
 -- Document 01, "Turned away" and "A full window is an ordinary answer"; arq/gbn.rs and arq/sr.rs, `new` and
 -- `send_chunk`.
-use Rattle.std.specs.Prelude.{ℕ, ◌+◌, ◌*◌, ◌≤◌, ◌<◌, List, [], ◌∷◌, ◌++◌, Bool, cond, ◌&&◌, length, drop, ltb, eqb}
+use Rattle.std.specs.Prelude.{ℕ, ◌+◌, ◌*◌, ◌≤◌, ◌<◌, List, [], ◌∷◌, ◌++◌, Bool, cond, ◌&&◌, length, drop, ltb, eqb, Err, None, Ok, Option, Result, Some}
 use Rattle.bounds.specs.Bounds.{count_limit, header_size, max_payload, seq_num_limit, slot_size}
 use Rattle.refusal.specs.declared.Refusal.TheVariants.{State, Counts, Setup, Numbers, Full}
 use Rattle.refusal.specs.Order.{Check, check, verdict, decide}
@@ -8,10 +8,7 @@ use Rattle.packet.specs.Format.{check_long}
 use Rattle.window.specs.State.{window_broken, store_short, outstanding, state_broken, counts_broken}
 use Rattle.window.specs.Slots.{Sender, fresh, hold, first_datagram}
 use Rattle.window.specs.declared.SendWindow.{SendWindow}
-use Rattle.window.specs.declared.SendWindowAnswer.{SendWindowAnswer}
-use Rattle.window.specs.declared.SendWindowAnswer.TheVariants as makeAnswer
-use Rattle.window.specs.declared.SendAnswer.{SendAnswer}
-use Rattle.window.specs.declared.SendAnswer.TheVariants as sendAnswer
+use Rattle.refusal.specs.declared.Refusal.{Refusal}
 
 -- making: the answer, and the store when the call returns
 pub record MakeExit (A : Type 0) : Type 0 where
@@ -21,19 +18,19 @@ pub record MakeExit (A : Type 0) : Type 0 where
 abbrev pub make_exit : {A : Type 0} → A → List ℕ → MakeExit A
 make_exit a store = record { answer = a; store = store }
 
-unfoldable pub make_window : ℕ → List ℕ → MakeExit SendWindowAnswer
+unfoldable pub make_window : ℕ → List ℕ → MakeExit (Result SendWindow Refusal)
 make_window w store =
     decide (verdict (check (store_short store w) State ∷ check (window_broken w) Setup ∷ []))
-    (λ r. make_exit (makeAnswer.Refused r) store)
-    (make_exit (makeAnswer.Window (fresh w store).window) (fresh w store).store)
+    (λ r. make_exit (Err r) store)
+    (make_exit (Ok (fresh w store).window) (fresh w store).store)
 
 -- sending: the answer, and the state and the buffer when the call returns
 pub record SendExit (S : Type 0) : Type 0 where
-  pub answer : SendAnswer
+  pub answer : Result (Option ℕ) Refusal
   pub after : S
   pub out : List ℕ
 
-abbrev pub send_exit : {S : Type 0} → SendAnswer → S → List ℕ → SendExit S
+abbrev pub send_exit : {S : Type 0} → Result (Option ℕ) Refusal → S → List ℕ → SendExit S
 send_exit a v out = record { answer = a; after = v; out = out }
 
 abbrev pub window_free : SendWindow → Bool
@@ -51,14 +48,14 @@ send_checks selective v payload out =
 abbrev pub send_chunk_unchecked : Sender → List ℕ → List ℕ → SendExit Sender
 send_chunk_unchecked v payload out =
     let size = header_size + length payload in
-    send_exit (sendAnswer.Sent size) (hold v payload) (first_datagram v payload ++ drop size out)
+    send_exit (Ok (Some size)) (hold v payload) (first_datagram v payload ++ drop size out)
 
 -- a full window is an ordinary answer
 unfoldable pub send_chunk : Bool → Sender → List ℕ → List ℕ → SendExit Sender
 send_chunk selective v payload out =
     decide (verdict (send_checks selective v payload out))
-    (λ r. send_exit (sendAnswer.Refused r) v out)
-    (cond (window_free v.window) (send_chunk_unchecked v payload out) (send_exit sendAnswer.WindowFull v out))
+    (λ r. send_exit (Err r) v out)
+    (cond (window_free v.window) (send_chunk_unchecked v payload out) (send_exit (Ok None) v out))
 
 -- what is asked below the entry point
 pub record CanSendChunk (v : Sender) (payload out : List ℕ) : Type 0 where

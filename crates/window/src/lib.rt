@@ -18,7 +18,7 @@ ghost use Rattle.window.specs.Outstanding.{in_flight_count, can_send, has_unacke
 
 use bounds::{COUNT_LIMIT, MAX_WINDOW_SIZE, SEQ_NUM_LIMIT};
 use packet::{DatagramReading, Packet, PacketType};
-use refusal::{CountAnswer, Refusal, TestAnswer};
+use refusal::Refusal;
 
 #[derive(Clone, Copy)]
 pub struct SendWindow {
@@ -30,23 +30,9 @@ pub struct SendWindow {
 }
 
 #[derive(Clone, Copy)]
-pub enum SendWindowAnswer {
-    Window(SendWindow),
-    Refused(Refusal),
-}
-
-// The length of the datagram that was written.
-#[derive(Clone, Copy)]
-pub enum SendAnswer {
-    Sent(usize),
-    WindowFull,
-    Refused(Refusal),
-}
-
-#[derive(Clone, Copy)]
 pub struct SendResult {
     pub window: SendWindow,
-    pub answer: SendAnswer,
+    pub answer: Result<Option<usize>, Refusal>,
 }
 
 // Whether an ACK is accepted, decided before anything is written: the number that it acknowledges, and the new base.
@@ -54,23 +40,6 @@ pub struct SendResult {
 pub enum AckDecision {
     Accept { seq_num: u32, base: u32 },
     NotAccepted,
-    Refused(Refusal),
-}
-
-// Whether an ACK was accepted: the reference's true or false.
-#[derive(Clone, Copy)]
-pub enum AckAnswer {
-    Accepted,
-    NotAccepted,
-    Refused(Refusal),
-}
-
-// How many bytes of datagrams were written.
-#[derive(Clone, Copy)]
-pub enum TimeoutAnswer {
-    Resent(usize),
-    Nothing,
-    Refused(Refusal),
 }
 
 // Which numbers a timeout sends again, decided before anything is written.
@@ -78,26 +47,25 @@ pub enum TimeoutAnswer {
 pub enum TimeoutDecision {
     Resend { first: u32, count: u32 },
     Nothing,
-    Refused(Refusal),
 }
 
 #[derive(Clone, Copy)]
 pub struct TimeoutResult {
     pub window: SendWindow,
-    pub answer: TimeoutAnswer,
+    pub answer: Result<Option<usize>, Refusal>,
 }
 
 impl SendWindow {
-    pub fn new(window: usize, store: &mut [u8]) -> SendWindowAnswer
+    pub fn new(window: usize, store: &mut [u8]) -> Result<SendWindow, Refusal>
         ensures { make_exit result store.new ≡ make_window window store.old }
     {
         if store_short(store, window) {
-            return SendWindowAnswer::Refused(Refusal::State);
+            return Err(Refusal::State);
         }
         if window_broken(window) {
-            return SendWindowAnswer::Refused(Refusal::Setup);
+            return Err(Refusal::Setup);
         }
-        SendWindowAnswer::Window(SendWindow::new_unchecked(window, store))
+        Ok(SendWindow::new_unchecked(window, store))
     }
 
     // A chunk into its slot and as a datagram to the start of out.
@@ -115,74 +83,74 @@ impl SendWindow {
         if self.state_broken(selective, store) {
             return SendResult {
                 window: self,
-                answer: SendAnswer::Refused(Refusal::State),
+                answer: Err(Refusal::State),
             };
         }
         if self.counts_broken() {
             return SendResult {
                 window: self,
-                answer: SendAnswer::Refused(Refusal::Counts),
+                answer: Err(Refusal::Counts),
             };
         }
         if Packet::MAX_PAYLOAD_SIZE < n {
             return SendResult {
                 window: self,
-                answer: SendAnswer::Refused(Refusal::Long),
+                answer: Err(Refusal::Long),
             };
         }
         if self.window_size <= (self.next_seq_num - self.send_base) as usize {
             return SendResult {
                 window: self,
-                answer: SendAnswer::WindowFull,
+                answer: Ok(None),
             };
         }
         if self.next_seq_num == SEQ_NUM_LIMIT {
             return SendResult {
                 window: self,
-                answer: SendAnswer::Refused(Refusal::Numbers),
+                answer: Err(Refusal::Numbers),
             };
         }
         if out.len() < Packet::HEADER_SIZE + n {
             return SendResult {
                 window: self,
-                answer: SendAnswer::Refused(Refusal::Full),
+                answer: Err(Refusal::Full),
             };
         }
         let window = self.send_chunk_unchecked(store, payload, out, false);
         SendResult {
             window,
-            answer: SendAnswer::Sent(Packet::HEADER_SIZE + n),
+            answer: Ok(Some(Packet::HEADER_SIZE + n)),
         }
     }
 
     // How many numbers are outstanding.
-    pub fn in_flight_count(self) -> CountAnswer
+    pub fn in_flight_count(self) -> Result<usize, Refusal>
         ensures { result ≡ in_flight_count self }
     {
         if self.numbers_broken() {
-            return CountAnswer::Refused(Refusal::State);
+            return Err(Refusal::State);
         }
         if self.counts_broken() {
-            return CountAnswer::Refused(Refusal::Counts);
+            return Err(Refusal::Counts);
         }
-        CountAnswer::Count((self.next_seq_num - self.send_base) as usize)
+        Ok((self.next_seq_num - self.send_base) as usize)
     }
 
-    pub fn can_send(self) -> TestAnswer
+    pub fn can_send(self) -> Result<bool, Refusal>
         ensures { result ≡ can_send self }
     {
         match self.in_flight_count() {
-            CountAnswer::Count(n) => TestAnswer::Is(n < self.window_size),
-            CountAnswer::Refused(r) => TestAnswer::Refused(r),
+            Ok(n) => Ok(n < self.window_size),
+            Err(r) => Err(r),
         }
     }
 
-    pub fn has_unacked_packets(self) -> TestAnswer
+    pub fn has_unacked_packets(self) -> Result<bool, Refusal>
         ensures { result ≡ has_unacked_packets self }
     {
         match self.in_flight_count() {
-            CountAnswer::Count(n) => TestAnswer::Is(0 < n),
-            CountAnswer::Refused(r) => TestAnswer::Refused(r),
+            Ok(n) => Ok(0 < n),
+            Err(r) => Err(r),
         }
     }
 
@@ -192,16 +160,16 @@ impl SendWindow {
             ≡ resend_outstanding (sender self store.old) most out.old }
     {
         match self.decide_timeout(store, most) {
-            TimeoutDecision::Resend { first, count } => {
+            Ok(TimeoutDecision::Resend { first, count }) => {
                 self.resend_unchecked(store, first, count, out)
             }
-            TimeoutDecision::Nothing => TimeoutResult {
+            Ok(TimeoutDecision::Nothing) => TimeoutResult {
                 window: self,
-                answer: TimeoutAnswer::Nothing,
+                answer: Ok(None),
             },
-            TimeoutDecision::Refused(r) => TimeoutResult {
+            Err(r) => TimeoutResult {
                 window: self,
-                answer: TimeoutAnswer::Refused(r),
+                answer: Err(r),
             },
         }
     }
@@ -230,7 +198,7 @@ impl SendWindow {
     ) -> SendWindow
         requires can_send_chunk { CanSendChunk (sender self store.old) payload.now out.old }
         requires clean { clean ≡ true → Clean (sender self store.old) }
-        ensures { send_exit (SendAnswer.Sent (header_size + length payload.now))
+        ensures { send_exit (Ok (Some (header_size + length payload.now)))
             (sender result store.new) out.new
             ≡ send_chunk_unchecked (sender self store.old) payload.now out.old }
     {
@@ -343,21 +311,21 @@ impl SendWindow {
         if count == 0 {
             return TimeoutResult {
                 window: self,
-                answer: TimeoutAnswer::Nothing,
+                answer: Ok(None),
             };
         }
         let total = self.datagrams_length_unchecked(store, first, count);
         if out.len() < total {
             return TimeoutResult {
                 window: self,
-                answer: TimeoutAnswer::Refused(Refusal::Full),
+                answer: Err(Refusal::Full),
             };
         }
         let window = self.mark_retransmitted_from_unchecked(store, first, count);
         window.write_datagrams_unchecked(store, first, count, out);
         TimeoutResult {
             window,
-            answer: TimeoutAnswer::Resent(total),
+            answer: Ok(Some(total)),
         }
     }
 
@@ -374,30 +342,38 @@ impl SendWindow {
     }
 
     // What a datagram as an ACK does; selective is set for a Selective Repeat sender, whose base moves otherwise.
-    pub fn decide_ack(self, selective: bool, store: &[u8], raw: &[u8]) -> AckDecision
+    pub fn decide_ack(
+        self,
+        selective: bool,
+        store: &[u8],
+        raw: &[u8],
+    ) -> Result<AckDecision, Refusal>
         ensures { result ≡ ack_decision selective self store.now raw.now }
     {
         if self.state_broken(selective, store) {
-            return AckDecision::Refused(Refusal::State);
+            return Err(Refusal::State);
         }
         if self.counts_broken() {
-            return AckDecision::Refused(Refusal::Counts);
+            return Err(Refusal::Counts);
         }
         self.decide_reading(Packet::read_datagram(raw))
     }
 
     // The same of a datagram that was read, on a state that isn't refused.
-    pub fn decide_reading(self, reading: DatagramReading) -> AckDecision
+    pub fn decide_reading(
+        self,
+        reading: Result<DatagramReading, Refusal>,
+    ) -> Result<AckDecision, Refusal>
         ensures { result ≡ by_reading self reading }
     {
         match reading {
-            DatagramReading::Valid(packet) => self.decide_packet(packet),
-            DatagramReading::Corrupted(_) => AckDecision::NotAccepted,
-            DatagramReading::Refused(r) => AckDecision::Refused(r),
+            Ok(DatagramReading::Valid(packet)) => self.decide_packet(packet),
+            Ok(DatagramReading::Corrupted(_)) => Ok(AckDecision::NotAccepted),
+            Err(r) => Err(r),
         }
     }
 
-    fn decide_packet(self, packet: Packet) -> AckDecision
+    fn decide_packet(self, packet: Packet) -> Result<AckDecision, Refusal>
         ensures { result ≡ by_packet self packet }
     {
         let seq_num = packet.seq_num;
@@ -405,18 +381,18 @@ impl SendWindow {
         match pkt_type {
             PacketType::Ack => {
                 if seq_num < self.send_base {
-                    return AckDecision::NotAccepted;
+                    return Ok(AckDecision::NotAccepted);
                 }
                 if seq_num < self.next_seq_num {
-                    return AckDecision::Accept {
+                    return Ok(AckDecision::Accept {
                         seq_num,
                         base: seq_num + 1,
-                    };
+                    });
                 }
-                AckDecision::NotAccepted
+                Ok(AckDecision::NotAccepted)
             }
-            PacketType::Data => AckDecision::NotAccepted,
-            PacketType::Fin => AckDecision::NotAccepted,
+            PacketType::Data => Ok(AckDecision::NotAccepted),
+            PacketType::Fin => Ok(AckDecision::NotAccepted),
         }
     }
 
@@ -431,23 +407,23 @@ impl SendWindow {
     }
 
     // What a timeout of a Stop-and-Wait or Go-Back-N sender does: the lowest outstanding numbers, at most so many.
-    pub fn decide_timeout(self, store: &[u8], most: u32) -> TimeoutDecision
+    pub fn decide_timeout(self, store: &[u8], most: u32) -> Result<TimeoutDecision, Refusal>
         ensures { result ≡ outstanding_decision self store.now most }
     {
         if self.state_broken(false, store) {
-            return TimeoutDecision::Refused(Refusal::State);
+            return Err(Refusal::State);
         }
         if self.counts_broken() {
-            return TimeoutDecision::Refused(Refusal::Counts);
+            return Err(Refusal::Counts);
         }
         let count = most.min(self.next_seq_num - self.send_base);
         if count == 0 {
-            return TimeoutDecision::Nothing;
+            return Ok(TimeoutDecision::Nothing);
         }
-        TimeoutDecision::Resend {
+        Ok(TimeoutDecision::Resend {
             first: self.send_base,
             count,
-        }
+        })
     }
 
     // Whether document 01's line 9 is true; selective is set for a Selective Repeat sender.

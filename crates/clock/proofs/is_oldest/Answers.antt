@@ -1,4 +1,4 @@
 use Rattle.clock.proofs.is_oldest.Goals as goal
 
-pub returns-in-Number : goal.returns-in-Number
-returns-in-Number c = rw c.in-Number.is
+pub returns-in-Some : goal.returns-in-Some
+returns-in-Some c = rw c.in-Some.is

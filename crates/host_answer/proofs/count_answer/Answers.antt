@@ -1,10 +1,10 @@
 use Rattle.host_answer.specs.Answer.{count_answer}
 use Rattle.host_answer.proofs.count_answer.Goals as goal
 
-pub returns-in-Count : goal.returns-in-Count
+pub returns-in-Ok : goal.returns-in-Ok
 unfolding count_answer
-returns-in-Count c = rw c.in-Count.is c.pack_unchecked.ensures
+returns-in-Ok c = rw c.in-Ok.is c.pack_unchecked.ensures
 
-pub returns-in-Refused : goal.returns-in-Refused
+pub returns-in-Err : goal.returns-in-Err
 unfolding count_answer
-returns-in-Refused c = rw c.in-Refused.is c.refusal_answer.ensures
+returns-in-Err c = rw c.in-Err.is c.refusal_answer.ensures

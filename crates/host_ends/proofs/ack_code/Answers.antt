@@ -1,14 +1,15 @@
 use Rattle.host_ends.specs.Answers.{ack_code}
+use Rattle.refusal.proofs.Laws.{ok_is}
 use Rattle.host_ends.proofs.ack_code.Goals as goal
 
-pub returns-in-Accepted : goal.returns-in-Accepted
+pub returns-in-Ok-true : goal.returns-in-Ok-true
 unfolding ack_code
-returns-in-Accepted c = rw c.in-Accepted.is c.pack_unchecked.ensures
+returns-in-Ok-true c = rw (ok_is c.in-Ok-true.is (rw c.in-Ok-true.is at c.in-Ok-true.field-0-test)) c.pack_unchecked.ensures
 
-pub returns-in-NotAccepted : goal.returns-in-NotAccepted
+pub returns-in-Ok-false : goal.returns-in-Ok-false
 unfolding ack_code
-returns-in-NotAccepted c = rw c.in-NotAccepted.is c.pack_unchecked-in-NotAccepted.ensures
+returns-in-Ok-false c = rw (ok_is c.in-Ok-false.is (rw c.in-Ok-false.is at c.in-Ok-false.field-0-test)) c.pack_unchecked-in-Ok-false.ensures
 
-pub returns-in-Refused : goal.returns-in-Refused
+pub returns-in-Err : goal.returns-in-Err
 unfolding ack_code
-returns-in-Refused c = rw c.in-Refused.is c.refusal_answer.ensures
+returns-in-Err c = rw c.in-Err.is c.refusal_answer.ensures

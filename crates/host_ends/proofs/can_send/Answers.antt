@@ -2,10 +2,10 @@ use mathlib.Core.Path.{sym, ◌∙◌}
 use Rattle.host_ends.specs.Sender.{can_send_held}
 use Rattle.host_ends.proofs.can_send.Goals as goal
 
-pub returns-in-Sender : goal.returns-in-Sender
+pub returns-in-Some : goal.returns-in-Some
 unfolding can_send_held
-returns-in-Sender c = rw ((sym c.held_sender.ensures ∙ c.in-Sender.is), c.test_answer.ensures, c.can_send_in.ensures)
+returns-in-Some c = rw ((sym c.held_sender.ensures ∙ c.in-Some.is), c.test_answer.ensures, c.can_send_in.ensures)
 
-pub returns-in-Broken : goal.returns-in-Broken
+pub returns-in-None : goal.returns-in-None
 unfolding can_send_held
-returns-in-Broken c = rw ((sym c.held_sender.ensures ∙ c.in-Broken.is), c.refusal_answer.ensures)
+returns-in-None c = rw ((sym c.held_sender.ensures ∙ c.in-None.is), c.refusal_answer.ensures)

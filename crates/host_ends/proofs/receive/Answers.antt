@@ -4,10 +4,10 @@ use Rattle.host_ends.proofs.Calls.{on_received, on_receive_broken}
 use Rattle.host_ends.proofs.receive.Goals as goal
 
 pub put_receiver_unchecked-requires : goal.put_receiver_unchecked-requires
-put_receiver_unchecked-requires c = receiver_long c.args.state.now (sym c.held_receiver.ensures ∙ c.in-Receiver.is)
+put_receiver_unchecked-requires c = receiver_long c.args.state.now (sym c.held_receiver.ensures ∙ c.in-Some.is)
 
-pub returns-in-Receiver : goal.returns-in-Receiver
-returns-in-Receiver c = on_received c.args.state.now c.args.store.now c.args.raw.now c.args.output.now c.args.ack.now (sym c.held_receiver.ensures ∙ c.in-Receiver.is) c.handle_packet-result.ensures c.put_receiver_unchecked.ensures c.receive_code.ensures
+pub returns-in-Some : goal.returns-in-Some
+returns-in-Some c = on_received c.args.state.now c.args.store.now c.args.raw.now c.args.output.now c.args.ack.now (sym c.held_receiver.ensures ∙ c.in-Some.is) c.handle_packet-result.ensures c.put_receiver_unchecked.ensures c.receive_code.ensures
 
-pub returns-in-Broken : goal.returns-in-Broken
-returns-in-Broken c = on_receive_broken c.args.state.now c.args.store.now c.args.raw.now c.args.output.now c.args.ack.now (sym c.held_receiver.ensures ∙ c.in-Broken.is) c.refusal_answer.ensures
+pub returns-in-None : goal.returns-in-None
+returns-in-None c = on_receive_broken c.args.state.now c.args.store.now c.args.raw.now c.args.output.now c.args.ack.now (sym c.held_receiver.ensures ∙ c.in-None.is) c.refusal_answer.ensures

@@ -1,14 +1,15 @@
 use Rattle.host_ends.specs.Answers.{receive_code}
+use Rattle.refusal.proofs.Laws.{ok_is}
 use Rattle.host_ends.proofs.receive_code.Goals as goal
 
-pub returns-in-Ack : goal.returns-in-Ack
+pub returns-in-Ok-Some : goal.returns-in-Ok-Some
 unfolding receive_code
-returns-in-Ack c = rw c.in-Ack.is c.pack_unchecked.ensures
+returns-in-Ok-Some c = rw (ok_is c.in-Ok-Some.is (rw c.in-Ok-Some.is at c.in-Ok-Some.field-0-is)) c.pack_unchecked.ensures
 
-pub returns-in-Silent : goal.returns-in-Silent
+pub returns-in-Ok-None : goal.returns-in-Ok-None
 unfolding receive_code
-returns-in-Silent c = rw c.in-Silent.is c.pack_unchecked-in-Silent.ensures
+returns-in-Ok-None c = rw (ok_is c.in-Ok-None.is (rw c.in-Ok-None.is at c.in-Ok-None.field-0-is)) c.pack_unchecked-in-Ok-None.ensures
 
-pub returns-in-Refused : goal.returns-in-Refused
+pub returns-in-Err : goal.returns-in-Err
 unfolding receive_code
-returns-in-Refused c = rw c.in-Refused.is c.refusal_answer.ensures
+returns-in-Err c = rw c.in-Err.is c.refusal_answer.ensures

@@ -1,14 +1,15 @@
 use Rattle.host_ends.specs.Answers.{send_code}
+use Rattle.refusal.proofs.Laws.{ok_is}
 use Rattle.host_ends.proofs.send_code.Goals as goal
 
-pub returns-in-Sent : goal.returns-in-Sent
+pub returns-in-Ok-Some : goal.returns-in-Ok-Some
 unfolding send_code
-returns-in-Sent c = rw c.in-Sent.is c.pack_unchecked.ensures
+returns-in-Ok-Some c = rw (ok_is c.in-Ok-Some.is (rw c.in-Ok-Some.is at c.in-Ok-Some.field-0-is)) c.pack_unchecked.ensures
 
-pub returns-in-WindowFull : goal.returns-in-WindowFull
+pub returns-in-Ok-None : goal.returns-in-Ok-None
 unfolding send_code
-returns-in-WindowFull c = rw c.in-WindowFull.is c.pack_unchecked-in-WindowFull.ensures
+returns-in-Ok-None c = rw (ok_is c.in-Ok-None.is (rw c.in-Ok-None.is at c.in-Ok-None.field-0-is)) c.pack_unchecked-in-Ok-None.ensures
 
-pub returns-in-Refused : goal.returns-in-Refused
+pub returns-in-Err : goal.returns-in-Err
 unfolding send_code
-returns-in-Refused c = rw c.in-Refused.is c.refusal_answer.ensures
+returns-in-Err c = rw c.in-Err.is c.refusal_answer.ensures

@@ -4,10 +4,10 @@ use Rattle.host_ends.proofs.Calls.{on_timed_out, on_timeout_broken}
 use Rattle.host_ends.proofs.timeout.Goals as goal
 
 pub put_sender_unchecked-requires : goal.put_sender_unchecked-requires
-put_sender_unchecked-requires c = sender_long c.args.state.now (sym c.held_sender.ensures ∙ c.in-Sender.is)
+put_sender_unchecked-requires c = sender_long c.args.state.now (sym c.held_sender.ensures ∙ c.in-Some.is)
 
-pub returns-in-Sender : goal.returns-in-Sender
-returns-in-Sender c = on_timed_out c.args.state.now c.args.store.now c.args.which c.args.out.now (sym c.held_sender.ensures ∙ c.in-Sender.is) c.handle_timeout-result.ensures c.put_sender_unchecked.ensures c.timeout_code.ensures
+pub returns-in-Some : goal.returns-in-Some
+returns-in-Some c = on_timed_out c.args.state.now c.args.store.now c.args.which c.args.out.now (sym c.held_sender.ensures ∙ c.in-Some.is) c.handle_timeout-result.ensures c.put_sender_unchecked.ensures c.timeout_code.ensures
 
-pub returns-in-Broken : goal.returns-in-Broken
-returns-in-Broken c = on_timeout_broken c.args.state.now c.args.store.now c.args.which c.args.out.now (sym c.held_sender.ensures ∙ c.in-Broken.is) c.refusal_answer.ensures
+pub returns-in-None : goal.returns-in-None
+returns-in-None c = on_timeout_broken c.args.state.now c.args.store.now c.args.which c.args.out.now (sym c.held_sender.ensures ∙ c.in-None.is) c.refusal_answer.ensures

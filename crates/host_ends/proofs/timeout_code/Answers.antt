@@ -1,14 +1,15 @@
 use Rattle.host_ends.specs.Answers.{timeout_code}
+use Rattle.refusal.proofs.Laws.{ok_is}
 use Rattle.host_ends.proofs.timeout_code.Goals as goal
 
-pub returns-in-Resent : goal.returns-in-Resent
+pub returns-in-Ok-Some : goal.returns-in-Ok-Some
 unfolding timeout_code
-returns-in-Resent c = rw c.in-Resent.is c.pack_unchecked.ensures
+returns-in-Ok-Some c = rw (ok_is c.in-Ok-Some.is (rw c.in-Ok-Some.is at c.in-Ok-Some.field-0-is)) c.pack_unchecked.ensures
 
-pub returns-in-Nothing : goal.returns-in-Nothing
+pub returns-in-Ok-None : goal.returns-in-Ok-None
 unfolding timeout_code
-returns-in-Nothing c = rw c.in-Nothing.is c.pack_unchecked-in-Nothing.ensures
+returns-in-Ok-None c = rw (ok_is c.in-Ok-None.is (rw c.in-Ok-None.is at c.in-Ok-None.field-0-is)) c.pack_unchecked-in-Ok-None.ensures
 
-pub returns-in-Refused : goal.returns-in-Refused
+pub returns-in-Err : goal.returns-in-Err
 unfolding timeout_code
-returns-in-Refused c = rw c.in-Refused.is c.refusal_answer.ensures
+returns-in-Err c = rw c.in-Err.is c.refusal_answer.ensures

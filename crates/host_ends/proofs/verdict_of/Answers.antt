@@ -1,14 +1,15 @@
 use Rattle.host_ends.specs.Internal.{verdict_of}
+use Rattle.refusal.proofs.Laws.{ok_is}
 use Rattle.host_ends.proofs.verdict_of.Goals as goal
 
-pub returns-in-Refused : goal.returns-in-Refused
+pub returns-in-Err : goal.returns-in-Err
 unfolding verdict_of
-returns-in-Refused c = rw c.in-Refused.is
+returns-in-Err c = rw c.in-Err.is
 
-pub returns-in-Nothing : goal.returns-in-Nothing
+pub returns-in-Ok-Nothing : goal.returns-in-Ok-Nothing
 unfolding verdict_of
-returns-in-Nothing c = rw c.in-Nothing.is
+returns-in-Ok-Nothing c = rw (ok_is c.in-Ok-Nothing.is (rw c.in-Ok-Nothing.is at c.in-Ok-Nothing.field-0-is))
 
-pub returns-in-Resend : goal.returns-in-Resend
+pub returns-in-Ok-Resend : goal.returns-in-Ok-Resend
 unfolding verdict_of
-returns-in-Resend c = rw c.in-Resend.is
+returns-in-Ok-Resend c = rw (ok_is c.in-Ok-Resend.is (rw c.in-Ok-Resend.is at c.in-Ok-Resend.field-0-is))

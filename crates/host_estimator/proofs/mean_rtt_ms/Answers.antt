@@ -2,10 +2,10 @@ use mathlib.Core.Path.{sym, ◌∙◌}
 use Rattle.host_estimator.specs.Estimator.{on_held}
 use Rattle.host_estimator.proofs.mean_rtt_ms.Goals as goal
 
-pub returns-in-Estimator : goal.returns-in-Estimator
+pub returns-in-Some : goal.returns-in-Some
 unfolding on_held
-returns-in-Estimator c = rw (sym c.held_estimator.ensures ∙ c.in-Estimator.is, ← c.mean_rtt_ms.ensures) c.mean_to.ensures
+returns-in-Some c = rw (sym c.held_estimator.ensures ∙ c.in-Some.is, ← c.mean_rtt_ms.ensures) c.mean_to.ensures
 
-pub returns-in-Broken : goal.returns-in-Broken
+pub returns-in-None : goal.returns-in-None
 unfolding on_held
-returns-in-Broken c = rw ((sym c.held_estimator.ensures ∙ c.in-Broken.is), c.refusal_answer.ensures)
+returns-in-None c = rw ((sym c.held_estimator.ensures ∙ c.in-None.is), c.refusal_answer.ensures)

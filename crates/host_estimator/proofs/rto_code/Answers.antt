@@ -1,10 +1,10 @@
 use Rattle.host_estimator.specs.Estimator.{rto_code}
 use Rattle.host_estimator.proofs.rto_code.Goals as goal
 
-pub returns-in-Rto : goal.returns-in-Rto
+pub returns-in-Ok : goal.returns-in-Ok
 unfolding rto_code
-returns-in-Rto c = rw c.in-Rto.is c.pack_unchecked.ensures
+returns-in-Ok c = rw c.in-Ok.is c.pack_unchecked.ensures
 
-pub returns-in-Refused : goal.returns-in-Refused
+pub returns-in-Err : goal.returns-in-Err
 unfolding rto_code
-returns-in-Refused c = rw c.in-Refused.is c.refusal_answer.ensures
+returns-in-Err c = rw c.in-Err.is c.refusal_answer.ensures

@@ -1,10 +1,10 @@
 use Rattle.host_packet.specs.Packet.{length_code}
 use Rattle.host_packet.proofs.length_code.Goals as goal
 
-pub returns-in-Length : goal.returns-in-Length
+pub returns-in-Ok : goal.returns-in-Ok
 unfolding length_code
-returns-in-Length c = rw c.in-Length.is c.pack_unchecked.ensures
+returns-in-Ok c = rw c.in-Ok.is c.pack_unchecked.ensures
 
-pub returns-in-Refused : goal.returns-in-Refused
+pub returns-in-Err : goal.returns-in-Err
 unfolding length_code
-returns-in-Refused c = rw c.in-Refused.is c.refusal_answer.ensures
+returns-in-Err c = rw c.in-Err.is c.refusal_answer.ensures

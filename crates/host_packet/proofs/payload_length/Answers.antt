@@ -2,10 +2,10 @@ use mathlib.Core.Path.{sym, ◌∙◌}
 use Rattle.host_packet.specs.Packet.{payload_code}
 use Rattle.host_packet.proofs.payload_length.Goals as goal
 
-pub returns-in-Packet : goal.returns-in-Packet
+pub returns-in-Ok : goal.returns-in-Ok
 unfolding payload_code
-returns-in-Packet c = rw (sym c.from_bytes.ensures ∙ c.in-Packet.is, c.pack_unchecked.ensures, c.payload-payload.ensures)
+returns-in-Ok c = rw (sym c.from_bytes.ensures ∙ c.in-Ok.is, c.pack_unchecked.ensures, c.payload-payload.ensures)
 
-pub returns-in-Refused : goal.returns-in-Refused
+pub returns-in-Err : goal.returns-in-Err
 unfolding payload_code
-returns-in-Refused c = rw (sym c.from_bytes.ensures ∙ c.in-Refused.is, c.refusal_answer.ensures)
+returns-in-Err c = rw (sym c.from_bytes.ensures ∙ c.in-Err.is, c.refusal_answer.ensures)

@@ -2,10 +2,10 @@ use mathlib.Core.Path.{sym, ◌∙◌}
 use Rattle.host_packet.specs.Packet.{read_code}
 use Rattle.host_packet.proofs.read.Goals as goal
 
-pub returns-in-Packet : goal.returns-in-Packet
+pub returns-in-Ok : goal.returns-in-Ok
 unfolding read_code
-returns-in-Packet c = rw (sym c.from_bytes.ensures ∙ c.in-Packet.is, c.pack_unchecked.ensures, c.header_value.ensures)
+returns-in-Ok c = rw (sym c.from_bytes.ensures ∙ c.in-Ok.is, c.pack_unchecked.ensures, c.header_value.ensures)
 
-pub returns-in-Refused : goal.returns-in-Refused
+pub returns-in-Err : goal.returns-in-Err
 unfolding read_code
-returns-in-Refused c = rw (sym c.from_bytes.ensures ∙ c.in-Refused.is, c.refusal_answer.ensures)
+returns-in-Err c = rw (sym c.from_bytes.ensures ∙ c.in-Err.is, c.refusal_answer.ensures)

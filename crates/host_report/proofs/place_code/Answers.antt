@@ -1,10 +1,10 @@
 use Rattle.host_report.specs.Report.{place_code}
 use Rattle.host_report.proofs.place_code.Goals as goal
 
-pub returns-in-Next : goal.returns-in-Next
+pub returns-in-Ok : goal.returns-in-Ok
 unfolding place_code
-returns-in-Next c = rw c.in-Next.is c.pack_unchecked.ensures
+returns-in-Ok c = rw c.in-Ok.is c.pack_unchecked.ensures
 
-pub returns-in-Refused : goal.returns-in-Refused
+pub returns-in-Err : goal.returns-in-Err
 unfolding place_code
-returns-in-Refused c = rw c.in-Refused.is c.refusal_answer.ensures
+returns-in-Err c = rw c.in-Err.is c.refusal_answer.ensures

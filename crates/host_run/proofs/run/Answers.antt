@@ -46,8 +46,8 @@ shape_of-estimator c = c.run_with.auto.estimator
 pub shape_of-doubles : goal.shape_of-doubles
 shape_of-doubles c = c.run_with.auto.doubles
 
-pub returns-in-Config : goal.returns-in-Config
-returns-in-Config c = on_config c.args.numbers.now c.args.reals.now (given c.args.file.now c.args.forward_rolls.now c.args.reverse_rolls.now) (lent c.args.sender_store.now c.args.receiver_store.now c.args.output.now c.args.rows.now c.args.events.now c.args.forward_records.now c.args.forward_places.now c.args.reverse_records.now c.args.reverse_places.now c.args.keys.now c.args.deadlines.now) (results c.args.words.now c.args.estimator.now c.args.doubles.now) (sym c.read_setup.ensures ∙ c.in-Config.is) c.run_with.ensures
+pub returns-in-Ok : goal.returns-in-Ok
+returns-in-Ok c = on_config c.args.numbers.now c.args.reals.now (given c.args.file.now c.args.forward_rolls.now c.args.reverse_rolls.now) (lent c.args.sender_store.now c.args.receiver_store.now c.args.output.now c.args.rows.now c.args.events.now c.args.forward_records.now c.args.forward_places.now c.args.reverse_records.now c.args.reverse_places.now c.args.keys.now c.args.deadlines.now) (results c.args.words.now c.args.estimator.now c.args.doubles.now) (sym c.read_setup.ensures ∙ c.in-Ok.is) c.run_with.ensures
 
-pub returns-in-Refused : goal.returns-in-Refused
-returns-in-Refused c = on_setup_refused c.args.numbers.now c.args.reals.now (given c.args.file.now c.args.forward_rolls.now c.args.reverse_rolls.now) (lent c.args.sender_store.now c.args.receiver_store.now c.args.output.now c.args.rows.now c.args.events.now c.args.forward_records.now c.args.forward_places.now c.args.reverse_records.now c.args.reverse_places.now c.args.keys.now c.args.deadlines.now) (results c.args.words.now c.args.estimator.now c.args.doubles.now) (sym c.read_setup.ensures ∙ c.in-Refused.is) c.refusal_answer.ensures
+pub returns-in-Err : goal.returns-in-Err
+returns-in-Err c = on_setup_refused c.args.numbers.now c.args.reals.now (given c.args.file.now c.args.forward_rolls.now c.args.reverse_rolls.now) (lent c.args.sender_store.now c.args.receiver_store.now c.args.output.now c.args.rows.now c.args.events.now c.args.forward_records.now c.args.forward_places.now c.args.reverse_records.now c.args.reverse_places.now c.args.keys.now c.args.deadlines.now) (results c.args.words.now c.args.estimator.now c.args.doubles.now) (sym c.read_setup.ensures ∙ c.in-Err.is) c.refusal_answer.ensures

@@ -1,10 +1,10 @@
 use Rattle.refusal.specs.Order.{decide}
 use Rattle.host_run.proofs.short_answer.Goals as goal
 
-pub returns-in-Refused : goal.returns-in-Refused
+pub returns-in-Err : goal.returns-in-Err
 unfolding decide
-returns-in-Refused c = rw c.in-Refused.is c.refusal_answer.ensures
+returns-in-Err c = rw c.in-Err.is c.refusal_answer.ensures
 
-pub returns-in-Accepted : goal.returns-in-Accepted
+pub returns-in-Ok : goal.returns-in-Ok
 unfolding decide
-returns-in-Accepted c = rw c.in-Accepted.is c.refusal_answer-in-Accepted.ensures
+returns-in-Ok c = rw c.in-Ok.is c.refusal_answer-in-Ok.ensures

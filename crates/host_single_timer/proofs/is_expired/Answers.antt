@@ -2,10 +2,10 @@ use mathlib.Core.Path.{sym, ◌∙◌}
 use Rattle.host_single_timer.specs.SingleTimer.{on_held}
 use Rattle.host_single_timer.proofs.is_expired.Goals as goal
 
-pub returns-in-Timer : goal.returns-in-Timer
+pub returns-in-Some : goal.returns-in-Some
 unfolding on_held
-returns-in-Timer c = rw ((sym c.held_timer.ensures ∙ c.in-Timer.is), c.test_answer.ensures, c.is_expired_at.ensures)
+returns-in-Some c = rw ((sym c.held_timer.ensures ∙ c.in-Some.is), c.test_answer.ensures, c.is_expired_at.ensures)
 
-pub returns-in-Broken : goal.returns-in-Broken
+pub returns-in-None : goal.returns-in-None
 unfolding on_held
-returns-in-Broken c = rw ((sym c.held_timer.ensures ∙ c.in-Broken.is), c.refusal_answer.ensures)
+returns-in-None c = rw ((sym c.held_timer.ensures ∙ c.in-None.is), c.refusal_answer.ensures)

@@ -1,14 +1,15 @@
 use Rattle.host_single_timer.specs.SingleTimer.{remaining_code}
+use Rattle.refusal.proofs.Laws.{ok_is}
 use Rattle.host_single_timer.proofs.remaining_code.Goals as goal
 
-pub returns-in-Inactive : goal.returns-in-Inactive
+pub returns-in-Ok-None : goal.returns-in-Ok-None
 unfolding remaining_code
-returns-in-Inactive c = rw c.in-Inactive.is c.pack_unchecked.ensures
+returns-in-Ok-None c = rw (ok_is c.in-Ok-None.is (rw c.in-Ok-None.is at c.in-Ok-None.field-0-is)) c.pack_unchecked.ensures
 
-pub returns-in-For : goal.returns-in-For
+pub returns-in-Ok-Some : goal.returns-in-Ok-Some
 unfolding remaining_code
-returns-in-For c = rw c.in-For.is c.pack_unchecked-in-For.ensures
+returns-in-Ok-Some c = rw (ok_is c.in-Ok-Some.is (rw c.in-Ok-Some.is at c.in-Ok-Some.field-0-is)) c.pack_unchecked-in-Ok-Some.ensures
 
-pub returns-in-Refused : goal.returns-in-Refused
+pub returns-in-Err : goal.returns-in-Err
 unfolding remaining_code
-returns-in-Refused c = rw c.in-Refused.is c.refusal_answer.ensures
+returns-in-Err c = rw c.in-Err.is c.refusal_answer.ensures

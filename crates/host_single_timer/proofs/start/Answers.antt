@@ -5,11 +5,11 @@ use Rattle.host_single_timer.proofs.Words.{timer_long, on_changed}
 use Rattle.host_single_timer.proofs.start.Goals as goal
 
 pub put_timer-requires : goal.put_timer-requires
-put_timer-requires c = timer_long c.args.state.now (sym c.held_timer.ensures ∙ c.in-Timer.is)
+put_timer-requires c = timer_long c.args.state.now (sym c.held_timer.ensures ∙ c.in-Some.is)
 
-pub returns-in-Timer : goal.returns-in-Timer
-returns-in-Timer c = on_changed c.args.state.now (λ x. started_at x c.args.now c.args.duration) (sym c.held_timer.ensures ∙ c.in-Timer.is) c.started_at-result.ensures c.put_timer.ensures c.timer_code.ensures
+pub returns-in-Some : goal.returns-in-Some
+returns-in-Some c = on_changed c.args.state.now (λ x. started_at x c.args.now c.args.duration) (sym c.held_timer.ensures ∙ c.in-Some.is) c.started_at-result.ensures c.put_timer.ensures c.timer_code.ensures
 
-pub returns-in-Broken : goal.returns-in-Broken
+pub returns-in-None : goal.returns-in-None
 unfolding on_held
-returns-in-Broken c = rw ((sym c.held_timer.ensures ∙ c.in-Broken.is), c.refusal_answer.ensures)
+returns-in-None c = rw ((sym c.held_timer.ensures ∙ c.in-None.is), c.refusal_answer.ensures)

@@ -1,10 +1,10 @@
 use Rattle.host_timers.specs.Timers.{pop_code}
 use Rattle.host_timers.proofs.pop_code.Goals as goal
 
-pub returns-in-Keys : goal.returns-in-Keys
+pub returns-in-Ok : goal.returns-in-Ok
 unfolding pop_code
-returns-in-Keys c = rw c.in-Keys.is c.pack_unchecked.ensures
+returns-in-Ok c = rw c.in-Ok.is c.pack_unchecked.ensures
 
-pub returns-in-Refused : goal.returns-in-Refused
+pub returns-in-Err : goal.returns-in-Err
 unfolding pop_code
-returns-in-Refused c = rw c.in-Refused.is c.refusal_answer.ensures
+returns-in-Err c = rw c.in-Err.is c.refusal_answer.ensures

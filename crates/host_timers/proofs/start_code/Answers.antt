@@ -1,10 +1,10 @@
 use Rattle.host_timers.specs.Timers.{start_code}
 use Rattle.host_timers.proofs.start_code.Goals as goal
 
-pub returns-in-Id : goal.returns-in-Id
+pub returns-in-Ok : goal.returns-in-Ok
 unfolding start_code
-returns-in-Id c = rw c.in-Id.is c.pack_unchecked.ensures
+returns-in-Ok c = rw c.in-Ok.is c.pack_unchecked.ensures
 
-pub returns-in-Refused : goal.returns-in-Refused
+pub returns-in-Err : goal.returns-in-Err
 unfolding start_code
-returns-in-Refused c = rw c.in-Refused.is c.refusal_answer.ensures
+returns-in-Err c = rw c.in-Err.is c.refusal_answer.ensures

@@ -6,10 +6,10 @@ pub returns-then-output_missing : goal.returns-then-output_missing
 unfolding room_missing
 returns-then-output_missing c = simp (sym c.output_missing.ensures ∙ c.if-output_missing.true)
 
-pub returns-in-Ack : goal.returns-in-Ack
+pub returns-in-Some : goal.returns-in-Some
 unfolding room_missing
-returns-in-Ack c = simp (sym c.output_missing.ensures ∙ c.if-output_missing.false, c.in-Ack.is)
+returns-in-Some c = simp (sym c.output_missing.ensures ∙ c.if-output_missing.false, c.in-Some.is)
 
-pub returns-in-Silent : goal.returns-in-Silent
+pub returns-in-None : goal.returns-in-None
 unfolding room_missing
-returns-in-Silent c = simp (sym c.output_missing.ensures ∙ c.if-output_missing.false, c.in-Silent.is)
+returns-in-None c = simp (sym c.output_missing.ensures ∙ c.if-output_missing.false, c.in-None.is)

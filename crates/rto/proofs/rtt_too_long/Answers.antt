@@ -1,4 +1,4 @@
 use Rattle.rto.proofs.rtt_too_long.Goals as goal
 
-pub returns-in-Set : goal.returns-in-Set
-returns-in-Set c = rw c.in-Set.is
+pub returns-in-Some : goal.returns-in-Some
+returns-in-Some c = rw c.in-Some.is

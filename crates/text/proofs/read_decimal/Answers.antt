@@ -1,8 +1,8 @@
+use Rattle.std.specs.Prelude.{None}
 use Prim.Native.Nat.{ℕ}
 use mathlib.Core.Path.{◌≡◌, sym, ◌∙◌}
 use mathlib.Core.Bool.{true, false}
 use mathlib.Core.List.{List}
-use Rattle.text.specs.declared.DecimalReading.TheVariants.{NotANumber}
 use Rattle.text.specs.Reading.{digit_run, capped_reading, plain_reading, read_decimal}
 use lib.ListN.{drop}
 use Rattle.text.specs.Decimal.{is_plain}
@@ -13,7 +13,7 @@ module _ (s : List ℕ) (at max : ℕ) where
   unfolding read_decimal plain_reading
   plain e = rw e
 
-  other : is_plain (digit_run (drop at s)) ≡ false → NotANumber ≡ read_decimal s at max
+  other : is_plain (digit_run (drop at s)) ≡ false → None ≡ read_decimal s at max
   unfolding read_decimal plain_reading
   other e = rw e
 

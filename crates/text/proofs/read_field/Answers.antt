@@ -1,3 +1,4 @@
+use Rattle.std.specs.Prelude.{None, Some}
 use Prim.Native.Nat.{ℕ, ◌+◌, ◌≤◌, ◌<◌}
 use mathlib.Core.Path.{◌≡◌, sym, ◌∙◌}
 use mathlib.Core.List.{List}
@@ -5,40 +6,39 @@ use native.Mathlib.Omega.{arith}
 use lib.ListN.{length, get_or}
 use borrow.Author.Tests.{lt-ltb, le-ltb, eq-eqb, ne_eqb}
 use Rattle.text.specs.Reading.{read_decimal}
-use Rattle.text.specs.declared.DecimalReading.TheVariants.{Number, NotANumber}
 use Rattle.text.specs.Field.{followed, read_field}
 use Rattle.text.proofs.read_field.Goals as goal
 
 module _ (s : List ℕ) (at max letter : ℕ) where
-  no_number : read_decimal s at max ≡ NotANumber → NotANumber ≡ read_field s at max letter
+  no_number : read_decimal s at max ≡ None → None ≡ read_field s at max letter
   unfolding read_field followed
   no_number q = rw q
 
-  module _ {n next : ℕ} (q : read_decimal s at max ≡ Number n next) where
-    ends : length s ≤ next → NotANumber ≡ read_field s at max letter
+  module _ {n next : ℕ} (q : read_decimal s at max ≡ Some (n, next)) where
+    ends : length s ≤ next → None ≡ read_field s at max letter
     unfolding read_field followed
     ends h = rw (q, le-ltb next (length s) h)
 
-    other : next < length s → (get_or s next 0 ≡ letter → ⊥) → NotANumber ≡ read_field s at max letter
+    other : next < length s → (get_or s next 0 ≡ letter → ⊥) → None ≡ read_field s at max letter
     unfolding read_field followed
     other h g = rw (q, lt-ltb next (length s) h, ne_eqb (get_or s next 0) letter g)
 
-    same : next < length s → get_or s next 0 ≡ letter → Number n (next + 1) ≡ read_field s at max letter
+    same : next < length s → get_or s next 0 ≡ letter → Some (n, next + 1) ≡ read_field s at max letter
     unfolding read_field followed
     same h g = rw (q, lt-ltb next (length s) h, eq-eqb (get_or s next 0) letter g)
 
 pub returns-then-s-next : goal.returns-then-s-next
 returns-then-s-next c = let a = c.args in
-    ends a.s.now a.at a.max a.letter (sym c.read_decimal.ensures ∙ c.in-Number.is) (omega arith)
+    ends a.s.now a.at a.max a.letter (sym c.read_decimal.ensures ∙ c.in-Some.is) (omega arith)
 
 pub returns-then-b-letter : goal.returns-then-b-letter
 returns-then-b-letter c = let a = c.args in
-    other a.s.now a.at a.max a.letter (sym c.read_decimal.ensures ∙ c.in-Number.is) (omega arith) c.if-b-letter.true
+    other a.s.now a.at a.max a.letter (sym c.read_decimal.ensures ∙ c.in-Some.is) (omega arith) c.if-b-letter.true
 
 pub returns-else-b-letter : goal.returns-else-b-letter
 returns-else-b-letter c = let a = c.args in
-    same a.s.now a.at a.max a.letter (sym c.read_decimal.ensures ∙ c.in-Number.is) (omega arith) (omega arith)
+    same a.s.now a.at a.max a.letter (sym c.read_decimal.ensures ∙ c.in-Some.is) (omega arith) (omega arith)
 
-pub returns-in-NotANumber : goal.returns-in-NotANumber
-returns-in-NotANumber c = let a = c.args in
-    no_number a.s.now a.at a.max a.letter (sym c.read_decimal.ensures ∙ c.in-NotANumber.is)
+pub returns-in-None : goal.returns-in-None
+returns-in-None c = let a = c.args in
+    no_number a.s.now a.at a.max a.letter (sym c.read_decimal.ensures ∙ c.in-None.is)

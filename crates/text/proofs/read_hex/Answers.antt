@@ -1,3 +1,4 @@
+use Rattle.std.specs.Prelude.{Err, None, Ok, Some}
 use Prim.Native.Nat.{ℕ, ◌+◌, ◌-◌, ◌*◌, ◌≤◌, ◌<◌}
 use mathlib.Core.Path.{◌≡◌, sym, ◌∙◌}
 use native.Mathlib.Omega.{arith}
@@ -11,13 +12,12 @@ use lib.Dec.{leb}
 use native.Mathlib.Nat.{add-sub_cancel_left}
 use borrow.Author.Tests.{le-leb, lt-leb, leb-true}
 use Rattle.refusal.specs.declared.Refusal.TheVariants.{Full}
-use Rattle.text.specs.declared.HexReading.TheVariants as hex
 use Rattle.text.proofs.Hex.{both}
 use borrow.Author.Rules.{rules}
 use Rattle.text.proofs.read_hex.Goals as goal
 
 module _ (s : List ℕ) (at count : ℕ) (out : List ℕ) where
-  other : are_letters s at count ≡ false → hex_exit out hex.NotHex ≡ read_hex s at count out
+  other : are_letters s at count ≡ false → hex_exit out (Ok None) ≡ read_hex s at count out
   unfolding read_hex
   other e = rw e
 
@@ -26,7 +26,7 @@ module _ (s : List ℕ) (at count : ℕ) (out : List ℕ) where
     unfolding are_letters
     bound = leb-true (at + count * 2) (length s) (both (leb (at + count * 2) (length s)) (all_hex (letters_at s at count)) e).0
 
-    full : length out < count → hex_exit out (hex.Refused Full) ≡ read_hex s at count out
+    full : length out < count → hex_exit out (Err Full) ≡ read_hex s at count out
     unfolding read_hex
     full h = rw (e, lt-leb count (length out) h)
 
@@ -44,7 +44,7 @@ module _ (s : List ℕ) (at count : ℕ) (out : List ℕ) where
       letters = rw (add-sub_cancel_left at (count * 2)) (both (leb (at + count * 2) (length s)) (all_hex (letters_at s at count)) e).1
 
       done : {last : List ℕ} → last ≡ octets_of (take (at + count * 2 - at) (drop at s))
-          → hex_exit (last ++ drop count out) (hex.Next (at + count * 2)) ≡ read_hex s at count out
+          → hex_exit (last ++ drop count out) (Ok (Some (at + count * 2))) ≡ read_hex s at count out
       unfolding read_hex
       done d = rw (d, e, le-leb count (length out) h, add-sub_cancel_left at (count * 2))
 

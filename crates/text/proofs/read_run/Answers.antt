@@ -1,5 +1,5 @@
+use Rattle.std.specs.Prelude.{Some}
 use mathlib.Core.Path.{◌≡◌, refl, sym, ap, ◌∙◌}
-use Rattle.text.specs.declared.DecimalReading.TheVariants.{Number}
 use native.Mathlib.Omega.{arith}
 use mathlib.Core.Bool.{true, false}
 use Rattle.text.proofs.Runs.{run_from_start, from_end, from_other, from_large, from_next, tenth_small, tenth_large}
@@ -61,4 +61,4 @@ returns c = let l = c.loop-i in
     let a = c.args in
     let m = c.max.ensures in
     let e : c.max.result ≡ l.i = omega arith in
-    ap (Number l.sum) e ∙ sym (from_end a.s.now a.max l.sum l.i (omega arith)) ∙ l.invariant.0 ∙ run_from_start a.max a.at (drop a.at a.s.now)
+    ap ((λ x. Some (l.sum, x))) e ∙ sym (from_end a.s.now a.max l.sum l.i (omega arith)) ∙ l.invariant.0 ∙ run_from_start a.max a.at (drop a.at a.s.now)

@@ -13,29 +13,29 @@ loop-n-init c = left_start _ c.requires
 pub next_expired_unchecked-next-requires : goal.next_expired_unchecked-next-requires
 next_expired_unchecked-next-requires c = c.loop-n.invariant.can.good.outgoing.clock.state
 
-pub shape_of-store-in-Nothing : goal.shape_of-store-in-Nothing
-shape_of-store-in-Nothing c = c.loop-n.invariant.same.store
+pub shape_of-store-in-None : goal.shape_of-store-in-None
+shape_of-store-in-None c = c.loop-n.invariant.same.store
 
-pub shape_of-rows-in-Nothing : goal.shape_of-rows-in-Nothing
-shape_of-rows-in-Nothing c = c.loop-n.invariant.same.rows
+pub shape_of-rows-in-None : goal.shape_of-rows-in-None
+shape_of-rows-in-None c = c.loop-n.invariant.same.rows
 
-pub shape_of-events-in-Nothing : goal.shape_of-events-in-Nothing
-shape_of-events-in-Nothing c = c.loop-n.invariant.same.events
+pub shape_of-events-in-None : goal.shape_of-events-in-None
+shape_of-events-in-None c = c.loop-n.invariant.same.events
 
-pub shape_of-records-in-Nothing : goal.shape_of-records-in-Nothing
-shape_of-records-in-Nothing c = c.loop-n.invariant.same.records
+pub shape_of-records-in-None : goal.shape_of-records-in-None
+shape_of-records-in-None c = c.loop-n.invariant.same.records
 
-pub shape_of-places-in-Nothing : goal.shape_of-places-in-Nothing
-shape_of-places-in-Nothing c = c.loop-n.invariant.same.places
+pub shape_of-places-in-None : goal.shape_of-places-in-None
+shape_of-places-in-None c = c.loop-n.invariant.same.places
 
-pub shape_of-keys-in-Nothing : goal.shape_of-keys-in-Nothing
-shape_of-keys-in-Nothing c = c.loop-n.invariant.same.keys
+pub shape_of-keys-in-None : goal.shape_of-keys-in-None
+shape_of-keys-in-None c = c.loop-n.invariant.same.keys
 
-pub shape_of-deadlines-in-Nothing : goal.shape_of-deadlines-in-Nothing
-shape_of-deadlines-in-Nothing c = c.loop-n.invariant.same.deadlines
+pub shape_of-deadlines-in-None : goal.shape_of-deadlines-in-None
+shape_of-deadlines-in-None c = c.loop-n.invariant.same.deadlines
 
-pub returns-in-Nothing : goal.returns-in-Nothing
-returns-in-Nothing c = left_none c.loop-n.invariant c.next_expired_unchecked-next.ensures c.in-Nothing.is
+pub returns-in-None : goal.returns-in-None
+returns-in-None c = left_none c.loop-n.invariant c.next_expired_unchecked-next.ensures c.in-None.is
 
 pub shape_of-store-then-met : goal.shape_of-store-then-met
 shape_of-store-then-met c = c.loop-n.invariant.same.store
@@ -59,7 +59,7 @@ pub shape_of-deadlines-then-met : goal.shape_of-deadlines-then-met
 shape_of-deadlines-then-met c = c.loop-n.invariant.same.deadlines
 
 pub returns-then-met : goal.returns-then-met
-returns-then-met c = left_exhausted c.loop-n.invariant c.next_expired_unchecked-next.ensures c.in-Key.is c.ceiling_met-met.ensures c.if-met.true c.exhausted-resends.ensures
+returns-then-met c = left_exhausted c.loop-n.invariant c.next_expired_unchecked-next.ensures c.in-Some.is c.ceiling_met-met.ensures c.if-met.true c.exhausted-resends.ensures
 
 pub fire_number-fired-requires : goal.fire_number-fired-requires
 fire_number-fired-requires c = c.loop-n.invariant.can
@@ -86,13 +86,13 @@ pub shape_of-deadlines-then-not-going : goal.shape_of-deadlines-then-not-going
 shape_of-deadlines-then-not-going c = c.fire_number-fired.auto.deadlines ∙ c.loop-n.invariant.same.deadlines
 
 pub returns-then-not-going : goal.returns-then-not-going
-returns-then-not-going c = left_stopped c.loop-n.invariant c.next_expired_unchecked-next.ensures c.in-Key.is c.ceiling_met-met.ensures c.if-met.false c.fire_number-fired.ensures c.is_going-going.ensures (ap not c.if-not-going.true)
+returns-then-not-going c = left_stopped c.loop-n.invariant c.next_expired_unchecked-next.ensures c.in-Some.is c.ceiling_met-met.ensures c.if-met.false c.fire_number-fired.ensures c.is_going-going.ensures (ap not c.if-not-going.true)
 
 pub overflow_add-from : goal.overflow_add-from
-overflow_add-from c = let h = left_fits c.loop-n.invariant c.next_expired_unchecked-next.ensures c.in-Key.is in omega (arith, h)
+overflow_add-from c = let h = left_fits c.loop-n.invariant c.next_expired_unchecked-next.ensures c.in-Some.is in omega (arith, h)
 
 pub loop-n-smaller : goal.loop-n-smaller
-loop-n-smaller c = left_less c.loop-n.invariant c.next_expired_unchecked-next.ensures c.in-Key.is
+loop-n-smaller c = left_less c.loop-n.invariant c.next_expired_unchecked-next.ensures c.in-Some.is
 
 pub loop-n-preserved : goal.loop-n-preserved
-loop-n-preserved c = left_next c.loop-n.invariant c.next_expired_unchecked-next.ensures c.in-Key.is c.ceiling_met-met.ensures c.if-met.false c.fire_number-fired.ensures c.is_going-going.ensures (ap not c.if-not-going.false) (record { store = c.fire_number-fired.auto.store ∙ c.loop-n.invariant.same.store; rows = c.fire_number-fired.auto.rows ∙ c.loop-n.invariant.same.rows; events = c.fire_number-fired.auto.events ∙ c.loop-n.invariant.same.events; records = c.fire_number-fired.auto.records ∙ c.loop-n.invariant.same.records; places = c.fire_number-fired.auto.places ∙ c.loop-n.invariant.same.places; keys = c.fire_number-fired.auto.keys ∙ c.loop-n.invariant.same.keys; deadlines = c.fire_number-fired.auto.deadlines ∙ c.loop-n.invariant.same.deadlines })
+loop-n-preserved c = left_next c.loop-n.invariant c.next_expired_unchecked-next.ensures c.in-Some.is c.ceiling_met-met.ensures c.if-met.false c.fire_number-fired.ensures c.is_going-going.ensures (ap not c.if-not-going.false) (record { store = c.fire_number-fired.auto.store ∙ c.loop-n.invariant.same.store; rows = c.fire_number-fired.auto.rows ∙ c.loop-n.invariant.same.rows; events = c.fire_number-fired.auto.events ∙ c.loop-n.invariant.same.events; records = c.fire_number-fired.auto.records ∙ c.loop-n.invariant.same.records; places = c.fire_number-fired.auto.places ∙ c.loop-n.invariant.same.places; keys = c.fire_number-fired.auto.keys ∙ c.loop-n.invariant.same.keys; deadlines = c.fire_number-fired.auto.deadlines ∙ c.loop-n.invariant.same.deadlines })

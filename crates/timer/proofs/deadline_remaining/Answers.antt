@@ -1,6 +1,6 @@
+use Rattle.std.specs.Prelude.{Ok, Some}
 use Rattle.std.proofs.Common.{ap}
-use Rattle.timer.specs.declared.Remaining.TheVariants.{For}
 use Rattle.timer.proofs.deadline_remaining.Goals as goal
 
-pub returns-in-At : goal.returns-in-At
-returns-in-At c = rw c.in-At.is (ap For c.saturating_sub.ensures)
+pub returns-in-Some : goal.returns-in-Some
+returns-in-Some c = rw c.in-Some.is (ap Ok (Some c.saturating_sub.ensures))

@@ -5,11 +5,11 @@ use Rattle.clock.proofs.Clock.due_unchecked.Goals as goal
 pub returns-in-Single : goal.returns-in-Single
 returns-in-Single c = due_single (timers_exit c.args.self c.args.keys.now c.args.deadlines.now) c.args.now c.args.outstanding c.in-Single.is c.single_due.ensures
 
-pub returns-in-Key : goal.returns-in-Key
-returns-in-Key c = due_numbers (timers_exit c.args.self c.args.keys.now c.args.deadlines.now) c.args.now c.args.outstanding c.requires.0.state c.next_expired_unchecked-next.ensures c.in-PerNumber.is c.in-Key.is
+pub returns-in-Some : goal.returns-in-Some
+returns-in-Some c = due_numbers (timers_exit c.args.self c.args.keys.now c.args.deadlines.now) c.args.now c.args.outstanding c.requires.0.state c.next_expired_unchecked-next.ensures c.in-PerNumber.is c.in-Some.is
 
-pub returns-in-Nothing : goal.returns-in-Nothing
-returns-in-Nothing c = due_none (timers_exit c.args.self c.args.keys.now c.args.deadlines.now) c.args.now c.args.outstanding c.requires.0.state c.next_expired_unchecked-next.ensures c.in-PerNumber.is c.in-Nothing.is
+pub returns-in-None : goal.returns-in-None
+returns-in-None c = due_none (timers_exit c.args.self c.args.keys.now c.args.deadlines.now) c.args.now c.args.outstanding c.requires.0.state c.next_expired_unchecked-next.ensures c.in-PerNumber.is c.in-None.is
 
 pub returns-in-Edition : goal.returns-in-Edition
 returns-in-Edition c = due_edition (timers_exit c.args.self c.args.keys.now c.args.deadlines.now) c.args.now c.args.outstanding c.in-Edition.is c.single_due-in-Edition.ensures

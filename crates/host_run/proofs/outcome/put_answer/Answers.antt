@@ -8,8 +8,8 @@ put_outcome-requires c = (enough (results c.args.words.now c.args.estimator.now 
 pub put_estimator_unchecked-requires : goal.put_estimator_unchecked-requires
 put_estimator_unchecked-requires c = (enough (results c.args.words.now c.args.estimator.now c.args.doubles.now) c.requires).room
 
-pub returns-in-Outcome : goal.returns-in-Outcome
-returns-in-Outcome c = on_outcome (results c.args.words.now c.args.estimator.now c.args.doubles.now) c.in-Outcome.is c.put_outcome.ensures c.put_estimator_unchecked.ensures.state_after c.put_estimator_unchecked.ensures.doubles_after (rw (c.pack_unchecked.ensures, c.flag.ensures))
+pub returns-in-Ok : goal.returns-in-Ok
+returns-in-Ok c = on_outcome (results c.args.words.now c.args.estimator.now c.args.doubles.now) c.in-Ok.is c.put_outcome.ensures c.put_estimator_unchecked.ensures.state_after c.put_estimator_unchecked.ensures.doubles_after (rw (c.pack_unchecked.ensures, c.flag.ensures))
 
-pub returns-in-Refused : goal.returns-in-Refused
-returns-in-Refused c = on_run_refused (results c.args.words.now c.args.estimator.now c.args.doubles.now) c.in-Refused.is c.refusal_answer.ensures
+pub returns-in-Err : goal.returns-in-Err
+returns-in-Err c = on_run_refused (results c.args.words.now c.args.estimator.now c.args.doubles.now) c.in-Err.is c.refusal_answer.ensures

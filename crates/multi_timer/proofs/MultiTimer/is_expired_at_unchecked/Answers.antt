@@ -5,8 +5,8 @@ use Rattle.multi_timer.proofs.Places.{at_bound, at_lookup, absent_lookup}
 use Rattle.multi_timer.proofs.MultiTimer.is_expired_at_unchecked.Goals as goal
 use Rattle.multi_timer.proofs.MultiTimer.is_expired_at_unchecked.Goals.{In-At, Start}
 
-place : (c : goal.In-At) → c.in-At.i < c.args.self.count
-place c = at_bound c.args.self.count c.args.keys.now c.args.deadlines.now (good_of c.args.self.count c.args.keys.now c.args.deadlines.now c.requires) c.args.key _ (sym c.in-At.is ∙ c.search-position.ensures)
+place : (c : goal.In-At) → c.in-Ok.i < c.args.self.count
+place c = at_bound c.args.self.count c.args.keys.now c.args.deadlines.now (good_of c.args.self.count c.args.keys.now c.args.deadlines.now c.requires) c.args.key _ (sym c.in-Ok.is ∙ c.search-position.ensures)
 
 within : (c : goal.Start) → c.args.self.count ≤ length c.args.deadlines.now
 within c = let g = good_of c.args.self.count c.args.keys.now c.args.deadlines.now c.requires in subst (λ (m : ℕ). c.args.self.count ≤ m) g.same g.within
@@ -20,8 +20,8 @@ offset_bounds-deadlines-i c = omega (arith, place (goal.at.offset_bounds-deadlin
 pub bounds-deadlines-i : goal.bounds-deadlines-i
 bounds-deadlines-i c = lt_of_lt_of_le (place (goal.at.bounds-deadlines-i c).In-At) (within (goal.at.bounds-deadlines-i c).Start)
 
-pub returns-in-At : goal.returns-in-At
-returns-in-At c = sym (ap (due_at c.args.time) (at_lookup c.args.self.count c.args.keys.now c.args.deadlines.now (good_of c.args.self.count c.args.keys.now c.args.deadlines.now c.requires) c.args.key _ (sym c.in-At.is ∙ c.search-position.ensures)))
+pub returns-in-Ok : goal.returns-in-Ok
+returns-in-Ok c = sym (ap (due_at c.args.time) (at_lookup c.args.self.count c.args.keys.now c.args.deadlines.now (good_of c.args.self.count c.args.keys.now c.args.deadlines.now c.requires) c.args.key _ (sym c.in-Ok.is ∙ c.search-position.ensures)))
 
-pub returns-in-Absent : goal.returns-in-Absent
-returns-in-Absent c = sym (ap (due_at c.args.time) (absent_lookup c.args.self.count c.args.keys.now c.args.deadlines.now (good_of c.args.self.count c.args.keys.now c.args.deadlines.now c.requires) c.args.key _ (sym c.in-Absent.is ∙ c.search-position.ensures)))
+pub returns-in-Err : goal.returns-in-Err
+returns-in-Err c = sym (ap (due_at c.args.time) (absent_lookup c.args.self.count c.args.keys.now c.args.deadlines.now (good_of c.args.self.count c.args.keys.now c.args.deadlines.now c.requires) c.args.key _ (sym c.in-Err.is ∙ c.search-position.ensures)))

@@ -1,5 +1,5 @@
+use Rattle.std.specs.Prelude.{Err}
 use Rattle.std.proofs.Common.{ap, ◌∙◌, le_antisymm, rules}
-use Rattle.multi_timer.specs.declared.KeyPosition.TheVariants.{Absent}
 use Rattle.multi_timer.proofs.Loops.{search_at, search_absent, search_step, search_end}
 use Rattle.multi_timer.proofs.entries.search.Goals as goal
 
@@ -16,4 +16,4 @@ pub loop-i-preserved : goal.loop-i-preserved
 loop-i-preserved c = (search rules, search_step c.args.count c.loop-i.i c.args.keys.now c.args.key c.loop-i-test.true c.requires.0 c.if-k-key.false ∙ c.loop-i.invariant.1)
 
 pub returns : goal.returns
-returns c = ap Absent (le_antisymm c.loop-i-test.false c.loop-i.invariant.0) ∙ search_end c.args.count c.loop-i.i c.args.keys.now c.args.key c.loop-i-test.false c.requires.0 ∙ c.loop-i.invariant.1
+returns c = ap Err (le_antisymm c.loop-i-test.false c.loop-i.invariant.0) ∙ search_end c.args.count c.loop-i.i c.args.keys.now c.args.key c.loop-i-test.false c.requires.0 ∙ c.loop-i.invariant.1

@@ -1,33 +1,33 @@
+use Rattle.std.specs.Prelude.{Err, Ok}
 use mathlib.Core.Path.{sym, ◌∙◌}
 use native.Mathlib.Omega.{arith}
 use Rattle.refusal.proofs.Laws.{on_accepted, on_refused}
 use Rattle.packet.specs.Reading.{from_bytes, header_of}
-use Rattle.packet.specs.declared.PacketAnswer.TheVariants as packetAnswer
 use Rattle.packet.proofs.Read.{Readable, read_short, read_kind, read_cut, read_accepted, type_accepted, type_refused}
 use Rattle.packet.proofs.Packet.from_bytes.Goals as goal
 
 pub returns-then-raw-lt-HEADER_SIZE : goal.returns-then-raw-lt-HEADER_SIZE
 unfolding from_bytes
 returns-then-raw-lt-HEADER_SIZE c = let raw = c.args.raw.now in
-    sym (on_refused packetAnswer.Refused (packetAnswer.Packet (header_of raw)) (read_short raw c.if-raw-lt-HEADER_SIZE.true))
+    sym (on_refused Err (Ok (header_of raw)) (read_short raw c.if-raw-lt-HEADER_SIZE.true))
 
 pub returns-in_default : goal.returns-in_default
 unfolding from_bytes
 returns-in_default c = let raw = c.args.raw.now in
     let known = type_refused _ _ (sym c.try_from.ensures ∙ c.in_default.is) in
-    sym (on_refused packetAnswer.Refused (packetAnswer.Packet (header_of raw)) (read_kind raw c.if-raw-lt-HEADER_SIZE.false known))
+    sym (on_refused Err (Ok (header_of raw)) (read_kind raw c.if-raw-lt-HEADER_SIZE.false known))
 
 pub returns-then-present-declared : goal.returns-then-present-declared
 unfolding from_bytes
 returns-then-present-declared c = let raw = c.args.raw.now in
-    let known = type_accepted _ _ (sym c.try_from.ensures ∙ c.in-Type.is) in
+    let known = type_accepted _ _ (sym c.try_from.ensures ∙ c.in-Ok.is) in
     rw c.be16-declared.ensures
-    (sym (on_refused packetAnswer.Refused (packetAnswer.Packet (header_of raw)) (read_cut raw c.if-raw-lt-HEADER_SIZE.false known.0 (omega arith))))
+    (sym (on_refused Err (Ok (header_of raw)) (read_cut raw c.if-raw-lt-HEADER_SIZE.false known.0 (omega arith))))
 
 pub returns : goal.returns
 unfolding from_bytes header_of
 returns c = let raw = c.args.raw.now in
-    let known = type_accepted _ _ (sym c.try_from.ensures ∙ c.in-Type.is) in
+    let known = type_accepted _ _ (sym c.try_from.ensures ∙ c.in-Ok.is) in
     let readable : Readable raw = record { long = c.if-raw-lt-HEADER_SIZE.false; known = known.0; whole = omega arith } in
     rw (c.be16.ensures, c.be32.ensures, known.1)
-    (sym (on_accepted packetAnswer.Refused (packetAnswer.Packet (header_of raw)) (read_accepted raw readable)))
+    (sym (on_accepted Err (Ok (header_of raw)) (read_accepted raw readable)))

@@ -1,14 +1,14 @@
+use Rattle.std.specs.Prelude.{Ok}
 use Rattle.std.proofs.Common.{sym, ap, ◌∙◌}
 use Rattle.refusal.proofs.Laws.{on_accepted, on_refused}
-use Rattle.rto.specs.declared.MeanAnswer.TheVariants.{Millis}
 use Rattle.rto.specs.Rto.{held_too_long, mean_rtt_ms}
 use Rattle.rto.proofs.Checks.{verdict_on}
 use Rattle.rto.proofs.RtoEstimator.mean_rtt_ms.Goals as goal
 
-pub returns-in-Refused : goal.returns-in-Refused
+pub returns-in-Err : goal.returns-in-Err
 unfolding mean_rtt_ms
-returns-in-Refused c = sym (on_refused _ _ (sym (verdict_on c.args.self (held_too_long c.args.self) c.call_verdict.ensures c.state_broken.ensures c.counts_full.ensures c.held_too_long.ensures) ∙ c.in-Refused.is))
+returns-in-Err c = sym (on_refused _ _ (sym (verdict_on c.args.self (held_too_long c.args.self) c.call_verdict.ensures c.state_broken.ensures c.counts_full.ensures c.held_too_long.ensures) ∙ c.in-Err.is))
 
-pub returns-in-Accepted : goal.returns-in-Accepted
+pub returns-in-Ok : goal.returns-in-Ok
 unfolding mean_rtt_ms
-returns-in-Accepted c = ap Millis c.mean_rtt_ms_unchecked.ensures ∙ sym (on_accepted _ _ (sym (verdict_on c.args.self (held_too_long c.args.self) c.call_verdict.ensures c.state_broken.ensures c.counts_full.ensures c.held_too_long.ensures) ∙ c.in-Accepted.is))
+returns-in-Ok c = ap Ok c.mean_rtt_ms_unchecked.ensures ∙ sym (on_accepted _ _ (sym (verdict_on c.args.self (held_too_long c.args.self) c.call_verdict.ensures c.state_broken.ensures c.counts_full.ensures c.held_too_long.ensures) ∙ c.in-Ok.is))

@@ -3,10 +3,10 @@ use Rattle.schedule.specs.Schedule.{len}
 use Rattle.schedule.proofs.Calls.{answered_refused, answered}
 use Rattle.schedule.proofs.ChannelScheduler.len.Goals as goal
 
-pub returns-in-Refused : goal.returns-in-Refused
+pub returns-in-Err : goal.returns-in-Err
 unfolding len
-returns-in-Refused c = answered_refused _ _ c.read_verdict.ensures c.in-Refused.is
+returns-in-Err c = answered_refused _ _ c.read_verdict.ensures c.in-Err.is
 
-pub returns-in-Accepted : goal.returns-in-Accepted
+pub returns-in-Ok : goal.returns-in-Ok
 unfolding len
-returns-in-Accepted c = answered _ _ c.read_verdict.ensures c.in-Accepted.is refl
+returns-in-Ok c = answered _ _ c.read_verdict.ensures c.in-Ok.is refl

@@ -6,12 +6,12 @@ use Rattle.schedule.proofs.Memory.{within}
 use Rattle.schedule.proofs.ChannelScheduler.next_deadline.Goals as goal
 
 pub next_deadline_unchecked-requires : goal.next_deadline_unchecked-requires
-next_deadline_unchecked-requires c = within (schedule c.args.records.now c.args.places.now c.args.self) (read_sound (schedule c.args.records.now c.args.places.now c.args.self) (sym c.read_verdict.ensures ∙ c.in-Accepted.is))
+next_deadline_unchecked-requires c = within (schedule c.args.records.now c.args.places.now c.args.self) (read_sound (schedule c.args.records.now c.args.places.now c.args.self) (sym c.read_verdict.ensures ∙ c.in-Ok.is))
 
-pub returns-in-Refused : goal.returns-in-Refused
+pub returns-in-Err : goal.returns-in-Err
 unfolding next_deadline
-returns-in-Refused c = answered_refused _ _ c.read_verdict.ensures c.in-Refused.is
+returns-in-Err c = answered_refused _ _ c.read_verdict.ensures c.in-Err.is
 
-pub returns-in-Accepted : goal.returns-in-Accepted
+pub returns-in-Ok : goal.returns-in-Ok
 unfolding next_deadline
-returns-in-Accepted c = answered _ _ c.read_verdict.ensures c.in-Accepted.is c.next_deadline_unchecked.ensures
+returns-in-Ok c = answered _ _ c.read_verdict.ensures c.in-Ok.is c.next_deadline_unchecked.ensures

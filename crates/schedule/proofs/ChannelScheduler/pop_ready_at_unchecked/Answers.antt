@@ -1,3 +1,4 @@
+use Rattle.std.specs.Prelude.{None, Ok, Some}
 use mathlib.Core.Path.{◌≡◌, ◌∙◌, ap, subst}
 use mathlib.Core.List.{List, ◌∷◌, ◌++◌}
 use Prim.Native.Nat.{ℕ, ◌+◌, ◌-◌, ◌*◌, ◌≤◌, ◌<◌}
@@ -7,7 +8,6 @@ use Rattle.schedule.specs.Record.{vacant}
 use Rattle.schedule.specs.State.{Schedule, schedule, waiting_records}
 use Rattle.schedule.specs.Schedule.{CanPop, scheduler, first_record, placed, pop_exit, on_pop, pop_unchecked}
 use Rattle.schedule.specs.Structs.{scheduled_of}
-use Rattle.schedule.specs.declared.ReadyAnswer.TheVariants as ready
 use Rattle.schedule.specs.declared.Scheduled.{Scheduled}
 use Rattle.schedule.proofs.Memory.{within}
 use Rattle.schedule.proofs.Calls.{positive, none_waits, first_not_due, can_take, taken_law}
@@ -16,7 +16,7 @@ use Rattle.schedule.proofs.ChannelScheduler.pop_ready_at_unchecked.Goals as goal
 -- with the first record unpacked
 
 module _ (m : Schedule) (now : ℕ) (out : List ℕ) (some : m.scheduler.count ≡ 0 → ⊥) {r : Scheduled} (first : r ≡ scheduled_of (first_record m.records)) where
-  not_due : now < r.time → on_pop m out ready.Nothing ≡ pop_unchecked m now out
+  not_due : now < r.time → on_pop m out (Ok None) ≡ pop_unchecked m now out
   not_due l = first_not_due m now out some (subst (λ (s : Scheduled). now < s.time) first l)
 
   can : CanPop m now out → r.time ≤ now → (r.place * 1410 + 1410 ≤ length m.places) × (r.length ≤ 1410) × (r.length ≤ length out)
@@ -26,9 +26,9 @@ module _ (m : Schedule) (now : ℕ) (out : List ℕ) (some : m.scheduler.count �
       → rs ≡ drop 1 (waiting_records m) ++ vacant ∷ drop m.scheduler.count m.records
       → ps ≡ placed m.places r.place (replicate 1410 0)
       → o ≡ take r.length (drop (r.place * 1410) m.places) ++ drop r.length out
-      → pop_exit rs ps o (record { scheduler = scheduler (m.scheduler.count - 1) m.scheduler.next_order; answer = ready.Packet r.length }) ≡ pop_unchecked m now out
+      → pop_exit rs ps o (record { scheduler = scheduler (m.scheduler.count - 1) m.scheduler.next_order; answer = Ok (Some r.length) }) ≡ pop_unchecked m now out
   takes {rs} {ps} {o} l p q k =
-      ap (λ (s : Scheduled). pop_exit rs ps o (record { scheduler = scheduler (m.scheduler.count - 1) m.scheduler.next_order; answer = ready.Packet s.length })) first
+      ap (λ (s : Scheduled). pop_exit rs ps o (record { scheduler = scheduler (m.scheduler.count - 1) m.scheduler.next_order; answer = Ok (Some s.length) })) first
       ∙ taken_law m now out some (subst (λ (s : Scheduled). s.time ≤ now) first l) p
       (q ∙ ap (λ (s : Scheduled). placed m.places s.place (replicate 1410 0)) first)
       (k ∙ ap (λ (s : Scheduled). take s.length (drop (s.place * 1410) m.places) ++ drop s.length out) first)

@@ -11,7 +11,7 @@ pub overflow_mul-result : goal.overflow_mul-result
 overflow_mul-result c = omega (arith, square c.args.count c.if-count-le65535.true)
 
 pub overflow_sub-result : goal.overflow_sub-result
-overflow_sub-result c = omega (arith, sum_frees c.args.places c.args.count _ c.args.s.now c.requires.0 c.requires.1 c.requires.3 c.place_sum-sum.ensures c.in-Is.is)
+overflow_sub-result c = omega (arith, sum_frees c.args.places c.args.count _ c.args.s.now c.requires.0 c.requires.1 c.requires.3 c.place_sum-sum.ensures c.in-Some.is)
 
-pub returns-in-Is : goal.returns-in-Is
-returns-in-Is c = omega (arith, sum_frees c.args.places c.args.count _ c.args.s.now c.requires.0 c.requires.1 c.requires.3 c.place_sum-sum.ensures c.in-Is.is)
+pub returns-in-Some : goal.returns-in-Some
+returns-in-Some c = omega (arith, sum_frees c.args.places c.args.count _ c.args.s.now c.requires.0 c.requires.1 c.requires.3 c.place_sum-sum.ensures c.in-Some.is)

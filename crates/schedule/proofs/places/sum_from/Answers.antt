@@ -1,3 +1,4 @@
+use Rattle.std.specs.Prelude.{None}
 use native.Mathlib.Omega.{arith}
 use mathlib.Core.Path.{◌≡◌, refl, ◌∙◌, ap}
 use Prim.Native.Nat.{ℕ, ◌≤◌, ◌<◌, ◌*◌, ◌+◌, ◌-◌}
@@ -7,7 +8,6 @@ use lib.ListN.{length, take, drop, get_or, length-drop}
 use lib.Seq.{length-take-le, get_or-take, get_or-drop}
 use Rattle.schedule.specs.Record.{place_of}
 use Rattle.schedule.specs.Internal.{sum_from}
-use Rattle.schedule.specs.declared.PlaceSum.TheVariants.{Past}
 use Rattle.schedule.proofs.Lists.{rest_none}
 use Rattle.schedule.proofs.FreePlaces.{sum_none, sum_past, sum_next}
 use Rattle.schedule.proofs.places.sum_from.Goals as goal
@@ -28,7 +28,7 @@ module _ (s : List (List ℕ)) (from count : ℕ) (low : from ≤ count) (high :
     place_is : place_of (get_or (take (count - from) (drop from s)) j []) ≡ place_of (get_or s (from + j) [])
     place_is = let e = part_length in ap (λ (r : List ℕ). place_of r) (get_or-take (count - from) (drop from s) j [] (omega arith) ∙ get_or-drop from s j [])
 
-    past : count < place_of (get_or (take (count - from) (drop from s)) j []) → Past ≡ sum_from count total (drop (from + j) (take count s))
+    past : count < place_of (get_or (take (count - from) (drop from s)) j []) → None ≡ sum_from count total (drop (from + j) (take count s))
     past l = sum_past s count high total (from + j) here place_is l
 
     next : place_of (get_or (take (count - from) (drop from s)) j []) ≤ count → sum_from count (total + place_of (get_or (take (count - from) (drop from s)) j [])) (drop (from + (j + 1)) (take count s)) ≡ sum_from count total (drop (from + j) (take count s))

@@ -4,10 +4,10 @@ use Rattle.selective_repeat.proofs.Receiving.{packet_refused, packet_read, packe
 use Rattle.selective_repeat.proofs.SelectiveRepeatReceiver.handle_packet.Goals as goal
 
 pub handle_packet_unchecked-requires : goal.handle_packet_unchecked-requires
-handle_packet_unchecked-requires c = let k = packet_read (receiver c.args.self c.args.store.now) c.args.raw.now c.args.output.now c.args.ack.now c.held_verdict-verdict.ensures c.receiving_broken.ensures c.counts_broken.ensures _ (sym c.read_after.ensures ∙ c.in-Reading.is) in record { output_value = (k.state_sound, k.counts_low); payload_len_bound = rw c.payload.ensures k.short }
+handle_packet_unchecked-requires c = let k = packet_read (receiver c.args.self c.args.store.now) c.args.raw.now c.args.output.now c.args.ack.now c.held_verdict-verdict.ensures c.receiving_broken.ensures c.counts_broken.ensures _ (sym c.read_after.ensures ∙ c.in-Ok.is) in record { output_value = (k.state_sound, k.counts_low); payload_len_bound = rw c.payload.ensures k.short }
 
-pub returns-in-Reading : goal.returns-in-Reading
-returns-in-Reading c = c.handle_packet_unchecked.ensures ∙ packet_received (receiver c.args.self c.args.store.now) c.args.raw.now c.args.output.now c.args.ack.now c.held_verdict-verdict.ensures c.receiving_broken.ensures c.counts_broken.ensures _ (sym c.read_after.ensures ∙ c.in-Reading.is) c.payload.ensures
+pub returns-in-Ok : goal.returns-in-Ok
+returns-in-Ok c = c.handle_packet_unchecked.ensures ∙ packet_received (receiver c.args.self c.args.store.now) c.args.raw.now c.args.output.now c.args.ack.now c.held_verdict-verdict.ensures c.receiving_broken.ensures c.counts_broken.ensures _ (sym c.read_after.ensures ∙ c.in-Ok.is) c.payload.ensures
 
-pub returns-in-Refused : goal.returns-in-Refused
-returns-in-Refused c = packet_refused (receiver c.args.self c.args.store.now) c.args.raw.now c.args.output.now c.args.ack.now c.held_verdict-verdict.ensures c.receiving_broken.ensures c.counts_broken.ensures _ (sym c.read_after.ensures ∙ c.in-Refused.is)
+pub returns-in-Err : goal.returns-in-Err
+returns-in-Err c = packet_refused (receiver c.args.self c.args.store.now) c.args.raw.now c.args.output.now c.args.ack.now c.held_verdict-verdict.ensures c.receiving_broken.ensures c.counts_broken.ensures _ (sym c.read_after.ensures ∙ c.in-Err.is)

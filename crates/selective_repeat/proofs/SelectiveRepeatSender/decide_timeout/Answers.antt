@@ -1,3 +1,4 @@
+use Rattle.std.specs.Prelude.{Ok}
 use Prim.Native.Nat.{ℕ}
 use mathlib.Core.Path.{◌≡◌, sym, ap, ◌∙◌}
 use mathlib.Core.Bool.{Bool, true, cond}
@@ -24,4 +25,4 @@ returns-then-not-is_due_unchecked c = sym (decision_nothing (state_broken true c
 
 pub returns : goal.returns
 returns c = let one : ◌≡◌ {A = ℕ} (cond (due (sender c.args.self.window c.args.store.now) c.args.seq_num) 1 0) 1 = ap (λ (b : Bool). cond b 1 0) (sym c.is_due_unchecked.ensures ∙ c.if-not-is_due_unchecked.false) in
-    ap (decision.Resend c.args.seq_num) (sym one) ∙ sym (decision_resend (state_broken true c.args.self.window c.args.store.now) (counts_broken c.args.self.window) c.args.seq_num (cond (due (sender c.args.self.window c.args.store.now) c.args.seq_num) 1 0) (sym c.state_broken.ensures ∙ c.if-state_broken.false) (sym c.counts_broken.ensures ∙ c.if-counts_broken.false) (λ e. omega (arith, one)))
+    ap ((λ x. Ok (decision.Resend c.args.seq_num x))) (sym one) ∙ sym (decision_resend (state_broken true c.args.self.window c.args.store.now) (counts_broken c.args.self.window) c.args.seq_num (cond (due (sender c.args.self.window c.args.store.now) c.args.seq_num) 1 0) (sym c.state_broken.ensures ∙ c.if-state_broken.false) (sym c.counts_broken.ensures ∙ c.if-counts_broken.false) (λ e. omega (arith, one)))

@@ -2,8 +2,8 @@ use mathlib.Core.Path.{sym, ◌∙◌}
 use Prim.Native.Nat.{◌-◌}
 use Rattle.selective_repeat.proofs.SelectiveRepeatSender.new.Goals as goal
 
-pub returns-in-Window : goal.returns-in-Window
-returns-in-Window c = sym (rw c.in-Window.is) ∙ c.new.ensures
+pub returns-in-Ok : goal.returns-in-Ok
+returns-in-Ok c = sym (rw c.in-Ok.is) ∙ c.new.ensures
 
-pub returns-in-Refused : goal.returns-in-Refused
-returns-in-Refused c = sym (rw c.in-Refused.is) ∙ c.new.ensures
+pub returns-in-Err : goal.returns-in-Err
+returns-in-Err c = sym (rw c.in-Err.is) ∙ c.new.ensures

@@ -4,10 +4,10 @@ use Rattle.stop_and_wait.specs.Receiver.{reception}
 use Rattle.stop_and_wait.proofs.StopAndWaitReceiver.handle_packet.Goals as goal
 
 pub handle_packet_unchecked-requires : goal.handle_packet_unchecked-requires
-handle_packet_unchecked-requires c = let both = read_sound _ c.read_in_order.ensures c.in-Reading.is in record { output_value = both.0; corrupted_count_value = both.1 }
+handle_packet_unchecked-requires c = let both = read_sound _ c.read_in_order.ensures c.in-Ok.is in record { output_value = both.0; corrupted_count_value = both.1 }
 
-pub returns-in-Reading : goal.returns-in-Reading
-returns-in-Reading c = receive_reading reception _ _ _ _ c.handle_packet_unchecked.ensures c.read_in_order.ensures c.in-Reading.is c.payload.ensures
+pub returns-in-Ok : goal.returns-in-Ok
+returns-in-Ok c = receive_reading reception _ _ _ _ c.handle_packet_unchecked.ensures c.read_in_order.ensures c.in-Ok.is c.payload.ensures
 
-pub returns-in-Refused : goal.returns-in-Refused
-returns-in-Refused c = receive_refused _ _ _ _ _ (sym c.read_in_order.ensures ∙ c.in-Refused.is)
+pub returns-in-Err : goal.returns-in-Err
+returns-in-Err c = receive_refused _ _ _ _ _ (sym c.read_in_order.ensures ∙ c.in-Err.is)

@@ -8,8 +8,8 @@ decide_unchecked-after-requires c = record { corrupted_count_value = c.requires.
 pub apply_unchecked-result-requires : goal.apply_unchecked-result-requires
 apply_unchecked-result-requires c = (state_low _ _ _ c.requires.output_value).1
 
-pub returns-then-is_refused : goal.returns-then-is_refused
-returns-then-is_refused c = apply_refused _ _ _ (c.apply_unchecked-result.ensures ∙ rw c.decide_unchecked-after.ensures) c.is_refused.ensures c.if-is_refused.true
+pub returns-then-is_err : goal.returns-then-is_err
+returns-then-is_err c = apply_refused _ _ _ (c.apply_unchecked-result.ensures ∙ rw c.decide_unchecked-after.ensures) c.is_err.ensures c.if-is_err.true
 
 pub returns : goal.returns
-returns c = rw c.decide_unchecked-after.ensures (apply_received _ _ _ (c.apply_unchecked-result.ensures ∙ rw c.decide_unchecked-after.ensures) c.is_refused.ensures c.if-is_refused.false)
+returns c = rw c.decide_unchecked-after.ensures (apply_received _ _ _ (c.apply_unchecked-result.ensures ∙ rw c.decide_unchecked-after.ensures) c.is_err.ensures c.if-is_err.false)

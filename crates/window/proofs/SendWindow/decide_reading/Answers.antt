@@ -1,8 +1,9 @@
 use mathlib.Core.Path.{◌∙◌}
+use Rattle.refusal.proofs.Laws.{ok_is}
 use Rattle.window.proofs.SendWindow.decide_reading.Goals as goal
 
-pub returns-in-Valid : goal.returns-in-Valid
-returns-in-Valid c = c.decide_packet.ensures ∙ rw c.in-Valid.is
+pub returns-in-Ok-Valid : goal.returns-in-Ok-Valid
+returns-in-Ok-Valid c = c.decide_packet.ensures ∙ rw (ok_is c.in-Ok-Valid.is (rw c.in-Ok-Valid.is at c.in-Ok-Valid.field-0-is))
 
-pub returns-in-Refused : goal.returns-in-Refused
-returns-in-Refused c = rw c.in-Refused.is
+pub returns-in-Err : goal.returns-in-Err
+returns-in-Err c = rw c.in-Err.is

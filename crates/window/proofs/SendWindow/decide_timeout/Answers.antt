@@ -1,3 +1,4 @@
+use Rattle.std.specs.Prelude.{Ok}
 use mathlib.Core.Bool.{false}
 use Prim.Native.Nat.{min}
 use mathlib.Core.Path.{sym, ap, ◌∙◌}
@@ -21,4 +22,4 @@ pub returns-then-count-eq0 : goal.returns-then-count-eq0
 returns-then-count-eq0 c = sym (decision_nothing (state_broken false c.args.self c.args.store.now) (counts_broken c.args.self) c.args.self.send_base (min c.args.most (outstanding c.args.self)) (sym c.state_broken.ensures ∙ c.if-state_broken.false) (sym c.counts_broken.ensures ∙ c.if-counts_broken.false) (sym c.min-count.ensures ∙ c.if-count-eq0.true))
 
 pub returns : goal.returns
-returns c = ap (decision.Resend c.args.self.send_base) c.min-count.ensures ∙ sym (decision_resend (state_broken false c.args.self c.args.store.now) (counts_broken c.args.self) c.args.self.send_base (min c.args.most (outstanding c.args.self)) (sym c.state_broken.ensures ∙ c.if-state_broken.false) (sym c.counts_broken.ensures ∙ c.if-counts_broken.false) (λ e. c.if-count-eq0.false (c.min-count.ensures ∙ e)))
+returns c = ap ((λ x. Ok (decision.Resend c.args.self.send_base x))) c.min-count.ensures ∙ sym (decision_resend (state_broken false c.args.self c.args.store.now) (counts_broken c.args.self) c.args.self.send_base (min c.args.most (outstanding c.args.self)) (sym c.state_broken.ensures ∙ c.if-state_broken.false) (sym c.counts_broken.ensures ∙ c.if-counts_broken.false) (λ e. c.if-count-eq0.false (c.min-count.ensures ∙ e)))
