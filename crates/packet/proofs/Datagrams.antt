@@ -135,7 +135,7 @@ valid_is_valid raw p e =
     (sym (on_accepted Err _ (taken_accepted raw (valid_taken raw e))) ∙ e)
     (validity_is raw (header_of raw) (on_accepted Err (Ok (header_of raw)) v))
   where
-    by_test_lem : (b : Bool) → matches (header_of raw) (payload_of raw) ≡ b → cond b (Ok (reading.Valid (header_of raw))) (Ok (reading.Corrupted (header_of raw))) ≡ Ok (reading.Valid p)
+    by_test_lem : (b : Bool) → matches (header_of raw) (payload_of raw) ≡ b → cond {A = Result DatagramReading Refusal} b (Ok (reading.Valid (header_of raw))) (Ok (reading.Corrupted (header_of raw))) ≡ Ok (reading.Valid p)
         → validity raw ≡ cond b (Ok true) (Ok false) → validity raw ≡ Ok true
     by_test_lem true m f g = g
     by_test_lem false m f g = let z : ◌≡◌ {A = ℕ} 0 1 = cc in absurd (omega arith)

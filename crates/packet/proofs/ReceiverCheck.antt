@@ -1,5 +1,6 @@
 -- RFC 1071, section 1 (3): the receiver's sum over all octets, the checksum field among them.
-use Rattle.std.specs.Prelude.{Ok}
+use Rattle.refusal.specs.declared.Refusal.{Refusal}
+use Rattle.std.specs.Prelude.{Result, Ok}
 use Prim.Native.Nat.{ℕ, ◌+◌, ◌-◌, ◌≤◌, ◌<◌}
 use mathlib.Core.Path.{◌≡◌, refl, sym, ap, ◌∙◌, subst}
 use mathlib.Core.Bool.{Bool, true, false, cond}
@@ -71,7 +72,7 @@ sums raw p o e =
       computed = checksum_is p l f (omega arith) q;
     }
 
-is_valid : (b : Bool) → cond b (Ok true) (Ok false) ≡ Ok true → b ≡ true
+is_valid : (b : Bool) → cond {A = Result Bool Refusal} b (Ok true) (Ok false) ≡ Ok true → b ≡ true
 is_valid true e = refl
 is_valid false e = let z : ◌≡◌ {A = ℕ} 0 1 = cc in absurd (omega arith)
 
