@@ -64,7 +64,7 @@ module _ (selective : Bool) (s : SendWindow) (store raw : List ℕ) where
   by_type_lem n base m packetType.Data e = let z : ◌≡◌ {A = ℕ} 0 1 = cc in absurd (omega arith)
   by_type_lem n base m packetType.Fin e = let z : ◌≡◌ {A = ℕ} 0 1 = cc in absurd (omega arith)
   by_type_lem n base m packetType.Ack e = by_test_lem (is_in_window s m) refl e where
-    by_test_lem : (b : Bool) → is_in_window s m ≡ b → cond b (Ok (decision.Accept m (m + 1))) (Ok decision.NotAccepted) ≡ Ok (decision.Accept n base) → (is_in_window s n ≡ true) × (base ≡ n + 1)
+    by_test_lem : (b : Bool) → is_in_window s m ≡ b → cond {A = Result AckDecision Refusal} b (Ok (decision.Accept m (m + 1))) (Ok decision.NotAccepted) ≡ Ok (decision.Accept n base) → (is_in_window s n ≡ true) × (base ≡ n + 1)
     by_test_lem true f g = let h : m ≡ n = cc in let k : m + 1 ≡ base = cc in (ap (is_in_window s) (sym h) ∙ f, sym k ∙ ap (λ (i : ℕ). i + 1) h)
     by_test_lem false f g = let z : ◌≡◌ {A = ℕ} 0 1 = cc in absurd (omega arith)
 
