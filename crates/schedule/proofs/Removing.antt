@@ -38,7 +38,7 @@ module _ (m : Schedule) (now : ℕ) where
   unfolding first_due
   first_packet place len sound = go (ltb 0 m.scheduler.count) refl (leb (time_of (first_record m.records)) now)
     where
-      go : (t : Bool) → ltb 0 m.scheduler.count ≡ t → (u : Bool) → cond (t && u) (Some (place_of (first_record m.records), record_length (first_record m.records))) None ≡ Some (place, len) → FirstPacket m place len
+      go : (t : Bool) → ltb 0 m.scheduler.count ≡ t → (u : Bool) → cond {A = Option (ℕ × ℕ)} (t && u) (Some (place_of (first_record m.records), record_length (first_record m.records))) None ≡ Some (place, len) → FirstPacket m place len
       go true e true q =
           let some = ltb-true 0 m.scheduler.count e in
           let p : place_of (first_record m.records) ≡ place = cc in

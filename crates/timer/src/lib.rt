@@ -3,7 +3,7 @@
 
 ghost use Rattle.std.specs.Prelude.{◌≡◌, ◌-◌, false};
 ghost use Rattle.timer.specs.Timer.{deadline_too_late, start_too_late, read_too_late};
-ghost use Rattle.timer.specs.Timer.{active, expired_at, deadline_remaining, started_at_unchecked, cancelled_unchecked};
+ghost use Rattle.timer.specs.Timer.{expired_at, deadline_remaining, started_at_unchecked, cancelled_unchecked};
 ghost use Rattle.timer.specs.Timer.{new_timer, timer_result, started_at, cancelled, is_active, remaining_at};
 ghost use Rattle.timer.specs.Timer.{is_expired_at, is_expired_for_at};
 
@@ -114,7 +114,7 @@ impl RetransmissionTimer {
         if deadline_too_late(d) {
             return Err(Refusal::Time);
         }
-        Ok(deadline_set(d))
+        Ok(d.is_some())
     }
 
     pub fn remaining_at(self, now: u64) -> Result<Option<u64>, Refusal>
@@ -213,15 +213,6 @@ fn deadline_expired(d: Option<u64>, now: u64) -> bool
     match d {
         None => false,
         Some(t) => now >= t,
-    }
-}
-
-fn deadline_set(d: Option<u64>) -> bool
-    ensures { result ≡ active d }
-{
-    match d {
-        None => false,
-        Some(_) => true,
     }
 }
 
