@@ -1,9 +1,8 @@
 -- After any list of calls from a fresh estimator it is what its accepted calls say, in every field (`after_calls_lem`), and the calls that are refused are those
 -- that the list says. The oldest call stands first.
-use Rattle.std.specs.Prelude.{Ok, Some}
+use Rattle.std.specs.Prelude.{None, Ok, Option, Some}
 use Rattle.std.proofs.Common.{◌≡◌, ℕ, zero, suc, ◌+◌, ◌*◌, ◌^◌, ◌<◌, ◌≤◌, min, max, Bool, true, false, cond, not, ◌||◌, ltb, leb, List, [], ◌∷◌, ◌++◌, length, sym, refl, ap, ◌∙◌, subst, ap₂, true≢false, append-nil, zero-le, le_trans, le_refl, zero-lt-suc, pow-suc, mul-one, le-mul_of_pos_right, arith, length-append, pow_pos, le-ltb, lt-ltb}
 use mathlib.Core.List.{foldr, foldl, foldl-append}
-use mathlib.Core.Option.{Option, none, some}
 use Rattle.bounds.specs.Bounds.{max_duration}
 use Rattle.refusal.specs.Counts.{count_full}
 use Rattle.refusal.specs.Order.{check, verdict, decide, first_of, numbered, or_else, order}
@@ -54,14 +53,14 @@ unfolding max_of
 max_more d [] = refl
 max_more d (a ∷ ds) = ap Some (fold_last max (λ x y. omega arith) (λ x y z. omega arith) a d ds)
 
-estimate_more : (c : RtoConfig) (d : ℕ) (ds : List ℕ) → last_estimate c (ds ++ (d ∷ [])) ≡ some (estimate_after c (last_estimate c ds) d)
+estimate_more : (c : RtoConfig) (d : ℕ) (ds : List ℕ) → last_estimate c (ds ++ (d ∷ [])) ≡ Some (estimate_after c (last_estimate c ds) d)
 unfolding last_estimate
-estimate_more c d ds = foldl-append (λ (x : Option Estimate) (d : ℕ). some (estimate_after c x d)) none ds (d ∷ [])
+estimate_more c d ds = foldl-append (λ (x : Option Estimate) (d : ℕ). Some (estimate_after c x d)) None ds (d ∷ [])
 
 estimate_for_lem : (c : RtoConfig) (x : Option Estimate) (d : ℕ) → estimate_for c (srtt_of x) (rttvar_of x) d ≡ estimate_after c x d
 unfolding estimate_for
-estimate_for_lem c none d = refl
-estimate_for_lem c (some x) d = refl
+estimate_for_lem c None d = refl
+estimate_for_lem c (Some x) d = refl
 
 -- ---- one timeout more
 -- a count that stops at M

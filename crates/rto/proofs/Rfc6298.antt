@@ -1,9 +1,8 @@
 -- RFC 6298, rule by rule, of the calls; where the reference departs from it is in docs/DIFFERENCES. Section 2 over exact numbers is
 -- rtt/specs/Rfc6298.antt.
-use Rattle.std.specs.Prelude.{None, Ok, Some}
+use Rattle.std.specs.Prelude.{None, Ok, Option, Some}
 use Rattle.std.proofs.Common.{◌≡◌, ℕ, zero, suc, ◌+◌, ◌*◌, ◌^◌, ◌≤◌, min, max, true, false, ◌||◌, ltb, List, [], ◌∷◌, length, sym, refl, ap, ◌∙◌, ap₂, true≢false, le_trans, zero-lt-suc, le-mul_of_pos_right, arith, lit≤, pow_pos, lt-ltb}
 use mathlib.Core.List.{foldl}
-use mathlib.Core.Option.{Option, some}
 use Rattle.bounds.specs.Bounds.{max_duration, max_estimate}
 use Rattle.rtt.specs.Rtt.{eighth64, quarter64, four64, one64, first_estimate, next_estimate}
 use Rattle.rtt.specs.Rfc6298 as Rfc
@@ -91,9 +90,9 @@ pub record Limits (c : RtoConfig) (rto : ℕ) : Type 0 where
   pub min_rto : c.min_rto ≤ rto
   pub max_rto : rto ≤ c.max_rto
 
-base_limits : (c : RtoConfig) (x : Estimate) (ds : List ℕ) → c.min_rto ≤ c.max_rto → Limits c (base_rto c (foldl (λ (x : Option Estimate) (d : ℕ). some (estimate_after c x d)) (some x) ds))
+base_limits : (c : RtoConfig) (x : Estimate) (ds : List ℕ) → c.min_rto ≤ c.max_rto → Limits c (base_rto c (foldl (λ (x : Option Estimate) (d : ℕ). Some (estimate_after c x d)) (Some x) ds))
 base_limits c x [] o = record { min_rto = limited_min c x.rto o; max_rto = limited_max c x.rto }
-base_limits c x (d ∷ ds) o = base_limits c (estimate_after c (some x) d) ds o
+base_limits c x (d ∷ ds) o = base_limits c (estimate_after c (Some x) d) ds o
 
 backed_limits : (c : RtoConfig) (base n : ℕ) → c.min_rto ≤ c.max_rto → Limits c (backed_off c base (suc n))
 backed_limits c base n o =

@@ -1,8 +1,7 @@
 -- Document 01, "Links that would ruin a book": what any list of calls says of the estimator, each of its fields, from
 -- the accepted calls alone. The oldest call stands first.
-use Rattle.std.specs.Prelude.{ℕ, zero, suc, ◌*◌, ◌^◌, min, max, Bool, true, false, cond, ◌||◌, List, [], ◌∷◌, ◌++◌, length, nat_lt, Float, Err, None, Ok, Result, Some}
+use Rattle.std.specs.Prelude.{ℕ, zero, suc, ◌*◌, ◌^◌, min, max, Bool, true, false, cond, ◌||◌, List, [], ◌∷◌, ◌++◌, length, nat_lt, Float, Err, None, Ok, Option, Result, Some}
 use mathlib.Core.List.{foldr, foldl}
-use Rattle.std.proofs.Math.Option.{Option, none, some}
 use Rattle.std.specs.Float.{binary64}
 use Rattle.std.specs.Float.Ieee.{add}
 use Rattle.bounds.specs.Bounds.{max_duration}
@@ -108,25 +107,25 @@ sum_ms ds = foldl (λ (s : Float) (d : ℕ). add binary64 s (to_ms d)) zero64 ds
 
 -- (2.2) for the first sample, (2.3) for each later one
 abbrev pub estimate_after : RtoConfig → Option Estimate → ℕ → Estimate
-estimate_after c none d = first_of c d
-estimate_after c (some x) d = next_of c x.srtt x.rttvar d
+estimate_after c None d = first_of c d
+estimate_after c (Some x) d = next_of c x.srtt x.rttvar d
 
 unfoldable pub last_estimate : RtoConfig → List ℕ → Option Estimate
-last_estimate c ds = foldl (λ (x : Option Estimate) (d : ℕ). some (estimate_after c x d)) none ds
+last_estimate c ds = foldl (λ (x : Option Estimate) (d : ℕ). Some (estimate_after c x d)) None ds
 
 abbrev pub srtt_of : Option Estimate → Option ℕ
-srtt_of none = None
-srtt_of (some x) = Some x.srtt
+srtt_of None = None
+srtt_of (Some x) = Some x.srtt
 
 abbrev pub rttvar_of : Option Estimate → Option ℕ
-rttvar_of none = None
-rttvar_of (some x) = Some x.rttvar
+rttvar_of None = None
+rttvar_of (Some x) = Some x.rttvar
 
 -- ---- the RTO
 -- before the first sample the initial one, which the limits don't touch; then the last sample's, within the limits
 abbrev pub base_rto : RtoConfig → Option Estimate → ℕ
-base_rto c none = c.initial_rto
-base_rto c (some x) = limited c x.rto
+base_rto c None = c.initial_rto
+base_rto c (Some x) = limited c x.rto
 
 -- (5.5): after n timeouts, doubled n times, at least the minimum from the first timeout on, at most the maximum
 abbrev pub backed_off : RtoConfig → ℕ → ℕ → ℕ

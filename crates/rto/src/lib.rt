@@ -175,20 +175,16 @@ impl RtoEstimator {
         ensures { result ≡ has_exceeded_retry_limit self max_retries }
     {
         let stats = self.stats;
-        match call_verdict(state_broken(self), counts_full(stats), held_too_long(self)) {
-            Err(r) => Err(r),
-            Ok(()) => Ok(self.consecutive_timeouts >= max_retries),
-        }
+        call_verdict(state_broken(self), counts_full(stats), held_too_long(self))?;
+        Ok(self.consecutive_timeouts >= max_retries)
     }
 
     pub fn mean_rtt_ms(self) -> Result<f64, Refusal>
         ensures { result ≡ mean_rtt_ms self }
     {
         let stats = self.stats;
-        match call_verdict(state_broken(self), counts_full(stats), held_too_long(self)) {
-            Err(r) => Err(r),
-            Ok(()) => Ok(self.mean_rtt_ms_unchecked()),
-        }
+        call_verdict(state_broken(self), counts_full(stats), held_too_long(self))?;
+        Ok(self.mean_rtt_ms_unchecked())
     }
 
     // The initial RTO is not clamped.
