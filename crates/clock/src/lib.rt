@@ -227,7 +227,7 @@ impl Clock {
             Some(seq) => match notes.expiry_unchecked(rows, seq) {
                 None => self.with_timer(t.cancelled_unchecked()),
                 Some(deadline) => {
-                    self.with_timer(t.started_at_unchecked(now, time_left(deadline, now)))
+                    self.with_timer(t.started_at_unchecked(now, deadline.saturating_sub(now)))
                 }
             },
         }
@@ -301,11 +301,4 @@ fn is_oldest(oldest: Option<u32>, seq: u32) -> bool
         Some(n) => n == seq,
         None => false,
     }
-}
-
-// 0 once the deadline is reached.
-fn time_left(deadline: u64, now: u64) -> u64
-    ensures { result ≡ deadline - now }
-{
-    if now >= deadline { 0 } else { deadline - now }
 }

@@ -1,5 +1,5 @@
 // How a round ends: the run goes on, is over, or moves to the next deadline.
-ghost use Rattle.std.specs.Prelude.{◌≡◌, false, ◌&&◌, List, ℕ, min, ◌≤◌, length};
+ghost use Rattle.std.specs.Prelude.{◌≡◌, false, ◌&&◌, List, ℕ, ◌≤◌, length};
 ghost use Rattle.window.specs.State.{numbers_broken};
 ghost use Rattle.multi_timer.specs.MultiTimer.{timers_exit};
 ghost use Rattle.path.specs.Direction.{direction};
@@ -47,13 +47,10 @@ pub(super) fn over(state: State, end: End, now: u64) -> StepResult
     }
 }
 
-pub(super) fn exhausted(state: State) -> State
+pub(super) fn exhausted(mut state: State) -> State
     ensures { (l : Lent) → run_of result l ≡ exhausted (run_of state l) }
 {
-    let mut resends = state.resends;
-    resends.exhausted = true;
-    let mut state = state;
-    state.resends = resends;
+    state.resends.exhausted = true;
     state
 }
 
@@ -69,12 +66,6 @@ pub(super) fn stopped(state: State, stop: Stop) -> StepResult
         Stop::EventsFull => over(state, End::EventsFull, now),
         Stop::ScheduleFull => over(state, End::ScheduleFull, now),
     }
-}
-
-fn min(a: u64, b: u64) -> u64
-    ensures { result ≡ min a b }
-{
-    if a < b { a } else { b }
 }
 
 fn of_path(d: Option<u64>) -> Option<u64>
@@ -93,7 +84,7 @@ fn earlier(a: Option<u64>, b: Option<u64>) -> Option<u64>
         None => b,
         Some(t) => match b {
             None => a,
-            Some(u) => Some(min(t, u)),
+            Some(u) => Some(t.min(u)),
         },
     }
 }
@@ -174,10 +165,9 @@ fn all_done(
 }
 
 // The next moment, if there may be one more.
-fn moved(plan: Plan, state: State, now: u64) -> StepResult
+fn moved(plan: Plan, mut state: State, now: u64) -> StepResult
     ensures { (l : Lent) → step_exit (run_of result.state l) result.course ≡ moved plan (run_of state l) now }
 {
-    let mut state = state;
     state.now = now;
     if state.moves == 0 {
         return over(state, End::Ended, now);

@@ -16,7 +16,7 @@ use submission::Outbound;
 // The reverse line's rolls and places and the receiver's slices are lent for the contract alone.
 pub(super) fn finish_round(
     plan: Plan,
-    state: State,
+    mut state: State,
     arrived: bool,
     file: &[u8],
     forward_rolls: &[f64],
@@ -49,7 +49,6 @@ pub(super) fn finish_round(
 {
     let now = state.now;
     let timing = plan.timing;
-    let mut state = state;
     let mut progress = arrived;
     let arrivals = state.arrivals;
     let acks = arrivals.acks;

@@ -9,96 +9,58 @@ use sending::PumpResult;
 use timeouts::FireResult;
 
 // One round less.
-pub(super) fn round_less(state: State) -> State
+pub(super) fn round_less(mut state: State) -> State
     requires { 0 < state.rounds }
     ensures { result ≡ less_state state }
 {
-    let mut state = state;
-    state.rounds = state.rounds - 1;
+    state.rounds -= 1;
     state
 }
 
-pub(super) fn with_forward(state: State, served: ServeForwardResult) -> State
+pub(super) fn with_forward(mut state: State, served: ServeForwardResult) -> State
     ensures { result ≡ forward_state state served }
 {
-    let forward = served.forward;
-    let receiving = served.side;
-    let reverse = served.reverse;
-    let notes = served.notes;
-    let mut arrivals = state.arrivals;
-    arrivals.forward = forward;
-    arrivals.receiving = receiving;
-    arrivals.reverse = reverse;
-    arrivals.notes = notes;
-    let mut state = state;
-    state.arrivals = arrivals;
+    state.arrivals.forward = served.forward;
+    state.arrivals.receiving = served.side;
+    state.arrivals.reverse = served.reverse;
+    state.arrivals.notes = served.notes;
     state
 }
 
-pub(super) fn with_reverse(state: State, served: ServeResult) -> State
+pub(super) fn with_reverse(mut state: State, served: ServeResult) -> State
     ensures { result ≡ reverse_state state served }
 {
-    let reverse = served.reverse;
-    let acks = served.side;
-    let mut arrivals = state.arrivals;
-    arrivals.reverse = reverse;
-    arrivals.acks = acks;
-    let mut state = state;
-    state.arrivals = arrivals;
+    state.arrivals.reverse = served.reverse;
+    state.arrivals.acks = served.side;
     state
 }
 
-pub(super) fn with_fired(state: State, fired: FireResult) -> State
+pub(super) fn with_fired(mut state: State, fired: FireResult) -> State
     ensures { result ≡ fired_state state fired }
 {
-    let outbound = fired.outbound;
-    let sender = fired.sender;
-    let estimator = fired.estimator;
-    let resends = fired.resends;
-    let forward = outbound.forward;
-    let notes = outbound.notes;
-    let clock = outbound.clock;
-    let mut arrivals = state.arrivals;
-    let mut acks = arrivals.acks;
-    acks.sender = sender;
-    acks.estimator = estimator;
-    acks.clock = clock;
-    arrivals.forward = forward;
-    arrivals.notes = notes;
-    arrivals.acks = acks;
-    let mut state = state;
-    state.arrivals = arrivals;
-    state.resends = resends;
-    state.events = outbound.events;
+    state.arrivals.forward = fired.outbound.forward;
+    state.arrivals.notes = fired.outbound.notes;
+    state.arrivals.acks.sender = fired.sender;
+    state.arrivals.acks.estimator = fired.estimator;
+    state.arrivals.acks.clock = fired.outbound.clock;
+    state.resends = fired.resends;
+    state.events = fired.outbound.events;
     state
 }
 
-pub(super) fn with_pumped(state: State, pumped: PumpResult) -> State
+pub(super) fn with_pumped(mut state: State, pumped: PumpResult) -> State
     ensures { result ≡ pumped_state state pumped }
 {
-    let outbound = pumped.outbound;
-    let sender = pumped.sender;
-    let forward = outbound.forward;
-    let notes = outbound.notes;
-    let clock = outbound.clock;
-    let mut arrivals = state.arrivals;
-    let mut acks = arrivals.acks;
-    acks.sender = sender;
-    acks.clock = clock;
-    arrivals.forward = forward;
-    arrivals.notes = notes;
-    arrivals.acks = acks;
-    let mut state = state;
-    state.arrivals = arrivals;
-    state.events = outbound.events;
+    state.arrivals.forward = pumped.outbound.forward;
+    state.arrivals.notes = pumped.outbound.notes;
+    state.arrivals.acks.sender = pumped.sender;
+    state.arrivals.acks.clock = pumped.outbound.clock;
+    state.events = pumped.outbound.events;
     state
 }
 
 pub(super) fn either(a: bool, b: bool) -> bool
     ensures { result ≡ (a || b) }
 {
-    if a {
-        return true;
-    }
-    b
+    a || b
 }
