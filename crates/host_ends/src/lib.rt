@@ -434,10 +434,7 @@ fn none_held(base: u32, counts_broken: bool) -> Result<usize, Refusal>
 fn at_most_u32(n: u64) -> u32
     ensures { result ≡ min n 4294967295 }
 {
-    if MAX_U32 < n {
-        return 4_294_967_295;
-    }
-    n as u32
+    n.min(MAX_U32) as u32
 }
 
 // A datagram's number, 0 where it can't be read.
