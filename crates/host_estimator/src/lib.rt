@@ -164,8 +164,6 @@ fn mean_to(a: Result<f64, Refusal>, out: &mut [f64]) -> u64
 fn exceeded(e: RtoEstimator, max_retries: u64) -> Result<bool, Refusal>
     ensures { result ≡ has_exceeded_retry_limit e max_retries }
 {
-    match e.has_exceeded_retry_limit(0) {
-        Ok(_) => Ok(max_retries <= e.consecutive_timeouts as u64),
-        Err(r) => Err(r),
-    }
+    e.has_exceeded_retry_limit(0)?;
+    Ok(max_retries <= e.consecutive_timeouts as u64)
 }
