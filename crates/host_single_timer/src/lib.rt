@@ -3,7 +3,7 @@
 
 ghost use Rattle.std.specs.Prelude.{◌≡◌, ◌≤◌, length};
 ghost use Rattle.host_answer.specs.Exit.{words_exit};
-ghost use Rattle.host_single_timer.specs.SingleTimer.{timer_words, is_set, time_of, held_timer, with_timer, make_timer};
+ghost use Rattle.host_single_timer.specs.SingleTimer.{timer_words, is_set, held_timer, with_timer, make_timer};
 ghost use Rattle.host_single_timer.specs.SingleTimer.{timer_code, start, cancel, active, remaining_code, remaining};
 ghost use Rattle.host_single_timer.specs.SingleTimer.{expired, expired_for};
 
@@ -150,7 +150,7 @@ fn put_timer(state: &mut [u64], t: RetransmissionTimer)
 {
     let d = t.deadline;
     let set = set_word(d);
-    let time = time_word(d);
+    let time = d.unwrap_or(0);
     state[0] = TIMER;
     state[1] = set;
     state[2] = time;
@@ -163,14 +163,5 @@ fn set_word(d: Option<u64>) -> u64
     match d {
         None => 0,
         Some(_) => 1,
-    }
-}
-
-fn time_word(d: Option<u64>) -> u64
-    ensures { result ≡ time_of d }
-{
-    match d {
-        None => 0,
-        Some(t) => t,
     }
 }

@@ -1,6 +1,8 @@
+use Rattle.std.specs.Prelude.{ℕ, Option, None, Some, unwrap_or}
+use mathlib.Core.Path.{◌≡◌, refl}
 use native.Mathlib.Omega.{arith}
 use lib.ListN.{length-set}
-use Rattle.host_single_timer.specs.SingleTimer.{with_timer}
+use Rattle.host_single_timer.specs.SingleTimer.{time_of, with_timer}
 use Rattle.host_single_timer.proofs.put_timer.Goals as goal
 
 pub bounds-state-1 : goal.bounds-state-1
@@ -9,6 +11,10 @@ bounds-state-1 c = simp length-set (omega arith)
 pub bounds-state-2 : goal.bounds-state-2
 bounds-state-2 c = simp length-set (omega arith)
 
+time_or_0 : (d : Option ℕ) → unwrap_or d 0 ≡ time_of d
+time_or_0 None = refl
+time_or_0 (Some d) = refl
+
 pub returns : goal.returns
 unfolding with_timer
-returns c = rw (c.set_word-set.ensures, c.time_word-time.ensures)
+returns c = rw (c.set_word-set.ensures, c.unwrap_or-time.ensures, time_or_0 c.args.t.deadline)
