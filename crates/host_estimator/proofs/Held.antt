@@ -1,6 +1,6 @@
 -- What is known of words and doubles that hold an estimator; to put it back changes nothing, and what is put into them
 -- is what they hold.
-use Rattle.std.specs.Prelude.{None, Option, Some}
+use Rattle.std.specs.Prelude.{None, Option, Some, unwrap_or}
 use Prim.Native.Nat.{ℕ, zero, suc, ◌+◌, ◌≤◌}
 use mathlib.Core.Path.{◌≡◌, refl, sym, ap, ◌∙◌}
 use mathlib.Core.Bool.{Bool, true, false, cond, not}
@@ -17,6 +17,10 @@ use Rattle.rto.specs.declared.RtoEstimator.{RtoEstimator}
 use Rattle.host_estimator.specs.Words.{estimator_words, estimator_doubles, estimator_word, is_set, time_of, duration_of, duration_broken, estimator_in, numbers_broken, broken_at, durations_broken, held_estimator, first_words, second_words, third_words, words_of, doubles_of, with_words, with_doubles, Readable, Room}
 
 -- ---- durations that may be unset
+pub time_or_0 : (m : Option ℕ) → unwrap_or m 0 ≡ time_of m
+time_or_0 None = refl
+time_or_0 (Some d) = refl
+
 duration_words : (set time : ℕ) (b : Bool) → eqb set 1 ≡ b → cond b false (any_of (not (eqb set 0) ∷ not (eqb time 0) ∷ [])) ≡ false
     → (is_set (cond b (Some time) None) ≡ set) × (time_of (cond b (Some time) None) ≡ time)
 duration_words set time true e h = (sym (eqb-true set 1 e), refl)

@@ -1,7 +1,7 @@
 // The estimator that words and doubles hold, and words and doubles with an estimator put into them.
 ghost use Rattle.std.specs.Prelude.{◌≡◌, cond, ◌≤◌, length};
 ghost use Rattle.std.proofs.lemmas.List.Edits.{sets};
-ghost use Rattle.host_estimator.specs.Words.{estimator_words, is_set, time_of, duration_of, duration_broken, config_in};
+ghost use Rattle.host_estimator.specs.Words.{estimator_words, is_set, duration_of, duration_broken, config_in};
 ghost use Rattle.host_estimator.specs.Words.{stats_in, estimator_in, numbers_broken, durations_broken, held_estimator};
 ghost use Rattle.host_estimator.specs.Words.{first_words, second_words, third_words, doubles_of, with_words};
 ghost use Rattle.host_estimator.specs.Words.{with_doubles, Readable, Room};
@@ -172,9 +172,9 @@ fn put_first(state: &mut [u64], c: RtoConfig, srtt: Option<u64>, rttvar: Option<
     ensures { state.new ≡ sets state.old 0 (first_words c srtt rttvar) }
 {
     let srtt_set = set_word(srtt);
-    let srtt_time = time_word(srtt);
+    let srtt_time = srtt.unwrap_or(0);
     let rttvar_set = set_word(rttvar);
-    let rttvar_time = time_word(rttvar);
+    let rttvar_time = rttvar.unwrap_or(0);
     state[0] = ESTIMATOR;
     state[1] = c.initial_rto;
     state[2] = c.min_rto;
@@ -210,11 +210,11 @@ fn put_third(state: &mut [u64], stats: RtoStats)
     let max_rtt = stats.max_rtt;
     let latest_rtt = stats.latest_rtt;
     let min_set = set_word(min_rtt);
-    let min_time = time_word(min_rtt);
+    let min_time = min_rtt.unwrap_or(0);
     let max_set = set_word(max_rtt);
-    let max_time = time_word(max_rtt);
+    let max_time = max_rtt.unwrap_or(0);
     let latest_set = set_word(latest_rtt);
-    let latest_time = time_word(latest_rtt);
+    let latest_time = latest_rtt.unwrap_or(0);
     state[17] = min_set;
     state[18] = min_time;
     state[19] = max_set;
@@ -243,15 +243,6 @@ fn set_word(d: Option<u64>) -> u64
     match d {
         None => 0,
         Some(_) => 1,
-    }
-}
-
-fn time_word(d: Option<u64>) -> u64
-    ensures { result ≡ time_of d }
-{
-    match d {
-        None => 0,
-        Some(t) => t,
     }
 }
 

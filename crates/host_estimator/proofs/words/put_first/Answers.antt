@@ -1,5 +1,6 @@
 use native.Mathlib.Omega.{arith}
 use lib.ListN.{length-set}
+use Rattle.host_estimator.proofs.Held.{time_or_0}
 use Rattle.host_estimator.proofs.words.put_first.Goals as goal
 
 pub bounds-state-1 : goal.bounds-state-1
@@ -27,4 +28,4 @@ pub bounds-state-8 : goal.bounds-state-8
 bounds-state-8 c = simp length-set (omega arith)
 
 pub returns : goal.returns
-returns c = rw (c.set_word-srtt_set.ensures, c.time_word-srtt_time.ensures, c.set_word-rttvar_set.ensures, c.time_word-rttvar_time.ensures)
+returns c = rw (c.set_word-srtt_set.ensures, c.unwrap_or-srtt_time.ensures, time_or_0 c.args.srtt, c.set_word-rttvar_set.ensures, c.unwrap_or-rttvar_time.ensures, time_or_0 c.args.rttvar)
