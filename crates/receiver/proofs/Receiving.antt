@@ -233,7 +233,7 @@ module _ {R : Type 0} (x : Reception R) (output ack : List ℕ) {a : Result (Opt
           receive_exit y.answer (cond (is_refused y.answer) x.state (x.after y.receiver)) y.output y.ack)
           ≡ cond b (refused_exit x output ack (Err Full)) (received_exit x output ack)
       by_room true = refl
-      by_room false = rw (never_refused x.decision.reply)
+      by_room false = refl
 
   pub apply_refused : {b : Bool} → b ≡ is_refused a → b ≡ true → receive_exit a x.state written acked ≡ receive_unchecked x output ack
   apply_refused p q = rw (sym p ∙ q) at applied_state

@@ -1,4 +1,4 @@
-use mathlib.Core.Path.{sym, ◌∙◌}
+use mathlib.Core.Path.{refl, sym, ◌∙◌}
 use Rattle.receiver.specs.Receive.{apply}
 use Rattle.receiver.proofs.Receiving.{apply_done}
 use Rattle.receiver.proofs.apply_unchecked.Goals as goal
@@ -11,4 +11,4 @@ pub apply_in_room_unchecked-end-requires : goal.apply_in_room_unchecked-end-requ
 apply_in_room_unchecked-end-requires c = record { mark = c.requires; room = sym c.room_missing_unchecked.ensures ∙ c.if-room_missing_unchecked.false }
 
 pub returns : goal.returns
-returns c = apply_done _ _ _ _ _ _ _ _ _ (sym c.room_missing_unchecked.ensures ∙ c.if-room_missing_unchecked.false) c.answer.ensures c.apply_in_room_unchecked-end.ensures
+returns c = apply_done _ _ _ _ _ _ _ _ _ (sym c.room_missing_unchecked.ensures ∙ c.if-room_missing_unchecked.false) refl c.apply_in_room_unchecked-end.ensures
