@@ -196,9 +196,6 @@ module _ {R : Type 0} (x : Reception R) (raw output ack : List ℕ) where
       let k = read_facts raw x.state_broken x.counts_broken h e in
       receive_unchecked_lem k.state_sound k.counts_low k.taken k.not_high
 
-never_refused : (r : Option ℕ) → is_refused (answer_of r) ≡ false
-never_refused (Some n) = refl
-never_refused None = refl
 
 pub apply_done : (d : Decision) (payload : List ℕ) (filled : ℕ) (output ack written acked : List ℕ) (n : ℕ) (a : Result (Option ℕ) Refusal) → room_missing d (length payload) filled output ack ≡ false
     → a ≡ answer_of d.reply → apply_exit n written acked ≡ applied d payload filled output ack → receive_exit a n written acked ≡ apply d payload filled output ack

@@ -1,6 +1,6 @@
 -- Document 01, "`delivered_data` becomes a lent output and its fill mark", "Turned away" 5, and arq/*.rs,
 -- `handle_packet`.
-use Rattle.std.specs.Prelude.{ℕ, ◌+◌, ◌-◌, ◌≤◌, List, [], ◌++◌, Bool, true, false, cond, ◌||◌, ◌&&◌, ◌≡◌, length, take, drop, ltb, Err, None, Ok, Option, Result, Some}
+use Rattle.std.specs.Prelude.{ℕ, ◌+◌, ◌-◌, ◌≤◌, List, [], ◌++◌, Bool, true, false, cond, ◌||◌, ◌&&◌, ◌≡◌, length, take, drop, ltb, None, Ok, Option, Result, Some, is_err}
 use Rattle.bounds.specs.Bounds.{header_size}
 use Rattle.packet.specs.Format.{new_packet, made}
 use Rattle.packet.specs.declared.PacketType.TheVariants.{Ack}
@@ -11,8 +11,7 @@ abbrev pub answer_of : Option ℕ → Result (Option ℕ) Refusal
 answer_of r = Ok r
 
 abbrev pub is_refused : Result (Option ℕ) Refusal → Bool
-is_refused (Ok r) = false
-is_refused (Err r) = true
+is_refused a = is_err a
 
 -- the buffer for the ACK after a reply
 unfoldable pub ack_after : Option ℕ → List ℕ → List ℕ

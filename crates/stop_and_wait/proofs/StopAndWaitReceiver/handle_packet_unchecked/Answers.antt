@@ -9,7 +9,7 @@ pub apply_unchecked-result-requires : goal.apply_unchecked-result-requires
 apply_unchecked-result-requires c = (state_low _ _ _ c.requires.output_value).1
 
 pub returns-then-is_err : goal.returns-then-is_err
-returns-then-is_err c = apply_refused _ _ _ (c.apply_unchecked-result.ensures ∙ rw c.decide_unchecked-after.ensures) c.is_err.ensures c.if-is_err.true
+returns-then-is_err c = apply_refused _ _ _ (c.apply_unchecked-result.ensures ∙ rw c.decide_unchecked-after.ensures) c.is_err.ensures.value c.if-is_err.true
 
 pub returns : goal.returns
-returns c = rw c.decide_unchecked-after.ensures (apply_received _ _ _ (c.apply_unchecked-result.ensures ∙ rw c.decide_unchecked-after.ensures) c.is_err.ensures c.if-is_err.false)
+returns c = rw c.decide_unchecked-after.ensures (apply_received _ _ _ (c.apply_unchecked-result.ensures ∙ rw c.decide_unchecked-after.ensures) c.is_err.ensures.value c.if-is_err.false)
