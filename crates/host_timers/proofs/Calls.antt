@@ -1,9 +1,8 @@
 -- What the calls over words answer, from the equations of the timer set's; and what is known of words that hold one.
-use Rattle.std.specs.Prelude.{Err, None, Ok, Result, Some}
+use Rattle.std.specs.Prelude.{Err, None, Ok, Result, Some, Option}
 use Prim.Native.Nat.{ℕ, ◌+◌, ◌≤◌}
 use mathlib.Core.Path.{◌≡◌, refl, ap}
 use mathlib.Core.Bool.{Bool, true, false, cond, ◌||◌}
-use mathlib.Core.Option.{Option, none, some}
 use mathlib.Core.List.{List, [], ◌∷◌}
 use native.Mathlib.Omega.{arith}
 use borrow.Author.Tests.{ltb-false, eqb-true, not-false, le-ltb}
@@ -116,8 +115,7 @@ module _ (t : MultiTimer) (ks ds : List ℕ) (now duration : ℕ) where
 
 none_ran_of : (v : Result Unit Refusal) (o : Option ℕ) → none_ran (decide v Err (earliest_answer o)) ≡ decide v refusal_answer (packed 0 0)
 unfolding none_ran decide
-none_ran_of (Ok tt) none = refl
-none_ran_of (Ok tt) (some d) = refl
+none_ran_of (Ok tt) o = refl
 none_ran_of (Err r) o = refl
 
 pub none_ran_lem : (t : MultiTimer) (ks ds : List ℕ) → none_ran (earliest_deadline t ks ds) ≡ cancel_wide (Some t) ks ds

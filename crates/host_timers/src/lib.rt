@@ -214,8 +214,7 @@ fn none_ran(a: Result<Option<u64>, Refusal>) -> u64
     ensures { result ≡ none_ran a }
 {
     match a {
-        Ok(None) => host_answer::pack_unchecked(host_answer::DONE, 0),
-        Ok(Some(_)) => host_answer::pack_unchecked(host_answer::DONE, 0),
+        Ok(_) => host_answer::pack_unchecked(host_answer::DONE, 0),
         Err(r) => host_answer::refusal_answer(r),
     }
 }

@@ -3,7 +3,6 @@ use Rattle.std.specs.Prelude.{Err, None, Ok, Some}
 use Rattle.std.proofs.Common.{◌≡◌, ℕ, suc, ◌+◌, ◌-◌, ◌<◌, ◌≤◌, min, max, Bool, true, false, cond, not, ◌&&◌, leb, List, [], ◌∷◌, ◌++◌, length, get_or, take, drop, set, replicate, sym, refl, ap, ◌∙◌, subst, ap₂, true≢false, zero-le, le_trans, arith, drop-drop, take_at, drop_at, leb-false}
 use Rattle.std.specs.List.{count_by, fold}
 use Rattle.std.proofs.lemmas.List.Sums.{sum_by-cons}
-use mathlib.Core.Option.{some}
 use native.Mathlib.Nat.{zero-sub, max-eq_right}
 use Rattle.multi_timer.specs.Map.{Entry, keys_of, deadlines_of, ascending, lookup, is_some, keep, due, due_keys, pending, min_of, earliest}
 use Rattle.multi_timer.specs.Internal.{search_in, inserted_at, removed_at, cleared_in, due_in, Partitioned}
@@ -58,7 +57,7 @@ module _ (t : MultiTimer) (ks ds : List ℕ) (b : broken t.count ks ds ≡ false
   unfolding earliest
   earliest_none z = sym (ap (λ (xs : List ℕ). earliest_answer (earliest xs)) (used_deadlines ∙ ap (λ (n : ℕ). take n ds) z))
 
-  pub earliest_at : (d : ℕ) → some d ≡ earliest (take t.count ds) → Ok (Some d) ≡ earliest_deadline_unchecked t ks ds
+  pub earliest_at : (d : ℕ) → Some d ≡ earliest (take t.count ds) → Ok (Some d) ≡ earliest_deadline_unchecked t ks ds
   earliest_at d e = ap earliest_answer e ∙ sym (ap (λ (xs : List ℕ). earliest_answer (earliest xs)) used_deadlines)
 
   pub started_at : (key d p next : ℕ) (ds' : List ℕ) → Ok p ≡ search_in key (take t.count ks) → next ≡ next_generation t.global_generation → ds' ≡ set ds p d → timers_exit (timers t.count next) ks ds' ≡ start_timer_at_unchecked t ks ds key d
@@ -177,6 +176,6 @@ unfolding min_of
 min_folded m [] = refl
 min_folded m (d ∷ ds) = sym (min_of_min m d ds) ∙ min_folded (min m d) ds
 
-pub min_start : (n : ℕ) (ds : List ℕ) → 0 < n → n ≤ length ds → earliest (take n ds) ≡ some (min_of (get_or ds 0 0) (rest n 1 ds))
+pub min_start : (n : ℕ) (ds : List ℕ) → 0 < n → n ≤ length ds → earliest (take n ds) ≡ Some (min_of (get_or ds 0 0) (rest n 1 ds))
 unfolding earliest
 min_start n ds h l = ap earliest (rest_cons n 0 ds h l)

@@ -2,7 +2,6 @@
 -- a key below the cursor changes nothing from the cursor on.
 use Rattle.std.specs.Prelude.{Err, None, Ok, Result, Some}
 use Rattle.std.proofs.Common.{◌≡◌, ℕ, suc, ◌+◌, ◌<◌, ◌≤◌, Bool, true, false, cond, not, ◌&&◌, eqb, ltb, leb, List, [], ◌∷◌, length, get_or, take, drop, sym, refl, ap, ◌∙◌, le_trans, le_of_eq, le_refl, one-add, arith, ltb-false, ltb-true, eq-eqb, ne_eqb, eqb-true, le-leb, leb-true}
-use mathlib.Core.Option.{some}
 use native.Mathlib.Nat.{suc_inj}
 use borrow.Author.Tests.{lt-leb}
 use Rattle.multi_timer.specs.Map.{Entry, entry, entries_of, keys_of, ascending_from, lookup, keep, put, remove, due, due_keys, due_not_below, due_keys_from, due_at}
@@ -134,11 +133,11 @@ due_from_first from now low k ks (x ∷ es) a e = go (leb from x.key) (leb x.dea
     apart : suc x.key ≤ k → x.key ≡ k → ⊥
     apart h g = omega arith
 
-    later_on : due_keys_from from now es ≡ k ∷ ks → (from ≤ k) × (due_at now (lookup k es) ≡ true) → (from ≤ k) × (due_at now (cond (eqb x.key k) (some x.deadline) (lookup k es)) ≡ true)
+    later_on : due_keys_from from now es ≡ k ∷ ks → (from ≤ k) × (due_at now (lookup k es) ≡ true) → (from ≤ k) × (due_at now (cond (eqb x.key k) (Some x.deadline) (lookup k es)) ≡ true)
     later_on h i = (i.0, rw (ne_eqb x.key k (apart (behind x es from now low k ks a h))) i.1)
 
     go : (b d : Bool) → leb from x.key ≡ b → leb x.deadline now ≡ d → keys_of (cond (b && d) (x ∷ keep (due_not_below from now) es) (keep (due_not_below from now) es)) ≡ k ∷ ks
-        → (due_keys_from from now es ≡ k ∷ ks → (from ≤ k) × (due_at now (lookup k es) ≡ true)) → (from ≤ k) × (due_at now (cond (eqb x.key k) (some x.deadline) (lookup k es)) ≡ true)
+        → (due_keys_from from now es ≡ k ∷ ks → (from ≤ k) × (due_at now (lookup k es) ≡ true)) → (from ≤ k) × (due_at now (cond (eqb x.key k) (Some x.deadline) (lookup k es)) ≡ true)
     go true true f g h i =
         let s = same_key x.key (due_keys_from from now es) h in
         (le_trans (leb-true from x.key f) (le_of_eq s), rw (eq-eqb x.key k s) g)
@@ -177,7 +176,7 @@ due_from_position from now low (k ∷ ks) (d ∷ ds) e a = go (ltb k from) (eqb 
     first h = due_from_all from now k (entries_of (k ∷ ks) (d ∷ ds)) (ap (ascending_from k) (keys_entries (k ∷ ks) (d ∷ ds) e) ∙ ascending_cons k k ks (le_refl k) (other_keys low k ks a)) h
 
     go : (b c : Bool) → (b ≡ true → k < from) → (b ≡ false → from ≤ k) → due_keys_from from now (entries_of ks ds) ≡ due_keys now (entries_of (drop (index_of (search_in from ks)) ks) (drop (index_of (search_in from ks)) ds))
-        → Stands (cond b (later 1 (search_in from ks)) (cond c (Ok 0) (Err 0)))
+        → Stands (cond {A = Result ℕ ℕ} b (later 1 (search_in from ks)) (cond {A = Result ℕ ℕ} c (Ok 0) (Err 0)))
     go true c f g i = rw (index_later (search_in from ks)) (below_head from now (entry k d) (entries_of ks ds) (f refl) ∙ i)
     go false true f g i = first (g refl)
     go false false f g i = first (g refl)

@@ -1,7 +1,6 @@
 -- One closed list of calls in slices of one entry, by computation: while key 7 is set key 9 finds no entry unused and key 7 restarts, and a pop with key 7 due is refused if the lent slice is empty and else writes key 7.
 use Rattle.std.specs.Prelude.{Ok, Some}
 use Rattle.std.proofs.Common.{◌≡◌, true, List, [], ◌∷◌, refl}
-use mathlib.Core.Option.{some}
 use Rattle.multi_timer.specs.Map.{keys_of, deadlines_of, lookup, keep, put, min_of, earliest}
 use Rattle.multi_timer.specs.MultiTimer.{used, is_expired_at, pop_expired_at, earliest_deadline}
 use Rattle.multi_timer.specs.History.{Call, start, pop, after_calls, is_refused, entries_after, deadline_of, turned_away, accepted}
@@ -18,7 +17,7 @@ pub start_refused : is_refused (after_calls 1 calls) (start 9 0 5) ≡ true
 unfolding accepted turned_away entries_after deadline_of keep put keys_of
 start_refused = refused_are 1 calls (start 9 0 5)
 
-pub deadline_held : lookup 7 (used (after_calls 1 calls).answer (after_calls 1 calls).keys (after_calls 1 calls).deadlines) ≡ some 8
+pub deadline_held : lookup 7 (used (after_calls 1 calls).answer (after_calls 1 calls).keys (after_calls 1 calls).deadlines) ≡ Some 8
 unfolding accepted turned_away entries_after deadline_of keep put keys_of
 deadline_held = deadlines_are 1 (accepted 1 calls) (after_calls 1 calls) (history 1 calls) 7
 

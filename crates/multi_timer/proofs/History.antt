@@ -1,7 +1,6 @@
 -- After any list of calls from a fresh set, the set is the map that the accepted calls say, and the next call meets no 9 and no deadline above its bound.
-use Rattle.std.specs.Prelude.{Ok}
+use Rattle.std.specs.Prelude.{Ok, Option, None, Some}
 use Rattle.std.proofs.Common.{◌≡◌, ℕ, suc, ◌+◌, ◌%◌, ◌^◌, Bool, true, false, cond, not, ◌&&◌, ◌||◌, eqb, ltb, leb, List, [], ◌∷◌, ◌++◌, length, drop, replicate, sym, refl, ap, ◌∙◌, subst, true≢false, zero-le, arith, le-ltb, eq-eqb}
-use mathlib.Core.Option.{Option, none, some}
 use lib.ListN.{length-replicate}
 use Rattle.bounds.specs.Bounds.{max_time}
 use Rattle.duration.specs.Bounds.{start_late}
@@ -35,8 +34,8 @@ entries_ascending (clear ∷ xs) = refl
 pub lookup_entries : (key : ℕ) (xs : List Call) → lookup key (entries_after xs) ≡ deadline_of key xs
 unfolding entries_after deadline_of lookup
 lookup_entries key [] = refl
-lookup_entries key (start k now duration ∷ xs) = lookup_put k (now + duration) key (entries_after xs) ∙ ap (λ (o : Option ℕ). cond (eqb k key) (some (now + duration)) o) (lookup_entries key xs)
-lookup_entries key (cancel k ∷ xs) = lookup_remove k key (entries_after xs) ∙ ap (λ (o : Option ℕ). cond (eqb k key) none o) (lookup_entries key xs)
+lookup_entries key (start k now duration ∷ xs) = lookup_put k (now + duration) key (entries_after xs) ∙ ap (λ (o : Option ℕ). cond (eqb k key) (Some (now + duration)) o) (lookup_entries key xs)
+lookup_entries key (cancel k ∷ xs) = lookup_remove k key (entries_after xs) ∙ ap (λ (o : Option ℕ). cond (eqb k key) None o) (lookup_entries key xs)
 lookup_entries key (pop now out ∷ xs) = lookup_pop now key 0 (entries_after xs) (entries_ascending xs) ∙ ap (still_set now) (lookup_entries key xs)
 lookup_entries key (clear ∷ xs) = refl
 
@@ -45,8 +44,8 @@ pub earliest_of_lem : (xs : List Call) → IsMin (λ (key : ℕ). deadline_of ke
 earliest_of_lem xs = as_said (earliest_of xs) (earliest_min 0 (entries_after xs) (entries_ascending xs))
   where
     as_said : (o : Option ℕ) → IsMin (λ (key : ℕ). lookup key (entries_after xs)) o → IsMin (λ (key : ℕ). deadline_of key xs) o
-    as_said none h = λ key. sym (lookup_entries key xs) ∙ h key
-    as_said (some d) h = ((h.0.0, sym (lookup_entries h.0.0 xs) ∙ h.0.1), λ key x p. h.1 key x (lookup_entries key xs ∙ p))
+    as_said None h = λ key. sym (lookup_entries key xs) ∙ h key
+    as_said (Some d) h = ((h.0.0, sym (lookup_entries h.0.0 xs) ∙ h.0.1), λ key x p. h.1 key x (lookup_entries key xs ∙ p))
 
 -- a pop takes exactly the keys with a deadline at or before now, in ascending order
 pub due_keys_lem : (now key : ℕ) (xs : List Call) → contains key (due_keys_of now xs) ≡ due_at now (deadline_of key xs)

@@ -1,6 +1,6 @@
 -- The timer set as a finite map from keys to deadlines.
+use Rattle.std.specs.Prelude.{Option, None, Some}
 use Rattle.std.proofs.Common.{◌≡◌, ℕ, suc, ◌+◌, ◌-◌, ◌<◌, ◌≤◌, min, max, Bool, true, false, cond, not, ◌&&◌, ◌||◌, eqb, ltb, leb, List, [], ◌∷◌, ◌++◌, length, take, drop, replicate, sym, refl, ap, ◌∙◌, subst, ap₂, true≢false, le_trans, le_antisymm, arith, length-append, length-drop, ltb-false, ltb-true, le-ltb, eq-eqb, ne_eqb, eqb-true, le-leb, leb-false, leb-true}
-use mathlib.Core.Option.{Option, none, some}
 use lib.ListN.{length-replicate}
 use lib.Seq.{take-append_seam}
 use borrow.Author.Tests.{eqb-false, lt-leb}
@@ -16,13 +16,13 @@ meet : (a b c : ℕ) → a ≡ c → b ≡ c → (a ≡ b → ⊥) → ⊥
 meet a b c p q n = n (cc)
 
 -- ---- lookup after a start and a cancel
-pub lookup_put : (k d q : ℕ) (es : List Entry) → lookup q (put k d es) ≡ cond (eqb k q) (some d) (lookup q es)
+pub lookup_put : (k d q : ℕ) (es : List Entry) → lookup q (put k d es) ≡ cond (eqb k q) (Some d) (lookup q es)
 unfolding lookup put
 lookup_put k d q [] = refl
 lookup_put k d q (e ∷ es) = go (ltb e.key k) (eqb e.key k) (eqb e.key q) (eqb k q) refl refl refl refl (lookup_put k d q es)
   where
-    go : (a b x y : Bool) → ltb e.key k ≡ a → eqb e.key k ≡ b → eqb e.key q ≡ x → eqb k q ≡ y → lookup q (put k d es) ≡ cond (eqb k q) (some d) (lookup q es)
-        → lookup q (cond a (e ∷ put k d es) (cond b (entry k d ∷ es) (entry k d ∷ e ∷ es))) ≡ cond (eqb k q) (some d) (cond (eqb e.key q) (some e.deadline) (lookup q es))
+    go : (a b x y : Bool) → ltb e.key k ≡ a → eqb e.key k ≡ b → eqb e.key q ≡ x → eqb k q ≡ y → lookup q (put k d es) ≡ cond (eqb k q) (Some d) (lookup q es)
+        → lookup q (cond a (e ∷ put k d es) (cond b (entry k d ∷ es) (entry k d ∷ e ∷ es))) ≡ cond (eqb k q) (Some d) (cond (eqb e.key q) (Some e.deadline) (lookup q es))
     go true b true true p r s u h = absurd (apart (ltb-true _ _ p) (eqb-true _ _ s) (eqb-true _ _ u))
       where
         apart : e.key < k → e.key ≡ q → k ≡ q → ⊥
@@ -34,17 +34,17 @@ lookup_put k d q (e ∷ es) = go (ltb e.key k) (eqb e.key k) (eqb e.key q) (eqb 
     go false true false false p r s u h = simp (s, u)
     go false false x y p r s u h = refl
 
-pub lookup_remove : (k q : ℕ) (es : List Entry) → lookup q (remove k es) ≡ cond (eqb k q) none (lookup q es)
+pub lookup_remove : (k q : ℕ) (es : List Entry) → lookup q (remove k es) ≡ cond (eqb k q) None (lookup q es)
 unfolding lookup keep
 lookup_remove k q [] = go (eqb k q)
   where
-    go : (y : Bool) → ◌≡◌ {A = Option ℕ} none (cond y none none)
+    go : (y : Bool) → ◌≡◌ {A = Option ℕ} None (cond y None None)
     go true = refl
     go false = refl
 lookup_remove k q (e ∷ es) = go (eqb e.key k) (eqb e.key q) (eqb k q) refl refl refl (lookup_remove k q es)
   where
-    go : (b x y : Bool) → eqb e.key k ≡ b → eqb e.key q ≡ x → eqb k q ≡ y → lookup q (keep (other k) es) ≡ cond (eqb k q) none (lookup q es)
-        → lookup q (cond (not b) (e ∷ keep (other k) es) (keep (other k) es)) ≡ cond (eqb k q) none (cond (eqb e.key q) (some e.deadline) (lookup q es))
+    go : (b x y : Bool) → eqb e.key k ≡ b → eqb e.key q ≡ x → eqb k q ≡ y → lookup q (keep (other k) es) ≡ cond (eqb k q) None (lookup q es)
+        → lookup q (cond (not b) (e ∷ keep (other k) es) (keep (other k) es)) ≡ cond (eqb k q) None (cond (eqb e.key q) (Some e.deadline) (lookup q es))
     go true true true r s u h = simp u (h ∙ simp u)
     go true true false r s u h = absurd (differ e.key k q (eqb-true _ _ r) (eqb-true _ _ s) (eqb-false _ _ u))
     go true false true r s u h = simp u (h ∙ simp u)
@@ -105,7 +105,7 @@ lookup_pop now q low [] a = refl
 lookup_pop now q low (e ∷ es) a = go (ltb now e.deadline) (eqb e.key q) refl refl (lookup_pop now q (suc e.key) es (other_keys low e.key (keys_of es) a))
   where
     go : (b x : Bool) → ltb now e.deadline ≡ b → eqb e.key q ≡ x → lookup q (keep (pending now) es) ≡ still_set now (lookup q es)
-        → lookup q (cond b (e ∷ keep (pending now) es) (keep (pending now) es)) ≡ still_set now (cond (eqb e.key q) (some e.deadline) (lookup q es))
+        → lookup q (cond b (e ∷ keep (pending now) es) (keep (pending now) es)) ≡ still_set now (cond (eqb e.key q) (Some e.deadline) (lookup q es))
     go true true r s h = simp (s, r)
     go true false r s h = simp s h
     go false true r s h = simp (s, r) (lookup_below q (suc e.key) (keep (pending now) es) (keep_ascending (pending now) (suc e.key) es (other_keys low e.key (keys_of es) a)) (near (eqb-true _ _ s)))
@@ -116,10 +116,10 @@ lookup_pop now q low (e ∷ es) a = go (ltb now e.deadline) (eqb e.key q) refl r
 
 -- a key is expired exactly when it is set and a pop takes it
 pub expired_popped : (now : ℕ) (o : Option ℕ) → due_at now o ≡ (is_some o && not (is_some (still_set now o)))
-expired_popped now none = refl
-expired_popped now (some d) = go (ltb now d) refl
+expired_popped now None = refl
+expired_popped now (Some d) = go (ltb now d) refl
   where
-    go : (t : Bool) → ltb now d ≡ t → leb d now ≡ not (is_some (cond (ltb now d) (some d) none))
+    go : (t : Bool) → ltb now d ≡ t → leb d now ≡ not (is_some (cond (ltb now d) (Some d) None))
     go true e = simp (e, lt-leb d now (ltb-true now d e))
     go false e = simp (e, le-leb d now (ltb-false now d e))
 
@@ -136,26 +136,26 @@ due_taken now q low (e ∷ es) a = go (leb e.deadline now) (eqb e.key q) refl re
     near g = omega arith
 
     go : (b x : Bool) → leb e.deadline now ≡ b → eqb e.key q ≡ x → contains q (keys_of (keep (due now) es)) ≡ due_at now (lookup q es)
-        → contains q (keys_of (cond b (e ∷ keep (due now) es) (keep (due now) es))) ≡ due_at now (cond (eqb e.key q) (some e.deadline) (lookup q es))
+        → contains q (keys_of (cond b (e ∷ keep (due now) es) (keep (due now) es))) ≡ due_at now (cond (eqb e.key q) (Some e.deadline) (lookup q es))
     go true true d s h = simp (s, d)
     go true false d s h = simp s h
     go false true d s h = simp (s, d) (h ∙ ap (due_at now) (lookup_below q (suc e.key) es r (near (eqb-true _ _ s))))
     go false false d s h = simp s h
 
 -- ---- the earliest is the min of the deadlines of a key
-none_some : (o : Option ℕ) (d : ℕ) → o ≡ none → o ≡ some d → ⊥
+none_some : (o : Option ℕ) (d : ℕ) → o ≡ None → o ≡ Some d → ⊥
 none_some o d p q = let z : ◌≡◌ {A = ℕ} 0 1 = cc in omega arith
 
-some_one : (d x : ℕ) → some d ≡ some x → d ≡ x
+some_one : (d x : ℕ) → Some d ≡ Some x → d ≡ x
 some_one d x p = cc
 
 earliest_more : (low : ℕ) (e : Entry) (es : List Entry) → ascending_from low (keys_of (e ∷ es)) ≡ true → IsMin (λ (key : ℕ). lookup key es) (earliest (deadlines_of es)) → IsMin (λ (key : ℕ). lookup key (e ∷ es)) (earliest (deadlines_of (e ∷ es)))
 unfolding keys_of deadlines_of lookup earliest min_of
 earliest_more low e [] a h = ((e.key, rw (eq-eqb e.key e.key refl)), λ key x. each (eqb e.key key) x)
   where
-    each : (b : Bool) (x : ℕ) → cond b (some e.deadline) none ≡ some x → e.deadline ≤ x
+    each : (b : Bool) (x : ℕ) → cond b (Some e.deadline) None ≡ Some x → e.deadline ≤ x
     each true x p = let q = some_one e.deadline x p in omega arith
-    each false x p = absurd (none_some none x refl p)
+    each false x p = absurd (none_some None x refl p)
 earliest_more low e (f ∷ es) a h = (found (leb e.deadline m) (leb-true _ _) (leb-false _ _), λ key x. each (eqb e.key key) key x)
   where
     m : ℕ
@@ -167,14 +167,14 @@ earliest_more low e (f ∷ es) a h = (found (leb e.deadline m) (leb-true _ _) (l
     right : (a b : ℕ) → b < a → b ≡ min a b
     right a b h = omega arith
 
-    later : (key : ℕ) → lookup key (f ∷ es) ≡ some m → e.key ≡ key → ⊥
+    later : (key : ℕ) → lookup key (f ∷ es) ≡ Some m → e.key ≡ key → ⊥
     later key p q = none_some (lookup key (f ∷ es)) m (lookup_below key (suc e.key) (f ∷ es) (other_keys low e.key (keys_of (f ∷ es)) a) (omega arith)) p
 
-    found : (b : Bool) → (b ≡ true → e.deadline ≤ m) → (b ≡ false → m < e.deadline) → (key : ℕ) × (lookup key (e ∷ f ∷ es) ≡ some (min e.deadline m))
-    found true p q = (e.key, rw (eq-eqb e.key e.key refl) (ap some (left e.deadline m (p refl))))
-    found false p q = let w = h.0 in (w.0, rw (ne_eqb e.key w.0 (later w.0 w.1)) (w.1 ∙ ap some (right e.deadline m (q refl))))
+    found : (b : Bool) → (b ≡ true → e.deadline ≤ m) → (b ≡ false → m < e.deadline) → (key : ℕ) × (lookup key (e ∷ f ∷ es) ≡ Some (min e.deadline m))
+    found true p q = (e.key, rw (eq-eqb e.key e.key refl) (ap Some (left e.deadline m (p refl))))
+    found false p q = let w = h.0 in (w.0, rw (ne_eqb e.key w.0 (later w.0 w.1)) (w.1 ∙ ap Some (right e.deadline m (q refl))))
 
-    each : (b : Bool) (key x : ℕ) → cond b (some e.deadline) (lookup key (f ∷ es)) ≡ some x → min e.deadline m ≤ x
+    each : (b : Bool) (key x : ℕ) → cond b (Some e.deadline) (lookup key (f ∷ es)) ≡ Some x → min e.deadline m ≤ x
     each true key x p = let q = some_one e.deadline x p in omega arith
     each false key x p = let q = h.1 key x p in omega arith
 
@@ -185,10 +185,10 @@ earliest_min low (e ∷ es) a = earliest_more low e es a (earliest_min (suc e.ke
 
 -- a map has one min at most: so the earliest is none exactly when no key is set
 pub min_unique : (map : ℕ → Option ℕ) (o q : Option ℕ) → IsMin map o → IsMin map q → o ≡ q
-min_unique map none none h k = refl
-min_unique map none (some e) h k = absurd (none_some (map k.0.0) e (h k.0.0) k.0.1)
-min_unique map (some d) none h k = absurd (none_some (map h.0.0) d (k h.0.0) h.0.1)
-min_unique map (some d) (some e) h k = ap some (le_antisymm (h.1 k.0.0 e k.0.1) (k.1 h.0.0 d h.0.1))
+min_unique map None None h k = refl
+min_unique map None (Some e) h k = absurd (none_some (map k.0.0) e (h k.0.0) k.0.1)
+min_unique map (Some d) None h k = absurd (none_some (map h.0.0) d (k h.0.0) h.0.1)
+min_unique map (Some d) (Some e) h k = ap Some (le_antisymm (h.1 k.0.0 e k.0.1) (k.1 h.0.0 d h.0.1))
 
 -- ---- what the slices hold after a change are the entries of the definition
 pub entries_of_both : (es : List Entry) → entries_of (keys_of es) (deadlines_of es) ≡ es

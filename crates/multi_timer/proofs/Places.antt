@@ -1,7 +1,6 @@
 -- The slices after a change at a place that a search found.
-use Rattle.std.specs.Prelude.{Err, Ok, Result}
+use Rattle.std.specs.Prelude.{Err, Ok, Result, None, Some}
 use Rattle.std.proofs.Common.{◌≡◌, ℕ, zero, suc, ◌+◌, ◌-◌, ◌<◌, ◌≤◌, max, List, [], ◌∷◌, ◌++◌, length, get_or, take, drop, set, replicate, sym, refl, ap, ◌∙◌, subst, ap₂, append_assoc, le_of_suc-le-suc, le_of_lt, add-one, arith, length-append, length-drop, length-set, take-append-drop, length-take-le, get_or-take, take-take, drop-drop}
-use mathlib.Core.Option.{none, some}
 use native.Mathlib.Nat.{sub-zero, suc-sub-suc}
 use lib.Seq.{set-append_left}
 use borrow.Rule.Slice.PartMut.{put_mid, Post-is}
@@ -148,10 +147,10 @@ module _ (n : ℕ) (ks ds : List ℕ) (g : Good n ks ds) where
       pub at_bound : Ok p ≡ search_in key K → p < n
       at_bound e = subst (λ (m : ℕ). p < m) (length-take-le n ds within) (lookup_found (Ok p) e).0
 
-      pub at_lookup : Ok p ≡ search_in key K → lookup key (entries_of K D) ≡ some (get_or ds p 0)
-      at_lookup e = (lookup_found (Ok p) e).1 ∙ ap some (get_or-take n ds p 0 (at_bound e))
+      pub at_lookup : Ok p ≡ search_in key K → lookup key (entries_of K D) ≡ Some (get_or ds p 0)
+      at_lookup e = (lookup_found (Ok p) e).1 ∙ ap Some (get_or-take n ds p 0 (at_bound e))
 
-      pub absent_lookup : Err p ≡ search_in key K → lookup key (entries_of K D) ≡ none
+      pub absent_lookup : Err p ≡ search_in key K → lookup key (entries_of K D) ≡ None
       absent_lookup e = lookup_found (Err p) e
 
       pub absent_bound : Err p ≡ search_in key K → p ≤ n

@@ -1,8 +1,7 @@
 -- Entries by ascending key, and the place that a search finds in them.
-use Rattle.std.specs.Prelude.{Err, Ok, Result}
+use Rattle.std.specs.Prelude.{Err, Ok, Result, Option, None, Some}
 use Rattle.std.proofs.Common.{◌≡◌, ℕ, zero, suc, ◌<◌, ◌≤◌, Bool, true, false, cond, not, eqb, ltb, leb, List, [], ◌∷◌, ◌++◌, length, get_or, take, drop, set, sym, refl, ap, ◌∙◌, subst, ap₂, suc-le-suc, zero-le, le_of_suc-le-suc, not-suc-le-zero, zero-lt-suc, one-add, arith, ltb-false, ltb-true, lt-ltb, ne_eqb, eqb-true, leb-true}
 use mathlib.Core.Bool.{and-eq-true_iff}
-use mathlib.Core.Option.{Option, none, some}
 use native.Mathlib.Nat.{suc_inj}
 use borrow.Author.Tests.{eqb-false}
 use Rattle.multi_timer.specs.Map.{Entry, entry, entries_of, keys_of, deadlines_of, ascending_from, lookup, keep, put, other}
@@ -78,7 +77,7 @@ below_others q low k h f = (λ e. apart e, omega arith)
     apart e = omega arith
 
 module _ (q : ℕ) where
-  pub lookup_below : (low : ℕ) (es : List Entry) → ascending_from low (keys_of es) ≡ true → q < low → lookup q es ≡ none
+  pub lookup_below : (low : ℕ) (es : List Entry) → ascending_from low (keys_of es) ≡ true → q < low → lookup q es ≡ None
   unfolding keys_of lookup
   lookup_below low [] a h = refl
   lookup_below low (e ∷ es) a h =
@@ -124,7 +123,7 @@ put_is key d (k ∷ ks) [] e = absurd (omega arith)
 put_is key d (k ∷ ks) (y ∷ ds) e = go (ltb k key) (eqb k key) (eqb-true k key) (put_is key d ks ds (suc_inj e))
   where
     go : (a b : Bool) → (b ≡ true → k ≡ key) → PutIs (search_in key ks) ks ds key d (put key d (entries_of ks ds))
-        → PutIs (cond a (later 1 (search_in key ks)) (cond b (Ok 0) (Err 0))) (k ∷ ks) (y ∷ ds) key d (cond a (entry k y ∷ put key d (entries_of ks ds)) (cond b (entry key d ∷ entries_of ks ds) (entry key d ∷ entry k y ∷ entries_of ks ds)))
+        → PutIs (cond {A = Result ℕ ℕ} a (later 1 (search_in key ks)) (cond {A = Result ℕ ℕ} b (Ok 0) (Err 0))) (k ∷ ks) (y ∷ ds) key d (cond a (entry k y ∷ put key d (entries_of ks ds)) (cond b (entry key d ∷ entries_of ks ds) (entry key d ∷ entry k y ∷ entries_of ks ds)))
     go true b h r = put_later (search_in key ks) k y ks ds key d (put key d (entries_of ks ds)) r
     go false true h r =
         record {
@@ -170,7 +169,7 @@ remove_is key low (k ∷ ks) (y ∷ ds) e a = go (ltb k key) (eqb k key) (ltb-tr
     behind = entries_ascending (suc k) ks ds (suc_inj e) (other_keys low k ks a)
 
     go : (a b : Bool) → (a ≡ true → k < key) → (a ≡ false → key ≤ k) → (b ≡ true → k ≡ key) → (b ≡ false → k ≡ key → ⊥) → RemoveIs (search_in key ks) ks ds (keep (other key) (entries_of ks ds))
-        → RemoveIs (cond a (later 1 (search_in key ks)) (cond b (Ok 0) (Err 0))) (k ∷ ks) (y ∷ ds) (cond (not b) (entry k y ∷ keep (other key) (entries_of ks ds)) (keep (other key) (entries_of ks ds)))
+        → RemoveIs (cond {A = Result ℕ ℕ} a (later 1 (search_in key ks)) (cond {A = Result ℕ ℕ} b (Ok 0) (Err 0))) (k ∷ ks) (y ∷ ds) (cond (not b) (entry k y ∷ keep (other key) (entries_of ks ds)) (keep (other key) (entries_of ks ds)))
     go true true p q r s ih = absurd (apart (p refl) (r refl))
       where
         apart : k < key → k ≡ key → ⊥
@@ -197,11 +196,11 @@ remove_is key low (k ∷ ks) (y ∷ ds) e a = go (ltb k key) (eqb k key) (ltb-tr
         near h = omega arith
 
 abbrev pub LookupIs : Result ℕ ℕ → List ℕ → Option ℕ → Type 0
-LookupIs (Ok p) ds o = (p < length ds) × (o ≡ some (get_or ds p 0))
-LookupIs (Err p) ds o = o ≡ none
+LookupIs (Ok p) ds o = (p < length ds) × (o ≡ Some (get_or ds p 0))
+LookupIs (Err p) ds o = o ≡ None
 
 lookup_later : (q : Result ℕ ℕ) (y : ℕ) (ds : List ℕ) (o : Option ℕ) → LookupIs q ds o → LookupIs (later 1 q) (y ∷ ds) o
-lookup_later (Ok p) y ds o r = subst (λ (n : ℕ). (n < suc (length ds)) × (o ≡ some (get_or (y ∷ ds) n 0))) (sym (one-add p)) (suc-le-suc r.0, r.1)
+lookup_later (Ok p) y ds o r = subst (λ (n : ℕ). (n < suc (length ds)) × (o ≡ Some (get_or (y ∷ ds) n 0))) (sym (one-add p)) (suc-le-suc r.0, r.1)
 lookup_later (Err p) y ds o r = r
 
 pub lookup_is : (key low : ℕ) (ks ds : List ℕ) → length ks ≡ length ds → ascending_from low ks ≡ true → LookupIs (search_in key ks) ds (lookup key (entries_of ks ds))
@@ -211,7 +210,7 @@ lookup_is key low (k ∷ ks) [] e a = absurd (omega arith)
 lookup_is key low (k ∷ ks) (y ∷ ds) e a = go (ltb k key) (eqb k key) (ltb-true k key) (ltb-false k key) (eqb-true k key) (lookup_is key (suc k) ks ds (suc_inj e) (other_keys low k ks a))
   where
     go : (a b : Bool) → (a ≡ true → k < key) → (a ≡ false → key ≤ k) → (b ≡ true → k ≡ key) → LookupIs (search_in key ks) ds (lookup key (entries_of ks ds))
-        → LookupIs (cond a (later 1 (search_in key ks)) (cond b (Ok 0) (Err 0))) (y ∷ ds) (cond b (some y) (lookup key (entries_of ks ds)))
+        → LookupIs (cond {A = Result ℕ ℕ} a (later 1 (search_in key ks)) (cond {A = Result ℕ ℕ} b (Ok 0) (Err 0))) (y ∷ ds) (cond b (Some y) (lookup key (entries_of ks ds)))
     go true true p q r ih = absurd (apart (p refl) (r refl))
       where
         apart : k < key → k ≡ key → ⊥

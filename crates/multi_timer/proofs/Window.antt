@@ -1,7 +1,6 @@
 -- Keys in a window of numbers, from low up to high: there are at most high - low of them, so a start there never meets a 5.
-use Rattle.std.specs.Prelude.{Err, Ok, Result}
+use Rattle.std.specs.Prelude.{Err, Ok, Result, Option, None, Some}
 use Rattle.std.proofs.Common.{◌≡◌, ℕ, suc, ◌+◌, ◌-◌, ◌<◌, ◌≤◌, Bool, true, false, cond, ◌&&◌, eqb, ltb, leb, List, [], ◌∷◌, length, take, sym, refl, ap, ◌∙◌, true≢false, zero-le, le_trans, arith, ltb-false, ltb-true, eq-eqb, eqb-true}
-use mathlib.Core.Option.{Option, none, some}
 use borrow.Author.Tests.{lt-leb}
 use Rattle.multi_timer.specs.Map.{Entry, keys_of, ascending, ascending_from, lookup, is_some, keep, put, remove, pending, still_set}
 use Rattle.multi_timer.specs.Internal.{search_in}
@@ -22,10 +21,10 @@ unfolding lookup
 within_none low high = record { bounds = λ key e. absurd (true≢false (sym e)) }
 
 -- the window moves: its end rises, or its start over numbers that have no timer
-pub within_moved : (low high low' high' : ℕ) (es : List Entry) → high ≤ high' → ((key : ℕ) → key < low' → lookup key es ≡ none) → Within low high es → Within low' high' es
+pub within_moved : (low high low' high' : ℕ) (es : List Entry) → high ≤ high' → ((key : ℕ) → key < low' → lookup key es ≡ None) → Within low high es → Within low' high' es
 within_moved low high low' high' es h n w = record { bounds = λ key e. (go (ltb key low') (λ k. n key (ltb-true _ _ k)) (ltb-false _ _) e, le_trans (w.bounds key e).1 h) }
   where
-    go : {key : ℕ} (b : Bool) → (b ≡ true → lookup key es ≡ none) → (b ≡ false → low' ≤ key) → is_some (lookup key es) ≡ true → low' ≤ key
+    go : {key : ℕ} (b : Bool) → (b ≡ true → lookup key es ≡ None) → (b ≡ false → low' ≤ key) → is_some (lookup key es) ≡ true → low' ≤ key
     go true p q e = absurd (true≢false (sym e ∙ ap is_some (p refl)))
     go false p q e = q refl
 
@@ -36,14 +35,14 @@ module _ (low high : ℕ) (es : List Entry) (w : Within low high es) where
       same : {q : ℕ} → key ≡ q → (low ≤ q) × (q < high)
       same e = (omega arith, omega arith)
 
-      go : {q : ℕ} (b : Bool) → (b ≡ true → key ≡ q) → is_some (cond b (some d) (lookup q es)) ≡ true → (low ≤ q) × (q < high)
+      go : {q : ℕ} (b : Bool) → (b ≡ true → key ≡ q) → is_some (cond b (Some d) (lookup q es)) ≡ true → (low ≤ q) × (q < high)
       go true k e = same (k refl)
       go {q} false k e = w.bounds q e
 
   pub within_remove : (key : ℕ) → Within low high (remove key es)
   within_remove key = record { bounds = λ q e. go (eqb key q) (ap is_some (sym (lookup_remove key q es)) ∙ e) }
     where
-      go : {q : ℕ} (b : Bool) → is_some (cond b none (lookup q es)) ≡ true → (low ≤ q) × (q < high)
+      go : {q : ℕ} (b : Bool) → is_some (cond b None (lookup q es)) ≡ true → (low ≤ q) × (q < high)
       go true e = absurd (true≢false (sym e))
       go {q} false e = w.bounds q e
 
@@ -51,15 +50,15 @@ module _ (low high : ℕ) (es : List Entry) (w : Within low high es) where
   within_pop now a = record { bounds = λ q e. w.bounds q (go (lookup q es) (ap is_some (sym (lookup_pop now q 0 es a)) ∙ e)) }
     where
       go : (o : Option ℕ) → is_some (still_set now o) ≡ true → is_some o ≡ true
-      go none e = e
-      go (some d) e = refl
+      go None e = e
+      go (Some d) e = refl
 
 -- ---- how many there are
 behind : (low high : ℕ) (e : Entry) (es : List Entry) → Within low high (e ∷ es) → Within low high es
 unfolding lookup
 behind low high e es w = record { bounds = λ q h. w.bounds q (go (eqb e.key q) (lookup q es) h) }
   where
-    go : (b : Bool) (o : Option ℕ) → is_some o ≡ true → is_some (cond b (some e.deadline) o) ≡ true
+    go : (b : Bool) (o : Option ℕ) → is_some o ≡ true → is_some (cond b (Some e.deadline) o) ≡ true
     go true o h = refl
     go false o h = h
 

@@ -1,7 +1,6 @@
 -- What the accepted calls of any list say of the timer set. The latest call stands first; calls that only read change
 -- nothing and are left out.
-use Rattle.std.specs.Prelude.{ℕ, suc, ◌+◌, Bool, true, false, cond, not, ◌&&◌, ◌||◌, List, [], ◌∷◌, length, replicate, ◌==◌, nat_le, nat_lt, Err, Ok, Result}
-use Rattle.std.proofs.Math.Option.{Option, none, some}
+use Rattle.std.specs.Prelude.{ℕ, suc, ◌+◌, Bool, true, false, cond, not, ◌&&◌, ◌||◌, List, [], ◌∷◌, length, replicate, ◌==◌, nat_le, nat_lt, Err, Ok, Result, Option, None, Some}
 use Rattle.bounds.specs.Bounds.{max_time}
 use Rattle.duration.specs.Bounds.{start_late}
 use Rattle.multi_timer.specs.declared.MultiTimer.{MultiTimer}
@@ -72,11 +71,11 @@ entries_after (clear ∷ xs) = []
 
 -- the deadline of a key
 unfoldable pub deadline_of : ℕ → List Call → Option ℕ
-deadline_of key [] = none
-deadline_of key (start k now duration ∷ xs) = cond (k == key) (some (now + duration)) (deadline_of key xs)
-deadline_of key (cancel k ∷ xs) = cond (k == key) none (deadline_of key xs)
+deadline_of key [] = None
+deadline_of key (start k now duration ∷ xs) = cond (k == key) (Some (now + duration)) (deadline_of key xs)
+deadline_of key (cancel k ∷ xs) = cond (k == key) None (deadline_of key xs)
 deadline_of key (pop now out ∷ xs) = still_set now (deadline_of key xs)
-deadline_of key (clear ∷ xs) = none
+deadline_of key (clear ∷ xs) = None
 
 abbrev pub earliest_of : List Call → Option ℕ
 earliest_of xs = earliest (deadlines_of (entries_after xs))

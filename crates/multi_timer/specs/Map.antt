@@ -1,7 +1,6 @@
 -- Document 01, "What the Rust forms turn into", of `MultiTimer`: the reference's `HashMap` of keys and deadlines, as
 -- the list of its entries by ascending key.
-use Rattle.std.specs.Prelude.{◌≡◌, ℕ, suc, ◌≤◌, min, Bool, true, false, cond, not, ◌&&◌, ◌||◌, List, [], ◌∷◌, ◌==◌, nat_le, nat_lt}
-use Rattle.std.proofs.Math.Option.{Option, none, some}
+use Rattle.std.specs.Prelude.{◌≡◌, ℕ, suc, ◌≤◌, min, Bool, true, false, cond, not, ◌&&◌, ◌||◌, List, [], ◌∷◌, ◌==◌, nat_le, nat_lt, Option, None, Some}
 
 pub record Entry : Type 0 where
   pub key : ℕ
@@ -33,12 +32,12 @@ ascending ks = ascending_from 0 ks
 
 -- the deadline of a key
 unfoldable pub lookup : ℕ → List Entry → Option ℕ
-lookup k [] = none
-lookup k (e ∷ es) = cond (e.key == k) (some e.deadline) (lookup k es)
+lookup k [] = None
+lookup k (e ∷ es) = cond (e.key == k) (Some e.deadline) (lookup k es)
 
 abbrev pub is_some : Option ℕ → Bool
-is_some none = false
-is_some (some d) = true
+is_some None = false
+is_some (Some d) = true
 
 -- the entries that pass a test
 unfoldable pub keep : (Entry → Bool) → List Entry → List Entry
@@ -75,13 +74,13 @@ abbrev pub pending : ℕ → Entry → Bool
 pending now e = nat_lt now e.deadline
 
 abbrev pub due_at : ℕ → Option ℕ → Bool
-due_at now none = false
-due_at now (some d) = nat_le d now
+due_at now None = false
+due_at now (Some d) = nat_le d now
 
 -- what a pop leaves of a deadline
 abbrev pub still_set : ℕ → Option ℕ → Option ℕ
-still_set now none = none
-still_set now (some d) = cond (nat_lt now d) (some d) none
+still_set now None = None
+still_set now (Some d) = cond (nat_lt now d) (Some d) None
 
 -- the min of d and ds
 unfoldable pub min_of : ℕ → List ℕ → ℕ
@@ -89,8 +88,8 @@ min_of d [] = d
 min_of d (x ∷ xs) = min d (min_of x xs)
 
 unfoldable pub earliest : List ℕ → Option ℕ
-earliest [] = none
-earliest (d ∷ ds) = some (min_of d ds)
+earliest [] = None
+earliest (d ∷ ds) = Some (min_of d ds)
 
 -- ---- for the laws
 unfoldable pub contains : ℕ → List ℕ → Bool
@@ -99,5 +98,5 @@ contains k (x ∷ xs) = x == k || contains k xs
 
 -- the min of the deadlines that a map gives to keys, or none if it gives none
 abbrev pub IsMin : (ℕ → Option ℕ) → Option ℕ → Type 0
-IsMin map none = (key : ℕ) → map key ≡ none
-IsMin map (some d) = ((key : ℕ) × (map key ≡ some d)) × ((key x : ℕ) → map key ≡ some x → d ≤ x)
+IsMin map None = (key : ℕ) → map key ≡ None
+IsMin map (Some d) = ((key : ℕ) × (map key ≡ Some d)) × ((key x : ℕ) → map key ≡ Some x → d ≤ x)

@@ -1,7 +1,6 @@
 -- Document 01, "What the Rust forms turn into", `timing/timer.rs` and "Turned away", checks 9, 10 and 5; the
 -- reference's MultiTimer.
-use Rattle.std.specs.Prelude.{ℕ, ◌+◌, ◌-◌, ◌%◌, ◌^◌, max, Bool, false, not, ◌&&◌, ◌||◌, List, [], ◌∷◌, ◌++◌, length, take, drop, replicate, ◌==◌, nat_le, nat_lt, Err, None, Ok, Result, Some}
-use Rattle.std.proofs.Math.Option.{Option, none, some}
+use Rattle.std.specs.Prelude.{ℕ, ◌+◌, ◌-◌, ◌%◌, ◌^◌, max, Bool, false, not, ◌&&◌, ◌||◌, List, [], ◌∷◌, ◌++◌, length, take, drop, replicate, ◌==◌, nat_le, nat_lt, Err, None, Ok, Result, Some, Option}
 use Rattle.bounds.specs.Bounds.{max_time}
 use Rattle.duration.specs.Bounds.{start_late}
 use Rattle.refusal.specs.Order.{Check, check, verdict, decide}
@@ -174,8 +173,7 @@ pop_expired_at t ks ds now out =
     (popped (length (due_keys now (used t ks ds))) (pop_expired_at_unchecked t ks ds now out))
 
 abbrev pub earliest_answer : Option ℕ → Result (Option ℕ) Refusal
-earliest_answer none = Ok None
-earliest_answer (some d) = Ok (Some d)
+earliest_answer o = Ok o
 
 abbrev pub earliest_deadline_unchecked : MultiTimer → List ℕ → List ℕ → Result (Option ℕ) Refusal
 earliest_deadline_unchecked t ks ds = earliest_answer (earliest (deadlines_of (used t ks ds)))

@@ -155,11 +155,7 @@ fn has_key(timers: MultiTimer, keys: &[u32], deadlines: &[u64], key: u32) -> boo
     requires { broken timers.count keys.now deadlines.now ≡ false }
     ensures { result ≡ is_some (lookup key (used timers keys.now deadlines.now)) }
 {
-    let position = search(timers.count, keys, key);
-    match position {
-        Ok(_) => true,
-        Err(_) => false,
-    }
+    search(timers.count, keys, key).is_ok()
 }
 
 fn due_count(count: usize, deadlines: &[u64], time: u64) -> usize

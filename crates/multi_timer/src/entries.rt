@@ -1,6 +1,5 @@
 // The used entries in the two slices: where a key stands, and the changes at a place.
-ghost use Rattle.std.specs.Prelude.{◌≡◌, ◌<◌, ◌≤◌, true, length, take, drop, slice_set};
-ghost use Rattle.std.proofs.Math.Option.{some};
+ghost use Rattle.std.specs.Prelude.{◌≡◌, ◌<◌, ◌≤◌, true, length, take, drop, slice_set, Some};
 ghost use Rattle.multi_timer.specs.Map.{ascending, earliest};
 ghost use Rattle.multi_timer.specs.Internal.{search_in, later, index_of, next_due, due_in, Partitioned};
 ghost use Rattle.multi_timer.specs.Internal.{inserted_at, inserted_first, removed_at, removed_first, cleared_in};
@@ -176,7 +175,7 @@ pub(crate) fn clear_deadlines_in(deadlines: &mut [u64], from: usize, to: usize)
 
 pub(crate) fn min_deadline(count: usize, deadlines: &[u64]) -> u64
     requires { (0 < count) × (count ≤ length deadlines.now) }
-    ensures { some result ≡ earliest (take count deadlines.now) }
+    ensures { Some result ≡ earliest (take count deadlines.now) }
 {
     deadlines[1..count]
         .iter()

@@ -124,11 +124,8 @@ impl MultiTimer {
     ) -> Result<bool, Refusal>
         ensures { result ≡ is_expired_at self keys.now deadlines.now key now }
     {
-        let verdict = check_read(self, keys, deadlines, now);
-        match verdict {
-            Ok(()) => Ok(self.is_expired_at_unchecked(keys, deadlines, key, now)),
-            Err(r) => Err(r),
-        }
+        check_read(self, keys, deadlines, now)?;
+        Ok(self.is_expired_at_unchecked(keys, deadlines, key, now))
     }
 
     // The expired keys, ascending, go to the front of out.
@@ -161,11 +158,8 @@ impl MultiTimer {
     pub fn earliest_deadline(self, keys: &[u32], deadlines: &[u64]) -> Result<Option<u64>, Refusal>
         ensures { result ≡ earliest_deadline self keys.now deadlines.now }
     {
-        let verdict = check_held(self, keys, deadlines);
-        match verdict {
-            Ok(()) => self.earliest_deadline_unchecked(keys, deadlines),
-            Err(r) => Err(r),
-        }
+        check_held(self, keys, deadlines)?;
+        self.earliest_deadline_unchecked(keys, deadlines)
     }
 
     pub fn clear(self, keys: &mut [u32], deadlines: &mut [u64]) -> ClearResult

@@ -1,5 +1,5 @@
 -- `Timely` is kept by every call, and what it says of samples and deadlines.
-use Rattle.std.specs.Prelude.{None, Some}
+use Rattle.std.specs.Prelude.{None, Option, Some}
 use Prim.Native.Nat.{ℕ, ◌+◌, ◌-◌, ◌≤◌, ◌<◌, min, zero-le}
 use mathlib.Core.Path.{◌≡◌, refl, sym, ap, ◌∙◌, subst}
 use mathlib.Core.Bool.{Bool, true, false, cond}
@@ -12,6 +12,8 @@ use lib.ListN.{length, get_or, set, length-set}
 use lib.Seq.{get_or-set_same, get_or-set_other}
 use borrow.Author.Tests.{ltb-true, ltb-false, eqb-true, eqb-false}
 use Rattle.bounds.specs.Bounds.{max_duration, max_time}
+use Rattle.std.proofs.lemmas.Option.{some_pair_parts}
+use Rattle.rows.specs.Rows.{is_set}
 use Rattle.notes.specs.SegMeta.{SegMeta, seg_meta, note_row, first_sent, with_sending, with_dropped, with_ack_scheduled, with_rtt_sampled}
 use Rattle.notes.specs.Notes.{SegMetas, seg_metas, meta_at, is_noted, update, new_notes, sent, sent_again, set_dropped, mark_ack_scheduled, rto_at_send, deadline_of, expiry, SampleExit, sample_of, take_sample, TimelyMeta, Timely}
 use Rattle.notes.proofs.Updates.{update_notes, update_length, update_cases, sample_cases, mark_length, mark_covers, mark_above}
@@ -120,15 +122,15 @@ expiry_within m seq now deadline t = go (is_noted m seq) (ltb-true _ _)
 -- a sample is no longer than the run
 pub sample_within : (m : SegMetas) (seq now sample : ℕ) (retransmitted : Bool) → (take_sample m seq now).sample ≡ Some (sample, retransmitted) → sample ≤ now
 sample_within m seq now sample retransmitted e =
-    ⊎_elim (λ p. let q : None ≡ Some (sample, retransmitted) = sym (ap (λ (x : SampleExit). x.sample) p) ∙ e in none q)
+    ⊎_elim (λ p. let q : ◌≡◌ {A = Option (ℕ × Bool)} None (Some (sample, retransmitted)) = sym (ap (λ (x : SampleExit). x.sample) p) ∙ e in none q)
     (λ p. let q : sample_of (meta_at m seq) now ≡ Some (sample, retransmitted) = sym (ap (λ (x : SampleExit). x.sample) p) ∙ e in past (meta_at m seq).original_send_at (same q))
     (sample_cases m seq now)
   where
-    none : None ≡ Some (sample, retransmitted) → sample ≤ now
+    none : ◌≡◌ {A = Option (ℕ × Bool)} None (Some (sample, retransmitted)) → sample ≤ now
     none q = let z : ◌≡◌ {A = ℕ} 0 1 = cc in absurd (omega arith)
 
     same : sample_of (meta_at m seq) now ≡ Some (sample, retransmitted) → now - (meta_at m seq).original_send_at ≡ sample
-    same q = cc
+    same q = (some_pair_parts (now - (meta_at m seq).original_send_at) sample (is_set (meta_at m seq).ever_retransmitted) retransmitted q).0
 
     past : (at : ℕ) → now - at ≡ sample → sample ≤ now
     past at q = omega arith

@@ -30,10 +30,8 @@ const TOTAL_WIDTH: usize = 24;
 pub fn write_report(rows: &[Event], count: usize, out: &mut [u8]) -> Result<usize, Refusal>
     ensures { place_exit out.new result ≡ write_report out.old count rows.now }
 {
-    match lent_events::check_events(rows, count) {
-        Ok(()) => place_page(&rows[..count], out),
-        Err(r) => Err(r),
-    }
+    lent_events::check_events(rows, count)?;
+    place_page(&rows[..count], out)
 }
 
 // Writes the page of rows that are events.

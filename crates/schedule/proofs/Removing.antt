@@ -9,6 +9,7 @@ use lib.ListN.{length, take, drop}
 use lib.Dec.{ltb, leb}
 use borrow.Author.Tests.{ltb-true}
 use Rattle.bounds.specs.Bounds.{max_datagram, place_size}
+use Rattle.std.proofs.lemmas.Option.{some_pair_parts}
 use Rattle.schedule.specs.Record.{time_of, record_length, place_of}
 use Rattle.schedule.specs.State.{Schedule, state_broken}
 use Rattle.schedule.specs.Schedule.{first_record, due, first_due, without_first, PopExit, on_pop, pop_first, pop_unchecked}
@@ -41,8 +42,9 @@ module _ (m : Schedule) (now : ℕ) where
       go : (t : Bool) → ltb 0 m.scheduler.count ≡ t → (u : Bool) → cond {A = Option (ℕ × ℕ)} (t && u) (Some (place_of (first_record m.records), record_length (first_record m.records))) None ≡ Some (place, len) → FirstPacket m place len
       go true e true q =
           let some = ltb-true 0 m.scheduler.count e in
-          let p : place_of (first_record m.records) ≡ place = cc in
-          let n : record_length (first_record m.records) ≡ len = cc in
+          let parts = some_pair_parts (place_of (first_record m.records)) place (record_length (first_record m.records)) len q in
+          let p = parts.0 in
+          let n = parts.1 in
           record { some = some; inside = rw (← p) (first_inside m sound some); short = rw (← n) (first_fine m sound some).short }
       go true e false q = let z : ◌≡◌ {A = ℕ} 0 1 = cc in absurd (omega arith)
       go false e u q = let z : ◌≡◌ {A = ℕ} 0 1 = cc in absurd (omega arith)

@@ -166,39 +166,31 @@ impl ChannelScheduler {
     ) -> Result<Option<u64>, Refusal>
         ensures { result ≡ next_deadline (schedule records.now places.now self) }
     {
-        match self.read_verdict(records, places) {
-            Err(r) => Err(r),
-            Ok(()) => self.next_deadline_unchecked(records),
-        }
+        self.read_verdict(records, places)?;
+        self.next_deadline_unchecked(records)
     }
 
     // How many copies wait.
     pub fn len(self, records: &[ScheduledRow], places: &[u8]) -> Result<usize, Refusal>
         ensures { result ≡ len (schedule records.now places.now self) }
     {
-        match self.read_verdict(records, places) {
-            Err(r) => Err(r),
-            Ok(()) => Ok(self.count),
-        }
+        self.read_verdict(records, places)?;
+        Ok(self.count)
     }
 
     pub fn is_empty(self, records: &[ScheduledRow], places: &[u8]) -> Result<bool, Refusal>
         ensures { result ≡ is_empty (schedule records.now places.now self) }
     {
-        match self.read_verdict(records, places) {
-            Err(r) => Err(r),
-            Ok(()) => Ok(self.count == 0),
-        }
+        self.read_verdict(records, places)?;
+        Ok(self.count == 0)
     }
 
     // How many copies more there is room for.
     pub fn room(self, records: &[ScheduledRow], places: &[u8]) -> Result<usize, Refusal>
         ensures { result ≡ room (schedule records.now places.now self) }
     {
-        match self.read_verdict(records, places) {
-            Err(r) => Err(r),
-            Ok(()) => Ok(self.room_unchecked(records, places)),
-        }
+        self.read_verdict(records, places)?;
+        Ok(self.room_unchecked(records, places))
     }
 }
 

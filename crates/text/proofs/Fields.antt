@@ -10,6 +10,7 @@ use lib.ListN.{length, drop, get_or, length-append, length-drop}
 use lib.Seq.{drop-cons, drop-drop, drop-append_seam}
 use lib.Dec.{ltb, eqb}
 use borrow.Author.Tests.{ltb-true, eqb-true, lt-ltb, eq-eqb}
+use Rattle.std.proofs.lemmas.Option.{some_pair_parts}
 use Rattle.text.specs.Decimal.{digits}
 use Rattle.text.specs.Reading.{read_decimal}
 use Rattle.text.proofs.Numbers.{Accepted, read_accepted, read_digits, stops_at}
@@ -21,15 +22,16 @@ pub record FieldAt (s : List ℕ) (at max letter n next : ℕ) : Type 0 where
   pub after : next ≡ at + length (field n letter)
   pub text : drop at s ≡ field n letter ++ drop next s
 
-none : {n next : ℕ} → None ≡ Some (n, next) → ⊥
+none : {n next : ℕ} → ◌≡◌ {A = Option (ℕ × ℕ)} None (Some (n, next)) → ⊥
 none e = let z : ◌≡◌ {A = ℕ} 0 1 = cc in omega arith
 
 module _ (s : List ℕ) (at max letter n next : ℕ) where
-  at_letter : (m k : ℕ) → Accepted s at max m k → k < length s → get_or s k 0 ≡ letter → Some (m, k + 1) ≡ Some (n, next) → FieldAt s at max letter n next
+  at_letter : (m k : ℕ) → Accepted s at max m k → k < length s → get_or s k 0 ≡ letter → ◌≡◌ {A = Option (ℕ × ℕ)} (Some (m, k + 1)) (Some (n, next)) → FieldAt s at max letter n next
   unfolding field
   at_letter m k a h g e =
-      let m' : m ≡ n = cc in
-      let k' : k + 1 ≡ next = cc in
+      let q = some_pair_parts m n (k + 1) next e in
+      let m' = q.0 in
+      let k' = q.1 in
       let l = length-append (digits m) (letter ∷ []) in
       let f = a.after in
       let d : drop k s ≡ letter ∷ drop (k + 1) s = drop-cons s k 0 h ∙ rw (g, add-one) in
@@ -40,12 +42,12 @@ module _ (s : List ℕ) (at max letter n next : ℕ) where
       }
 
   letter_test : (m k : ℕ) → Accepted s at max m k → k < length s → (t : Bool) → eqb (get_or s k 0) letter ≡ t
-      → cond t (Some (m, k + 1)) None ≡ Some (n, next) → FieldAt s at max letter n next
+      → cond {A = Option (ℕ × ℕ)} t (Some (m, k + 1)) None ≡ Some (n, next) → FieldAt s at max letter n next
   letter_test m k a h true g e = at_letter m k a h (eqb-true (get_or s k 0) letter g) e
   letter_test m k a h false g e = absurd (none e)
 
   length_test : (m k : ℕ) → Accepted s at max m k → (t : Bool) → ltb k (length s) ≡ t
-      → cond t (cond (eqb (get_or s k 0) letter) (Some (m, k + 1)) None) None ≡ Some (n, next) → FieldAt s at max letter n next
+      → cond {A = Option (ℕ × ℕ)} t (cond {A = Option (ℕ × ℕ)} (eqb (get_or s k 0) letter) (Some (m, k + 1)) None) None ≡ Some (n, next) → FieldAt s at max letter n next
   length_test m k a true h e = letter_test m k a (ltb-true k (length s) h) (eqb (get_or s k 0) letter) refl e
   length_test m k a false h e = absurd (none e)
 

@@ -1,5 +1,5 @@
 -- Text at places: what is written there, what is read there, how long it is.
-use Rattle.std.specs.Prelude.{None, Ok, Some}
+use Rattle.std.specs.Prelude.{None, Ok, Option, Some}
 use Prim.Native.Nat.{ℕ, ◌+◌, ◌-◌, ◌*◌, ◌^◌, ◌≤◌, ◌<◌}
 use mathlib.Core.Path.{◌≡◌, refl, sym, ap, subst, ◌∙◌}
 use mathlib.Core.Bool.{Bool, true, false, cond}
@@ -10,6 +10,7 @@ use lib.ListN.{length, take, drop, get_or, replicate, length-append, length-drop
 use lib.Seq.{take_at, drop_at, drop-drop, length-take-le}
 use lib.Dec.{leb, lit<, lit≤}
 use borrow.Author.Tests.{leb-true, le-leb, lt-leb}
+use Rattle.std.proofs.lemmas.Option.{some_pair_parts}
 use Rattle.text.specs.Decimal.{is_digit, value, is_plain, digits, right_in, left_in}
 use Rattle.text.specs.Reading.{digit_run, capped_reading, plain_reading, read_decimal}
 use Rattle.text.specs.Hexadecimal.{hex_text, all_hex, octets_of}
@@ -133,10 +134,11 @@ pub record Accepted (s : List ℕ) (at max n next : ℕ) : Type 0 where
 
 module _ (s : List ℕ) (at max n next : ℕ) where
   accepted_capped : (run : List ℕ) → run ≡ digit_run (drop at s) → is_plain run ≡ true → (t : Bool) → leb (value run) max ≡ t
-      → cond t (Some (value run, at + length run)) None ≡ Some (n, next) → Accepted s at max n next
+      → cond {A = Option (ℕ × ℕ)} t (Some (value run, at + length run)) None ≡ Some (n, next) → Accepted s at max n next
   accepted_capped run r p true l e =
-      let v : value run ≡ n = cc in
-      let m : at + length run ≡ next = cc in
+      let q = some_pair_parts (value run) n (at + length run) next e in
+      let v = q.0 in
+      let m = q.1 in
       let x = run_split (drop at s) in
       let d : run ≡ digits n = decimal_digits n run (record { letters = rw r x.letters; plain = p; worth = v }) in
       let w : drop (length run) (drop at s) ≡ drop next s = drop-drop (length run) at s ∙ ap (λ (k : ℕ). drop k s) m in
@@ -148,16 +150,16 @@ module _ (s : List ℕ) (at max n next : ℕ) where
       }
   accepted_capped run r p false l e = absurd (none e)
     where
-      none : None ≡ Some (n, next) → ⊥
+      none : ◌≡◌ {A = Option (ℕ × ℕ)} None (Some (n, next)) → ⊥
       none e = let z : ◌≡◌ {A = ℕ} 0 1 = cc in omega arith
 
   accepted_plain : (t : Bool) → is_plain (digit_run (drop at s)) ≡ t
-      → cond t (capped_reading max (digit_run (drop at s)) at) None ≡ Some (n, next) → Accepted s at max n next
+      → cond {A = Option (ℕ × ℕ)} t (capped_reading max (digit_run (drop at s)) at) None ≡ Some (n, next) → Accepted s at max n next
   unfolding capped_reading
   accepted_plain true p e = accepted_capped (digit_run (drop at s)) refl p (leb (value (digit_run (drop at s))) max) refl e
   accepted_plain false p e = absurd (none e)
     where
-      none : None ≡ Some (n, next) → ⊥
+      none : ◌≡◌ {A = Option (ℕ × ℕ)} None (Some (n, next)) → ⊥
       none e = let z : ◌≡◌ {A = ℕ} 0 1 = cc in omega arith
 
   -- what is accepted is what the writer writes

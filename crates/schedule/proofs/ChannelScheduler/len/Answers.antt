@@ -1,12 +1,16 @@
-use mathlib.Core.Path.{refl}
+use Rattle.std.specs.Prelude.{Err}
+use mathlib.Core.Path.{refl, ap, ◌∙◌}
+use Rattle.std.proofs.lemmas.Result.{err_from_is_err_and}
 use Rattle.schedule.specs.Schedule.{len}
 use Rattle.schedule.proofs.Calls.{answered_refused, answered}
 use Rattle.schedule.proofs.ChannelScheduler.len.Goals as goal
 
-pub returns-in-Err : goal.returns-in-Err
+pub returns-in_err-read_verdict : goal.returns-in_err-read_verdict
 unfolding len
-returns-in-Err c = answered_refused _ _ c.read_verdict.ensures c.in-Err.is
+returns-in_err-read_verdict c =
+    let p = err_from_is_err_and c.from_residual.result c.from_residual.ensures.1 in
+    p.1 ∙ ap Err p.2 ∙ answered_refused _ _ c.read_verdict.ensures c.in_err-read_verdict.was
 
-pub returns-in-Ok : goal.returns-in-Ok
+pub returns : goal.returns
 unfolding len
-returns-in-Ok c = answered _ _ c.read_verdict.ensures c.in-Ok.is refl
+returns c = answered _ _ c.read_verdict.ensures c.in_ok-read_verdict.was refl

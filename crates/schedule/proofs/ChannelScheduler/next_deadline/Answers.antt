@@ -1,4 +1,6 @@
-use mathlib.Core.Path.{sym, ◌∙◌}
+use Rattle.std.specs.Prelude.{Err}
+use mathlib.Core.Path.{sym, ap, ◌∙◌}
+use Rattle.std.proofs.lemmas.Result.{err_from_is_err_and}
 use Rattle.schedule.specs.State.{schedule}
 use Rattle.schedule.specs.Schedule.{next_deadline}
 use Rattle.schedule.proofs.Calls.{answered_refused, answered, read_sound}
@@ -6,12 +8,14 @@ use Rattle.schedule.proofs.Memory.{within}
 use Rattle.schedule.proofs.ChannelScheduler.next_deadline.Goals as goal
 
 pub next_deadline_unchecked-requires : goal.next_deadline_unchecked-requires
-next_deadline_unchecked-requires c = within (schedule c.args.records.now c.args.places.now c.args.self) (read_sound (schedule c.args.records.now c.args.places.now c.args.self) (sym c.read_verdict.ensures ∙ c.in-Ok.is))
+next_deadline_unchecked-requires c = within (schedule c.args.records.now c.args.places.now c.args.self) (read_sound (schedule c.args.records.now c.args.places.now c.args.self) (sym c.read_verdict.ensures ∙ c.in_ok-read_verdict.was))
 
-pub returns-in-Err : goal.returns-in-Err
+pub returns-in_err-read_verdict : goal.returns-in_err-read_verdict
 unfolding next_deadline
-returns-in-Err c = answered_refused _ _ c.read_verdict.ensures c.in-Err.is
+returns-in_err-read_verdict c =
+    let p = err_from_is_err_and c.from_residual.result c.from_residual.ensures.1 in
+    p.1 ∙ ap Err p.2 ∙ answered_refused _ _ c.read_verdict.ensures c.in_err-read_verdict.was
 
-pub returns-in-Ok : goal.returns-in-Ok
+pub returns : goal.returns
 unfolding next_deadline
-returns-in-Ok c = answered _ _ c.read_verdict.ensures c.in-Ok.is c.next_deadline_unchecked.ensures
+returns c = answered _ _ c.read_verdict.ensures c.in_ok-read_verdict.was c.next_deadline_unchecked.ensures
