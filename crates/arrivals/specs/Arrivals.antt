@@ -1,6 +1,6 @@
 -- app/transfer.rs, `run_transfer`: at a moment what is due on the forward line, and then what is due on the reverse
 -- line, is handed over.
-use Rattle.std.specs.Prelude.{ℕ, ◌+◌, ◌≤◌, Bool, cond, ◌||◌, List, Float}
+use Rattle.std.specs.Prelude.{ℕ, ◌+◌, ◌≤◌, Bool, cond, ◌||◌, List, Float, None, Option}
 use Rattle.rto.specs.declared.RtoEstimator.{RtoEstimator}
 use Rattle.path.specs.Direction.{Direction}
 use Rattle.path.specs.Path.{is_going}
@@ -41,9 +41,9 @@ arrival_state forward b sender estimator clock received duplicates = record {
 pub record ArrivalExit : Type 0 where
   pub state : ArrivalState
   pub progress : Bool
-  pub stop : Stop
+  pub stop : Option Stop
 
-abbrev pub arrival_exit : ArrivalState → Bool → Stop → ArrivalExit
+abbrev pub arrival_exit : ArrivalState → Bool → Option Stop → ArrivalExit
 arrival_exit s progress st = record { state = s; progress = progress; stop = st }
 
 abbrev pub acks_of : ArrivalState → AckState
@@ -61,7 +61,7 @@ with_reverse s x =
     a.estimator a.clock a.received a.duplicates
 
 abbrev pub reverse_served : ArrivalState → Bool → ServeExit → ArrivalExit
-reverse_served s progress x = arrival_exit (with_reverse s x) (progress || x.progress) stop.Going
+reverse_served s progress x = arrival_exit (with_reverse s x) (progress || x.progress) (None)
 
 -- the run may end at an ACK that a datagram of the forward line is answered with
 unfoldable pub serve_arrivals : Timing → List Float → ℕ → ℕ → ArrivalState → ArrivalExit

@@ -1,4 +1,5 @@
 -- The events of a run and the rolls: each event took the next eight, and what is asked of all events is asked of those before.
+use Rattle.std.specs.Prelude.{None}
 use Prim.Native.Nat.{ℕ, ◌+◌, ◌*◌, ◌≤◌}
 use mathlib.Core.Path.{◌≡◌, refl, sym, ap, ◌∙◌, subst}
 use mathlib.Core.Bool.{Bool, true, false, false≢true}
@@ -11,7 +12,6 @@ use Rattle.channel.proofs.Laws.{NoFaults, carried_whole}
 use Rattle.path.specs.Direction.{Direction}
 use Rattle.path.specs.Rolls.{packet_rolls, rolls_at, rolls_broken}
 use Rattle.path.specs.Path.{is_going, new_path}
-use Rattle.path.specs.declared.Stop.TheVariants.{Going}
 use Rattle.path.proofs.Laws.{rolls_fine, next_rolls, going_is}
 use Rattle.events.specs.Events.{ForwardEvent, events_of}
 use Rattle.events.proofs.Laws.{events_none}
@@ -42,7 +42,7 @@ flips_last c rolls chunks at (x ∷ es) e h =
 
 module _ (timing : Timing) (rolls : List Float) (x : Submission) (wire : List ℕ) (o : Outgoing) where
   -- the run goes on, or it doesn't
-  by_stop_lem : (P : Type 0) → ((submit timing rolls x wire o).stop ≡ Going → P) → (is_going (submit timing rolls x wire o).stop ≡ false → P) → P
+  by_stop_lem : (P : Type 0) → ((submit timing rolls x wire o).stop ≡ None → P) → (is_going (submit timing rolls x wire o).stop ≡ false → P) → P
   by_stop_lem P going stopped = go (is_going (submit timing rolls x wire o).stop) refl
     where
       go : (b : Bool) → is_going (submit timing rolls x wire o).stop ≡ b → P
@@ -68,7 +68,7 @@ module _ (timing : Timing) (rolls : List Float) (x : Submission) (wire : List �
 
     -- what is asked of the events after it is asked of those before
     module _ (chunks : List (List ℕ)) (f : FlipsOutside c rolls chunks (events_in (submit timing rolls x wire o).outgoing)) where
-      last : (submit timing rolls x wire o).stop ≡ Going → FlipsFrom c rolls chunks 0 (events_in o) × PickMayFlip c (rolls_at rolls (0 + packet_rolls * length (events_in o))) (packet_length chunks x.seq)
+      last : (submit timing rolls x wire o).stop ≡ None → FlipsFrom c rolls chunks 0 (events_in o) × PickMayFlip c (rolls_at rolls (0 + packet_rolls * length (events_in o))) (packet_length chunks x.seq)
       last e = flips_last c rolls chunks 0 (events_in o) (event_made rolls x wire o) (subst (FlipsFrom c rolls chunks 0) (going_events timing rolls x wire o e) f.each)
 
       pub flips_before : FlipsOutside c rolls chunks (events_in o)

@@ -1,4 +1,5 @@
 -- The timers that have run out: the ends stay those of a list of calls.
+use Rattle.std.specs.Prelude.{None}
 use Prim.Native.Nat.{ℕ}
 use mathlib.Core.Path.{◌≡◌, refl, subst}
 use mathlib.Core.Bool.{Bool, true, false, cond}
@@ -75,7 +76,7 @@ module _ (s : Start) (c : ChannelConfig) (rolls : List Float) (r : ReceiverEnd) 
           by_stop_lem e next false g = runs_number n f can e q
 
           by_ceiling : (b : Bool) → ceiling_met limit f.resends ≡ b → (Can (fire_number limit rolls now n f).state → RunsFire (fire_number limit rolls now n f).state → RunsFire (fire_numbers limit rolls now ns (fire_number limit rolls now n f).state).state)
-              → RunsFire (cond b (fire_exit (with_resends f (exhausted f.resends)) true stop.Going) (cond (is_going (fire_number limit rolls now n f).stop) (fire_numbers limit rolls now ns (fire_number limit rolls now n f).state) (fire_number limit rolls now n f))).state
+              → RunsFire (cond b (fire_exit (with_resends f (exhausted f.resends)) true (None)) (cond (is_going (fire_number limit rolls now n f).stop) (fire_numbers limit rolls now ns (fire_number limit rolls now n f).state) (fire_number limit rolls now n f))).state
           by_ceiling true e next = q
           by_ceiling false e next = by_stop_lem e next (is_going (fire_number limit rolls now n f).stop) refl
 
@@ -92,6 +93,6 @@ module _ (s : Start) (c : ChannelConfig) (rolls : List Float) (r : ReceiverEnd) 
           by_due_lem e ran.Single h = runs_time_out t (timeout_of t) (with_clock f (stopped f.outgoing.clock)) (single e h) q
           by_due_lem e ran.Numbers h = runs_numbers (expired f.outgoing.clock now) f (can e h) q
 
-          by_ceiling : (b : Bool) → ceiling_met limit f.resends ≡ b → RunsFire (cond b (fire_exit (with_resends f (exhausted f.resends)) false stop.Going) (by_due (due t f.outgoing.clock now (has_outstanding f.sender.sender)) limit t rolls now f)).state
+          by_ceiling : (b : Bool) → ceiling_met limit f.resends ≡ b → RunsFire (cond b (fire_exit (with_resends f (exhausted f.resends)) false (None)) (by_due (due t f.outgoing.clock now (has_outstanding f.sender.sender)) limit t rolls now f)).state
           by_ceiling true e = q
           by_ceiling false e = by_due_lem e (due t f.outgoing.clock now (has_outstanding f.sender.sender)) refl

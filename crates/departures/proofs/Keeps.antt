@@ -1,4 +1,5 @@
 -- What the departures of a moment keep while the run goes on.
+use Rattle.std.specs.Prelude.{None, Option, Some}
 use Prim.Native.Nat.{ℕ, ◌*◌, ◌≤◌}
 use native.Mathlib.Omega.{arith}
 use mathlib.Core.Path.{◌≡◌, refl, sym, ap, ◌∙◌, subst}
@@ -34,11 +35,11 @@ pub record Departs (t : Timing) (rolls : List Float) (total samples now : ℕ) (
   pub next : (window_of after.sender.sender).next_seq_num ≤ total
   pub rows : length after.outgoing.metas.rows ≡ length s.outgoing.metas.rows
 
-going_is : (st : Stop) → is_going st ≡ true → st ≡ stop.Going
-going_is stop.Going e = refl
-going_is stop.RollsSpent e = absurd (true≢false (sym e))
-going_is stop.EventsFull e = absurd (true≢false (sym e))
-going_is stop.ScheduleFull e = absurd (true≢false (sym e))
+going_is : (st : Option Stop) → is_going st ≡ true → st ≡ None
+going_is (None) e = refl
+going_is (Some stop.RollsSpent) e = absurd (true≢false (sym e))
+going_is (Some stop.EventsFull) e = absurd (true≢false (sym e))
+going_is (Some stop.ScheduleFull) e = absurd (true≢false (sym e))
 
 send_orders : (t : Timing) (rolls : List Float) (chunks : List (List ℕ)) (rto now : ℕ) (s : PumpState) → RiseAlike s.outgoing.forward (send_one t rolls chunks rto now s).state.outgoing.forward
 unfolding send_one
@@ -53,7 +54,7 @@ module _ {t : Timing} {rolls : List Float} {size : ℕ} {file : List ℕ} {total
       pump_keeps (λ (y : PumpState). RiseAlike (fired limit can).state.outgoing.forward y.outgoing.forward)
       (λ y c free p. rise_then p (send_orders t rolls (chunks_of size file) _ now y)) (pump_of (fired limit can).state) (can_pump_lem limit can h) (rise_same _)
 
-  pumped_departs : is_going_on (fired limit can) ≡ true → chunks_sent.stop ≡ stop.Going → Departs t rolls total samples now s (pumped (fired limit can) chunks_sent).state
+  pumped_departs : is_going_on (fired limit can) ≡ true → chunks_sent.stop ≡ None → Departs t rolls total samples now s (pumped (fired limit can) chunks_sent).state
   pumped_departs h on =
       let f = fired_good limit can g h in
       let k = fire_timers_keeps g limit in

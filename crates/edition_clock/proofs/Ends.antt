@@ -1,4 +1,5 @@
 -- What every step keeps, also the last: the RTO's limits, and that at most one packet a second is sent again.
+use Rattle.std.specs.Prelude.{None, Option, Some}
 use Prim.Native.Nat.{ℕ, ◌*◌, ◌≤◌, ◌<◌, min}
 use native.Mathlib.Omega.{arith}
 use native.Mathlib.Nat.{le_trans}
@@ -115,11 +116,11 @@ module _ (limit : ℕ) (patient : max_duration < limit * min_rto) {p : Plan} {g 
   exhausted_ok : (u : RunState) → WithinLimits u → WithinLimits (exhausted u)
   exhausted_ok u w = record { low = w.low; high = w.high; paced = w.paced }
 
-  by_stop_lem : (st : Stop) (u : RunState) (rest : StepExit) → WithinLimits u → Ok rest → Ok (unless_stopped st u rest)
-  by_stop_lem stop.Going u rest w h = h
-  by_stop_lem stop.RollsSpent u rest w h = w
-  by_stop_lem stop.EventsFull u rest w h = w
-  by_stop_lem stop.ScheduleFull u rest w h = w
+  by_stop_lem : (st : Option Stop) (u : RunState) (rest : StepExit) → WithinLimits u → Ok rest → Ok (unless_stopped st u rest)
+  by_stop_lem (None) u rest w h = h
+  by_stop_lem (Some stop.RollsSpent) u rest w h = w
+  by_stop_lem (Some stop.EventsFull) u rest w h = w
+  by_stop_lem (Some stop.ScheduleFull) u rest w h = w
 
   either : (b : Bool) (x y : StepExit) → Ok x → Ok y → Ok (cond b x y)
   either true x y h i = h

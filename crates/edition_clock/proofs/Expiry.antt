@@ -1,6 +1,6 @@
 -- (5.4) to (5.6) of `fire_timers`: an expiry with something outstanding sends the earliest packet again, doubles the RTO and
 -- starts the timer with it; with nothing outstanding it only stops the timer.
-use Rattle.std.specs.Prelude.{Option}
+use Rattle.std.specs.Prelude.{Option, Err, None, Ok, Result}
 use Prim.Native.Nat.{ℕ, ◌+◌, ◌*◌, ◌≤◌, min, max}
 use native.Mathlib.Omega.{arith}
 use mathlib.Core.Path.{◌≡◌, refl, sym, ap, ◌∙◌, subst}
@@ -14,9 +14,6 @@ use Rattle.rto.specs.Rto.{on_timeout_unchecked}
 use Rattle.rto.specs.declared.RtoConfig.{RtoConfig}
 use Rattle.rto.specs.declared.RtoEstimator.{RtoEstimator}
 use Rattle.path.specs.Path.{left_by_carry, carry, is_going}
-use Rattle.path.specs.declared.Carriage.{Carriage}
-use Rattle.path.specs.declared.Carriage.TheVariants.{RollsSpent, EventsFull, ScheduleFull, Carried}
-use Rattle.path.specs.declared.Stop.TheVariants.{Going}
 use Rattle.path.proofs.Laws.{going_is}
 use Rattle.events.specs.Events.{events_of}
 use Rattle.clock.specs.Clock.{timer_of, Submission, cancel, due}
@@ -36,6 +33,8 @@ use Rattle.edition_clock.specs.Section5.{RtoTimer, min_rto, max_rto, started, on
 use Rattle.edition_clock.specs.AlongARun.{timer_with, EarliestAgain, with_rto, SameSending}
 use Rattle.edition_clock.proofs.Rules.{submit_5_1}
 use Rattle.edition_clock.proofs.Senders.{Again}
+use Rattle.schedule.specs.declared.Deliveries.{Deliveries}
+use Rattle.path.specs.declared.Stop.{Stop}
 
 -- ---- (5.5): the edition clock's setup has the limits of 1 s and 60 s, and doubled is never below the lower one
 pub record EditionLimits (c : RtoConfig) : Type 0 where
@@ -66,12 +65,12 @@ module _ (limit : ℕ) (rolls : List Float) (now : ℕ) (s : FireState) (below :
   abbrev fires : FireExit
   fires = fire_timers limit Edition rolls now s
 
-  pub not_expired : expired_at (timer_of s.outgoing.clock).deadline now ≡ false → fires ≡ fire_exit s false Going
+  pub not_expired : expired_at (timer_of s.outgoing.clock).deadline now ≡ false → fires ≡ fire_exit s false (None)
   not_expired e = timers_due_lem limit Edition rolls now s below (sym (not_due s.outgoing.clock now (has_outstanding s.sender.sender) e))
 
   module _ (e : expired_at (timer_of s.outgoing.clock).deadline now ≡ true) where
     -- nothing is sent, RTO and counts are kept, the timer is stopped
-    pub idle_expiry : has_outstanding s.sender.sender ≡ false → fires ≡ fire_exit (with_clock s (stopped s.outgoing.clock)) true Going
+    pub idle_expiry : has_outstanding s.sender.sender ≡ false → fires ≡ fire_exit (with_clock s (stopped s.outgoing.clock)) true (None)
     idle_expiry o = timers_due_lem limit Edition rolls now s below (sym (ap (due Edition s.outgoing.clock now) o ∙ expiry_idle s.outgoing.clock now e))
 
     module _ (o : has_outstanding s.sender.sender ≡ true) {most : ℕ} (a : Again most s.sender) where
@@ -113,7 +112,7 @@ module _ (limit : ℕ) (rolls : List Float) (now : ℕ) (s : FireState) (below :
       expiry_5_5 l h = ap (λ (x : FireExit). x.state.estimator.current_rto) expiry_is ∙ timeout_5_5 s.estimator l h
 
       module _ (g : is_going fires.stop ≡ true) where
-        carried : (submit Edition rolls again packet halted).stop ≡ Going
+        carried : (submit Edition rolls again packet halted).stop ≡ None
         unfolding retransmit
         carried = going_is _ (subst (λ (x : FireExit). is_going x.stop ≡ true) expiry_is g)
 
@@ -156,11 +155,11 @@ sent_first rolls x rto wire o =
     before : ℕ → Outgoing
     before r = outgoing (left_by_carry (carry o.forward rolls (entry_free o) x.time wire)) (note_before o.metas x.seq x.retransmission x.time r) o.written o.events o.clock
 
-    by_answer : (a : Carriage) → ((on_carriage a Edition x (before x.rto)).written ≡ (on_carriage a Edition (with_rto x rto) (before rto)).written) × ((on_carriage a Edition x (before x.rto)).events ≡ (on_carriage a Edition (with_rto x rto) (before rto)).events)
-    by_answer (Carried ds fold) = (refl, refl)
-    by_answer RollsSpent = (refl, refl)
-    by_answer EventsFull = (refl, refl)
-    by_answer ScheduleFull = (refl, refl)
+    by_answer : (a : Result (Deliveries × ℕ) Stop) → ((on_carriage a Edition x (before x.rto)).written ≡ (on_carriage a Edition (with_rto x rto) (before rto)).written) × ((on_carriage a Edition x (before x.rto)).events ≡ (on_carriage a Edition (with_rto x rto) (before rto)).events)
+    by_answer (Ok (ds, fold)) = (refl, refl)
+    by_answer (Err stop.RollsSpent) = (refl, refl)
+    by_answer (Err stop.EventsFull) = (refl, refl)
+    by_answer (Err stop.ScheduleFull) = (refl, refl)
 
 pub sent_first_deadline : (now : ℕ) (x : RtoTimer) → on_expiry now (on_sent now (on_idle_expiry x)) ≡ on_expiry now x
 sent_first_deadline now x = refl

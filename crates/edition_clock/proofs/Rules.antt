@@ -9,7 +9,6 @@ use Rattle.packet.specs.Reading.{read_datagram}
 use Rattle.timer.specs.Timer.{started_at_unchecked}
 use Rattle.timer.specs.declared.RetransmissionTimer.{RetransmissionTimer}
 use Rattle.path.specs.Path.{is_going}
-use Rattle.path.specs.declared.Stop.TheVariants.{Going}
 use Rattle.window.specs.Acknowledgement.{is_in_window}
 use Rattle.notes.specs.Notes.{SegMetas}
 use Rattle.clock.specs.EditionClock.{is_running, on_send}
@@ -41,7 +40,7 @@ armed_5_1 c m x = on_send_is (timer_of c) x.time x.rto
 
 module _ (rolls : List Float) (x : Submission) (wire : List ℕ) (o : Outgoing) where
   -- a packet that is carried
-  pub submit_5_1 : (submit Edition rolls x wire o).stop ≡ Going → timer_with (submit Edition rolls x wire o).outgoing.clock x.rto ≡ on_sent x.time (timer_with o.clock x.rto)
+  pub submit_5_1 : (submit Edition rolls x wire o).stop ≡ None → timer_with (submit Edition rolls x wire o).outgoing.clock x.rto ≡ on_sent x.time (timer_with o.clock x.rto)
   submit_5_1 e = ap (λ (y : Outgoing). timer_with y.clock x.rto) (submit_going Edition rolls x wire o e) ∙ armed_5_1 o.clock _ x
 
   -- one that isn't leaves the timer alone: it wasn't sent
@@ -49,7 +48,7 @@ module _ (rolls : List Float) (x : Submission) (wire : List ℕ) (o : Outgoing) 
   submit_not_sent e = ap (λ (y : Outgoing). y.clock) (submit_stopped Edition rolls x wire o e)
 
 -- a new chunk
-pub send_5_1 : (rolls : List Float) (chunks : List (List ℕ)) (rto now : ℕ) (s : PumpState) → (send_one Edition rolls chunks rto now s).stop ≡ Going
+pub send_5_1 : (rolls : List Float) (chunks : List (List ℕ)) (rto now : ℕ) (s : PumpState) → (send_one Edition rolls chunks rto now s).stop ≡ None
     → timer_with (send_one Edition rolls chunks rto now s).state.outgoing.clock rto ≡ on_sent now (timer_with s.outgoing.clock rto)
 unfolding send_one
 send_5_1 rolls chunks rto now s e = submit_5_1 rolls _ _ s.outgoing e

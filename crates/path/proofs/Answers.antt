@@ -1,5 +1,5 @@
 -- What a packet that is due is answered, by the tests that were true of it, and what the entry points of channel and schedule answer there.
-use Rattle.std.specs.Prelude.{Err}
+use Rattle.std.specs.Prelude.{Err, None, Ok, Option, Result, Some}
 use mathlib.Core.Path.{◌≡◌, refl, sym, ◌∙◌, ap, subst}
 use Prim.Native.Nat.{ℕ, ◌+◌, ◌≤◌}
 use native.Mathlib.Omega.{arith}
@@ -29,8 +29,6 @@ use Rattle.path.specs.Direction.{Direction, schedule_of}
 use Rattle.path.specs.Path.{on_path, CarryExit, on_carry, left_by_carry, rolls_spent, sent, sent_bytes, copy_fold, carry, stop_of, is_going, CanCarry}
 use Rattle.path.specs.declared.Stop.{Stop}
 use Rattle.path.specs.declared.Stop.TheVariants as stop
-use Rattle.path.specs.declared.Carriage.{Carriage}
-use Rattle.path.specs.declared.Carriage.TheVariants.{RollsSpent, EventsFull, ScheduleFull, Carried}
 use Rattle.path.proofs.Packets.{carry_spent, carry_no_entry, carry_by_lem, by_full, by_room, orders_below, can_process, delays_fine, can_put}
 use Rattle.refusal.specs.Order.{passed}
 
@@ -62,7 +60,7 @@ sent_same ch wire r out f none = go (is_lost ch.config r) refl
     go true h = rw (lost_only ch.config r 0 h).3 (none _ _)
     go false h = ap (f (deliveries_of ch.config r)) (sent_bytes_lem ch wire r out h)
 
-lost_alike : (d : Direction) (ch : Channel) (now : ℕ) (x y : List ℕ) → on_carry (on_path (schedule_at_unchecked (schedule_of d) now x Lost) ch (d.path.used + packet_rolls)) (Carried Lost (copy_fold Lost x)) ≡ on_carry (on_path (schedule_at_unchecked (schedule_of d) now y Lost) ch (d.path.used + packet_rolls)) (Carried Lost (copy_fold Lost y))
+lost_alike : (d : Direction) (ch : Channel) (now : ℕ) (x y : List ℕ) → on_carry (on_path (schedule_at_unchecked (schedule_of d) now x Lost) ch (d.path.used + packet_rolls)) (Ok (Lost, copy_fold Lost x)) ≡ on_carry (on_path (schedule_at_unchecked (schedule_of d) now y Lost) ch (d.path.used + packet_rolls)) (Ok (Lost, copy_fold Lost y))
 unfolding schedule_at_unchecked copy_fold
 lost_alike d ch now x y = refl
 
@@ -82,29 +80,29 @@ full_alone m now n ds a b c e f g h = last (state_broken m) (counts_broken m) (l
     last a b c e f p q r s t = rw (p, q, r, s, t) (false_check State _ ∙ false_check Counts _ ∙ false_check Time _ ∙ false_check Long _ ∙ true_check Full [] tt)
 
 -- ---- the four answers: three of them end a run
-abbrev pub stops : Carriage → Bool
+abbrev pub stops : Result (Deliveries × ℕ) Stop → Bool
 stops a = not (is_going (stop_of a))
 
 -- a packet was carried
-pub record IsCarried (a : Carriage) : Type 0 where
+pub record IsCarried (a : Result (Deliveries × ℕ) Stop) : Type 0 where
   pub deliveries : Deliveries
   pub fold : ℕ
-  pub is : a ≡ Carried deliveries fold
+  pub is : a ≡ Ok (deliveries, fold)
 
 -- a run goes on where a packet was carried, and only there
-pub going_is : (s : Stop) → is_going s ≡ true → s ≡ stop.Going
-going_is stop.Going e = refl
-going_is stop.RollsSpent e = absurd (false≢true e)
-going_is stop.EventsFull e = absurd (false≢true e)
-going_is stop.ScheduleFull e = absurd (false≢true e)
+pub going_is : (s : Option Stop) → is_going s ≡ true → s ≡ None
+going_is (None) e = refl
+going_is (Some stop.RollsSpent) e = absurd (false≢true e)
+going_is (Some stop.EventsFull) e = absurd (false≢true e)
+going_is (Some stop.ScheduleFull) e = absurd (false≢true e)
 
-pub stop_going : (a : Carriage) → stop_of a ≡ stop.Going → IsCarried a
-stop_going (Carried ds n) e = record { deliveries = ds; fold = n; is = refl }
-stop_going RollsSpent e = absurd (false≢true (ap is_going e))
-stop_going EventsFull e = absurd (false≢true (ap is_going e))
-stop_going ScheduleFull e = absurd (false≢true (ap is_going e))
+pub stop_going : (a : Result (Deliveries × ℕ) Stop) → stop_of a ≡ None → IsCarried a
+stop_going (Ok (ds, n)) e = record { deliveries = ds; fold = n; is = refl }
+stop_going (Err stop.RollsSpent) e = absurd (false≢true (ap is_going e))
+stop_going (Err stop.EventsFull) e = absurd (false≢true (ap is_going e))
+stop_going (Err stop.ScheduleFull) e = absurd (false≢true (ap is_going e))
 
-pub carried_going : {a : Carriage} → IsCarried a → stop_of a ≡ stop.Going
+pub carried_going : {a : Result (Deliveries × ℕ) Stop} → IsCarried a → stop_of a ≡ None
 carried_going c = ap stop_of c.is
 
 module _ (d : Direction) (rolls : List Float) (entry_free : Bool) (now : ℕ) (wire : List ℕ) where
@@ -114,26 +112,26 @@ module _ (d : Direction) (rolls : List Float) (entry_free : Bool) (now : ℕ) (w
     pub entry : entry_free ≡ true
     pub room : lacks_room (schedule_of d) (copies (granted d rolls)) ≡ false
 
-  pub spends : rolls_spent d.path rolls ≡ true → carry d rolls entry_free now wire ≡ on_carry d RollsSpent
+  pub spends : rolls_spent d.path rolls ≡ true → carry d rolls entry_free now wire ≡ on_carry d (Err stop.RollsSpent)
   spends h = sym (carry_spent d rolls entry_free now wire h)
 
-  pub no_entry : rolls_spent d.path rolls ≡ false → entry_free ≡ false → carry d rolls entry_free now wire ≡ on_carry d EventsFull
+  pub no_entry : rolls_spent d.path rolls ≡ false → entry_free ≡ false → carry d rolls entry_free now wire ≡ on_carry d (Err stop.EventsFull)
   no_entry h k = sym (carry_no_entry d rolls entry_free now wire h (ap not k))
 
-  pub fills : rolls_spent d.path rolls ≡ false → entry_free ≡ true → lacks_room (schedule_of d) (copies (granted d rolls)) ≡ true → carry d rolls entry_free now wire ≡ on_carry d ScheduleFull
+  pub fills : rolls_spent d.path rolls ≡ false → entry_free ≡ true → lacks_room (schedule_of d) (copies (granted d rolls)) ≡ true → carry d rolls entry_free now wire ≡ on_carry d (Err stop.ScheduleFull)
   unfolding process_unchecked
   fills h k l = sym (by_full d (sent d.path rolls wire) now wire l ∙ carry_by_lem d rolls entry_free now wire h (ap not k))
 
-  pub carries : Fits → carry d rolls entry_free now wire ≡ on_carry (carried_on d rolls now wire) (Carried (granted d rolls) (copy_fold (granted d rolls) (copy_bytes d rolls wire)))
+  pub carries : Fits → carry d rolls entry_free now wire ≡ on_carry (carried_on d rolls now wire) (Ok (granted d rolls, copy_fold (granted d rolls) (copy_bytes d rolls wire)))
   unfolding process_unchecked
   carries f =
       sym (by_room d (sent d.path rolls wire) now wire f.room ∙ carry_by_lem d rolls entry_free now wire f.left (ap not f.entry))
-      ∙ sent_same d.path.channel wire (next_rolls d rolls) (replicate max_datagram 0) (λ (ds : Deliveries) (x : List ℕ). on_carry (on_path (schedule_at_unchecked (schedule_of d) now x ds) (counted_channel d rolls wire) (d.path.used + packet_rolls)) (Carried ds (copy_fold ds x))) (lost_alike d (counted_channel d rolls wire) now)
+      ∙ sent_same d.path.channel wire (next_rolls d rolls) (replicate max_datagram 0) (λ (ds : Deliveries) (x : List ℕ). on_carry (on_path (schedule_at_unchecked (schedule_of d) now x ds) (counted_channel d rolls wire) (d.path.used + packet_rolls)) (Ok (ds, copy_fold ds x))) (lost_alike d (counted_channel d rolls wire) now)
 
   -- whatever holds of the four exits holds of the call's
-  pub by_answer : (P : CarryExit → Type 0) → (rolls_spent d.path rolls ≡ true → P (on_carry d RollsSpent)) → (rolls_spent d.path rolls ≡ false → entry_free ≡ false → P (on_carry d EventsFull))
-      → (rolls_spent d.path rolls ≡ false → entry_free ≡ true → lacks_room (schedule_of d) (copies (granted d rolls)) ≡ true → P (on_carry d ScheduleFull))
-      → (Fits → P (on_carry (carried_on d rolls now wire) (Carried (granted d rolls) (copy_fold (granted d rolls) (copy_bytes d rolls wire))))) → P (carry d rolls entry_free now wire)
+  pub by_answer : (P : CarryExit → Type 0) → (rolls_spent d.path rolls ≡ true → P (on_carry d (Err stop.RollsSpent))) → (rolls_spent d.path rolls ≡ false → entry_free ≡ false → P (on_carry d (Err stop.EventsFull)))
+      → (rolls_spent d.path rolls ≡ false → entry_free ≡ true → lacks_room (schedule_of d) (copies (granted d rolls)) ≡ true → P (on_carry d (Err stop.ScheduleFull)))
+      → (Fits → P (on_carry (carried_on d rolls now wire) (Ok (granted d rolls, copy_fold (granted d rolls) (copy_bytes d rolls wire))))) → P (carry d rolls entry_free now wire)
   by_answer P spent events full carried = go (rolls_spent d.path rolls) entry_free (lacks_room (schedule_of d) (copies (granted d rolls))) refl refl refl
     where
       go : (a b c : Bool) → rolls_spent d.path rolls ≡ a → entry_free ≡ b → lacks_room (schedule_of d) (copies (granted d rolls)) ≡ c → P (carry d rolls entry_free now wire)
@@ -147,24 +145,24 @@ module _ (d : Direction) (rolls : List Float) (entry_free : Bool) (now : ℕ) (w
   by_left P same next = by_answer (λ (x : CarryExit). P (left_by_carry x)) (λ h. same) (λ h k. same) (λ h k l. same) next
 
   -- an answer tells what was true of the packet
-  abbrev pub Why : Carriage → Type 0
-  Why RollsSpent = rolls_spent d.path rolls ≡ true
-  Why EventsFull = (rolls_spent d.path rolls ≡ false) × (entry_free ≡ false)
-  Why ScheduleFull = (rolls_spent d.path rolls ≡ false) × (entry_free ≡ true) × (lacks_room (schedule_of d) (copies (granted d rolls)) ≡ true)
-  Why (Carried ds n) = Fits × (ds ≡ granted d rolls) × (n ≡ copy_fold (granted d rolls) (copy_bytes d rolls wire))
+  abbrev pub Why : Result (Deliveries × ℕ) Stop → Type 0
+  Why (Err stop.RollsSpent) = rolls_spent d.path rolls ≡ true
+  Why (Err stop.EventsFull) = (rolls_spent d.path rolls ≡ false) × (entry_free ≡ false)
+  Why (Err stop.ScheduleFull) = (rolls_spent d.path rolls ≡ false) × (entry_free ≡ true) × (lacks_room (schedule_of d) (copies (granted d rolls)) ≡ true)
+  Why (Ok (ds, n)) = Fits × (ds ≡ granted d rolls) × (n ≡ copy_fold (granted d rolls) (copy_bytes d rolls wire))
 
-  pub answer_why : (a : Carriage) → (carry d rolls entry_free now wire).result.answer ≡ a → Why a
+  pub answer_why : (a : Result (Deliveries × ℕ) Stop) → (carry d rolls entry_free now wire).result.answer ≡ a → Why a
   answer_why a e = subst Why e (by_answer (λ (x : CarryExit). Why x.result.answer) (λ h. h) (λ h k. (h, k)) (λ h k l. (h, k, l)) (λ f. (f, refl, refl)))
 
   -- it goes on where the packet fits, and only there
-  pub going_fits : stop_of (carry d rolls entry_free now wire).result.answer ≡ stop.Going → Fits
+  pub going_fits : stop_of (carry d rolls entry_free now wire).result.answer ≡ None → Fits
   going_fits e = let c = stop_going _ e in (answer_why _ c.is).0
 
-  pub fits_going : Fits → stop_of (carry d rolls entry_free now wire).result.answer ≡ stop.Going
+  pub fits_going : Fits → stop_of (carry d rolls entry_free now wire).result.answer ≡ None
   fits_going f = ap (λ (x : CarryExit). stop_of x.result.answer) (carries f)
 
   -- and one that ends a run leaves all as it was
-  pub stop_same : (a : Carriage) → stops a ≡ true → (carry d rolls entry_free now wire).result.answer ≡ a → carry d rolls entry_free now wire ≡ on_carry d a
+  pub stop_same : (a : Result (Deliveries × ℕ) Stop) → stops a ≡ true → (carry d rolls entry_free now wire).result.answer ≡ a → carry d rolls entry_free now wire ≡ on_carry d a
   stop_same a s =
       by_answer (λ (x : CarryExit). x.result.answer ≡ a → x ≡ on_carry d a) (λ h e. ap (on_carry d) e) (λ h k e. ap (on_carry d) e) (λ h k l e. ap (on_carry d) e)
       (λ f e. absurd (false≢true (ap stops e ∙ s)))

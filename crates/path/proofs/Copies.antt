@@ -20,7 +20,6 @@ use Rattle.channel.proofs.Laws.{carried_length, NoFaults, CarriedWhole, carried_
 use Rattle.path.specs.Rolls.{packet_rolls}
 use Rattle.path.specs.Direction.{Direction, schedule_of}
 use Rattle.path.specs.Path.{on_path, CarryExit, on_carry, left_by_carry, new_path, rolls_spent, copy_fold, carry, left_by_take, take_ready, CanCarry}
-use Rattle.path.specs.declared.Carriage.TheVariants.{Carried}
 use Rattle.path.proofs.Packets.{rolls_left, rolls_fine, can_put}
 use Rattle.path.proofs.Answers.{next_rolls, granted, copy_bytes, counted_channel, carries, by_left}
 
@@ -97,11 +96,11 @@ module _ (d : Direction) (rolls : List Float) (entry_free : Bool) (now : ℕ) (w
   whole_granted = whole.once
 
   pub carries_whole : entry_free ≡ true → lacks_room (schedule_of d) 1 ≡ false
-      → carry d rolls entry_free now wire ≡ on_carry (on_path (schedule_at_unchecked (schedule_of d) now wire (One whole_delay)) (counted_channel d rolls wire) (d.path.used + packet_rolls)) (Carried (One whole_delay) (fold_bytes wire))
+      → carry d rolls entry_free now wire ≡ on_carry (on_path (schedule_at_unchecked (schedule_of d) now wire (One whole_delay)) (counted_channel d rolls wire) (d.path.used + packet_rolls)) (Ok (One whole_delay, fold_bytes wire))
   unfolding copy_fold
   carries_whole e room =
       carries d rolls entry_free now wire (record { left = left; entry = e; room = ap (λ (ds : Deliveries). lacks_room (schedule_of d) (copies ds)) whole_granted ∙ room })
       ∙ ap (λ (ds : Deliveries). made ds (copy_bytes d rolls wire)) whole_granted ∙ ap (made (One whole_delay)) whole_bytes
     where
       made : Deliveries → List ℕ → CarryExit
-      made ds x = on_carry (on_path (schedule_at_unchecked (schedule_of d) now x ds) (counted_channel d rolls wire) (d.path.used + packet_rolls)) (Carried ds (copy_fold ds x))
+      made ds x = on_carry (on_path (schedule_at_unchecked (schedule_of d) now x ds) (counted_channel d rolls wire) (d.path.used + packet_rolls)) (Ok (ds, copy_fold ds x))

@@ -1,4 +1,5 @@
 -- Document 01's `linkrun` row "0 0 5 510" by computation: base delay 5 ms, all else 0. And the other answers, each with the tests behind it true as well.
+use Rattle.std.specs.Prelude.{Err, Ok, Result}
 use mathlib.Core.Path.{◌≡◌, refl}
 use Prim.Native.Nat.{ℕ}
 use native.Mathlib.Omega.{arith}
@@ -18,9 +19,9 @@ use Rattle.channel.specs.declared.ChannelConfig.{ChannelConfig}
 use Rattle.path.specs.Rolls.{packet_rolls, rolls_at, rolls_broken, Doubles}
 use Rattle.path.specs.Direction.{Direction}
 use Rattle.path.specs.Path.{new_path, left_by_carry, copy_fold, carry, CanCarry}
-use Rattle.path.specs.declared.Carriage.{Carriage}
-use Rattle.path.specs.declared.Carriage.TheVariants.{RollsSpent, EventsFull, ScheduleFull, Carried}
 use Rattle.path.proofs.Laws.{new_good}
+use Rattle.schedule.specs.declared.Deliveries.{Deliveries}
+use Rattle.path.specs.declared.Stop.{Stop}
 
 nought : Float
 nought = fin false 0 (pos 0)
@@ -58,27 +59,27 @@ unfolding fresh wire
 can = record { good = new_good (config nought) (replicate 1 vacant) (replicate place_size 0) rolls config_fine doubles rolls_bounded; in_time = omega arith; short = omega arith }
 
 -- the answer to a first packet: by the chance of a loss, the number of records, and whether an entry is free
-first : Float → ℕ → Bool → Carriage
+first : Float → ℕ → Bool → Result (Deliveries × ℕ) Stop
 first loss n free = (carry (fresh loss n) rolls free 0 wire).result.answer
 
-linkrun_row : first nought 1 true ≡ Carried (One 5) 510
+linkrun_row : first nought 1 true ≡ Ok (One 5, 510)
 unfolding first carry new_path fresh wire rolls config nought rolls_at process_unchecked deliveries_of is_lost is_duplicated is_reordered is_corrupted carried_bytes copy_fold fold_bytes sum free_from place_in lt to_unsigned mul of_int
 linkrun_row = refl
 
 -- no room, but the packet is lost
-lost_needs_none : first (fin false 1 (pos 0)) 0 true ≡ Carried Lost 0
+lost_needs_none : first (fin false 1 (pos 0)) 0 true ≡ Ok (Lost, 0)
 unfolding first carry new_path fresh wire rolls config nought rolls_at process_unchecked deliveries_of is_lost is_duplicated is_reordered is_corrupted carried_bytes copy_fold free_from place_in lt
 lost_needs_none = refl
 
-no_room : first nought 0 true ≡ ScheduleFull
+no_room : first nought 0 true ≡ Err stop.ScheduleFull
 unfolding first carry new_path fresh wire rolls config nought rolls_at process_unchecked deliveries_of is_lost is_duplicated is_reordered is_corrupted carried_bytes copy_fold free_from place_in lt
 no_room = refl
 
-no_entry_no_room : first nought 0 false ≡ EventsFull
+no_entry_no_room : first nought 0 false ≡ Err stop.EventsFull
 unfolding first carry new_path fresh wire rolls config nought rolls_at process_unchecked deliveries_of is_lost is_duplicated is_reordered is_corrupted carried_bytes copy_fold free_from place_in lt
 no_entry_no_room = refl
 
 -- the second packet finds no rolls, no entry and no room
-then_spent : (carry (left_by_carry (carry (fresh nought 1) rolls true 0 wire)) rolls false 0 wire).result.answer ≡ RollsSpent
+then_spent : (carry (left_by_carry (carry (fresh nought 1) rolls true 0 wire)) rolls false 0 wire).result.answer ≡ Err stop.RollsSpent
 unfolding carry new_path fresh wire rolls config nought rolls_at process_unchecked deliveries_of is_lost is_duplicated is_reordered is_corrupted carried_bytes copy_fold fold_bytes sum free_from place_in lt
 then_spent = refl

@@ -1,4 +1,5 @@
 -- What the calls of a packet that is due give is `carry`, where its bytes become those of its copies where they lie.
+use Rattle.std.specs.Prelude.{Err, Ok}
 use mathlib.Core.Path.{◌≡◌, sym, ◌∙◌, ap, subst}
 use Prim.Native.Nat.{ℕ, ◌+◌, ◌<◌, ◌≤◌}
 use mathlib.Core.Bool.{Bool, true, false, not}
@@ -20,7 +21,6 @@ use Rattle.channel.proofs.Laws.{in_place_bytes, carried_length}
 use Rattle.path.specs.Rolls.{packet_rolls, rolls_at}
 use Rattle.path.specs.Direction.{Direction, schedule_of}
 use Rattle.path.specs.Path.{path_of, on_path, carry_exit, on_carry, rolls_spent, copy_fold, carry, wire_after, CanCarry}
-use Rattle.path.specs.declared.Carriage.TheVariants.{ScheduleFull, Carried}
 use Rattle.path.proofs.Packets.{can_put}
 use Rattle.path.proofs.Answers.{granted, copy_bytes, counted_channel, fills, carries}
 
@@ -52,7 +52,7 @@ module _ (d : Direction) (rolls : List Float) (entry_free : Bool) (now : ℕ) (w
     pub wire_carried : o ≡ wire_after d.path rolls entry_free wire
     wire_carried = bytes_are ∙ wire_sent left free
 
-    pub carry_full : {n k : ℕ} → n ≡ room_of (schedule_of d) → k ≡ copies t.deliveries → n < k → on_carry d ScheduleFull ≡ carry d rolls entry_free now wire
+    pub carry_full : {n k : ℕ} → n ≡ room_of (schedule_of d) → k ≡ copies t.deliveries → n < k → on_carry d (Err stop.ScheduleFull) ≡ carry d rolls entry_free now wire
     carry_full {n} {k} p q h = sym (fills d rolls entry_free now wire left (not-false entry_free free) (rw (← granted_is) (room_lacks (schedule_of d) (copies t.deliveries) (rw (← p, ← q) h))))
 
     module _ {n k : ℕ} (p : n ≡ room_of (schedule_of d)) (q : k ≡ copies t.deliveries) (h : k ≤ n) where
@@ -63,13 +63,13 @@ module _ (d : Direction) (rolls : List Float) (entry_free : Bool) (now : ℕ) (w
       can_schedule can = subst (λ (ds : Deliveries). CanSchedule (schedule_of d) now o ds) (sym granted_is) (can_put d rolls entry_free now wire left can room (ap length bytes_are ∙ carried_length d.path.channel.config (rolls_at rolls d.path.used) wire))
 
       pub carry_done : {fold : ℕ} {rs : List (List ℕ)} {ps : List ℕ} {s : ChannelScheduler} → fold ≡ copy_fold t.deliveries o → schedule rs ps s ≡ schedule_at_unchecked (schedule_of d) now o t.deliveries
-          → carry_exit rs ps (record { path = path_of t.channel s (d.path.used + packet_rolls); answer = Carried t.deliveries fold }) ≡ carry d rolls entry_free now wire
+          → carry_exit rs ps (record { path = path_of t.channel s (d.path.used + packet_rolls); answer = Ok (t.deliveries, fold) }) ≡ carry d rolls entry_free now wire
       carry_done {fold} f m =
-          ap (λ (x : Schedule). on_carry (on_path x t.channel (d.path.used + packet_rolls)) (Carried t.deliveries fold)) m
-          ∙ ap (λ (y : ℕ). on_carry (on_path (schedule_at_unchecked (schedule_of d) now o t.deliveries) t.channel (d.path.used + packet_rolls)) (Carried t.deliveries y)) f
+          ap (λ (x : Schedule). on_carry (on_path x t.channel (d.path.used + packet_rolls)) (Ok (t.deliveries, fold))) m
+          ∙ ap (λ (y : ℕ). on_carry (on_path (schedule_at_unchecked (schedule_of d) now o t.deliveries) t.channel (d.path.used + packet_rolls)) (Ok (t.deliveries, y))) f
           ∙ same granted_is channel_is bytes_are
           ∙ sym (carries d rolls entry_free now wire (record { left = left; entry = not-false entry_free free; room = room }))
         where
           same : {a b : Deliveries} {ch ch' : Channel} {x y : List ℕ} → a ≡ b → ch ≡ ch' → x ≡ y
-              → on_carry (on_path (schedule_at_unchecked (schedule_of d) now x a) ch (d.path.used + packet_rolls)) (Carried a (copy_fold a x)) ≡ on_carry (on_path (schedule_at_unchecked (schedule_of d) now y b) ch' (d.path.used + packet_rolls)) (Carried b (copy_fold b y))
+              → on_carry (on_path (schedule_at_unchecked (schedule_of d) now x a) ch (d.path.used + packet_rolls)) (Ok (a, copy_fold a x)) ≡ on_carry (on_path (schedule_at_unchecked (schedule_of d) now y b) ch' (d.path.used + packet_rolls)) (Ok (b, copy_fold b y))
           same u v w = rw (u, v, w)

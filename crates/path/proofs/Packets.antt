@@ -1,4 +1,5 @@
 -- A packet that is due: what its calls below ask follows from a good path, and what they give is `carry`.
+use Rattle.std.specs.Prelude.{Err, Ok}
 use mathlib.Core.Path.{◌≡◌, ◌∙◌, ap}
 use Prim.Native.Nat.{ℕ, zero, suc, ◌+◌, ◌*◌, ◌^◌, ◌<◌, ◌≤◌}
 use native.Mathlib.Omega.{arith}
@@ -22,7 +23,6 @@ use Rattle.channel.proofs.Laws.{counts_not_full, delays_in_bounds}
 use Rattle.path.specs.Rolls.{packet_rolls, roll_at, rolls_at, rolls_broken, Doubles}
 use Rattle.path.specs.Direction.{Direction, schedule_of, Counted, Good}
 use Rattle.path.specs.Path.{on_path, CarryExit, on_carry, rolls_spent, sent, sent_bytes, copy_fold, carry, CanCarry}
-use Rattle.path.specs.declared.Carriage.TheVariants.{RollsSpent, EventsFull, ScheduleFull, Carried}
 
 -- ---- rolls
 four_fine : (a b c d : Bool) → a ≡ true → b ≡ true → c ≡ true → d ≡ true → (not a || (not b || (not c || not d))) ≡ false
@@ -71,24 +71,24 @@ orders_below d rolls good = lt-leb count_limit d.path.scheduler.next_order (far 
 -- ---- the packet after the channel
 abbrev pub carry_by : Direction → TransitExit → ℕ → List ℕ → CarryExit
 carry_by d x now wire =
-    cond (lacks_room (schedule_of d) (copies x.result.deliveries)) (on_carry d ScheduleFull)
+    cond (lacks_room (schedule_of d) (copies x.result.deliveries)) (on_carry d (Err stop.ScheduleFull))
     (on_carry (on_path (schedule_at_unchecked (schedule_of d) now (sent_bytes x wire) x.result.deliveries) x.result.channel (d.path.used + packet_rolls))
-    (Carried x.result.deliveries (copy_fold x.result.deliveries (sent_bytes x wire))))
+    (Ok (x.result.deliveries, copy_fold x.result.deliveries (sent_bytes x wire))))
 
 module _ (d : Direction) (x : TransitExit) (now : ℕ) (wire : List ℕ) where
-  pub by_full : lacks_room (schedule_of d) (copies x.result.deliveries) ≡ true → on_carry d ScheduleFull ≡ carry_by d x now wire
+  pub by_full : lacks_room (schedule_of d) (copies x.result.deliveries) ≡ true → on_carry d (Err stop.ScheduleFull) ≡ carry_by d x now wire
   by_full h = simp h
 
   pub by_room : lacks_room (schedule_of d) (copies x.result.deliveries) ≡ false
-      → on_carry (on_path (schedule_at_unchecked (schedule_of d) now (sent_bytes x wire) x.result.deliveries) x.result.channel (d.path.used + packet_rolls)) (Carried x.result.deliveries (copy_fold x.result.deliveries (sent_bytes x wire))) ≡ carry_by d x now wire
+      → on_carry (on_path (schedule_at_unchecked (schedule_of d) now (sent_bytes x wire) x.result.deliveries) x.result.channel (d.path.used + packet_rolls)) (Ok (x.result.deliveries, copy_fold x.result.deliveries (sent_bytes x wire))) ≡ carry_by d x now wire
   by_room h = simp h
 
 module _ (d : Direction) (rolls : List Float) (entry_free : Bool) (now : ℕ) (wire : List ℕ) where
-  pub carry_spent : rolls_spent d.path rolls ≡ true → on_carry d RollsSpent ≡ carry d rolls entry_free now wire
+  pub carry_spent : rolls_spent d.path rolls ≡ true → on_carry d (Err stop.RollsSpent) ≡ carry d rolls entry_free now wire
   unfolding carry
   carry_spent h = simp h
 
-  pub carry_no_entry : rolls_spent d.path rolls ≡ false → not entry_free ≡ true → on_carry d EventsFull ≡ carry d rolls entry_free now wire
+  pub carry_no_entry : rolls_spent d.path rolls ≡ false → not entry_free ≡ true → on_carry d (Err stop.EventsFull) ≡ carry d rolls entry_free now wire
   unfolding carry
   carry_no_entry h k = simp (h, k)
 

@@ -16,8 +16,6 @@ use Rattle.channel.specs.declared.ChannelConfig.{ChannelConfig}
 use Rattle.path.specs.Rolls.{packet_rolls, rolls_at}
 use Rattle.path.specs.Direction.{Direction, direction, schedule_of, Good}
 use Rattle.path.specs.declared.Path.{Path}
-use Rattle.path.specs.declared.Carriage.{Carriage}
-use Rattle.path.specs.declared.Carriage.TheVariants.{RollsSpent, EventsFull, ScheduleFull, Carried}
 use Rattle.path.specs.declared.Stop.{Stop}
 use Rattle.path.specs.declared.Stop.TheVariants as stop
 use Rattle.path.specs.declared.CarryResult.{CarryResult}
@@ -42,7 +40,7 @@ pub record CarryExit : Type 0 where
 abbrev pub carry_exit : List (List ℕ) → List ℕ → CarryResult → CarryExit
 carry_exit rs ps r = record { records = rs; places = ps; result = r }
 
-abbrev pub on_carry : Direction → Carriage → CarryExit
+abbrev pub on_carry : Direction → Result (Deliveries × ℕ) Stop → CarryExit
 on_carry d a = carry_exit d.records d.places (record { path = d.path; answer = a })
 
 -- the direction that a call leaves
@@ -71,12 +69,12 @@ carry d rolls entry_free now wire =
     let x = sent d.path rolls wire in
     let ds = x.result.deliveries in
     let bytes = sent_bytes x wire in
-    cond (rolls_spent d.path rolls) (on_carry d RollsSpent)
-    (cond (not entry_free) (on_carry d EventsFull)
-    (cond (lacks_room (schedule_of d) (copies ds)) (on_carry d ScheduleFull)
+    cond (rolls_spent d.path rolls) (on_carry d (Err stop.RollsSpent))
+    (cond (not entry_free) (on_carry d (Err stop.EventsFull))
+    (cond (lacks_room (schedule_of d) (copies ds)) (on_carry d (Err stop.ScheduleFull))
     (on_carry
     (on_path (schedule_at_unchecked (schedule_of d) now bytes ds) x.result.channel (d.path.used + packet_rolls))
-    (Carried ds (copy_fold ds bytes)))))
+    (Ok (ds, copy_fold ds bytes)))))
 
 -- what is left where the packet lay: the bytes of its copies, once the channel has it
 unfoldable pub wire_after : Path → List Float → Bool → List ℕ → List ℕ
@@ -85,17 +83,13 @@ wire_after p rolls entry_free wire =
     (cond (not entry_free) wire (carried_bytes p.channel.config (rolls_at rolls p.used) wire))
 
 -- why a run ends at this packet, or that it goes on
-abbrev pub stop_of : Carriage → Stop
-stop_of RollsSpent = stop.RollsSpent
-stop_of EventsFull = stop.EventsFull
-stop_of ScheduleFull = stop.ScheduleFull
-stop_of (Carried ds fold) = stop.Going
+abbrev pub stop_of : Result (Deliveries × ℕ) Stop → Option Stop
+stop_of (Err s) = Some s
+stop_of (Ok x) = None
 
-abbrev pub is_going : Stop → Bool
-is_going stop.Going = true
-is_going stop.RollsSpent = false
-is_going stop.EventsFull = false
-is_going stop.ScheduleFull = false
+abbrev pub is_going : Option Stop → Bool
+is_going None = true
+is_going (Some s) = false
 
 -- the earliest copy that is due
 pub record TakeResult : Type 0 where

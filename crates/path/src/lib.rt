@@ -23,19 +23,9 @@ pub struct Path {
     pub used: usize,
 }
 
-#[derive(Clone, Copy)]
-pub enum Carriage {
-    RollsSpent,
-    EventsFull,
-    ScheduleFull,
-    // The delays of the copies, and the sum of each copy's bytes modulo 65,536: 0 where the packet is lost.
-    Carried(Deliveries, u16),
-}
-
-// Why a run ends at a packet, or that it goes on.
+// Why a run ends at a packet.
 #[derive(Clone, Copy)]
 pub enum Stop {
-    Going,
     RollsSpent,
     EventsFull,
     ScheduleFull,
@@ -44,7 +34,8 @@ pub enum Stop {
 #[derive(Clone, Copy)]
 pub struct CarryResult {
     pub path: Path,
-    pub answer: Carriage,
+    // The delays of the copies, and the sum of each copy's bytes modulo 65,536: 0 where the packet is lost.
+    pub answer: Result<(Deliveries, u16), Stop>,
 }
 
 // Whether a roll is out of bounds: check 11 of a run. A slice of doubles holds doubles by its type.
@@ -58,26 +49,16 @@ pub fn rolls_broken(rolls: &[f64]) -> bool
     broken
 }
 
-pub fn stop_of(answer: Carriage) -> Stop
+pub fn stop_of(answer: Result<(Deliveries, u16), Stop>) -> Option<Stop>
     ensures { result ≡ stop_of answer }
 {
-    match answer {
-        Carriage::RollsSpent => Stop::RollsSpent,
-        Carriage::EventsFull => Stop::EventsFull,
-        Carriage::ScheduleFull => Stop::ScheduleFull,
-        Carriage::Carried(_, _) => Stop::Going,
-    }
+    answer.err()
 }
 
-pub fn is_going(stop: Stop) -> bool
+pub fn is_going(stop: Option<Stop>) -> bool
     ensures { result ≡ is_going stop }
 {
-    match stop {
-        Stop::Going => true,
-        Stop::RollsSpent => false,
-        Stop::EventsFull => false,
-        Stop::ScheduleFull => false,
-    }
+    stop.is_none()
 }
 
 impl Path {
@@ -119,13 +100,13 @@ impl Path {
         if self.rolls_spent(rolls) {
             return CarryResult {
                 path: self,
-                answer: Carriage::RollsSpent,
+                answer: Err(Stop::RollsSpent),
             };
         }
         if !entry_free {
             return CarryResult {
                 path: self,
-                answer: Carriage::EventsFull,
+                answer: Err(Stop::EventsFull),
             };
         }
         let at = self.used;
@@ -136,7 +117,7 @@ impl Path {
         if scheduler.room_unchecked(records, places) < copies_of(deliveries) {
             return CarryResult {
                 path: self,
-                answer: Carriage::ScheduleFull,
+                answer: Err(Stop::ScheduleFull),
             };
         }
         let fold = copy_fold(deliveries, wire);
@@ -148,7 +129,7 @@ impl Path {
                 scheduler: next,
                 used: at + PACKET_ROLLS,
             },
-            answer: Carriage::Carried(deliveries, fold),
+            answer: Ok((deliveries, fold)),
         }
     }
 

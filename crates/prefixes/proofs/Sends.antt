@@ -1,5 +1,5 @@
 -- The sending side: every datagram that is submitted is Data of the chunk of its number, so what waits on the forward line are copies of such.
-use Rattle.std.specs.Prelude.{Option}
+use Rattle.std.specs.Prelude.{Option, None}
 use Prim.Native.Nat.{ℕ, zero, suc, ◌+◌, ◌-◌, ◌≤◌, ◌<◌}
 use mathlib.Core.Path.{◌≡◌, refl, sym, ap, ◌∙◌, subst}
 use mathlib.Core.Bool.{Bool, true, false, cond}
@@ -172,7 +172,7 @@ module _ (chunks : List Chunk) (rolls : List Float) (limit now : ℕ) where
         by_stop_lem e next false g = number_sends n f can e q
 
         by_ceiling : (b : Bool) → ceiling_met limit f.resends ≡ b → (Can (fire_number limit rolls now n f).state → FireSends (fire_number limit rolls now n f).state → FireSends (fire_numbers limit rolls now ns (fire_number limit rolls now n f).state).state)
-            → FireSends (cond b (fire_exit (with_resends f (exhausted f.resends)) true stop.Going) (cond (is_going (fire_number limit rolls now n f).stop) (fire_numbers limit rolls now ns (fire_number limit rolls now n f).state) (fire_number limit rolls now n f))).state
+            → FireSends (cond b (fire_exit (with_resends f (exhausted f.resends)) true (None)) (cond (is_going (fire_number limit rolls now n f).stop) (fire_numbers limit rolls now ns (fire_number limit rolls now n f).state) (fire_number limit rolls now n f))).state
         by_ceiling true e next = q
         by_ceiling false e next = by_stop_lem e next (is_going (fire_number limit rolls now n f).stop) refl
 
@@ -189,6 +189,6 @@ module _ (chunks : List Chunk) (rolls : List Float) (limit now : ℕ) where
         by_due_lem e ran.Single h = timed_out_sends t (timeout_of t) (with_clock f (stopped f.outgoing.clock)) (single e h) (record { sender = q.sender; waiting = q.waiting })
         by_due_lem e ran.Numbers h = numbers_send (expired f.outgoing.clock now) f (can e h) q
 
-        by_ceiling : (b : Bool) → ceiling_met limit f.resends ≡ b → FireSends (cond b (fire_exit (with_resends f (exhausted f.resends)) false stop.Going) (by_due (due t f.outgoing.clock now (has_outstanding f.sender.sender)) limit t rolls now f)).state
+        by_ceiling : (b : Bool) → ceiling_met limit f.resends ≡ b → FireSends (cond b (fire_exit (with_resends f (exhausted f.resends)) false (None)) (by_due (due t f.outgoing.clock now (has_outstanding f.sender.sender)) limit t rolls now f)).state
         by_ceiling true e = q
         by_ceiling false e = by_due_lem e (due t f.outgoing.clock now (has_outstanding f.sender.sender)) refl

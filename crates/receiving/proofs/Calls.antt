@@ -112,7 +112,7 @@ module _ (total now : ℕ) (x : ReceivingSide) where
 
 -- ---- `submit_ack`
 module _ (rolls : List Float) (now seq : ℕ) (wire : List ℕ) (side : ReceivingSide) (metas : SegMetas) (reverse : Direction) where
-  pub submits : {rs : List (List ℕ)} {ps : List ℕ} {c : CarryResult} {cumulative scheduled : Bool} {m : SegMetas} {s : Stop} → carry_exit rs ps c ≡ carry reverse rolls true now wire → cumulative ≡ is_cumulative side.receiver → scheduled ≡ any_copies c.answer → m ≡ cond scheduled (mark_ack_scheduled metas seq cumulative) metas → s ≡ stop_of c.answer
+  pub submits : {rs : List (List ℕ)} {ps : List ℕ} {c : CarryResult} {cumulative scheduled : Bool} {m : SegMetas} {s : Option Stop} → carry_exit rs ps c ≡ carry reverse rolls true now wire → cumulative ≡ is_cumulative side.receiver → scheduled ≡ any_copies c.answer → m ≡ cond scheduled (mark_ack_scheduled metas seq cumulative) metas → s ≡ stop_of c.answer
       → (store output : List ℕ) → forward_exit (inbound (ack_counted side) store output m (direction rs ps c.path)) s ≡ submit_ack rolls now seq wire (inbound side store output metas reverse)
   unfolding submit_ack
   submits {rs} {ps} {c} e f g h k store output =
@@ -121,9 +121,9 @@ module _ (rolls : List Float) (now seq : ℕ) (wire : List ℕ) (side : Receivin
 
 -- ---- `on_forward`
 module _ (rolls : List Float) (total now : ℕ) (raw : List ℕ) (b : Inbound) where
-  pub dropped_law : {a : Option (Packet × Bool)} → a ≡ arrival_of (read_datagram raw) → a ≡ None → forward_exit b stop.Going ≡ on_forward rolls total now raw b
+  pub dropped_law : {a : Option (Packet × Bool)} → a ≡ arrival_of (read_datagram raw) → a ≡ None → forward_exit b (None) ≡ on_forward rolls total now raw b
   unfolding on_forward
-  dropped_law e f = ap (λ (t : Bool). cond t (by_reply (handled raw b).answer rolls now (handled raw b).ack (received total now raw b)) (forward_exit b stop.Going)) (sym (read_dropped (read_datagram raw) (sym f ∙ e)))
+  dropped_law e f = ap (λ (t : Bool). cond t (by_reply (handled raw b).answer rolls now (handled raw b).ack (received total now raw b)) (forward_exit b (None))) (sym (read_dropped (read_datagram raw) (sym f ∙ e)))
 
   module _ {a : Option (Packet × Bool)} {p : Packet} {valid : Bool} (can : CanOnForward b rolls now) (e : a ≡ arrival_of (read_datagram raw)) (f : a ≡ Some (p, valid)) where
     data_of : DataOf (read_datagram raw) p valid
@@ -160,10 +160,10 @@ module _ (rolls : List Float) (total now : ℕ) (raw : List ℕ) (b : Inbound) w
             rw (← q, m, l, late_is, data_of.is)
             (ap (λ (y : ReceiveExit ReceiverEnd). by_reply y.answer rolls now y.ack (inbound (absorb total now (delivered b.side (gbn_duplicate b.side.receiver (read_datagram raw)) y.receiver.receiver)) y.receiver.store y.output b.metas b.reverse)) handled_is)
 
-        pub silent_law : answer ≡ Ok None → forward_exit (inbound absorbed store output b.metas b.reverse) stop.Going ≡ on_forward rolls total now raw b
+        pub silent_law : answer ≡ Ok None → forward_exit (inbound absorbed store output b.metas b.reverse) (None) ≡ on_forward rolls total now raw b
         silent_law q = replied q
 
-        pub refused_law : {r : Refusal} → answer ≡ Err r → forward_exit (inbound absorbed store output b.metas b.reverse) stop.Going ≡ on_forward rolls total now raw b
+        pub refused_law : {r : Refusal} → answer ≡ Err r → forward_exit (inbound absorbed store output b.metas b.reverse) (None) ≡ on_forward rolls total now raw b
         refused_law q = replied q
 
         pub ack_law : {n : ℕ} {x : ForwardExit} → answer ≡ Ok (Some n) → x ≡ submit_ack rolls now n ack (inbound absorbed store output b.metas b.reverse) → x ≡ on_forward rolls total now raw b

@@ -1,4 +1,5 @@
 -- One byte to a Stop-and-Wait receiver, and no roll for its ACK: completed at 5 ms, though the run ends there. What the calls ask is met.
+use Rattle.std.specs.Prelude.{Some}
 use Prim.Native.Nat.{ℕ}
 use mathlib.Core.Path.{◌≡◌, refl}
 use mathlib.Core.Bool.{true, false}
@@ -71,6 +72,6 @@ unfolding start line new_path
 can_serve = good_can_serve line_good start_good (omega arith) (omega arith)
 
 completed_at_the_end : on_forward [] 1 5000000 raw start
-    ≡ forward_exit (inbound (record { receiver = record { state = receiverState.StopAndWait (stop_and_wait.state 1 1 1 0 0) }; data_received = 1; ack_sent = 1; duplicate_data = 0; completed = true; completed_at = 5000000 }) [] (65 ∷ []) notes line) stop.RollsSpent
+    ≡ forward_exit (inbound (record { receiver = record { state = receiverState.StopAndWait (stop_and_wait.state 1 1 1 0 0) }; data_received = 1; ack_sent = 1; duplicate_data = 0; completed = true; completed_at = 5000000 }) [] (65 ∷ []) notes line) (Some stop.RollsSpent)
 unfolding on_forward received absorb submit_ack start raw line notes new_path carry new_receiver handle_packet words ones_add ones_sum checksum any_of order or_else numbered first_of verdict decide header_bytes datagram checksum_of matches read_checks header_of payload_part payload_of read_datagram counts_broken state_broken ack_after room_missing applied receive stop_and_wait.decision stop_and_wait.data_decision
 completed_at_the_end = refl

@@ -19,8 +19,6 @@ use Rattle.notes.specs.Notes.{SegMetas, mark_ack_scheduled, ScheduledBelow}
 use Rattle.notes.proofs.Laws.{mark_length, mark_count, scheduled_mark}
 use Rattle.path.specs.Direction.{Direction, Good}
 use Rattle.path.specs.Path.{left_by_carry, carry, stop_of, CanCarry}
-use Rattle.path.specs.declared.Carriage.{Carriage}
-use Rattle.path.specs.declared.Carriage.TheVariants as carriage
 use Rattle.path.specs.declared.Stop.TheVariants as stop
 use Rattle.path.proofs.Laws.{granted, copy_bytes, carried_on, Fits, carries, stops, stop_same, Keeps, carry_good, carry_keeps, EachWaiting, carry_each}
 use Rattle.session.specs.Receiving.{receiver_end, base, is_cumulative}
@@ -31,6 +29,8 @@ use Rattle.receiving.specs.Receiving.{Inbound, inbound, new_side, ForwardExit, f
 use Rattle.receiving.specs.Good.{GoodInbound, CanOnForward}
 use Rattle.receiving.specs.declared.ReceivingSide.{ReceivingSide}
 use Rattle.receiving.proofs.Calls.{new_duplicates_lem, absorb_either}
+use Rattle.schedule.specs.declared.Deliveries.{Deliveries}
+use Rattle.path.specs.declared.Stop.{Stop}
 
 -- ---- Data
 abbrev pub RisesByOne : ℕ → ℕ → Type 0
@@ -98,18 +98,18 @@ module _ (rolls : List Float) (now seq : ℕ) (wire : List ℕ) (b : Inbound) wh
   marked_metas = mark_ack_scheduled b.metas seq (is_cumulative b.side.receiver)
 
   -- the run ends at it: it is counted, and nothing else has changed
-  pub submit_stops : (a : Carriage) → stops a ≡ true → (carry b.reverse rolls true now wire).result.answer ≡ a → submit_ack rolls now seq wire b ≡ forward_exit (inbound (ack_counted b.side) b.store b.output b.metas b.reverse) (stop_of a)
+  pub submit_stops : (a : Result (Deliveries × ℕ) Stop) → stops a ≡ true → (carry b.reverse rolls true now wire).result.answer ≡ a → submit_ack rolls now seq wire b ≡ forward_exit (inbound (ack_counted b.side) b.store b.output b.metas b.reverse) (stop_of a)
   unfolding submit_ack
   submit_stops a s e = rw (stop_same b.reverse rolls true now wire a s e, none a s)
     where
-      none : (a : Carriage) → stops a ≡ true → any_copies a ≡ false
-      none carriage.RollsSpent s = refl
-      none carriage.EventsFull s = refl
-      none carriage.ScheduleFull s = refl
-      none (carriage.Carried ds n) s = absurd (false≢true s)
+      none : (a : Result (Deliveries × ℕ) Stop) → stops a ≡ true → any_copies a ≡ false
+      none (Err stop.RollsSpent) s = refl
+      none (Err stop.EventsFull) s = refl
+      none (Err stop.ScheduleFull) s = refl
+      none (Ok (ds, n)) s = absurd (false≢true s)
 
   -- it is carried; where the line drops it, nothing is marked
-  pub submit_carries : Fits b.reverse rolls true now wire → submit_ack rolls now seq wire b ≡ forward_exit (inbound (ack_counted b.side) b.store b.output (cond (ltb 0 (copies (granted b.reverse rolls))) marked_metas b.metas) (carried_on b.reverse rolls now wire)) stop.Going
+  pub submit_carries : Fits b.reverse rolls true now wire → submit_ack rolls now seq wire b ≡ forward_exit (inbound (ack_counted b.side) b.store b.output (cond (ltb 0 (copies (granted b.reverse rolls))) marked_metas b.metas) (carried_on b.reverse rolls now wire)) (None)
   unfolding submit_ack
   submit_carries f = rw (carries b.reverse rolls true now wire f)
 
@@ -171,15 +171,15 @@ pub record InboundKeeps (b after : Inbound) : Type 0 where
   pub reverse : Keeps b.reverse after.reverse
 
 module _ (rolls : List Float) (total now : ℕ) (raw : List ℕ) (b : Inbound) where
-  pub forward_dropped : is_data (read_datagram raw) ≡ false → on_forward rolls total now raw b ≡ forward_exit b stop.Going
+  pub forward_dropped : is_data (read_datagram raw) ≡ false → on_forward rolls total now raw b ≡ forward_exit b (None)
   unfolding on_forward
   forward_dropped h = rw h
 
-  pub forward_silent : is_data (read_datagram raw) ≡ true → (handled raw b).answer ≡ Ok None → on_forward rolls total now raw b ≡ forward_exit (received total now raw b) stop.Going
+  pub forward_silent : is_data (read_datagram raw) ≡ true → (handled raw b).answer ≡ Ok None → on_forward rolls total now raw b ≡ forward_exit (received total now raw b) (None)
   unfolding on_forward
   forward_silent h e = rw (h, e)
 
-  pub forward_refused : (r : Refusal) → is_data (read_datagram raw) ≡ true → (handled raw b).answer ≡ Err r → on_forward rolls total now raw b ≡ forward_exit (received total now raw b) stop.Going
+  pub forward_refused : (r : Refusal) → is_data (read_datagram raw) ≡ true → (handled raw b).answer ≡ Err r → on_forward rolls total now raw b ≡ forward_exit (received total now raw b) (None)
   unfolding on_forward
   forward_refused r h e = rw (h, e)
 
@@ -188,7 +188,7 @@ module _ (rolls : List Float) (total now : ℕ) (raw : List ℕ) (b : Inbound) w
   forward_acknowledged n h e = rw (h, e, reply_bytes raw b n e)
 
   -- whatever holds of these exits holds of the call's
-  pub forward_either : (P : ForwardExit → Type 0) → (is_data (read_datagram raw) ≡ false → P (forward_exit b stop.Going)) → (is_data (read_datagram raw) ≡ true → P (forward_exit (received total now raw b) stop.Going))
+  pub forward_either : (P : ForwardExit → Type 0) → (is_data (read_datagram raw) ≡ false → P (forward_exit b (None))) → (is_data (read_datagram raw) ≡ true → P (forward_exit (received total now raw b) (None)))
       → (is_data (read_datagram raw) ≡ true → (n : ℕ) → (handled raw b).answer ≡ Ok (Some n) → P (submit_ack rolls now n (made (new_packet n packetType.Ack) []) (received total now raw b)))
       → P (on_forward rolls total now raw b)
   forward_either P dropped silent acked = by_reading_lem (is_data (read_datagram raw)) refl
@@ -259,14 +259,14 @@ module _ (rolls : List Float) (total now : ℕ) (raw : List ℕ) (b : Inbound) w
         record { store = l.0; output = l.1; count = m.count; rows = m.rows; reverse = carry_keeps b.reverse rolls true now (made (new_packet n packetType.Ack) []) (can_carry n) })
 
   -- ---- what stands where the ACK ends the run: all of the Data, and the ACK counted; notes and line are as they were
-  pub forward_stopped : (n : ℕ) (a : Carriage) → is_data (read_datagram raw) ≡ true → (handled raw b).answer ≡ Ok (Some n) → stops a ≡ true → (carry b.reverse rolls true now (made (new_packet n packetType.Ack) [])).result.answer ≡ a
+  pub forward_stopped : (n : ℕ) (a : Result (Deliveries × ℕ) Stop) → is_data (read_datagram raw) ≡ true → (handled raw b).answer ≡ Ok (Some n) → stops a ≡ true → (carry b.reverse rolls true now (made (new_packet n packetType.Ack) [])).result.answer ≡ a
       → on_forward rolls total now raw b ≡ forward_exit (inbound (ack_counted (received total now raw b).side) (handled raw b).receiver.store (handled raw b).output b.metas b.reverse) (stop_of a)
   unfolding received
   forward_stopped n a h e s c = forward_acknowledged n h e ∙ submit_stops rolls now n (made (new_packet n packetType.Ack) []) (received total now raw b) a s c
 
   pub forward_carried : (n : ℕ) → is_data (read_datagram raw) ≡ true → (handled raw b).answer ≡ Ok (Some n) → Fits b.reverse rolls true now (made (new_packet n packetType.Ack) [])
       → on_forward rolls total now raw b ≡ forward_exit (inbound (ack_counted (received total now raw b).side) (handled raw b).receiver.store (handled raw b).output
-      (cond (ltb 0 (copies (granted b.reverse rolls))) (mark_ack_scheduled b.metas n (is_cumulative (received total now raw b).side.receiver)) b.metas) (carried_on b.reverse rolls now (made (new_packet n packetType.Ack) []))) stop.Going
+      (cond (ltb 0 (copies (granted b.reverse rolls))) (mark_ack_scheduled b.metas n (is_cumulative (received total now raw b).side.receiver)) b.metas) (carried_on b.reverse rolls now (made (new_packet n packetType.Ack) []))) (None)
   unfolding received
   forward_carried n h e f = forward_acknowledged n h e ∙ submit_carries rolls now n (made (new_packet n packetType.Ack) []) (received total now raw b) f
 

@@ -29,13 +29,13 @@ abbrev pub next_exit : List Float → ℕ → ℕ → Direction → Inbound → 
 next_exit rolls total now forward b n = on_forward rolls total now (take n (next_taken now forward).out) b
 
 module _ (rolls : List Float) (total now : ℕ) (forward : Direction) (b : Inbound) where
-  idle_at : (n : ℕ) → (next_taken now forward).result.answer ≡ Ok None → serve_at_most n rolls total now forward b ≡ serve_forward_exit forward b false stop.Going
+  idle_at : (n : ℕ) → (next_taken now forward).result.answer ≡ Ok None → serve_at_most n rolls total now forward b ≡ serve_forward_exit forward b false (None)
   unfolding serve_at_most
   idle_at zero e = refl
   idle_at (suc n) e = rw e
 
   -- nothing is due
-  pub serve_idle : (next_taken now forward).result.answer ≡ Ok None → serve_forward rolls total now forward b ≡ serve_forward_exit forward b false stop.Going
+  pub serve_idle : (next_taken now forward).result.answer ≡ Ok None → serve_forward rolls total now forward b ≡ serve_forward_exit forward b false (None)
   serve_idle e = idle_at forward.path.scheduler.count e
 
   turn_at : (n k m : ℕ) → (next_taken now forward).result.answer ≡ Ok (Some n) → m + 1 ≡ k
@@ -100,7 +100,7 @@ pub record Left (rolls : List Float) (total now : ℕ) (f g : Direction) (u v : 
 pub left_start : (rolls : List Float) (total now : ℕ) (f : Direction) (u : Inbound) → CanServeForward f u rolls now → Left rolls total now f f u u false
 left_start rolls total now f u can = record { eq = refl; can = can; same = record { store = refl; output = refl; rows = refl; forward_records = refl; forward_places = refl; reverse_records = refl; reverse_places = refl } }
 
-over_idle : (progress : Bool) (g : Direction) (v : Inbound) → serve_forward_exit g v progress stop.Going ≡ left_over progress (serve_forward_exit g v false stop.Going)
+over_idle : (progress : Bool) (g : Direction) (v : Inbound) → serve_forward_exit g v progress (None) ≡ left_over progress (serve_forward_exit g v false (None))
 over_idle true g v = refl
 over_idle false g v = refl
 
@@ -109,7 +109,7 @@ over_progressed true x = refl
 over_progressed false x = refl
 
 module _ {rolls : List Float} {total now : ℕ} {f g : Direction} {u v : Inbound} {progress : Bool} {a : Option (ℕ × ℕ)} (l : Left rolls total now f g u v progress) (e : a ≡ first_due g.path.scheduler.count g.records now) where
-  pub left_idle : a ≡ None → serve_forward_exit g v progress stop.Going ≡ serve_forward rolls total now f u
+  pub left_idle : a ≡ None → serve_forward_exit g v progress (None) ≡ serve_forward rolls total now f u
   left_idle q = over_idle progress g v ∙ ap (left_over progress) (sym (serve_idle rolls total now g v (take_not_due g now packet_buffer (sym e ∙ q)))) ∙ l.eq
 
   module _ {place len : ℕ} (q : a ≡ Some (place, len)) where
@@ -127,7 +127,7 @@ module _ {rolls : List Float} {total now : ℕ} {f g : Direction} {u v : Inbound
       pub left_less : p.scheduler.count < g.path.scheduler.count
       left_less = let k = ap (λ (d : Direction). d.path.scheduler.count) removed_is in let h = take_count g now packet_buffer len left_takes.answer in omega (arith, k, h)
 
-      module _ {w : Inbound} {s : Stop} {going : Bool} (k : forward_exit w s ≡ on_forward rolls total now (take (place * place_size + len - place * place_size) (drop (place * place_size) g.places)) v) (i : going ≡ is_going s) where
+      module _ {w : Inbound} {s : Option Stop} {going : Bool} (k : forward_exit w s ≡ on_forward rolls total now (take (place * place_size + len - place * place_size) (drop (place * place_size) g.places)) v) (i : going ≡ is_going s) where
         exit_is : forward_exit w s ≡ next_exit rolls total now g v len
         exit_is = k ∙ ap (λ (raw : List ℕ). on_forward rolls total now raw v) (sym left_takes.bytes)
 

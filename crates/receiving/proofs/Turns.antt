@@ -57,7 +57,7 @@ module _ (rolls : List Float) (total now : ℕ) where
 
   -- whatever holds where nothing is due and where the ACK of the next copy ends the run, and before a turn if it holds after it, holds of the loop
   pub serve_turns : (R : Direction → Inbound → ServeForwardExit → Type 0)
-      → ((f : Direction) (c : Inbound) → (next_taken now f).result.answer ≡ Ok None → R f c (serve_forward_exit f c false stop.Going))
+      → ((f : Direction) (c : Inbound) → (next_taken now f).result.answer ≡ Ok None → R f c (serve_forward_exit f c false (None)))
       → ((f : Direction) (c : Inbound) (n : ℕ) (x : ServeForwardExit) → (next_taken now f).result.answer ≡ Ok (Some n) → is_going (next_exit rolls total now f c n).stop ≡ true → R (left_by_take (next_taken now f)) (next_exit rolls total now f c n).inbound x → R f c (progressed x))
       → ((f : Direction) (c : Inbound) (n : ℕ) → (next_taken now f).result.answer ≡ Ok (Some n) → is_going (next_exit rolls total now f c n).stop ≡ false → R f c (serve_forward_exit (left_by_take (next_taken now f)) (next_exit rolls total now f c n).inbound true (next_exit rolls total now f c n).stop))
       → (f : Direction) (c : Inbound) → R f c (serve_forward rolls total now f c)

@@ -14,8 +14,6 @@ use Rattle.notes.specs.Notes.{SegMetas, mark_ack_scheduled}
 use Rattle.path.specs.Direction.{Direction}
 use Rattle.path.specs.Path.{left_by_carry, carry, stop_of, is_going}
 use Rattle.path.specs.Path.{left_by_take, take_ready, packet_buffer, is_taken, taken_bytes}
-use Rattle.path.specs.declared.Carriage.{Carriage}
-use Rattle.path.specs.declared.Carriage.TheVariants as carriage
 use Rattle.path.specs.declared.Stop.{Stop}
 use Rattle.path.specs.declared.Stop.TheVariants as stop
 use Rattle.session.specs.Receiving.{ReceiverEnd, receiver_end, handle_packet, base, is_cumulative, duplicate_count}
@@ -23,6 +21,7 @@ use Rattle.session.specs.Receiving.{gbn_already_delivered}
 use Rattle.session.specs.declared.Receiver.{Receiver}
 use Rattle.receiving.specs.declared.ReceivingSide.{ReceivingSide}
 use Rattle.refusal.specs.declared.Refusal.{Refusal}
+use Rattle.schedule.specs.declared.Deliveries.{Deliveries}
 
 -- nothing received
 abbrev pub new_side : Receiver → ReceivingSide
@@ -50,9 +49,9 @@ inbound side store output metas reverse =
 -- what a call leaves, and whether the run goes on
 pub record ForwardExit : Type 0 where
   pub inbound : Inbound
-  pub stop : Stop
+  pub stop : Option Stop
 
-abbrev pub forward_exit : Inbound → Stop → ForwardExit
+abbrev pub forward_exit : Inbound → Option Stop → ForwardExit
 forward_exit b s = record { inbound = b; stop = s }
 
 -- ---- `submit_ack`
@@ -67,11 +66,11 @@ ack_counted x = record {
 }
 
 -- `!deliveries.is_empty()`
-abbrev pub any_copies : Carriage → Bool
-any_copies (carriage.Carried ds fold) = ltb 0 (copies ds)
-any_copies carriage.RollsSpent = false
-any_copies carriage.EventsFull = false
-any_copies carriage.ScheduleFull = false
+abbrev pub any_copies : Result (Deliveries × ℕ) Stop → Bool
+any_copies (Ok (ds, fold)) = ltb 0 (copies ds)
+any_copies (Err stop.RollsSpent) = false
+any_copies (Err stop.EventsFull) = false
+any_copies (Err stop.ScheduleFull) = false
 
 -- the ACK of the number goes out as `wire`; a dropped one is not scheduled
 unfoldable pub submit_ack : List Float → ℕ → ℕ → List ℕ → Inbound → ForwardExit
@@ -147,24 +146,24 @@ received total now raw b =
 
 abbrev pub by_reply : Result (Option ℕ) Refusal → List Float → ℕ → List ℕ → Inbound → ForwardExit
 by_reply (Ok (Some n)) rolls now ack b = submit_ack rolls now n ack b
-by_reply (Ok None) rolls now ack b = forward_exit b stop.Going
-by_reply (Err r) rolls now ack b = forward_exit b stop.Going
+by_reply (Ok None) rolls now ack b = forward_exit b (None)
+by_reply (Err r) rolls now ack b = forward_exit b (None)
 
 -- what can't be read, or is no Data, is dropped uncounted
 unfoldable pub on_forward : List Float → ℕ → ℕ → List ℕ → Inbound → ForwardExit
 on_forward rolls total now raw b =
     let x = handled raw b in
     cond (is_data (read_datagram raw)) (by_reply x.answer rolls now x.ack (received total now raw b))
-    (forward_exit b stop.Going)
+    (forward_exit b (None))
 
 -- ---- what is due on the forward line: `while let Some(bytes) = pop_ready_at(now)`
 pub record ServeForwardExit : Type 0 where
   pub forward : Direction
   pub inbound : Inbound
   pub progress : Bool
-  pub stop : Stop
+  pub stop : Option Stop
 
-abbrev pub serve_forward_exit : Direction → Inbound → Bool → Stop → ServeForwardExit
+abbrev pub serve_forward_exit : Direction → Inbound → Bool → Option Stop → ServeForwardExit
 serve_forward_exit forward b progress s =
     record { forward = forward; inbound = b; progress = progress; stop = s }
 
@@ -174,14 +173,14 @@ progressed x = serve_forward_exit x.forward x.inbound true x.stop
 
 -- at most n copies; the run may end at the ACK of one
 unfoldable pub serve_at_most : ℕ → List Float → ℕ → ℕ → Direction → Inbound → ServeForwardExit
-serve_at_most zero rolls total now forward b = serve_forward_exit forward b false stop.Going
+serve_at_most zero rolls total now forward b = serve_forward_exit forward b false (None)
 serve_at_most (suc n) rolls total now forward b =
     let t = take_ready forward now packet_buffer in
     let x = on_forward rolls total now (taken_bytes t.result.answer t.out) b in
     cond (is_taken t.result.answer)
     (cond (is_going x.stop) (progressed (serve_at_most n rolls total now (left_by_take t) x.inbound))
     (serve_forward_exit (left_by_take t) x.inbound true x.stop))
-    (serve_forward_exit forward b false stop.Going)
+    (serve_forward_exit forward b false (None))
 
 -- no more than wait
 abbrev pub serve_forward : List Float → ℕ → ℕ → Direction → Inbound → ServeForwardExit

@@ -17,7 +17,7 @@ ghost use Rattle.receiving.specs.Internal.{data_arrival, arrival_of};
 use bounds::{HEADER_SIZE, PLACE_SIZE};
 use notes::{Note, Notes};
 use packet::{DatagramReading, Packet, PacketType};
-use path::{Carriage, Path, Stop};
+use path::{Path, Stop};
 use schedule::{ScheduledRow, copies_of};
 use session::Receiver;
 
@@ -37,7 +37,7 @@ pub struct ForwardResult {
     pub side: ReceivingSide,
     pub reverse: Path,
     pub notes: Notes,
-    pub stop: Stop,
+    pub stop: Option<Stop>,
 }
 
 // progress: whether a datagram was handed over.
@@ -48,7 +48,7 @@ pub struct ServeForwardResult {
     pub reverse: Path,
     pub notes: Notes,
     pub progress: bool,
-    pub stop: Stop,
+    pub stop: Option<Stop>,
 }
 
 impl ReceivingSide {
@@ -107,7 +107,7 @@ pub fn serve_forward_unchecked(
                     reverse,
                     notes,
                     progress,
-                    stop: Stop::Going,
+                    stop: None,
                 };
             }
             Some((place, len)) => {
@@ -177,7 +177,7 @@ pub fn on_forward_unchecked(
             side,
             reverse,
             notes,
-            stop: Stop::Going,
+            stop: None,
         },
         Some((packet, valid)) => {
             let receiver = side.receiver;
@@ -200,13 +200,13 @@ pub fn on_forward_unchecked(
                     side,
                     reverse,
                     notes,
-                    stop: Stop::Going,
+                    stop: None,
                 },
                 Err(_) => ForwardResult {
                     side,
                     reverse,
                     notes,
-                    stop: Stop::Going,
+                    stop: None,
                 },
                 Ok(Some(n)) => {
                     submit_ack(
@@ -327,14 +327,14 @@ fn submit_ack(
 }
 
 // Whether a copy was scheduled.
-fn any_copies(answer: Carriage) -> bool
+fn any_copies(answer: Result<(Deliveries, u16), Stop>) -> bool
     ensures { result ≡ any_copies answer }
 {
     match answer {
-        Carriage::Carried(deliveries, _) => 0 < copies_of(deliveries),
-        Carriage::RollsSpent => false,
-        Carriage::EventsFull => false,
-        Carriage::ScheduleFull => false,
+        Ok((deliveries, _)) => 0 < copies_of(deliveries),
+        Err(Stop::RollsSpent) => false,
+        Err(Stop::EventsFull) => false,
+        Err(Stop::ScheduleFull) => false,
     }
 }
 

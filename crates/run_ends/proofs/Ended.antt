@@ -160,11 +160,11 @@ module _ (p : Plan) (g : Given) (plan : GoodPlan p g) where
     going_why : (u : RunState) → SpentAt u → NothingToSend p u → Why s (step_exit u Going)
     going_why u r n = record { goes = λ e. (r, n); ends = λ o e. absurd (false≢true o) }
 
-    unless : (st : Stop) (u : RunState) (rest : StepExit) → (is_going st ≡ true → Why s rest) → Why s (unless_stopped st u rest)
-    unless stop.Going u rest h = h refl
-    unless stop.RollsSpent u rest h = record { goes = λ e. absurd (still_going e); ends = λ o e. let z : ◌≡◌ {A = ℕ} 0 1 = cc in absurd (omega arith) }
-    unless stop.EventsFull u rest h = record { goes = λ e. absurd (still_going e); ends = λ o e. let z : ◌≡◌ {A = ℕ} 0 1 = cc in absurd (omega arith) }
-    unless stop.ScheduleFull u rest h = record { goes = λ e. absurd (still_going e); ends = λ o e. let z : ◌≡◌ {A = ℕ} 0 1 = cc in absurd (omega arith) }
+    unless : (st : Option Stop) (u : RunState) (rest : StepExit) → (is_going st ≡ true → Why s rest) → Why s (unless_stopped st u rest)
+    unless (None) u rest h = h refl
+    unless (Some stop.RollsSpent) u rest h = record { goes = λ e. absurd (still_going e); ends = λ o e. let z : ◌≡◌ {A = ℕ} 0 1 = cc in absurd (omega arith) }
+    unless (Some stop.EventsFull) u rest h = record { goes = λ e. absurd (still_going e); ends = λ o e. let z : ◌≡◌ {A = ℕ} 0 1 = cc in absurd (omega arith) }
+    unless (Some stop.ScheduleFull) u rest h = record { goes = λ e. absurd (still_going e); ends = λ o e. let z : ◌≡◌ {A = ℕ} 0 1 = cc in absurd (omega arith) }
 
     either : (b : Bool) (x y : StepExit) → (b ≡ true → Why s x) → (b ≡ false → Why s y) → Why s (cond b x y)
     either true x y h k = h refl

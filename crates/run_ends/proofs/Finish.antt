@@ -75,11 +75,11 @@ module _ (p : Plan) (g : Given) (s : RunState) (sides : ReceivingSide → Type 0
       go true = over_now u end.Ended e q
       go false = move_steps u (next_deadline p.timing u.arrivals.forward u.arrivals.inbound.reverse u.arrivals.clock) e q
 
-  unless : (st : Stop) (u : RunState) (rest : StepExit) → u.time ≡ s.time → sides (side_of u) → Steps rest → Steps (unless_stopped st u rest)
-  unless stop.Going u rest e q h = h
-  unless stop.RollsSpent u rest e q h = over_now u end.RollsSpent e q
-  unless stop.EventsFull u rest e q h = over_now u end.EventsFull e q
-  unless stop.ScheduleFull u rest e q h = over_now u end.ScheduleFull e q
+  unless : (st : Option Stop) (u : RunState) (rest : StepExit) → u.time ≡ s.time → sides (side_of u) → Steps rest → Steps (unless_stopped st u rest)
+  unless (None) u rest e q h = h
+  unless (Some stop.RollsSpent) u rest e q h = over_now u end.RollsSpent e q
+  unless (Some stop.EventsFull) u rest e q h = over_now u end.EventsFull e q
+  unless (Some stop.ScheduleFull) u rest e q h = over_now u end.ScheduleFull e q
 
   either : (b : Bool) {x y : StepExit} → Steps x → Steps y → Steps (cond b x y)
   either true h k = h

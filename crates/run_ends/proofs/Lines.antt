@@ -1,4 +1,5 @@
 -- A line and a packet that is due on it: how many were due, how many it carried and what they used, also where it ends the run.
+use Rattle.std.specs.Prelude.{None, Option, Some}
 use Prim.Native.Nat.{ℕ, ◌+◌, ◌*◌, ◌<◌}
 use native.Mathlib.Omega.{arith}
 use mathlib.Core.Path.{◌≡◌, refl, sym, ◌∙◌, subst}
@@ -18,23 +19,23 @@ use Rattle.path.proofs.Laws.{next_rolls, granted, copy_bytes, carried_on, by_ans
 use Rattle.run_ends.proofs.Waiting.{Tidy, schedule_tidy, take_tidy, new_tidy}
 
 -- ---- whether the last packet that was due was carried; why not
-abbrev pub not_carried : Stop → ℕ
-not_carried stop.Going = 0
-not_carried stop.RollsSpent = 1
-not_carried stop.EventsFull = 1
-not_carried stop.ScheduleFull = 1
+abbrev pub not_carried : Option Stop → ℕ
+not_carried (None) = 0
+not_carried (Some stop.RollsSpent) = 1
+not_carried (Some stop.EventsFull) = 1
+not_carried (Some stop.ScheduleFull) = 1
 
-abbrev pub StoppedAt : Stop → Direction → List Float → Bool → Type 0
-StoppedAt stop.Going d rolls free = Unit {0}
-StoppedAt stop.RollsSpent d rolls free = rolls_spent d.path rolls ≡ true
-StoppedAt stop.EventsFull d rolls free = (rolls_spent d.path rolls ≡ false) × (free ≡ false)
-StoppedAt stop.ScheduleFull d rolls free = (rolls_spent d.path rolls ≡ false) × (free ≡ true) × (lacks_room (schedule_of d) (copies (granted d rolls)) ≡ true)
+abbrev pub StoppedAt : Option Stop → Direction → List Float → Bool → Type 0
+StoppedAt (None) d rolls free = Unit {0}
+StoppedAt (Some stop.RollsSpent) d rolls free = rolls_spent d.path rolls ≡ true
+StoppedAt (Some stop.EventsFull) d rolls free = (rolls_spent d.path rolls ≡ false) × (free ≡ false)
+StoppedAt (Some stop.ScheduleFull) d rolls free = (rolls_spent d.path rolls ≡ false) × (free ≡ true) × (lacks_room (schedule_of d) (copies (granted d rolls)) ≡ true)
 
 abbrev pub seen : Direction → ℕ
 seen d = d.path.channel.stats.packets_seen
 
 -- n packets were due, `st` being what came of the last
-pub record LineAt (st : Stop) (c : ChannelConfig) (rolls : List Float) (free : Bool) (n : ℕ) (d : Direction) : Type 0 where
+pub record LineAt (st : Option Stop) (c : ChannelConfig) (rolls : List Float) (free : Bool) (n : ℕ) (d : Direction) : Type 0 where
   pub config : d.path.channel.config ≡ c
   pub used : d.path.used ≡ seen d * packet_rolls
   pub due : n ≡ seen d + not_carried st
@@ -50,15 +51,15 @@ used_more used a h k = omega arith
 due_more : (n a b : ℕ) → n ≡ a + 0 → b ≡ a + 1 → n + 1 ≡ b + 0
 due_more n a b h k = omega arith
 
-pub line_due : {st : Stop} {c : ChannelConfig} {rolls : List Float} {free : Bool} {n m : ℕ} {d : Direction} → m ≡ n → LineAt st c rolls free n d → LineAt st c rolls free m d
+pub line_due : {st : Option Stop} {c : ChannelConfig} {rolls : List Float} {free : Bool} {n m : ℕ} {d : Direction} → m ≡ n → LineAt st c rolls free n d → LineAt st c rolls free m d
 line_due e q = record { config = q.config; used = q.used; due = e ∙ q.due; why = q.why; tidy = q.tidy }
 
-pub line_going : {st : Stop} {c : ChannelConfig} {rolls : List Float} {free : Bool} {n : ℕ} {d : Direction} → is_going st ≡ true → LineAt st c rolls free n d → LineAt stop.Going c rolls free n d
-line_going {st} {c} {rolls} {free} {n} {d} g q = subst (λ (x : Stop). LineAt x c rolls free n d) (going_is st g) q
+pub line_going : {st : Option Stop} {c : ChannelConfig} {rolls : List Float} {free : Bool} {n : ℕ} {d : Direction} → is_going st ≡ true → LineAt st c rolls free n d → LineAt (None) c rolls free n d
+line_going {st} {c} {rolls} {free} {n} {d} g q = subst (λ (x : Option Stop). LineAt x c rolls free n d) (going_is st g) q
 
 -- ---- a packet that is due
-module _ {c : ChannelConfig} {rolls : List Float} {free : Bool} {n : ℕ} {d : Direction} (now : ℕ) (wire : List ℕ) (some : 0 < length wire) (q : LineAt stop.Going c rolls free n d) where
-  pub line_stopped : (st : Stop) → not_carried st ≡ 1 → StoppedAt st d rolls free → LineAt st c rolls free (n + 1) d
+module _ {c : ChannelConfig} {rolls : List Float} {free : Bool} {n : ℕ} {d : Direction} (now : ℕ) (wire : List ℕ) (some : 0 < length wire) (q : LineAt (None) c rolls free n d) where
+  pub line_stopped : (st : Option Stop) → not_carried st ≡ 1 → StoppedAt st d rolls free → LineAt st c rolls free (n + 1) d
   line_stopped st e w = record { config = q.config; used = q.used; due = one_more n (seen d) (not_carried st) q.due e; why = w; tidy = q.tidy }
 
   counted : seen (carried_on d rolls now wire) ≡ seen d + 1
@@ -67,7 +68,7 @@ module _ {c : ChannelConfig} {rolls : List Float} {free : Bool} {n : ℕ} {d : D
   some_copied : 0 < length (copy_bytes d rolls wire)
   some_copied = subst (λ (k : ℕ). 0 < k) (sym (carried_length d.path.channel.config (next_rolls d rolls) wire)) some
 
-  pub line_carried : (other : Bool) → LineAt stop.Going c rolls other (n + 1) (carried_on d rolls now wire)
+  pub line_carried : (other : Bool) → LineAt (None) c rolls other (n + 1) (carried_on d rolls now wire)
   line_carried other =
       record {
         config = q.config;
@@ -79,15 +80,15 @@ module _ {c : ChannelConfig} {rolls : List Float} {free : Bool} {n : ℕ} {d : D
 
   pub line_more : LineAt (stop_of (carry d rolls free now wire).result.answer) c rolls free (n + 1) (left_by_carry (carry d rolls free now wire))
   line_more =
-      by_answer d rolls free now wire (λ (x : CarryExit). LineAt (stop_of x.result.answer) c rolls free (n + 1) (left_by_carry x)) (λ h. line_stopped stop.RollsSpent refl h) (λ h k. line_stopped stop.EventsFull refl (h, k))
-      (λ h k l. line_stopped stop.ScheduleFull refl (h, k, l)) (λ f. line_carried free)
+      by_answer d rolls free now wire (λ (x : CarryExit). LineAt (stop_of x.result.answer) c rolls free (n + 1) (left_by_carry x)) (λ h. line_stopped (Some stop.RollsSpent) refl h) (λ h k. line_stopped (Some stop.EventsFull) refl (h, k))
+      (λ h k l. line_stopped (Some stop.ScheduleFull) refl (h, k, l)) (λ f. line_carried free)
 
 -- ---- a copy that is taken
-pub line_taken : {c : ChannelConfig} {rolls : List Float} {free : Bool} {n : ℕ} {d : Direction} (now : ℕ) (out : List ℕ) → LineAt stop.Going c rolls free n d → LineAt stop.Going c rolls free n (left_by_take (take_ready d now out))
+pub line_taken : {c : ChannelConfig} {rolls : List Float} {free : Bool} {n : ℕ} {d : Direction} (now : ℕ) (out : List ℕ) → LineAt (None) c rolls free n d → LineAt (None) c rolls free n (left_by_take (take_ready d now out))
 unfolding take_ready
 line_taken {d = d} now out q = record { config = q.config; used = q.used; due = q.due; why = tt; tidy = take_tidy (schedule_of d) now out q.tidy }
 
 -- ---- no packet yet
-pub line_new : (c : ChannelConfig) (rolls : List Float) (free : Bool) (rs : List (List ℕ)) (ps : List ℕ) → LineAt stop.Going c rolls free 0 (new_path c rs ps)
+pub line_new : (c : ChannelConfig) (rolls : List Float) (free : Bool) (rs : List (List ℕ)) (ps : List ℕ) → LineAt (None) c rolls free 0 (new_path c rs ps)
 unfolding new_path
 line_new c rolls free rs ps = record { config = refl; used = refl; due = refl; why = tt; tidy = new_tidy rs ps }

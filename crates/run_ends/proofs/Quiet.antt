@@ -78,8 +78,8 @@ module _ (t : Timing) (rolls : List Float) (chunks : List (List ℕ)) (now : ℕ
       sends true e = true≢false e
       sends false e = true≢false e
 
-      by_free : (b : Bool) → (cond b (cond (is_going one.stop) (progressed (pump_most n t rolls chunks rto now one.state)) one) (pump_exit s false stop.Going)).progress ≡ false
-          → (cond b (cond (is_going one.stop) (progressed (pump_most n t rolls chunks rto now one.state)) one) (pump_exit s false stop.Going)).state ≡ s
+      by_free : (b : Bool) → (cond b (cond (is_going one.stop) (progressed (pump_most n t rolls chunks rto now one.state)) one) (pump_exit s false (None))).progress ≡ false
+          → (cond b (cond (is_going one.stop) (progressed (pump_most n t rolls chunks rto now one.state)) one) (pump_exit s false (None))).state ≡ s
       by_free true e = absurd (sends (is_going one.stop) e)
       by_free false e = refl
 
@@ -98,7 +98,7 @@ module _ (limit : ℕ) (rolls : List Float) (now : ℕ) where
   numbers_progress (n ∷ ns) s = by_tests (ceiling_met limit s.resends) (is_going (fire_number limit rolls now n s).stop) (numbers_progress ns (fire_number limit rolls now n s).state)
     where
       by_tests : (a b : Bool) → (fire_numbers limit rolls now ns (fire_number limit rolls now n s).state).progress ≡ true
-          → (cond a (fire_exit (with_resends s (exhausted s.resends)) true stop.Going) (cond b (fire_numbers limit rolls now ns (fire_number limit rolls now n s).state) (fire_number limit rolls now n s))).progress ≡ true
+          → (cond a (fire_exit (with_resends s (exhausted s.resends)) true (None)) (cond b (fire_numbers limit rolls now ns (fire_number limit rolls now n s).state) (fire_number limit rolls now n s))).progress ≡ true
       by_tests true b rest = refl
       by_tests false true rest = rest
       by_tests false false rest = number_progress n s

@@ -1,5 +1,5 @@
 -- The timers and the window: what came of each packet that was due on the forward line.
-use Rattle.std.specs.Prelude.{Option}
+use Rattle.std.specs.Prelude.{Option, None, Some}
 use Prim.Native.Nat.{ℕ, ◌+◌, ◌<◌}
 use native.Mathlib.Omega.{arith}
 use mathlib.Core.Path.{◌≡◌, refl, sym, ap, subst}
@@ -59,14 +59,14 @@ again_more a n = omega arith
 
 module _ (c : ChannelConfig) (rolls : List Float) where
   -- ---- the forward line after n packets: each that it carried has its event
-  pub record ForwardAt (st : Stop) (n : ℕ) (o : Outgoing) : Type 0 where
+  pub record ForwardAt (st : Option Stop) (n : ℕ) (o : Outgoing) : Type 0 where
     pub line : LineAt st c rolls (entry_free o) n o.forward
     pub events : o.written ≡ seen o.forward
 
-  forward_due : {st : Stop} {n m : ℕ} {o : Outgoing} → m ≡ n → ForwardAt st n o → ForwardAt st m o
+  forward_due : {st : Option Stop} {n m : ℕ} {o : Outgoing} → m ≡ n → ForwardAt st n o → ForwardAt st m o
   forward_due e q = record { line = line_due e q.line; events = q.events }
 
-  submit_at : (t : Timing) (x : Submission) (wire : List ℕ) (o : Outgoing) {n : ℕ} → 0 < length wire → ForwardAt stop.Going n o → ForwardAt (submit t rolls x wire o).stop (n + 1) (submit t rolls x wire o).outgoing
+  submit_at : (t : Timing) (x : Submission) (wire : List ℕ) (o : Outgoing) {n : ℕ} → 0 < length wire → ForwardAt (None) n o → ForwardAt (submit t rolls x wire o).stop (n + 1) (submit t rolls x wire o).outgoing
   submit_at t x wire o {n} some q = go (rolls_spent o.forward.path rolls) (entry_free o) (lacks_room (schedule_of o.forward) (copies (granted o.forward rolls))) refl refl refl
     where
       P : SubmitExit → Type 0
@@ -76,27 +76,27 @@ module _ (c : ChannelConfig) (rolls : List Float) where
       event_more w a b h k = omega arith
 
       go : (a b k : Bool) → rolls_spent o.forward.path rolls ≡ a → entry_free o ≡ b → lacks_room (schedule_of o.forward) (copies (granted o.forward rolls)) ≡ k → P (submit t rolls x wire o)
-      go true b k e f h = subst P (sym (submit_spent t rolls x wire o e)) (record { line = line_stopped x.time wire some q.line stop.RollsSpent refl e; events = q.events })
-      go false false k e f h = subst P (sym (submit_no_entry t rolls x wire o e f)) (record { line = line_stopped x.time wire some q.line stop.EventsFull refl (e, f); events = q.events })
-      go false true true e f h = subst P (sym (submit_full t rolls x wire o e f h)) (record { line = line_stopped x.time wire some q.line stop.ScheduleFull refl (e, f, h); events = q.events })
+      go true b k e f h = subst P (sym (submit_spent t rolls x wire o e)) (record { line = line_stopped x.time wire some q.line (Some stop.RollsSpent) refl e; events = q.events })
+      go false false k e f h = subst P (sym (submit_no_entry t rolls x wire o e f)) (record { line = line_stopped x.time wire some q.line (Some stop.EventsFull) refl (e, f); events = q.events })
+      go false true true e f h = subst P (sym (submit_full t rolls x wire o e f h)) (record { line = line_stopped x.time wire some q.line (Some stop.ScheduleFull) refl (e, f, h); events = q.events })
       go false true false e f h =
           subst P (sym (submit_carried t rolls x wire o (record { left = e; entry = f; room = h })))
           (record { line = line_carried x.time wire some q.line _; events = event_more o.written (seen o.forward) _ q.events (counted_rises o.forward.path.channel.config (next_rolls o.forward rolls) (length wire) o.forward.path.channel.stats).seen })
 
-  as_going : {st : Stop} {n : ℕ} {o : Outgoing} → is_going st ≡ true → ForwardAt st n o → ForwardAt stop.Going n o
+  as_going : {st : Option Stop} {n : ℕ} {o : Outgoing} → is_going st ≡ true → ForwardAt st n o → ForwardAt (None) n o
   as_going g q = record { line = line_going g q.line; events = q.events }
 
   -- ---- the window; `again` packets were to be sent again
   module _ {t : Timing} {size : ℕ} {file : List ℕ} {total rto now : ℕ} (again : ℕ) where
-    send_at : {s : PumpState} → CanPump t rolls size file total rto now s → can_pump total s.sender.sender ≡ true → ForwardAt stop.Going (next_number s + again) s.outgoing
+    send_at : {s : PumpState} → CanPump t rolls size file total rto now s → can_pump total s.sender.sender ≡ true → ForwardAt (None) (next_number s + again) s.outgoing
         → ForwardAt (send_one t rolls (chunks_of size file) rto now s).stop (next_number (send_one t rolls (chunks_of size file) rto now s).state + again) (send_one t rolls (chunks_of size file) rto now s).state.outgoing
     unfolding send_one
     send_at {s} can free q = forward_due (next_more (next_number s) _ again (sent_next can free).next) (submit_at t (given can free) (written can free) s.outgoing (first_some (window_end s.sender) (chunk can free) (written can free) (sent_next can free).bytes) q)
 
-    pub pump_at : (s : PumpState) → CanPump t rolls size file total rto now s → ForwardAt stop.Going (next_number s + again) s.outgoing
+    pub pump_at : (s : PumpState) → CanPump t rolls size file total rto now s → ForwardAt (None) (next_number s + again) s.outgoing
         → ForwardAt (pump_sends t rolls (chunks_of size file) rto now s).stop (next_number (pump_sends t rolls (chunks_of size file) rto now s).state + again) (pump_sends t rolls (chunks_of size file) rto now s).state.outgoing
     pump_at =
-        pump_turns (λ (s : PumpState) (x : PumpExit). ForwardAt stop.Going (next_number s + again) s.outgoing → ForwardAt x.stop (next_number x.state + again) x.state.outgoing) (λ s can none q. q) (λ s x can free g rest q. rest (as_going g (send_at can free q)))
+        pump_turns (λ (s : PumpState) (x : PumpExit). ForwardAt (None) (next_number s + again) s.outgoing → ForwardAt x.stop (next_number x.state + again) x.state.outgoing) (λ s can none q. q) (λ s x can free g rest q. rest (as_going g (send_at can free q)))
         (λ s can free g q. send_at can free q)
 
   -- ---- packets sent again; `next` numbers were used
@@ -107,13 +107,13 @@ module _ (c : ChannelConfig) (rolls : List Float) where
     abbrev ResentAt : RetransmitExit → Type 0
     ResentAt y = ForwardAt y.stop (next + y.resends.retx_submitted) y.outgoing
 
-    resend_one : (first : ℕ) (r : Resends) (o : Outgoing) → ForwardAt stop.Going (next + r.retx_submitted) o → ResentAt (sends first r o)
+    resend_one : (first : ℕ) (r : Resends) (o : Outgoing) → ForwardAt (None) (next + r.retx_submitted) o → ResentAt (sends first r o)
     unfolding retransmit
     resend_one first r o q = forward_due (again_more r.retx_submitted next) (submit_at t (record { time = now; seq = first; rto = rto; retransmission = true; oldest = oldest }) (datagram_for (window_end v) first) o (datagram_some (window_end v) first) q)
 
-    resend_at : (count first : ℕ) (r : Resends) (o : Outgoing) → ForwardAt stop.Going (next + r.retx_submitted) o → ResentAt (retransmit_all limit t rolls rto now oldest (packets_from v first count) r o)
+    resend_at : (count first : ℕ) (r : Resends) (o : Outgoing) → ForwardAt (None) (next + r.retx_submitted) o → ResentAt (retransmit_all limit t rolls rto now oldest (packets_from v first count) r o)
     resend_at =
-        by_numbers limit t rolls rto now oldest v (λ first count r o. ForwardAt stop.Going (next + r.retx_submitted) o) ResentAt (λ first r o q. q) (λ first count r o q. q) (λ first count r o q g. resend_one first r o q)
+        by_numbers limit t rolls rto now oldest v (λ first count r o. ForwardAt (None) (next + r.retx_submitted) o) ResentAt (λ first r o q. q) (λ first count r o q. q) (λ first count r o q g. resend_one first r o q)
         (λ first count r o q g. as_going g (resend_one first r o q))
 
   -- ---- the timers
@@ -124,7 +124,7 @@ module _ (c : ChannelConfig) (rolls : List Float) where
   FiredAt x = ForwardAt x.stop (packets_due x.state) x.state.outgoing
 
   abbrev pub FireAt : FireState → Type 0
-  FireAt s = ForwardAt stop.Going (packets_due s) s.outgoing
+  FireAt s = ForwardAt (None) (packets_due s) s.outgoing
 
   module _ (limit now : ℕ) where
     timed_out_at : {t : Timing} {samples : ℕ} {s : FireState} → GoodFire t rolls samples now s → (of : Timeout) → FireAt s → FiredAt (timed_out limit t rolls now of s)
@@ -136,7 +136,7 @@ module _ (c : ChannelConfig) (rolls : List Float) where
         again : ResentAs s.sender of
         again = resent_as s.sender of (sender_unbroken g)
 
-        after : ForwardAt stop.Going ((window_of (resent s.sender of).after.sender).next_seq_num + s.resends.retx_submitted) s.outgoing
+        after : ForwardAt (None) ((window_of (resent s.sender of).after.sender).next_seq_num + s.resends.retx_submitted) s.outgoing
         after = forward_due (ap (λ (n : ℕ). n + s.resends.retx_submitted) again.same.next) q
 
     clock_at : (s : FireState) (k : ClockState) → FireAt s → FireAt (with_clock s k)

@@ -52,7 +52,7 @@ use Rattle.run_ends.specs.AtStart.{ended_at_start, NothingSent}
 use Rattle.run_ends.proofs.Transfer.{accepted_is}
 
 -- ---- nothing waits on either line
-forward_none : (rolls : List Float) (total now : ℕ) (f : Direction) (b : Inbound) → f.path.scheduler.count ≡ 0 → serve_forward rolls total now f b ≡ serve_forward_exit f b false stop.Going
+forward_none : (rolls : List Float) (total now : ℕ) (f : Direction) (b : Inbound) → f.path.scheduler.count ≡ 0 → serve_forward rolls total now f b ≡ serve_forward_exit f b false (None)
 unfolding receiving.serve_at_most
 forward_none rolls total now f b e = ap (λ (n : ℕ). receiving.serve_at_most n rolls total now f b) e
 
@@ -60,7 +60,7 @@ reverse_none : (t : Timing) (now : ℕ) (d : Direction) (a : AckState) → d.pat
 unfolding acks.serve_at_most
 reverse_none t now d a e = ap (λ (n : ℕ). acks.serve_at_most n t now d a) e
 
-arrivals_none : (t : Timing) (rolls : List Float) (total now : ℕ) (a : ArrivalState) → a.forward.path.scheduler.count ≡ 0 → a.inbound.reverse.path.scheduler.count ≡ 0 → serve_arrivals t rolls total now a ≡ arrival_exit a false stop.Going
+arrivals_none : (t : Timing) (rolls : List Float) (total now : ℕ) (a : ArrivalState) → a.forward.path.scheduler.count ≡ 0 → a.inbound.reverse.path.scheduler.count ≡ 0 → serve_arrivals t rolls total now a ≡ arrival_exit a false (None)
 unfolding serve_arrivals
 arrivals_none t rolls total now a e f =
     ap (λ (x : ServeForwardExit). cond (is_going x.stop) (reverse_served (with_forward a x) x.progress (serve_reverse t now (with_forward a x).inbound.reverse (acks_of (with_forward a x)))) (arrival_exit (with_forward a x) x.progress x.stop)) (forward_none rolls total now a.forward a.inbound e)
@@ -68,23 +68,23 @@ arrivals_none t rolls total now a e f =
 
 -- ---- the ceiling is met, or no timer has run out and no chunk is left
 module _ (limit : ℕ) (t : Timing) (rolls : List Float) (now : ℕ) (s : FireState) where
-  due_met : (chunks : List (List ℕ)) → ceiling_met limit s.resends ≡ true → send_due limit t rolls chunks now s ≡ fire_exit (with_resends s (exhausted s.resends)) false stop.Going
+  due_met : (chunks : List (List ℕ)) → ceiling_met limit s.resends ≡ true → send_due limit t rolls chunks now s ≡ fire_exit (with_resends s (exhausted s.resends)) false (None)
   unfolding send_due
   due_met chunks e = ap (λ (x : FireExit). cond (is_going_on x) (pumped x (pump_sends t rolls chunks x.state.estimator.current_rto now (pump_of x.state))) x) (timers_met limit t rolls now s e)
 
   none_less : (n : ℕ) → 0 - n ≡ 0
   none_less n = omega arith
 
-  pump_none : (rto : ℕ) (u : PumpState) → pump_sends t rolls [] rto now u ≡ pump_exit u false stop.Going
+  pump_none : (rto : ℕ) (u : PumpState) → pump_sends t rolls [] rto now u ≡ pump_exit u false (None)
   unfolding pump_most
   pump_none rto u = ap (λ (n : ℕ). pump_most n t rolls [] rto now u) (none_less (next_number u))
 
-  due_none : ceiling_met limit s.resends ≡ false → due t s.outgoing.clock now (has_outstanding s.sender.sender) ≡ ran.Nothing → s.resends.exhausted ≡ false → send_due limit t rolls [] now s ≡ fire_exit s false stop.Going
+  due_none : ceiling_met limit s.resends ≡ false → due t s.outgoing.clock now (has_outstanding s.sender.sender) ≡ ran.Nothing → s.resends.exhausted ≡ false → send_due limit t rolls [] now s ≡ fire_exit s false (None)
   unfolding send_due
   due_none e f h =
       ap (λ (x : FireExit). cond (is_going_on x) (pumped x (pump_sends t rolls [] x.state.estimator.current_rto now (pump_of x.state))) x) (timers_due_lem limit t rolls now s e (sym f))
-      ∙ ap (λ (b : Bool). cond (not b) (pumped (fire_exit s false stop.Going) (pump_sends t rolls [] s.estimator.current_rto now (pump_of s))) (fire_exit s false stop.Going)) h
-      ∙ ap (λ (y : PumpExit). pumped (fire_exit s false stop.Going) y) (pump_none s.estimator.current_rto (pump_of s))
+      ∙ ap (λ (b : Bool). cond (not b) (pumped (fire_exit s false (None)) (pump_sends t rolls [] s.estimator.current_rto now (pump_of s))) (fire_exit s false (None))) h
+      ∙ ap (λ (y : PumpExit). pumped (fire_exit s false (None)) y) (pump_none s.estimator.current_rto (pump_of s))
 
 -- ---- a step at which nothing is due
 module _ (chunks : List (List ℕ)) (p : Plan) (g : Given) (s : RunState) where
@@ -99,11 +99,11 @@ module _ (chunks : List (List ℕ)) (p : Plan) (g : Given) (s : RunState) where
 
   -- no arrivals, and x is what is sent
   quiet_step : (x : FireExit) → s.arrivals.forward.path.scheduler.count ≡ 0 → s.arrivals.inbound.reverse.path.scheduler.count ≡ 0
-      → send_due p.max_retransmissions p.timing g.forward_rolls chunks s.time (fire_of s) ≡ x → step_for chunks p g s ≡ step_by (arrival_exit s.arrivals false stop.Going) (λ u. x)
+      → send_due p.max_retransmissions p.timing g.forward_rolls chunks s.time (fire_of s) ≡ x → step_for chunks p g s ≡ step_by (arrival_exit s.arrivals false (None)) (λ u. x)
   unfolding step_for
   quiet_step x e f h =
       ap (λ (a : ArrivalExit). step_by a (λ u. send_due p.max_retransmissions p.timing g.forward_rolls chunks s.time (fire_of u))) (arrivals_none p.timing g.reverse_rolls p.total_chunks s.time s.arrivals e f)
-      ∙ ap (λ (y : FireExit). step_by (arrival_exit s.arrivals false stop.Going) (λ u. y)) h
+      ∙ ap (λ (y : FireExit). step_by (arrival_exit s.arrivals false (None)) (λ u. y)) h
 
 -- a run whose first step is over
 over_first : (chunks : List (List ℕ)) (p : Plan) (g : Given) (s : RunState) (x : StepExit) → step_for chunks p g s ≡ x → is_over x.course ≡ true → run_for chunks p g s ≡ x

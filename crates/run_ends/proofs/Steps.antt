@@ -1,4 +1,5 @@
 -- A step of a run, and the run: at its end every packet that was due was carried, or all but the last.
+use Rattle.std.specs.Prelude.{None, Option, Some}
 use Prim.Native.Nat.{ℕ, zero, suc, ◌+◌}
 use mathlib.Core.Path.{◌≡◌, refl, sym, ap, ◌∙◌, subst}
 use mathlib.Core.Bool.{Bool, true, false, cond, ◌||◌}
@@ -28,24 +29,24 @@ use Rattle.run_ends.proofs.Sending.{ForwardAt, send_due_at}
 use Rattle.run_ends.proofs.Receiving.{ReverseAt, arrivals_at}
 
 -- what came of the last packet, by the run's end
-abbrev pub stop_for : End → Stop
-stop_for end.Ended = stop.Going
-stop_for end.RollsSpent = stop.RollsSpent
-stop_for end.EventsFull = stop.EventsFull
-stop_for end.ScheduleFull = stop.ScheduleFull
+abbrev pub stop_for : End → Option Stop
+stop_for end.Ended = None
+stop_for end.RollsSpent = Some stop.RollsSpent
+stop_for end.EventsFull = Some stop.EventsFull
+stop_for end.ScheduleFull = Some stop.ScheduleFull
 
 -- c and d are the setups of the forward and the reverse line
 module _ (c d : ChannelConfig) (p : Plan) (g : Given) where
   -- both lines, by what came of the last packet of each
-  pub record LinesAt (forward reverse : Stop) (s : RunState) : Type 0 where
+  pub record LinesAt (forward reverse : Option Stop) (s : RunState) : Type 0 where
     pub forth : ForwardAt c g.forward_rolls forward ((window_of s.arrivals.sender.sender).next_seq_num + s.resends.retx_submitted) (outgoing_of s)
     pub back : ReverseAt d g.reverse_rolls reverse s.arrivals.inbound
 
   abbrev pub Going-on : RunState → Type 0
-  Going-on s = LinesAt stop.Going stop.Going s
+  Going-on s = LinesAt (None) (None) s
 
   abbrev pub EndsAt : End → RunState → Type 0
-  EndsAt e s = LinesAt (stop_for e) stop.Going s ⊎ LinesAt stop.Going (stop_for e) s
+  EndsAt e s = LinesAt (stop_for e) (None) s ⊎ LinesAt (None) (stop_for e) s
 
   record Ends (x : StepExit) : Type 0 where
     is : EndsAt (end_of x.course) x.state
@@ -57,11 +58,11 @@ module _ (c d : ChannelConfig) (p : Plan) (g : Given) where
   spent_ends : (u : RunState) → Going-on u → Going-on (exhausted u)
   spent_ends u h = record { forth = h.forth; back = h.back }
 
-  unless : (st : Stop) (u : RunState) (rest : StepExit) → LinesAt st stop.Going u ⊎ LinesAt stop.Going st u → (st ≡ stop.Going → Ends rest) → Ends (unless_stopped st u rest)
-  unless stop.Going u rest h k = k refl
-  unless stop.RollsSpent u rest h k = record { is = h }
-  unless stop.EventsFull u rest h k = record { is = h }
-  unless stop.ScheduleFull u rest h k = record { is = h }
+  unless : (st : Option Stop) (u : RunState) (rest : StepExit) → LinesAt st (None) u ⊎ LinesAt (None) st u → (st ≡ None → Ends rest) → Ends (unless_stopped st u rest)
+  unless (None) u rest h k = k refl
+  unless (Some stop.RollsSpent) u rest h k = record { is = h }
+  unless (Some stop.EventsFull) u rest h k = record { is = h }
+  unless (Some stop.ScheduleFull) u rest h k = record { is = h }
 
   either : (b : Bool) {x y : StepExit} → Ends x → Ends y → Ends (cond b x y)
   either true h k = h
@@ -76,11 +77,11 @@ module _ (c d : ChannelConfig) (p : Plan) (g : Given) where
     abbrev middle : RunState
     middle = with_arrivals (round_less s) (arrives p g s).state
 
-    arrived : LineAt stop.Going c g.forward_rolls (entry_free (outgoing_of s)) ((window_of s.arrivals.sender.sender).next_seq_num + s.resends.retx_submitted) (arrives p g s).state.forward
+    arrived : LineAt (None) c g.forward_rolls (entry_free (outgoing_of s)) ((window_of s.arrivals.sender.sender).next_seq_num + s.resends.retx_submitted) (arrives p g s).state.forward
         × ReverseAt d g.reverse_rolls (arrives p g s).stop (arrives p g s).state.inbound
     arrived = arrivals_at d g.reverse_rolls p.total_chunks s.time c g.forward_rolls p.timing s.arrivals (can_arrive good) q.forth.line q.back
 
-    middle_at : LinesAt stop.Going (arrives p g s).stop middle
+    middle_at : LinesAt (None) (arrives p g s).stop middle
     middle_at =
         let k = arrivals_keep p.timing g.reverse_rolls p.total_chunks s.time s.arrivals (can_arrive good) in
         record {
@@ -91,15 +92,15 @@ module _ (c d : ChannelConfig) (p : Plan) (g : Given) where
           back = arrived.1;
         }
 
-    both_at : (arrives p g s).stop ≡ stop.Going → LinesAt (both_exit p g s).stop stop.Going (after_both p g s)
+    both_at : (arrives p g s).stop ≡ None → LinesAt (both_exit p g s).stop (None) (after_both p g s)
     both_at e =
         record {
           forth = send_due_at c g.forward_rolls p.max_retransmissions s.time (can_send_due (arrived_good good) plan) (good_fire (arrived_good good)) middle_at.forth;
-          back = subst (λ (st : Stop). ReverseAt d g.reverse_rolls st (arrives p g s).state.inbound) e arrived.1;
+          back = subst (λ (st : Option Stop). ReverseAt d g.reverse_rolls st (arrives p g s).state.inbound) e arrived.1;
         }
 
-    on_going : (arrives p g s).stop ≡ stop.Going → (both_exit p g s).stop ≡ stop.Going → Going-on (after_both p g s)
-    on_going e f = subst (λ (st : Stop). LinesAt st stop.Going (after_both p g s)) f (both_at e)
+    on_going : (arrives p g s).stop ≡ None → (both_exit p g s).stop ≡ None → Going-on (after_both p g s)
+    on_going e f = subst (λ (st : Option Stop). LinesAt st (None) (after_both p g s)) f (both_at e)
 
     step_ends : Ends (step p g s)
     step_ends =
@@ -111,7 +112,7 @@ module _ (c d : ChannelConfig) (p : Plan) (g : Given) where
         (either ((arrives p g s).progress || (both_exit p g s).progress) (record { is = inl (on_going e f) }) (settled (after_both p g s) (on_going e f)))))))
 
   -- ---- the run
-  same : {s : RunState} → LinesAt stop.Going stop.Going s ⊎ LinesAt stop.Going stop.Going s → Going-on s
+  same : {s : RunState} → LinesAt (None) (None) s ⊎ LinesAt (None) (None) s → Going-on s
   same (inl h) = h
   same (inr h) = h
 

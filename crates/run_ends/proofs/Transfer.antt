@@ -1,5 +1,5 @@
 -- How every run of `run_transfer` ends.
-use Rattle.std.specs.Prelude.{Ok}
+use Rattle.std.specs.Prelude.{Ok, None, Option}
 use Prim.Native.Nat.{ℕ, ◌+◌, ◌-◌}
 use native.Mathlib.Omega.{arith}
 use mathlib.Core.Path.{◌≡◌, refl, sym, ap, ◌∙◌}
@@ -46,7 +46,7 @@ use Rattle.run_ends.proofs.Steps.{stop_for, LinesAt, Going-on, EndsAt, run_ends_
 abbrev shown : ChannelConfig → List Float → Bool → ℕ → Direction → Line
 shown c rolls free n d = record { due = n; carried = seen d; rolls = rolls; config = c; records = d.records; places = d.places; entry_free = free }
 
-module _ {st : Stop} {c : ChannelConfig} {rolls : List Float} {free : Bool} {n : ℕ} {d : Direction} (q : LineAt st c rolls free n d) where
+module _ {st : Option Stop} {c : ChannelConfig} {rolls : List Float} {free : Bool} {n : ℕ} {d : Direction} (q : LineAt st c rolls free n d) where
   spent_shown : path.rolls_spent d.path rolls ≡ rolls_spent (shown c rolls free n d)
   spent_shown = ap (λ (k : ℕ). ltb (length rolls) (k + packet_rolls)) q.used
 
@@ -59,7 +59,7 @@ module _ {st : Stop} {c : ChannelConfig} {rolls : List Float} {free : Bool} {n :
 plus_none : (n a : ℕ) → n ≡ a + 0 → n ≡ a
 plus_none n a e = omega arith
 
-all_shown : {c : ChannelConfig} {rolls : List Float} {free : Bool} {n : ℕ} {d : Direction} → LineAt stop.Going c rolls free n d → AllCarried (shown c rolls free n d)
+all_shown : {c : ChannelConfig} {rolls : List Float} {free : Bool} {n : ℕ} {d : Direction} → LineAt (None) c rolls free n d → AllCarried (shown c rolls free n d)
 all_shown {n = n} {d} q = plus_none n (seen d) q.due
 
 -- one whose last packet ended the run
@@ -74,24 +74,24 @@ stop_shown end.EventsFull h q = record { last = q.due; why = (sym (spent_shown q
 stop_shown end.ScheduleFull h q = record { last = q.due; why = (sym (spent_shown q) ∙ q.why.0, q.why.1, sym (full_shown q) ∙ q.why.2) }
 
 module _ (c : TransferConfig) (g : Given) (k : Ceilings) where
-  abbrev Lines : Stop → Stop → RunState → Type 0
+  abbrev Lines : Option Stop → Option Stop → RunState → Type 0
   Lines f r s = LinesAt c.channel (reverse_config c.channel) (plan_for k c g) g f r s
 
   abbrev Why : End → StepExit → Type 0
   Why e x = EndWhy e (forward_line c g (outcome_of x) (lent_of x.state)) (reverse_line c g (outcome_of x) (lent_of x.state))
 
-  stop_why : (e : End) (x : StepExit) → not_carried (stop_for e) ≡ 1 → Lines (stop_for e) stop.Going x.state ⊎ Lines stop.Going (stop_for e) x.state → Why e x
+  stop_why : (e : End) (x : StepExit) → not_carried (stop_for e) ≡ 1 → Lines (stop_for e) (None) x.state ⊎ Lines (None) (stop_for e) x.state → Why e x
   stop_why e x h (inl q) = let s = stop_shown e h q.forth.line in forward_stopped s.last (all_shown q.back) s.why
   stop_why e x h (inr q) = let s = stop_shown e h q.back in reverse_stopped (all_shown q.forth.line) s.last s.why
 
-  why_shown : (e : End) (x : StepExit) → Lines (stop_for e) stop.Going x.state ⊎ Lines stop.Going (stop_for e) x.state → Why e x
+  why_shown : (e : End) (x : StepExit) → Lines (stop_for e) (None) x.state ⊎ Lines (None) (stop_for e) x.state → Why e x
   why_shown end.Ended x (inl q) = carried refl (all_shown q.forth.line) (all_shown q.back)
   why_shown end.Ended x (inr q) = carried refl (all_shown q.forth.line) (all_shown q.back)
   why_shown end.RollsSpent x q = stop_why end.RollsSpent x refl q
   why_shown end.EventsFull x q = stop_why end.EventsFull x refl q
   why_shown end.ScheduleFull x q = stop_why end.ScheduleFull x refl q
 
-  events_shown : {f r : Stop} {s : RunState} → Lines f r s → s.written ≡ seen s.arrivals.forward
+  events_shown : {f r : Option Stop} {s : RunState} → Lines f r s → s.written ≡ seen s.arrivals.forward
   events_shown q = q.forth.events
 
   so : (x : StepExit) → EndsAt c.channel (reverse_config c.channel) (plan_for k c g) g (end_of x.course) x.state → EndsSo c g (outcome_of x) (lent_of x.state)

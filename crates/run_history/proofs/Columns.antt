@@ -1,5 +1,5 @@
 -- What a line and a count are after a list of packets and so many copies handed over, and after one more.
-use Rattle.std.specs.Prelude.{Ok, Some}
+use Rattle.std.specs.Prelude.{Ok, Some, None}
 use Prim.Native.Nat.{ℕ, ◌+◌, ◌*◌}
 use mathlib.Core.Path.{◌≡◌, refl, sym, ap, ◌∙◌, subst}
 use mathlib.Core.Bool.{Bool, true, false, cond, not}
@@ -20,7 +20,6 @@ use Rattle.schedule.specs.declared.Deliveries.TheVariants.{Lost, One, Two}
 use Rattle.path.specs.Direction.{Direction, schedule_of}
 use Rattle.path.specs.Rolls.{packet_rolls, rolls_at}
 use Rattle.path.specs.Path.{CarryExit, is_going, left_by_carry, carry, stop_of, copy_fold, left_by_take, take_ready, packet_buffer}
-use Rattle.path.specs.declared.Stop.TheVariants.{Going}
 use Rattle.path.proofs.Laws.{next_rolls, granted, copy_bytes, carried_on, going_is, going_fits, carries, stop_same, take_count}
 use Rattle.events.specs.Events.{ForwardEvent, forward_event, events_of}
 use Rattle.clock.specs.Clock as clock
@@ -151,7 +150,7 @@ module _ (t : Timing) {c : ChannelConfig} {rolls : List Float} {xs : List Submis
   pub submit_sending : {more : ℕ} → again + one x.retransmission ≡ more → (b : Bool) → is_going (submit t rolls x wire o).stop ≡ b
       → Sending c rolls (xs ++ this b ∷ []) came more (submit t rolls x wire o).outgoing.written (line_of (submit t rolls x wire o).outgoing.forward) (events_in (submit t rolls x wire o).outgoing)
   submit_sending k true g =
-      let on : (submit t rolls x wire o).stop ≡ Going = going_is _ g in
+      let on : (submit t rolls x wire o).stop ≡ (None) = going_is _ g in
       record {
         again_are = counted (λ (y : Submission). y.again) xs (this true) again q.again_are ∙ k;
         written_are = ap length carried_of_lem ∙ length-append (carried_of xs) (this true ∷ []) ∙ ap (λ (n : ℕ). n + 1) q.written_are ∙ sym (going_written t rolls x wire o on);

@@ -1,5 +1,5 @@
 -- What waits on a line are copies that it was granted, each once, and none that was handed over.
-use Rattle.std.specs.Prelude.{Ok, Some}
+use Rattle.std.specs.Prelude.{Ok, Some, None}
 use Prim.Native.Nat.{ℕ, ◌+◌, ◌*◌, ◌<◌}
 use native.Mathlib.Omega.{arith}
 use mathlib.Core.Path.{◌≡◌, refl, sym, ap, ◌∙◌, subst}
@@ -24,7 +24,6 @@ use Rattle.channel.proofs.Laws.{carried_length}
 use Rattle.path.specs.Direction.{Direction, schedule_of}
 use Rattle.path.specs.Rolls.{packet_rolls, rolls_at}
 use Rattle.path.specs.Path.{new_path, CarryExit, is_going, stop_of, left_by_carry, carry, left_by_take, take_ready, packet_buffer, CanCarry}
-use Rattle.path.specs.declared.Stop.TheVariants.{Going}
 use Rattle.path.proofs.Packets.{can_put}
 use Rattle.path.proofs.Laws.{next_rolls, granted, copy_bytes, carried_on, Fits, going_is, going_fits, carries, stop_same, EachWaiting, take_copy, taken_keeps}
 use Rattle.clock.specs.Clock as clock
@@ -168,7 +167,7 @@ module _ (t : Timing) {c : ChannelConfig} {rolls : List Float} {xs : List Submis
   pub submit_holds : {places : List ℕ} → CanCarry o.forward rolls x.time wire → LineHolds (copies_from c rolls 0 (forward_wires xs)) places (line_of o.forward) → (b : Bool) → is_going (submit t rolls x wire o).stop ≡ b
       → LineHolds (copies_from c rolls 0 (forward_wires (xs ++ submission x.seq x.retransmission wire b ∷ []))) places (line_of (submit t rolls x wire o).outgoing.forward)
   submit_holds {places} can h true g =
-      let on : (submit t rolls x wire o).stop ≡ Going = going_is _ g in
+      let on : (submit t rolls x wire o).stop ≡ (None) = going_is _ g in
       subst (λ (l : Line). LineHolds (copies_from c rolls 0 (forward_wires (xs ++ submission x.seq x.retransmission wire true ∷ []))) places l) (ap (λ (y : Outgoing). line_of y.forward) (sym (submit_going t rolls x wire o on)))
       (subst (λ (l : List (List ℕ)). LineHolds (copies_from c rolls 0 l) places (line_of (carried_on o.forward rolls x.time wire))) (sym (wires_carried t x wire o q))
       (holds_carried o.forward q.line (entry_free o) x.time wire can (submit_fits t rolls x wire o on) h))

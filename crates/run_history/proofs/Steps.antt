@@ -1,4 +1,5 @@
 -- Every step of a run, also the last, makes its calls; so does the run.
+use Rattle.std.specs.Prelude.{None, Option, Some}
 use Prim.Native.Nat.{ℕ, zero, suc, ◌≤◌}
 use mathlib.Core.Path.{◌≡◌, refl, sym, subst}
 use mathlib.Core.Bool.{Bool, true, false, cond, ◌||◌}
@@ -60,11 +61,11 @@ module _ (Q : RunState → Type 0) (moved : (u : RunState) (time moves rounds : 
   settled : (u : RunState) → Q u → Q (settle p u).state
   settled u q = settle_cases p u (λ (x : StepExit). Q x.state) (λ time. q) (λ t e h. spent u q) (λ t e h k z. moved u _ _ _ q) (λ t e h k z. moved u _ _ _ q)
 
-  by_stop_lem : (st : Stop) (u : RunState) (rest : StepExit) → Q u → (is_going st ≡ true → Q rest.state) → Q (unless_stopped st u rest).state
-  by_stop_lem stop.Going u rest q h = h refl
-  by_stop_lem stop.RollsSpent u rest q h = q
-  by_stop_lem stop.EventsFull u rest q h = q
-  by_stop_lem stop.ScheduleFull u rest q h = q
+  by_stop_lem : (st : Option Stop) (u : RunState) (rest : StepExit) → Q u → (is_going st ≡ true → Q rest.state) → Q (unless_stopped st u rest).state
+  by_stop_lem (None) u rest q h = h refl
+  by_stop_lem (Some stop.RollsSpent) u rest q h = q
+  by_stop_lem (Some stop.EventsFull) u rest q h = q
+  by_stop_lem (Some stop.ScheduleFull) u rest q h = q
 
   either : (b : Bool) (x y : StepExit) → Q x.state → Q y.state → Q (cond b x y).state
   either true x y p q = p

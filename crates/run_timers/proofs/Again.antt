@@ -1,4 +1,5 @@
 -- A step sends a packet again only where a timer has run out.
+use Rattle.std.specs.Prelude.{None, Option, Some}
 use Prim.Native.Nat.{ℕ, ◌<◌}
 use native.Mathlib.Omega.{arith}
 use mathlib.Core.Path.{◌≡◌, refl, sym, subst}
@@ -109,11 +110,11 @@ module _ (p : Plan) (g : Given) (s : RunState) where
   abbrev Left : StepExit → Type 0
   Left x = More x.state.resends.retx_submitted
 
-  unless : (st : Stop) (u : RunState) (rest : StepExit) → More u.resends.retx_submitted → Left rest → Left (unless_stopped st u rest)
-  unless stop.Going u rest l h = h
-  unless stop.RollsSpent u rest l h = l
-  unless stop.EventsFull u rest l h = l
-  unless stop.ScheduleFull u rest l h = l
+  unless : (st : Option Stop) (u : RunState) (rest : StepExit) → More u.resends.retx_submitted → Left rest → Left (unless_stopped st u rest)
+  unless (None) u rest l h = h
+  unless (Some stop.RollsSpent) u rest l h = l
+  unless (Some stop.EventsFull) u rest l h = l
+  unless (Some stop.ScheduleFull) u rest l h = l
 
   either : (b : Bool) (x y : StepExit) → Left x → Left y → Left (cond b x y)
   either true x y h k = h

@@ -1,4 +1,5 @@
 -- What the parts of a step keep, every step keeps that goes on or ends as the source's does; and so a run.
+use Rattle.std.specs.Prelude.{None, Option, Some}
 use Prim.Native.Nat.{ℕ, ◌<◌}
 use native.Mathlib.Omega.{arith}
 use mathlib.Core.Path.{◌≡◌, refl, sym, ap, ◌∙◌, subst}
@@ -60,11 +61,11 @@ module _ (Q : Kept) (lasting : Lasting Q) (p : Plan) (g : Given) where
   abbrev AtEnd : StepExit → Type 0
   AtEnd x = end_of x.course ≡ end.Ended → Holds Q x.state
 
-  unless : (st : Stop) (u : RunState) (rest : StepExit) → (is_going st ≡ true → AtEnd rest) → AtEnd (unless_stopped st u rest)
-  unless stop.Going u rest h = h refl
-  unless stop.RollsSpent u rest h = λ e. let z : ◌≡◌ {A = ℕ} 0 1 = cc in absurd (omega arith)
-  unless stop.EventsFull u rest h = λ e. let z : ◌≡◌ {A = ℕ} 0 1 = cc in absurd (omega arith)
-  unless stop.ScheduleFull u rest h = λ e. let z : ◌≡◌ {A = ℕ} 0 1 = cc in absurd (omega arith)
+  unless : (st : Option Stop) (u : RunState) (rest : StepExit) → (is_going st ≡ true → AtEnd rest) → AtEnd (unless_stopped st u rest)
+  unless (None) u rest h = h refl
+  unless (Some stop.RollsSpent) u rest h = λ e. let z : ◌≡◌ {A = ℕ} 0 1 = cc in absurd (omega arith)
+  unless (Some stop.EventsFull) u rest h = λ e. let z : ◌≡◌ {A = ℕ} 0 1 = cc in absurd (omega arith)
+  unless (Some stop.ScheduleFull) u rest h = λ e. let z : ◌≡◌ {A = ℕ} 0 1 = cc in absurd (omega arith)
 
   either : (b : Bool) (x y : StepExit) → AtEnd x → AtEnd y → AtEnd (cond b x y)
   either true x y h k = h

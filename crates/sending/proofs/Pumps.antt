@@ -1,5 +1,6 @@
 -- `pump_sends` by its turns, what it keeps, and its loop: what is left to send makes of the present what the whole makes
 -- of the start.
+use Rattle.std.specs.Prelude.{None}
 use Prim.Native.Nat.{ℕ, zero, suc, ◌+◌, ◌-◌, ◌<◌}
 use native.Mathlib.Omega.{arith}
 use mathlib.Core.Path.{◌≡◌, refl, sym, ap, ◌∙◌, subst}
@@ -9,7 +10,6 @@ use lib.Ieee.{Float}
 use lib.ListN.{length}
 use Rattle.chunks.specs.Chunks.{chunks_of}
 use Rattle.path.specs.Path.{is_going}
-use Rattle.path.specs.declared.Stop.TheVariants.{Going}
 use Rattle.clock.specs.declared.Timing.{Timing}
 use Rattle.sending.specs.Sending.{PumpState, PumpExit, pump_exit, next_number, can_pump, send_one, progressed, pump_most, pump_sends}
 use Rattle.sending.specs.Good.{CanPump}
@@ -24,7 +24,7 @@ module _ (t : Timing) (rolls : List Float) (chunks : List (List ℕ)) (rto now :
   unfolding pump_most
   most_turn n h = rw h
 
-  most_nothing : (n : ℕ) → can_pump (length chunks) s.sender.sender ≡ false → pump_most n t rolls chunks rto now s ≡ pump_exit s false Going
+  most_nothing : (n : ℕ) → can_pump (length chunks) s.sender.sender ≡ false → pump_most n t rolls chunks rto now s ≡ pump_exit s false (None)
   unfolding pump_most
   most_nothing zero h = refl
   most_nothing (suc n) h = rw h
@@ -34,7 +34,7 @@ module _ (t : Timing) (rolls : List Float) (chunks : List (List ℕ)) (rto now :
   sent_progress = refl
 
 module _ {t : Timing} {rolls : List Float} {size : ℕ} {file : List ℕ} {total rto now : ℕ} {s : PumpState} (can : CanPump t rolls size file total rto now s) where
-  pub pump_nothing : can_pump total s.sender.sender ≡ false → pump_sends t rolls (chunks_of size file) rto now s ≡ pump_exit s false Going
+  pub pump_nothing : can_pump total s.sender.sender ≡ false → pump_sends t rolls (chunks_of size file) rto now s ≡ pump_exit s false (None)
   pump_nothing h = most_nothing t rolls (chunks_of size file) rto now s (length (chunks_of size file) - next_number s) (subst (λ (n : ℕ). can_pump n s.sender.sender ≡ false) can.whole h)
 
   module _ (free : can_pump total s.sender.sender ≡ true) where
@@ -81,10 +81,10 @@ pub left_start : {t : Timing} {rolls : List Float} {size : ℕ} {file : List ℕ
 left_start can = record { eq = refl; can = can; same = record { store = refl; rows = refl; events = refl; records = refl; places = refl; keys = refl; deadlines = refl } }
 
 module _ {t : Timing} {rolls : List Float} {size : ℕ} {file : List ℕ} {total rto now : ℕ} {u v : PumpState} {progress : Bool} (l : Left t rolls size file total rto now u v progress) where
-  pub left_none : {b : Bool} → b ≡ can_pump total v.sender.sender → b ≡ false → pump_exit v progress Going ≡ pump_sends t rolls (chunks_of size file) rto now u
+  pub left_none : {b : Bool} → b ≡ can_pump total v.sender.sender → b ≡ false → pump_exit v progress (None) ≡ pump_sends t rolls (chunks_of size file) rto now u
   left_none e f = by progress ∙ ap (after_sending progress) (sym (pump_nothing l.can (sym e ∙ f))) ∙ l.eq
     where
-      by : (p : Bool) → pump_exit v p Going ≡ after_sending p (pump_exit v false Going)
+      by : (p : Bool) → pump_exit v p (None) ≡ after_sending p (pump_exit v false (None))
       by true = refl
       by false = refl
 

@@ -1,5 +1,5 @@
 -- Several packets again: what each call asks, what is kept, and the loop.
-use Rattle.std.specs.Prelude.{Option}
+use Rattle.std.specs.Prelude.{Option, None}
 use Prim.Native.Nat.{ℕ, zero, suc, ◌+◌, ◌-◌, ◌*◌, ◌^◌, ◌≤◌, ◌<◌}
 use native.Mathlib.Omega.{arith}
 use native.Mathlib.Nat.{le_trans}
@@ -15,7 +15,6 @@ use Rattle.window.proofs.Laws.{sound}
 use Rattle.delivery.specs.Calls.{number_of}
 use Rattle.path.specs.Rolls.{packet_rolls}
 use Rattle.path.specs.Path.{is_going}
-use Rattle.path.specs.declared.Stop.TheVariants.{Going}
 use Rattle.path.proofs.Laws.{going_is}
 use Rattle.multi_timer.proofs.Laws.{Within}
 use Rattle.notes.specs.Notes.{is_premature}
@@ -140,12 +139,12 @@ module _ (limit : ℕ) (t : Timing) (rolls : List Float) (rto now : ℕ) (oldest
   abbrev sends_all : List (List ℕ) → Resends → Outgoing → RetransmitExit
   sends_all packets r o = retransmit_all limit t rolls rto now oldest packets r o
 
-  pub all_none : (r : Resends) (o : Outgoing) → sends_all [] r o ≡ retransmit_exit r o Going
+  pub all_none : (r : Resends) (o : Outgoing) → sends_all [] r o ≡ retransmit_exit r o (None)
   unfolding retransmit_all
   all_none r o = refl
 
   module _ (packet : List ℕ) (packets : List (List ℕ)) (r : Resends) (o : Outgoing) where
-    pub all_met : ceiling_met limit r ≡ true → sends_all (packet ∷ packets) r o ≡ retransmit_exit (exhausted r) o Going
+    pub all_met : ceiling_met limit r ≡ true → sends_all (packet ∷ packets) r o ≡ retransmit_exit (exhausted r) o (None)
     unfolding retransmit_all
     all_met m = rw m
 
@@ -161,7 +160,7 @@ module _ (limit : ℕ) (t : Timing) (rolls : List Float) (rto now : ℕ) (oldest
       all_going g = all_turn ∙ rw g
 
     -- whatever holds of the three ends of a turn
-    pub all_by : (Q : RetransmitExit → Type 0) {seq : ℕ} → number_of packet ≡ seq → Q (retransmit_exit (exhausted r) o Going) → (is_going (sends seq packet r o).stop ≡ false → Q (sends seq packet r o))
+    pub all_by : (Q : RetransmitExit → Type 0) {seq : ℕ} → number_of packet ≡ seq → Q (retransmit_exit (exhausted r) o (None)) → (is_going (sends seq packet r o).stop ≡ false → Q (sends seq packet r o))
         → (is_going (sends seq packet r o).stop ≡ true → Q (sends_all packets (sends seq packet r o).resends (sends seq packet r o).outgoing)) → Q (sends_all (packet ∷ packets) r o)
     all_by Q {seq} n met stopped going = by_ceiling (ceiling_met limit r) refl
       where
@@ -184,8 +183,8 @@ module _ (limit : ℕ) (t : Timing) (rolls : List Float) (rto now : ℕ) (oldest
 
   -- by the numbers: P before each packet, Q at the end
   module _ (v : SenderEnd) (P : ℕ → ℕ → Resends → Outgoing → Type 0) (Q : RetransmitExit → Type 0)
-      (done : (first : ℕ) (r : Resends) (o : Outgoing) → P first 0 r o → Q (retransmit_exit r o Going))
-      (met : (first count : ℕ) (r : Resends) (o : Outgoing) → P first (suc count) r o → Q (retransmit_exit (exhausted r) o Going))
+      (done : (first : ℕ) (r : Resends) (o : Outgoing) → P first 0 r o → Q (retransmit_exit r o (None)))
+      (met : (first count : ℕ) (r : Resends) (o : Outgoing) → P first (suc count) r o → Q (retransmit_exit (exhausted r) o (None)))
       (stopped : (first count : ℕ) (r : Resends) (o : Outgoing) → P first (suc count) r o → is_going (sends first (datagram_for (window_end v) first) r o).stop ≡ false → Q (sends first (datagram_for (window_end v) first) r o))
       (going : (first count : ℕ) (r : Resends) (o : Outgoing) → P first (suc count) r o → is_going (sends first (datagram_for (window_end v) first) r o).stop ≡ true → P (suc first) count (sends first (datagram_for (window_end v) first) r o).resends (sends first (datagram_for (window_end v) first) r o).outgoing) where
     pub by_numbers : (count first : ℕ) (r : Resends) (o : Outgoing) → P first count r o → Q (sends_all (packets_from v first count) r o)
@@ -225,7 +224,7 @@ module _ (t : Timing) (rolls : List Float) (rto now : ℕ) (v : SenderEnd) (olde
     written : o₀.written ≤ o.written
     used : o₀.forward.path.used ≤ o.forward.path.used
 
-  before_kept : {first count : ℕ} {r : Resends} {o : Outgoing} → Before first count r o → ResendKeeps rolls now v o₀ (retransmit_exit r o Going)
+  before_kept : {first count : ℕ} {r : Resends} {o : Outgoing} → Before first count r o → ResendKeeps rolls now v o₀ (retransmit_exit r o (None))
   before_kept b = record { good = b.can.good; timers = b.can.timers; keeps = b.keeps; notes = b.notes; written = b.written; used = b.used; premature = b.can.premature }
 
   module _ {first count : ℕ} {r : Resends} {o : Outgoing} (b : Before first (suc count) r o) where
@@ -322,11 +321,11 @@ module _ {limit : ℕ} {t : Timing} {rolls : List Float} {rto now : ℕ} {v : Se
   abbrev whole : RetransmitExit
   whole = retransmit_all limit t rolls rto now (oldest_outstanding v.sender) (packets_from v first count) r₀ o₀
 
-  pub left_none : left ≤ 0 → retransmit_exit r o Going ≡ whole
+  pub left_none : left ≤ 0 → retransmit_exit r o (None) ≡ whole
   left_none h = none left h l.eq
     where
       none : (k : ℕ) → k ≤ 0 → retransmit_all limit t rolls rto now (oldest_outstanding v.sender) (packets_from v seq k) r o ≡ retransmit_all limit t rolls rto now (oldest_outstanding v.sender) (packets_from v first count) r₀ o₀
-          → retransmit_exit r o Going ≡ retransmit_all limit t rolls rto now (oldest_outstanding v.sender) (packets_from v first count) r₀ o₀
+          → retransmit_exit r o (None) ≡ retransmit_all limit t rolls rto now (oldest_outstanding v.sender) (packets_from v first count) r₀ o₀
       none zero h e = sym (all_none limit t rolls rto now (oldest_outstanding v.sender) r o) ∙ e
       none (suc k) h e = absurd (omega arith)
 
@@ -347,8 +346,8 @@ module _ {limit : ℕ} {t : Timing} {rolls : List Float} {rto now : ℕ} {v : Se
     left_can = can_retransmit_first can_some
 
     module _ {b : Bool} (e : b ≡ ceiling_met limit r) where
-      pub left_met : b ≡ true → {r' : Resends} → r' ≡ exhausted r → retransmit_exit r' o Going ≡ whole
-      left_met f p = ap (λ (c : Resends). retransmit_exit c o Going) p ∙ sym (all_met limit t rolls rto now (oldest_outstanding v.sender) (datagram_for (window_end v) seq) (packets_from v (suc seq) (left - 1)) r o (sym e ∙ f)) ∙ eq_some
+      pub left_met : b ≡ true → {r' : Resends} → r' ≡ exhausted r → retransmit_exit r' o (None) ≡ whole
+      left_met f p = ap (λ (c : Resends). retransmit_exit c o (None)) p ∙ sym (all_met limit t rolls rto now (oldest_outstanding v.sender) (datagram_for (window_end v) seq) (packets_from v (suc seq) (left - 1)) r o (sym e ∙ f)) ∙ eq_some
 
       module _ (f : b ≡ false) {x : RetransmitExit} (d : x ≡ retransmit t rolls rto now (oldest_outstanding v.sender) seq (datagram_for (window_end v) seq) r o) {g : Bool} (i : g ≡ is_going x.stop) where
         stop_is : is_going (retransmit t rolls rto now (oldest_outstanding v.sender) seq (datagram_for (window_end v) seq) r o).stop ≡ g

@@ -1,4 +1,5 @@
 -- What `pump_sends` leaves, chunk by chunk.
+use Rattle.std.specs.Prelude.{None}
 use Prim.Native.Nat.{ℕ, zero, suc, ◌+◌, ◌-◌, ◌*◌, ◌≤◌, ◌<◌}
 use native.Mathlib.Omega.{arith}
 use mathlib.Core.Path.{◌≡◌, refl, sym, ap, ◌∙◌, subst}
@@ -8,7 +9,6 @@ use lib.Ieee.{Float}
 use Rattle.chunks.specs.Chunks.{chunks_of}
 use Rattle.path.specs.Rolls.{packet_rolls}
 use Rattle.path.specs.Path.{is_going}
-use Rattle.path.specs.declared.Stop.TheVariants.{Going}
 use Rattle.path.proofs.Laws.{going_is}
 use Rattle.clock.specs.declared.Timing.{Timing}
 use Rattle.session.specs.Sending.{window_of}
@@ -29,7 +29,7 @@ one_fewer a b k e f = omega arith
 module _ {t : Timing} {rolls : List Float} {size : ℕ} {file : List ℕ} {total rto now : ℕ} where
   -- whatever holds where nothing can be sent and where the next chunk ends the run, and before a chunk if it holds after it, holds of the loop
   pub pump_turns : (R : PumpState → PumpExit → Type 0)
-      → ((s : PumpState) → CanPump t rolls size file total rto now s → can_pump total s.sender.sender ≡ false → R s (pump_exit s false Going))
+      → ((s : PumpState) → CanPump t rolls size file total rto now s → can_pump total s.sender.sender ≡ false → R s (pump_exit s false (None)))
       → ((s : PumpState) (x : PumpExit) → CanPump t rolls size file total rto now s → can_pump total s.sender.sender ≡ true → is_going (send_one t rolls (chunks_of size file) rto now s).stop ≡ true → R (send_one t rolls (chunks_of size file) rto now s).state x → R s (progressed x))
       → ((s : PumpState) → CanPump t rolls size file total rto now s → can_pump total s.sender.sender ≡ true → is_going (send_one t rolls (chunks_of size file) rto now s).stop ≡ false → R s (send_one t rolls (chunks_of size file) rto now s))
       → (s : PumpState) → CanPump t rolls size file total rto now s → R s (pump_sends t rolls (chunks_of size file) rto now s)
@@ -135,7 +135,7 @@ module _ {t : Timing} {rolls : List Float} {size : ℕ} {file : List ℕ} {total
   unfolding send_one
   send_used = (submit_used t rolls (given can free) (written can free) s.outgoing).0
 
-  pub send_pumped : (send_one t rolls (chunks_of size file) rto now s).stop ≡ Going → Pumped s (send_one t rolls (chunks_of size file) rto now s).state
+  pub send_pumped : (send_one t rolls (chunks_of size file) rto now s).stop ≡ None → Pumped s (send_one t rolls (chunks_of size file) rto now s).state
   unfolding send_one
   send_pumped e =
       let w = sent_next can free in
@@ -184,13 +184,13 @@ module _ {t : Timing} {rolls : List Float} {size : ℕ} {file : List ℕ} {total
       up h k = omega arith
 
   -- while the run goes on
-  pub pump_pumped : (pump_sends t rolls (chunks_of size file) rto now s).stop ≡ Going → Pumped s (pump_sends t rolls (chunks_of size file) rto now s).state
+  pub pump_pumped : (pump_sends t rolls (chunks_of size file) rto now s).stop ≡ None → Pumped s (pump_sends t rolls (chunks_of size file) rto now s).state
   pump_pumped =
-      pump_turns (λ y x. x.stop ≡ Going → Pumped y x.state) (λ y c none e. pumped_none y) (λ y x c free g rest e. pumped_then (send_pumped c free (going_is _ g)) (rest e))
+      pump_turns (λ y x. x.stop ≡ None → Pumped y x.state) (λ y c none e. pumped_none y) (λ y x c free g rest e. pumped_then (send_pumped c free (going_is _ g)) (rest e))
       (λ y c free g e. absurd (true≢false (sym (ap is_going e) ∙ g))) s can
 
   -- so every datagram counted has used its rolls
-  pub pump_counted : (pump_sends t rolls (chunks_of size file) rto now s).stop ≡ Going → (window_of s.sender.sender).total_sent * packet_rolls ≤ s.outgoing.forward.path.used
+  pub pump_counted : (pump_sends t rolls (chunks_of size file) rto now s).stop ≡ None → (window_of s.sender.sender).total_sent * packet_rolls ≤ s.outgoing.forward.path.used
       → (window_of (pump_sends t rolls (chunks_of size file) rto now s).state.sender.sender).total_sent * packet_rolls ≤ (pump_sends t rolls (chunks_of size file) rto now s).state.outgoing.forward.path.used
   pump_counted e h = let p = pump_pumped e in more _ _ p.count p.sent p.used h
     where

@@ -1,5 +1,5 @@
 -- app/transfer.rs, `retransmit`: packets that were sent before, again.
-use Rattle.std.specs.Prelude.{ℕ, ◌+◌, ◌*◌, ◌≤◌, ◌<◌, ◌≡◌, Bool, true, false, cond, List, [], ◌∷◌, leb, Float, length, Option}
+use Rattle.std.specs.Prelude.{ℕ, ◌+◌, ◌*◌, ◌≤◌, ◌<◌, ◌≡◌, Bool, true, false, cond, List, [], ◌∷◌, leb, Float, length, Option, None}
 use Rattle.bounds.specs.Bounds.{count_limit, max_duration}
 use Rattle.rows.specs.Rows.{as_number}
 use Rattle.delivery.specs.Calls.{number_of}
@@ -28,9 +28,9 @@ counted_again r premature = record {
 pub record RetransmitExit : Type 0 where
   pub resends : Resends
   pub outgoing : Outgoing
-  pub stop : Stop
+  pub stop : Option Stop
 
-abbrev pub retransmit_exit : Resends → Outgoing → Stop → RetransmitExit
+abbrev pub retransmit_exit : Resends → Outgoing → Option Stop → RetransmitExit
 retransmit_exit r o st = record { resends = r; outgoing = o; stop = st }
 
 -- the packet of a number; both counts stand also where it ends the run
@@ -62,10 +62,10 @@ exhausted r = record { retx_submitted = r.retx_submitted; premature = r.prematur
 
 unfoldable pub retransmit_all : ℕ → Timing → List Float → ℕ → ℕ → Option ℕ → List (List ℕ) → Resends → Outgoing
     → RetransmitExit
-retransmit_all limit t rolls rto now oldest [] r o = retransmit_exit r o stop.Going
+retransmit_all limit t rolls rto now oldest [] r o = retransmit_exit r o (None)
 retransmit_all limit t rolls rto now oldest (packet ∷ packets) r o =
     let x = retransmit t rolls rto now oldest (number_of packet) packet r o in
-    cond (ceiling_met limit r) (retransmit_exit (exhausted r) o stop.Going)
+    cond (ceiling_met limit r) (retransmit_exit (exhausted r) o (None))
     (cond (is_going x.stop) (retransmit_all limit t rolls rto now oldest packets x.resends x.outgoing) x)
 
 -- `count` outstanding numbers from `first` on; each packet that was sent again has used its rolls

@@ -1,6 +1,6 @@
 -- app/transfer.rs, `pump_sends`: the chunks of the file that the window has space for, each written by the sender and
 -- submitted.
-use Rattle.std.specs.Prelude.{ℕ, zero, suc, ◌-◌, Bool, true, false, cond, ◌&&◌, List, [], length, get_or, replicate, ltb, Float}
+use Rattle.std.specs.Prelude.{ℕ, zero, suc, ◌-◌, Bool, true, false, cond, ◌&&◌, List, [], length, get_or, replicate, ltb, Float, None, Option}
 use Rattle.bounds.specs.Bounds.{max_datagram}
 use Rattle.window.specs.Sending.{SendExit}
 use Rattle.delivery.specs.Ends.{bytes_sent}
@@ -25,9 +25,9 @@ pump_state v o = record { sender = v; outgoing = o }
 pub record PumpExit : Type 0 where
   pub state : PumpState
   pub progress : Bool
-  pub stop : Stop
+  pub stop : Option Stop
 
-abbrev pub pump_exit : PumpState → Bool → Stop → PumpExit
+abbrev pub pump_exit : PumpState → Bool → Option Stop → PumpExit
 pump_exit s progress st = record { state = s; progress = progress; stop = st }
 
 abbrev pub next_number : PumpState → ℕ
@@ -62,12 +62,12 @@ progressed x = pump_exit x.state true x.stop
 
 -- one after the other, at most n
 unfoldable pub pump_most : ℕ → Timing → List Float → List (List ℕ) → ℕ → ℕ → PumpState → PumpExit
-pump_most zero t rolls chunks rto now s = pump_exit s false stop.Going
+pump_most zero t rolls chunks rto now s = pump_exit s false (None)
 pump_most (suc n) t rolls chunks rto now s =
     let x = send_one t rolls chunks rto now s in
     cond (can_pump (length chunks) s.sender.sender)
     (cond (is_going x.stop) (progressed (pump_most n t rolls chunks rto now x.state)) x)
-    (pump_exit s false stop.Going)
+    (pump_exit s false (None))
 
 -- `pending` has the chunks from the next number on
 abbrev pub pump_sends : Timing → List Float → List (List ℕ) → ℕ → ℕ → PumpState → PumpExit

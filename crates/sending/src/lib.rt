@@ -32,7 +32,7 @@ pub struct PumpResult {
     pub sender: Sender,
     pub outbound: Outbound,
     pub progress: bool,
-    pub stop: Stop,
+    pub stop: Option<Stop>,
 }
 
 // What was sent again so far, and whether the run is exhausted.
@@ -47,7 +47,7 @@ pub struct Resends {
 pub struct RetransmitResult {
     pub resends: Resends,
     pub outbound: Outbound,
-    pub stop: Stop,
+    pub stop: Option<Stop>,
 }
 
 // Whether the window has space and a chunk is left.
@@ -192,7 +192,7 @@ pub fn pump_sends_unchecked(
         sender,
         outbound,
         progress,
-        stop: Stop::Going,
+        stop: None,
     }
 }
 
@@ -322,7 +322,7 @@ pub fn retransmit_from_unchecked(
             return RetransmitResult {
                 resends: exhausted(resends),
                 outbound,
-                stop: Stop::Going,
+                stop: None,
             };
         }
         let resent = retransmit_unchecked(
@@ -338,6 +338,6 @@ pub fn retransmit_from_unchecked(
     RetransmitResult {
         resends,
         outbound,
-        stop: Stop::Going,
+        stop: None,
     }
 }

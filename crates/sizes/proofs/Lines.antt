@@ -1,4 +1,5 @@
 -- A packet that finds rolls, an event and room for its copies goes on; both lines have them for as many packets as they are sized for.
+use Rattle.std.specs.Prelude.{None}
 use Prim.Native.Nat.{ℕ, ◌+◌, ◌-◌, ◌*◌, ◌/◌, ◌≤◌, ◌<◌}
 use native.Mathlib.Omega.{arith}
 use mathlib.Core.Path.{◌≡◌}
@@ -13,7 +14,6 @@ use Rattle.schedule.proofs.Memory.{places_count, has_room}
 use Rattle.channel.proofs.Laws.{granted_le}
 use Rattle.path.specs.Rolls.{packet_rolls}
 use Rattle.path.specs.Direction.{Direction, schedule_of}
-use Rattle.path.specs.declared.Stop.TheVariants.{Going}
 use Rattle.path.proofs.Laws.{next_rolls, granted}
 use Rattle.clock.specs.Clock.{Submission}
 use Rattle.clock.specs.declared.Timing.{Timing}
@@ -68,7 +68,7 @@ module _ (n : ℕ) (t : Timing) (rolls : List Float) (x : Submission) (wire : Li
             room.records room.places;
       }
 
-  pub submit_sized : (submit t rolls x wire o).stop ≡ Going
+  pub submit_sized : (submit t rolls x wire o).stop ≡ None
   submit_sized = submit_goes t rolls x wire o fits
 
   pub written_more : (submit t rolls x wire o).outgoing.written ≡ o.written + 1

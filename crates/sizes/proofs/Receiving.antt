@@ -1,5 +1,5 @@
 -- What is due on both lines: where the reverse line is sized for as many ACKs as copies may come, no ACK ends the run.
-use Rattle.std.specs.Prelude.{Ok, Some}
+use Rattle.std.specs.Prelude.{Ok, Some, None}
 use Prim.Native.Nat.{ℕ, ◌+◌, ◌*◌, ◌≤◌, ◌<◌}
 use native.Mathlib.Omega.{arith}
 use mathlib.Core.Path.{◌≡◌, refl, sym, ap, ◌∙◌, subst}
@@ -20,7 +20,6 @@ use Rattle.channel.proofs.NoFaults.{NoFaults}
 use Rattle.path.specs.Rolls.{packet_rolls}
 use Rattle.path.specs.Direction.{Direction, schedule_of}
 use Rattle.path.specs.Path.{CarryExit, left_by_carry, rolls_spent, is_going, packet_buffer, left_by_take, CanCarry}
-use Rattle.path.specs.declared.Stop.TheVariants.{Going}
 use Rattle.path.proofs.Laws.{granted, copy_bytes, carried_on, Fits, carries, Keeps, carry_keeps, whole_delay, whole_granted, TakeKeeps, take_count}
 use Rattle.clock.specs.declared.Timing.{Timing}
 use Rattle.acks.proofs.Laws.{AckCounts, serve_reverse_counts, serve_reverse_keeps_direction}
@@ -42,7 +41,7 @@ pub record Replies (m : ℕ) (rolls : List Float) (b : Inbound) : Type 0 where
 
 -- the run goes on, and the line has room as before
 pub record Replied (m : ℕ) (rolls : List Float) (x : ForwardExit) : Type 0 where
-  pub goes : x.stop ≡ Going
+  pub goes : x.stop ≡ None
   pub replies : Replies m rolls x.inbound
 
 rolls_enough : (used acks m size : ℕ) → used ≡ acks * packet_rolls → acks < m → m * packet_rolls ≤ size → used + packet_rolls ≤ size
@@ -126,7 +125,7 @@ module _ (m : ℕ) (rolls : List Float) (total now : ℕ) where
   copies_few datas count datas' left h e k = omega arith
 
   abbrev Goes : ServeForwardExit → Type 0
-  Goes x = (x.stop ≡ Going) × Replies m rolls x.inbound
+  Goes x = (x.stop ≡ None) × Replies m rolls x.inbound
 
   abbrev Can : Direction → Inbound → Type 0
   Can f c = CanServeForward f c rolls now × (Replies m rolls c × (c.side.data_received + f.path.scheduler.count ≤ m))
@@ -155,9 +154,9 @@ module _ (m : ℕ) (rolls : List Float) (total now : ℕ) where
   fewer count acks received received' count' h k l = omega arith
 
   pub arrivals_sized : (t : Timing) (s : ArrivalState) → CanServeArrivals rolls now s → Replies m rolls s.inbound → s.inbound.side.data_received + s.forward.path.scheduler.count ≤ m
-      → ((serve_arrivals t rolls total now s).stop ≡ Going) × Replies m rolls (serve_arrivals t rolls total now s).state.inbound
+      → ((serve_arrivals t rolls total now s).stop ≡ None) × Replies m rolls (serve_arrivals t rolls total now s).state.inbound
   arrivals_sized t s can q few =
-      either_exit t rolls total now s can (λ (x : ArrivalExit). (x.stop ≡ Going) × Replies m rolls x.state.inbound) (λ e. absurd (true≢false (sym (ap is_going first.0) ∙ e)))
+      either_exit t rolls total now s can (λ (x : ArrivalExit). (x.stop ≡ None) × Replies m rolls x.state.inbound) (λ e. absurd (true≢false (sym (ap is_going first.0) ∙ e)))
       (λ e. (
         refl,
         record {

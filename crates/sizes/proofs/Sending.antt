@@ -1,5 +1,5 @@
 -- The timers and the window: where both lines are sized for a run, no packet of theirs ends it.
-use Rattle.std.specs.Prelude.{Option}
+use Rattle.std.specs.Prelude.{Option, None}
 use Prim.Native.Nat.{ℕ, zero, suc, ◌+◌, ◌≤◌, ◌<◌}
 use native.Mathlib.Omega.{arith}
 use mathlib.Core.Path.{◌≡◌, refl, sym, ap, ◌∙◌, subst}
@@ -10,7 +10,6 @@ use borrow.Author.Tests.{leb-false}
 use Rattle.chunks.specs.Chunks.{chunks_of}
 use Rattle.window.specs.Slots.{datagram_for}
 use Rattle.path.specs.Path.{is_going}
-use Rattle.path.specs.declared.Stop.TheVariants.{Going}
 use Rattle.rto.specs.Rto.{on_timeout_unchecked}
 use Rattle.clock.specs.Clock.{ClockState, cancel_number, Submission}
 use Rattle.clock.specs.declared.Timing.{Timing}
@@ -65,7 +64,7 @@ module _ {t : Timing} {rolls : List Float} {size : ℕ} {file : List ℕ} {total
     few : s.outgoing.written < total + limit
     few = chunk_few total limit (next_number s) r.retx_submitted s.outgoing.written q.written (number_left can free) q.again
 
-    send_goes : (send_one t rolls (chunks_of size file) rto now s).stop ≡ Going
+    send_goes : (send_one t rolls (chunks_of size file) rto now s).stop ≡ None
     unfolding send_one
     send_goes = submit_sized (total + limit) t rolls (given can free) (written can free) s.outgoing q.room (can_submit_next can free) few
 
@@ -86,9 +85,9 @@ module _ {t : Timing} {rolls : List Float} {size : ℕ} {file : List ℕ} {total
           again = q.again;
         }
 
-  pub pump_sized : (s : PumpState) → CanPump t rolls size file total rto now s → SentBy total limit rolls r s → ((pump_sends t rolls (chunks_of size file) rto now s).stop ≡ Going) × SentBy total limit rolls r (pump_sends t rolls (chunks_of size file) rto now s).state
+  pub pump_sized : (s : PumpState) → CanPump t rolls size file total rto now s → SentBy total limit rolls r s → ((pump_sends t rolls (chunks_of size file) rto now s).stop ≡ None) × SentBy total limit rolls r (pump_sends t rolls (chunks_of size file) rto now s).state
   pump_sized =
-      pump_turns (λ (s : PumpState) (x : PumpExit). SentBy total limit rolls r s → (x.stop ≡ Going) × SentBy total limit rolls r x.state) (λ s can none q. (refl, q)) (λ s x can free g rest q. rest (send_sent can free q))
+      pump_turns (λ (s : PumpState) (x : PumpExit). SentBy total limit rolls r s → (x.stop ≡ None) × SentBy total limit rolls r x.state) (λ s can none q. (refl, q)) (λ s x can free g rest q. rest (send_sent can free q))
       (λ s can free g q. absurd (true≢false (sym (ap is_going (send_goes can free q)) ∙ g)))
 
 -- ---- packets sent again
@@ -106,7 +105,7 @@ module _ (total limit : ℕ) (t : Timing) (rolls : List Float) (rto now : ℕ) (
     few_again : o.written < total + limit
     few_again = again_few total limit next r.retx_submitted o.written q.written q.first left
 
-    resend_goes : (sends first r o).stop ≡ Going
+    resend_goes : (sends first r o).stop ≡ None
     unfolding retransmit
     resend_goes = submit_sized (total + limit) t rolls again (datagram_for (window_end v) first) o q.room (can_resubmit (can_retransmit_first can) oldest (datagram_for (window_end v) first) (first_short can)) few_again
 
@@ -124,7 +123,7 @@ module _ (total limit : ℕ) (t : Timing) (rolls : List Float) (rto now : ℕ) (
         record { room = resend_room; written = again_more next r.retx_submitted o.written q.written n resend_written; first = q.first; again = up r.retx_submitted limit left n }
 
   abbrev Resent : RetransmitExit → Type 0
-  Resent y = (y.stop ≡ Going) × Sent total limit rolls next y.resends y.outgoing
+  Resent y = (y.stop ≡ None) × Sent total limit rolls next y.resends y.outgoing
 
   spent_sent : {r : Resends} {o : Outgoing} → Sent total limit rolls next r o → Sent total limit rolls next (exhausted r) o
   spent_sent q = record { room = q.room; written = q.written; first = q.first; again = q.again }
@@ -145,7 +144,7 @@ module _ (total limit : ℕ) (rolls : List Float) (now : ℕ) where
   SentAt s = Sent total limit rolls (window_of s.sender.sender).next_seq_num s.resends s.outgoing
 
   abbrev pub FireGoes : FireExit → Type 0
-  FireGoes x = (x.stop ≡ Going) × SentAt x.state
+  FireGoes x = (x.stop ≡ None) × SentAt x.state
 
   spent_at : (s : FireState) → SentAt s → SentAt (with_resends s (exhausted s.resends))
   spent_at s q = record { room = q.room; written = q.written; first = q.first; again = q.again }

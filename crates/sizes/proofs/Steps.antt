@@ -1,4 +1,5 @@
 -- A step of a run that is sized for its packets: it ends as the source does, or goes on and is sized as before.
+use Rattle.std.specs.Prelude.{None, Option}
 use Prim.Native.Nat.{ℕ, zero, suc, ◌+◌, ◌*◌, ◌≤◌}
 use native.Mathlib.Omega.{arith}
 use mathlib.Core.Path.{◌≡◌, refl, sym, ◌∙◌, subst}
@@ -54,7 +55,7 @@ module _ {p : Plan} {g : Given} {s : RunState} (plan : GoodPlan p g) (good : Goo
       (window_of s.arrivals.sender.sender).next_seq_num s.resends.retx_submitted p.total_chunks p.max_retransmissions good.arrived.datas good.outgoing.forward.counted.orders q.sent.room.used q.sent.written q.sent.first
       q.sent.again
 
-  arrived : ((arrives p g s).stop ≡ stop.Going) × Replies (2 * most p) g.reverse_rolls (arrives p g s).state.inbound
+  arrived : ((arrives p g s).stop ≡ None) × Replies (2 * most p) g.reverse_rolls (arrives p g s).state.inbound
   arrived = arrivals_sized (2 * most p) g.reverse_rolls p.total_chunks s.time p.timing s.arrivals (can_arrive good) q.replies few
 
   abbrev between : RunState
@@ -96,8 +97,8 @@ module _ {p : Plan} {g : Given} {s : RunState} (plan : GoodPlan p g) (good : Goo
   at_sized : (u : RunState) (time moves rounds : ℕ) → Sized p g u → Sized p g (at u time moves rounds)
   at_sized u time moves rounds h = record { sent = h.sent; replies = h.replies }
 
-  unless : {st : Stop} (u : RunState) {rest : StepExit} → st ≡ stop.Going → Fine p g rest → Fine p g (unless_stopped st u rest)
-  unless u {rest} e h = subst (λ (x : Stop). Fine p g (unless_stopped x u rest)) (sym e) h
+  unless : {st : Option Stop} (u : RunState) {rest : StepExit} → st ≡ None → Fine p g rest → Fine p g (unless_stopped st u rest)
+  unless u {rest} e h = subst (λ (x : Option Stop). Fine p g (unless_stopped x u rest)) (sym e) h
 
   either : (b : Bool) {x y : StepExit} → Fine p g x → Fine p g y → Fine p g (cond b x y)
   either true h k = h

@@ -1,4 +1,5 @@
 -- The second half of a round, the timers and the window, each called only where something is due: what is left after each, what the next asks, and each end of the round.
+use Rattle.std.specs.Prelude.{None, Option}
 use mathlib.Core.Path.{◌≡◌, refl, sym, ap, ◌∙◌, subst}
 use mathlib.Core.Bool.{Bool, true, false, cond, not, ◌&&◌, ◌||◌}
 use Rattle.path.specs.Path.{is_going}
@@ -99,7 +100,7 @@ module _ (p : Plan) (g : Given) (some : Bool) (u : RunState) where
 
     pub chunks_not_due : GoodPlan p g → GoodRun p g u → can_pump p.total_chunks x.arrivals.sender.sender ≡ false → AfterBoth x q
     chunks_not_due plan good h =
-        let b = chunks_due {y = pump_exit (pump_of (fire_of x)) false stop.Going} (sym (pump_nothing (can_pump_then plan good) h)) {b = true} refl refl in
+        let b = chunks_due {y = pump_exit (pump_of (fire_of x)) false (None)} (sym (pump_nothing (can_pump_then plan good) h)) {b = true} refl refl in
         record { state = b.state; any = sym (or_false q) ∙ b.any; going = b.going; left = b.left }
 
   pub good_both : {x : RunState} {q : Bool} → AfterBoth x q → GoodPlan p g → GoodRun p g u → GoodRun p g x
@@ -140,7 +141,7 @@ module _ (p : Plan) (g : Given) (some : Bool) (u : RunState) where
       sym (timers_alone p.max_retransmissions p.timing g.forward_rolls (chunks_for p g) u.time (fire_of u) (over_off (is_going fires.stop) spent)) in
       by_ended
       (h ∙ ap (λ (r : RunState). over r end.Ended u.time) t.state ∙ ap (λ (c : Bool). ends v c (some || fires.progress)) (sym spent)
-      ∙ ap (λ (st : Stop). unless_stopped st v (ends v v.resends.exhausted (some || fires.progress))) (sym (going_is fires.stop t.going)) ∙ ap (ended p some u) alone)
+      ∙ ap (λ (st : Option Stop). unless_stopped st v (ends v v.resends.exhausted (some || fires.progress))) (sym (going_is fires.stop t.going)) ∙ ap (ended p some u) alone)
 
   pub chunks_stop : {x : RunState} {q : Bool} (t : AfterTimers x q) (left : x.resends.exhausted ≡ false) {y : PumpExit} {b : Bool}
       → y ≡ pump_sends p.timing g.forward_rolls (chunks_for p g) x.arrivals.estimator.current_rto u.time (pump_of (fire_of x)) → b ≡ is_going y.stop → not b ≡ true
@@ -159,7 +160,7 @@ module _ (p : Plan) (g : Given) (some : Bool) (u : RunState) where
         by_ended
         (h ∙ ap (λ (r : RunState). cond q (step_exit r Going) (settle p r)) b.state ∙ ap (λ (c : Bool). cond c (step_exit v Going) (settle p v)) b.any
         ∙ ap (λ (c : Bool). ends v c (some || d.progress)) (sym b.left)
-        ∙ ap (λ (st : Stop). unless_stopped st v (ends v d.state.resends.exhausted (some || d.progress))) (sym (going_is d.stop b.going)))
+        ∙ ap (λ (st : Option Stop). unless_stopped st v (ends v d.state.resends.exhausted (some || d.progress))) (sym (going_is d.stop b.going)))
 
     pub goes_on : q ≡ true → {w : StepExit} → w ≡ step_exit x Going → w ≡ finish_round p g some u
     goes_on e h = by_both (h ∙ ap (λ (c : Bool). cond c (step_exit x Going) (settle p x)) (sym e))

@@ -1,4 +1,5 @@
 -- A step that goes on keeps what steps ask.
+use Rattle.std.specs.Prelude.{None, Option, Some}
 use Prim.Native.Nat.{ℕ, ◌≤◌, ◌<◌}
 use native.Mathlib.Omega.{arith}
 use mathlib.Core.Path.{◌≡◌, refl, sym, ap, ◌∙◌, subst}
@@ -28,11 +29,11 @@ not_over : {e : End} {time : ℕ} → Over e time ≡ Going → ⊥
 not_over e = let z : ◌≡◌ {A = ℕ} 0 1 = cc in omega arith
 
 -- a packet that ended the run didn't let it go on
-by_stop_lem : (P : StepExit → Type 0) (st : Stop) (s : RunState) (rest : StepExit) → (is_going st ≡ true → rest.course ≡ Going → P rest) → (unless_stopped st s rest).course ≡ Going → P (unless_stopped st s rest)
-by_stop_lem P stop.Going s rest h e = h refl e
-by_stop_lem P stop.RollsSpent s rest h e = absurd (not_over e)
-by_stop_lem P stop.EventsFull s rest h e = absurd (not_over e)
-by_stop_lem P stop.ScheduleFull s rest h e = absurd (not_over e)
+by_stop_lem : (P : StepExit → Type 0) (st : Option Stop) (s : RunState) (rest : StepExit) → (is_going st ≡ true → rest.course ≡ Going → P rest) → (unless_stopped st s rest).course ≡ Going → P (unless_stopped st s rest)
+by_stop_lem P (None) s rest h e = h refl e
+by_stop_lem P (Some stop.RollsSpent) s rest h e = absurd (not_over e)
+by_stop_lem P (Some stop.EventsFull) s rest h e = absurd (not_over e)
+by_stop_lem P (Some stop.ScheduleFull) s rest h e = absurd (not_over e)
 
 -- what holds of the state after both parts of a round and of the move from it holds of a step that goes on
 module _ (p : Plan) (g : Given) (s : RunState) where

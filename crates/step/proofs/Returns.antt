@@ -1,4 +1,5 @@
 -- A step over what its calls leave.
+use Rattle.std.specs.Prelude.{Option}
 use Prim.Native.Nat.{ℕ, ◌<◌}
 use native.Mathlib.Omega.{arith}
 use mathlib.Core.Path.{◌≡◌, ap, ◌∙◌}
@@ -25,7 +26,7 @@ module _ (p : Plan) (g : Given) (s : State) (l : Lent) where
   pub no_round_is : s.rounds ≡ 0 → {S : State} → ((m : Lent) → run_of S m ≡ exhausted (run_of s m)) → {y : StepExit} → y ≡ over (run_of S l) end.Ended s.now → y ≡ step p g (run_of s l)
   no_round_is z f e = no_round p g (run_of s l) (eq-eqb _ _ z) (e ∙ ap (λ (X : RunState). over X end.Ended s.now) (f l))
 
-pub stops_at : {S T : State} → S ≡ T → (l : Lent) (st : Stop) {y : StepExit} → ((rest : StepExit) → is_going st ≡ false → y ≡ unless_stopped st (run_of S l) rest) → (rest : StepExit) → is_going st ≡ false → y ≡ unless_stopped st (run_of T l) rest
+pub stops_at : {S T : State} → S ≡ T → (l : Lent) (st : Option Stop) {y : StepExit} → ((rest : StepExit) → is_going st ≡ false → y ≡ unless_stopped st (run_of S l) rest) → (rest : StepExit) → is_going st ≡ false → y ≡ unless_stopped st (run_of T l) rest
 stops_at e l st h rest k = h rest k ∙ ap (λ (Z : State). unless_stopped st (run_of Z l) rest) e
 
 -- equal states with equal slices

@@ -1,4 +1,5 @@
 -- The first half of a round, both lines, each called only where something is due: what is left after each, what the next asks, and each end of the round.
+use Rattle.std.specs.Prelude.{None, Option}
 use mathlib.Core.Path.{◌≡◌, refl, sym, ap, ◌∙◌, subst}
 use mathlib.Core.Bool.{Bool, true, false, cond, not, ◌||◌}
 use lib.Dec.{eqb}
@@ -44,7 +45,7 @@ module _ (p : Plan) (g : Given) (s : RunState) where
 
   pub forward_not_due : is_due s.arrivals.forward.path s.arrivals.forward.records s.time ≡ false → AfterForward (round_less s) false
   forward_not_due h =
-      forward_due {x = serve_forward_exit s.arrivals.forward s.arrivals.inbound false stop.Going} {b = true} (sym (serve_not_due g.reverse_rolls p.total_chunks s.time s.arrivals.forward s.arrivals.inbound h)) refl refl
+      forward_due {x = serve_forward_exit s.arrivals.forward s.arrivals.inbound false (None)} {b = true} (sym (serve_not_due g.reverse_rolls p.total_chunks s.time s.arrivals.forward s.arrivals.inbound h)) refl refl
 
   -- ---- after the reverse line
   abbrev pub arrived : RunState
@@ -116,7 +117,7 @@ module _ (p : Plan) (g : Given) (s : RunState) where
 
     by_sends : is_going (arrives p g s).stop ≡ true → {y : StepExit} → y ≡ after_sending p g s (arrives p g s).progress arrived (sends p g s arrived) → y ≡ step p g s
     by_sends on h =
-        by_arrivals (h ∙ ap (λ (w : Stop). unless_stopped w arrived (after_sending p g s (arrives p g s).progress arrived (sends p g s arrived))) (sym (going_is (arrives p g s).stop on)))
+        by_arrivals (h ∙ ap (λ (w : Option Stop). unless_stopped w arrived (after_sending p g s (arrives p g s).progress arrived (sends p g s arrived))) (sym (going_is (arrives p g s).stop on)))
 
     pub finishes : {x : RunState} {q : Bool} → AfterReverse x q → {y : StepExit} → y ≡ finish_round p g q x → y ≡ step p g s
     unfolding finish_round

@@ -1,4 +1,5 @@
 -- A step as what is left of it after each of its halves.
+use Rattle.std.specs.Prelude.{None, Option, Some}
 use mathlib.Core.Path.{◌≡◌, refl, sym, ap, ◌∙◌}
 use mathlib.Core.Bool.{Bool, true, false, cond, not, ◌||◌, true≢false}
 use lib.Dec.{eqb}
@@ -15,11 +16,11 @@ use Rattle.step.specs.declared.Plan.{Plan}
 use Rattle.step.specs.declared.End.TheVariants as end
 use Rattle.step.specs.declared.Course.TheVariants.{Going}
 
-pub going_is : (st : Stop) → is_going st ≡ true → st ≡ stop.Going
-going_is stop.Going e = refl
-going_is stop.RollsSpent e = absurd (true≢false (sym e))
-going_is stop.EventsFull e = absurd (true≢false (sym e))
-going_is stop.ScheduleFull e = absurd (true≢false (sym e))
+pub going_is : (st : Option Stop) → is_going st ≡ true → st ≡ None
+going_is (None) e = refl
+going_is (Some stop.RollsSpent) e = absurd (true≢false (sym e))
+going_is (Some stop.EventsFull) e = absurd (true≢false (sym e))
+going_is (Some stop.ScheduleFull) e = absurd (true≢false (sym e))
 
 pub not_going : (b : Bool) → not b ≡ true → b ≡ false
 not_going true n = absurd (true≢false (sym n))

@@ -39,11 +39,11 @@ module _ (s : State) (e : End) (time : ℕ) where
   over_open h l = ap (over_at l) (sym h)
 
 -- ---- a packet that can't be carried
-pub stopped_never : {st : Stop} {A : Type 0} → st ≡ stop.Going → is_going st ≡ false → A
+pub stopped_never : {st : Option Stop} {A : Type 0} → st ≡ None → is_going st ≡ false → A
 stopped_never e h = absurd (true≢false (sym (ap is_going e) ∙ h))
 
-pub stopped_by : (s : RunState) (rest : StepExit) {st st' : Stop} {x : StepExit} → st ≡ st' → x ≡ unless_stopped st' s rest → x ≡ unless_stopped st s rest
-stopped_by s rest e h = h ∙ ap (λ (z : Stop). unless_stopped z s rest) (sym e)
+pub stopped_by : (s : RunState) (rest : StepExit) {st st' : Option Stop} {x : StepExit} → st ≡ st' → x ≡ unless_stopped st' s rest → x ≡ unless_stopped st s rest
+stopped_by s rest e h = h ∙ ap (λ (z : Option Stop). unless_stopped z s rest) (sym e)
 
 -- ---- the earlier of two deadlines
 pub of_path_at : {d : Option ℕ} {t : ℕ} → d ≡ Some t → Some t ≡ of_path d

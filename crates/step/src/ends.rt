@@ -55,16 +55,16 @@ pub(super) fn exhausted(mut state: State) -> State
 }
 
 // What a packet that can't be carried makes of the run.
-pub(super) fn stopped(state: State, stop: Stop) -> StepResult
+pub(super) fn stopped(state: State, stop: Option<Stop>) -> StepResult
     ensures { (l : Lent) (rest : StepExit) → is_going stop ≡ false
         → step_exit (run_of result.state l) result.course ≡ unless_stopped stop (run_of state l) rest }
 {
     let now = state.now;
     match stop {
-        Stop::Going => going(state),
-        Stop::RollsSpent => over(state, End::RollsSpent, now),
-        Stop::EventsFull => over(state, End::EventsFull, now),
-        Stop::ScheduleFull => over(state, End::ScheduleFull, now),
+        None => going(state),
+        Some(Stop::RollsSpent) => over(state, End::RollsSpent, now),
+        Some(Stop::EventsFull) => over(state, End::EventsFull, now),
+        Some(Stop::ScheduleFull) => over(state, End::ScheduleFull, now),
     }
 }
 

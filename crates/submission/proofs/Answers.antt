@@ -1,4 +1,5 @@
 -- What a submission leaves, by what the line answers. Where it ends the run nothing stands but the note from before.
+use Rattle.std.specs.Prelude.{None, Some}
 use Prim.Native.Nat.{ℕ, ◌+◌}
 use mathlib.Core.Path.{◌≡◌, refl, sym, ap, ◌∙◌}
 use mathlib.Core.Bool.{true, false, true≢false}
@@ -8,7 +9,7 @@ use lib.ListN.{set}
 use Rattle.schedule.specs.State.{copies, lacks_room}
 use Rattle.path.specs.Direction.{schedule_of}
 use Rattle.path.specs.Path.{CarryExit, left_by_carry, rolls_spent, copy_fold, carry, stop_of, is_going}
-use Rattle.path.specs.declared.Stop.TheVariants.{Going, RollsSpent, EventsFull, ScheduleFull}
+use Rattle.path.specs.declared.Stop.TheVariants.{RollsSpent, EventsFull, ScheduleFull}
 use Rattle.path.proofs.Laws.{granted, copy_bytes, carried_on, Fits, spends, no_entry, fills, carries, by_answer, going_fits, fits_going}
 use Rattle.notes.specs.Notes.{SegMetas}
 use Rattle.events.specs.Events.{ForwardEvent, forward_event, row_of}
@@ -39,24 +40,24 @@ module _ (timing : Timing) (rolls : List Float) (x : Submission) (wire : List �
   abbrev pub FitsLine : Type 0
   FitsLine = Fits o.forward rolls (entry_free o) x.time wire
 
-  pub submit_spent : rolls_spent o.forward.path rolls ≡ true → submit timing rolls x wire o ≡ submit_exit (noted x o) RollsSpent
+  pub submit_spent : rolls_spent o.forward.path rolls ≡ true → submit timing rolls x wire o ≡ submit_exit (noted x o) (Some RollsSpent)
   unfolding submit
   submit_spent h = ap exit_by (spends o.forward rolls (entry_free o) x.time wire h)
 
-  pub submit_no_entry : rolls_spent o.forward.path rolls ≡ false → entry_free o ≡ false → submit timing rolls x wire o ≡ submit_exit (noted x o) EventsFull
+  pub submit_no_entry : rolls_spent o.forward.path rolls ≡ false → entry_free o ≡ false → submit timing rolls x wire o ≡ submit_exit (noted x o) (Some EventsFull)
   unfolding submit
   submit_no_entry h k = ap exit_by (no_entry o.forward rolls (entry_free o) x.time wire h k)
 
-  pub submit_full : rolls_spent o.forward.path rolls ≡ false → entry_free o ≡ true → lacks_room (schedule_of o.forward) (copies (granted o.forward rolls)) ≡ true → submit timing rolls x wire o ≡ submit_exit (noted x o) ScheduleFull
+  pub submit_full : rolls_spent o.forward.path rolls ≡ false → entry_free o ≡ true → lacks_room (schedule_of o.forward) (copies (granted o.forward rolls)) ≡ true → submit timing rolls x wire o ≡ submit_exit (noted x o) (Some ScheduleFull)
   unfolding submit
   submit_full h k l = ap exit_by (fills o.forward rolls (entry_free o) x.time wire h k l)
 
-  pub submit_carried : FitsLine → submit timing rolls x wire o ≡ submit_exit (submitted timing rolls x wire o) Going
+  pub submit_carried : FitsLine → submit timing rolls x wire o ≡ submit_exit (submitted timing rolls x wire o) (None)
   unfolding submit
   submit_carried f = ap exit_by (carries o.forward rolls (entry_free o) x.time wire f)
 
   -- whatever holds of these four exits holds of the call's
-  pub by_submit : (P : SubmitExit → Type 0) → P (submit_exit (noted x o) RollsSpent) → P (submit_exit (noted x o) EventsFull) → P (submit_exit (noted x o) ScheduleFull) → (FitsLine → P (submit_exit (submitted timing rolls x wire o) Going)) → P (submit timing rolls x wire o)
+  pub by_submit : (P : SubmitExit → Type 0) → P (submit_exit (noted x o) (Some RollsSpent)) → P (submit_exit (noted x o) (Some EventsFull)) → P (submit_exit (noted x o) (Some ScheduleFull)) → (FitsLine → P (submit_exit (submitted timing rolls x wire o) (None))) → P (submit timing rolls x wire o)
   unfolding submit
   by_submit P spent events full carried = by_answer o.forward rolls (entry_free o) x.time wire (λ (c : CarryExit). P (exit_by c)) (λ h. spent) (λ h k. events) (λ h k l. full) carried
 
@@ -68,13 +69,13 @@ module _ (timing : Timing) (rolls : List Float) (x : Submission) (wire : List �
   unfolding submit
   submit_stop = refl
 
-  pub submit_fits : (submit timing rolls x wire o).stop ≡ Going → FitsLine
+  pub submit_fits : (submit timing rolls x wire o).stop ≡ None → FitsLine
   submit_fits e = going_fits o.forward rolls (entry_free o) x.time wire (sym submit_stop ∙ e)
 
-  pub submit_goes : FitsLine → (submit timing rolls x wire o).stop ≡ Going
+  pub submit_goes : FitsLine → (submit timing rolls x wire o).stop ≡ None
   submit_goes f = submit_stop ∙ fits_going o.forward rolls (entry_free o) x.time wire f
 
-  pub submit_going : (submit timing rolls x wire o).stop ≡ Going → (submit timing rolls x wire o).outgoing ≡ submitted timing rolls x wire o
+  pub submit_going : (submit timing rolls x wire o).stop ≡ None → (submit timing rolls x wire o).outgoing ≡ submitted timing rolls x wire o
   submit_going e = ap (λ (y : SubmitExit). y.outgoing) (submit_carried (submit_fits e))
 
   pub submit_stopped : is_going (submit timing rolls x wire o).stop ≡ false → (submit timing rolls x wire o).outgoing ≡ noted x o

@@ -1,4 +1,5 @@
 -- What every submission keeps, how the events and the used rolls move, and what is asked of a fresh state.
+use Rattle.std.specs.Prelude.{None}
 use Prim.Native.Nat.{ℕ, ◌+◌, ◌≤◌, ◌<◌}
 use native.Mathlib.Omega.{arith}
 use mathlib.Core.Path.{◌≡◌, refl, sym, ap, ◌∙◌, subst}
@@ -11,7 +12,6 @@ use Rattle.bounds.specs.Bounds.{max_duration}
 use Rattle.path.specs.Rolls.{packet_rolls, rolls_broken, Doubles}
 use Rattle.path.specs.Direction.{Direction, Good}
 use Rattle.path.specs.Path.{new_path, CarryExit, left_by_carry, copy_fold, is_going}
-use Rattle.path.specs.declared.Stop.TheVariants.{Going}
 use Rattle.path.proofs.Laws.{RiseAlike, granted, copy_bytes, EachWaiting, carries, carry_good, carry_keeps, carry_used, carry_each, carry_orders}
 use Rattle.path.proofs.Laws as path-laws
 use Rattle.channel.specs.Bounds.{config_broken}
@@ -80,7 +80,7 @@ module _ (timing : Timing) (rolls : List Float) (x : Submission) (wire : List �
   pub submit_orders : RiseAlike o.forward (submit timing rolls x wire o).outgoing.forward
   submit_orders = subst (RiseAlike o.forward) (sym (submit_forward timing rolls x wire o)) (carry_orders o.forward rolls (entry_free o) x.time wire)
 
-  module _ (e : (submit timing rolls x wire o).stop ≡ Going) where
+  module _ (e : (submit timing rolls x wire o).stop ≡ None) where
     pub going_written : (submit timing rolls x wire o).outgoing.written ≡ o.written + 1
     going_written = ap (λ (y : Outgoing). y.written) (submit_going timing rolls x wire o e)
 

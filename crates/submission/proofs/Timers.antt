@@ -1,4 +1,5 @@
 -- The timers after a submission.
+use Rattle.std.specs.Prelude.{None}
 use Prim.Native.Nat.{ℕ, ◌+◌, ◌-◌, ◌≤◌, ◌<◌}
 use native.Mathlib.Omega.{arith}
 use mathlib.Core.Path.{◌≡◌, refl, ap, ◌∙◌}
@@ -12,7 +13,6 @@ use borrow.Author.Tests.{ltb-true, ltb-false}
 use Rattle.bounds.specs.Bounds.{max_datagram, max_duration}
 use Rattle.schedule.specs.State.{copies}
 use Rattle.schedule.specs.declared.Deliveries.{Deliveries}
-use Rattle.path.specs.declared.Stop.TheVariants.{Going}
 use Rattle.path.proofs.Laws.{granted}
 use Rattle.multi_timer.specs.Map.{lookup, put}
 use Rattle.multi_timer.proofs.Laws.{lookup_put, Within, start_full_within}
@@ -67,7 +67,7 @@ module _ (rolls : List Float) (x : Submission) (wire : List ℕ) (o : Outgoing) 
       go false e = rw e (first_rto o.metas x.seq x.time x.rto (granted o.forward rolls) can.good.notes.fits (next e) can.row)
 
   -- ---- a timer for each number: its deadline is set, the others are as they were
-  module _ (can : CanSubmit PerNumber rolls x wire o) (e : (submit PerNumber rolls x wire o).stop ≡ Going) where
+  module _ (can : CanSubmit PerNumber rolls x wire o) (e : (submit PerNumber rolls x wire o).stop ≡ None) where
     pub number_running : running (submit PerNumber rolls x wire o).outgoing.clock ≡ put x.seq (x.time + rto_at_send (metas_of rolls x o) x.seq x.rto) (running o.clock)
     number_running = ap (λ (y : Outgoing). running y.clock) (submit_going PerNumber rolls x wire o e) ∙ submit_entries o.clock (metas_of rolls x o) x (armed PerNumber rolls x wire o can)
 

@@ -1,13 +1,11 @@
 -- The reference's `submit` (`app/transfer.rs`): a datagram to the forward line, with the note on its segment, its event
 -- and its timer. Its count `retx_submitted` is its callers'.
-use Rattle.std.specs.Prelude.{ℕ, ◌+◌, ◌≤◌, ◌<◌, ◌≡◌, Bool, false, cond, List, ltb, eqb, Float, length, set}
+use Rattle.std.specs.Prelude.{ℕ, ◌+◌, ◌≤◌, ◌<◌, ◌≡◌, Bool, false, cond, List, ltb, eqb, Float, length, set, Err, Ok, Option, Result}
 use Rattle.bounds.specs.Bounds.{max_datagram, max_duration}
 use Rattle.schedule.specs.State.{copies}
 use Rattle.schedule.specs.declared.Deliveries.{Deliveries}
 use Rattle.path.specs.Direction.{Direction, direction, Good}
 use Rattle.path.specs.Path.{left_by_carry, carry, stop_of}
-use Rattle.path.specs.declared.Carriage.{Carriage}
-use Rattle.path.specs.declared.Carriage.TheVariants.{RollsSpent, EventsFull, ScheduleFull, Carried}
 use Rattle.path.specs.declared.Stop.{Stop}
 use Rattle.notes.specs.Notes.{SegMetas, sent, sent_again, set_dropped, Timely, ScheduledBelow}
 use Rattle.events.specs.Events.{forward_event, row_of}
@@ -31,9 +29,9 @@ outgoing forward metas written events clock =
 
 pub record SubmitExit : Type 0 where
   pub outgoing : Outgoing
-  pub stop : Stop
+  pub stop : Option Stop
 
-abbrev pub submit_exit : Outgoing → Stop → SubmitExit
+abbrev pub submit_exit : Outgoing → Option Stop → SubmitExit
 submit_exit o s = record { outgoing = o; stop = s }
 
 -- what is noted before the channel is asked: this stands also where the packet ends the run
@@ -48,15 +46,15 @@ abbrev pub entry_free : Outgoing → Bool
 entry_free o = ltb o.written (length o.events)
 
 -- a packet that was carried gets its event, and its timer is armed; one that ends the run gets nothing more
-abbrev pub on_carriage : Carriage → Timing → Submission → Outgoing → Outgoing
-on_carriage (Carried ds fold) timing x o =
+abbrev pub on_carriage : Result (Deliveries × ℕ) Stop → Timing → Submission → Outgoing → Outgoing
+on_carriage (Ok (ds, fold)) timing x o =
     let metas = note_after o.metas x.seq x.retransmission ds in
     let event = forward_event x.seq x.retransmission ds fold in
     outgoing o.forward metas (o.written + 1) (set o.events o.written (row_of event))
     (arm_after_submit timing o.clock metas x)
-on_carriage RollsSpent timing x o = o
-on_carriage EventsFull timing x o = o
-on_carriage ScheduleFull timing x o = o
+on_carriage (Err stop.RollsSpent) timing x o = o
+on_carriage (Err stop.EventsFull) timing x o = o
+on_carriage (Err stop.ScheduleFull) timing x o = o
 
 unfoldable pub submit : Timing → List Float → Submission → List ℕ → Outgoing → SubmitExit
 submit timing rolls x wire o =

@@ -11,7 +11,7 @@ ghost use Rattle.submission.specs.Submission.{outgoing, note_before, note_after,
 use clock::{Clock, Timing};
 use events::Event;
 use notes::{Note, Notes};
-use path::{Carriage, Path, Stop};
+use path::{Path, Stop};
 use schedule::{Deliveries, ScheduledRow, copies_of};
 
 // What a submission changes besides the lent slices.
@@ -27,7 +27,7 @@ pub struct Outbound {
 #[derive(Clone, Copy)]
 pub struct SubmitResult {
     pub outbound: Outbound,
-    pub stop: Stop,
+    pub stop: Option<Stop>,
 }
 
 // A datagram of number `seq`, left with the bytes of its copies; `rto` is the current one, `oldest` the lowest
@@ -74,34 +74,16 @@ pub fn submit_unchecked(
     let answer = carried.answer;
     let clock = outbound.clock;
     match answer {
-        Carriage::RollsSpent => SubmitResult {
+        Err(stop) => SubmitResult {
             outbound: Outbound {
                 forward,
                 events: at,
                 notes,
                 clock,
             },
-            stop: Stop::RollsSpent,
+            stop: Some(stop),
         },
-        Carriage::EventsFull => SubmitResult {
-            outbound: Outbound {
-                forward,
-                events: at,
-                notes,
-                clock,
-            },
-            stop: Stop::EventsFull,
-        },
-        Carriage::ScheduleFull => SubmitResult {
-            outbound: Outbound {
-                forward,
-                events: at,
-                notes,
-                clock,
-            },
-            stop: Stop::ScheduleFull,
-        },
-        Carriage::Carried(deliveries, fold) => {
+        Ok((deliveries, fold)) => {
             note_after(notes, rows, seq, retransmission, deliveries);
             events::put_unchecked(
                 events,
@@ -127,7 +109,7 @@ pub fn submit_unchecked(
                     notes,
                     clock,
                 },
-                stop: Stop::Going,
+                stop: None,
             }
         }
     }

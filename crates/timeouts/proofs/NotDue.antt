@@ -1,10 +1,10 @@
 -- Whether `fire_timers` has something to do; where it has nothing, all stays as it is.
+use Rattle.std.specs.Prelude.{None}
 use Prim.Native.Nat.{ℕ}
 use mathlib.Core.Path.{◌≡◌, refl, sym, ap, ◌∙◌}
 use mathlib.Core.Bool.{Bool, true, false, ◌||◌, true≢false}
 use mathlib.Core.List.{List}
 use lib.Ieee.{Float}
-use Rattle.path.specs.declared.Stop.TheVariants.{Going}
 use Rattle.clock.specs.Clock.{ClockState, due}
 use Rattle.clock.specs.declared.Timing.{Timing}
 use Rattle.clock.specs.declared.Due.{Due}
@@ -26,10 +26,10 @@ module _ (limit : ℕ) (t : Timing) (now : ℕ) (v : Sender) (r : Resends) (c : 
       ap has_run (sym j ∙ i ∙ ap (due t c now) h) ∙ ap (λ (m : Bool). m || has_run (due t c now (has_outstanding v))) (sym f ∙ e)
 
 -- ---- nothing to do
-pub timers_not_due : (limit : ℕ) (t : Timing) (rolls : List Float) (now : ℕ) (s : FireState) → timers_due limit t now s.sender.sender s.resends s.outgoing.clock ≡ false → fire_timers limit t rolls now s ≡ fire_exit s false Going
+pub timers_not_due : (limit : ℕ) (t : Timing) (rolls : List Float) (now : ℕ) (s : FireState) → timers_due limit t now s.sender.sender s.resends s.outgoing.clock ≡ false → fire_timers limit t rolls now s ≡ fire_exit s false (None)
 timers_not_due limit t rolls now s = by_tests (ceiling_met limit s.resends) refl (due t s.outgoing.clock now (has_outstanding s.sender.sender)) refl
   where
-    by_tests : (m : Bool) → ceiling_met limit s.resends ≡ m → (d : Due) → d ≡ due t s.outgoing.clock now (has_outstanding s.sender.sender) → (m || has_run d) ≡ false → fire_timers limit t rolls now s ≡ fire_exit s false Going
+    by_tests : (m : Bool) → ceiling_met limit s.resends ≡ m → (d : Due) → d ≡ due t s.outgoing.clock now (has_outstanding s.sender.sender) → (m || has_run d) ≡ false → fire_timers limit t rolls now s ≡ fire_exit s false (None)
     by_tests true c d e h = absurd (true≢false h)
     by_tests false c ran.Nothing e h = timers_due_lem limit t rolls now s c e
     by_tests false c ran.Idle e h = absurd (true≢false h)

@@ -1,5 +1,5 @@
 -- One number's timer: what `fire_number` leaves, and what it keeps.
-use Rattle.std.specs.Prelude.{Option}
+use Rattle.std.specs.Prelude.{Option, None}
 use Prim.Native.Nat.{ℕ, suc, ◌+◌, ◌*◌, ◌≤◌, ◌<◌}
 use native.Mathlib.Omega.{arith}
 use native.Mathlib.Nat.{le_refl}
@@ -76,7 +76,7 @@ module _ (limit : ℕ) (rolls : List Float) (now n : ℕ) (s : FireState) (h : S
   abbrev fired : Resent → FireExit
   fired x = resending limit PerNumber rolls now x.packets (fire_state x.after s.estimator s.resends (cancelled s n).outgoing)
 
-  pub fire_not_due : is_due s.sender n ≡ false → fire_number limit rolls now n s ≡ fire_exit (cancelled s n) true stop.Going
+  pub fire_not_due : is_due s.sender n ≡ false → fire_number limit rolls now n s ≡ fire_exit (cancelled s n) true (None)
   unfolding fire_number timed_out
   fire_not_due d = ap fired (timeout_not_due s.sender h n selective d)
 
@@ -92,7 +92,7 @@ module _ (limit : ℕ) (rolls : List Float) (now n : ℕ) (s : FireState) (h : S
         fire_again ∙ ap (after_resending (marked_again s.sender n) (on_timeout_unchecked s.estimator))
         (one_packet limit PerNumber rolls _ now _ n _ s.resends (cancelled s n).outgoing (datagram_number (window_end (marked_again s.sender n)) n) c)
 
-    pub fire_exhausted : ceiling_met limit s.resends ≡ true → fire_number limit rolls now n s ≡ after_resending (marked_again s.sender n) (on_timeout_unchecked s.estimator) (retransmit_exit (exhausted s.resends) (cancelled s n).outgoing stop.Going)
+    pub fire_exhausted : ceiling_met limit s.resends ≡ true → fire_number limit rolls now n s ≡ after_resending (marked_again s.sender n) (on_timeout_unchecked s.estimator) (retransmit_exit (exhausted s.resends) (cancelled s n).outgoing (None))
     fire_exhausted c = fire_again ∙ ap (after_resending (marked_again s.sender n) (on_timeout_unchecked s.estimator)) (all_met limit PerNumber rolls _ now _ _ [] s.resends (cancelled s n).outgoing c)
 
 -- ---- what a state asks for
@@ -197,9 +197,9 @@ module _ {rolls : List Float} {samples now : ℕ} {s : FireState} (g : GoodFire 
 
 -- ---- what is known of every number
 module _ {rolls : List Float} {samples now : ℕ} {s : FireState} (g : GoodFire PerNumber rolls samples now s) (limit n : ℕ) where
-  pub by_cases : (Q : FireExit → Type 0) → Q (fire_exit (cancelled s n) true stop.Going)
+  pub by_cases : (Q : FireExit → Type 0) → Q (fire_exit (cancelled s n) true (None))
       → (is_due s.sender n ≡ true → ceiling_met limit s.resends ≡ false → Q (after_resending (marked_again s.sender n) (on_timeout_unchecked s.estimator) (resent_number rolls now n s)))
-      → (is_due s.sender n ≡ true → ceiling_met limit s.resends ≡ true → Q (after_resending (marked_again s.sender n) (on_timeout_unchecked s.estimator) (retransmit_exit (exhausted s.resends) (cancelled s n).outgoing stop.Going)))
+      → (is_due s.sender n ≡ true → ceiling_met limit s.resends ≡ true → Q (after_resending (marked_again s.sender n) (on_timeout_unchecked s.estimator) (retransmit_exit (exhausted s.resends) (cancelled s n).outgoing (None))))
       → Q (fire_number limit rolls now n s)
   by_cases Q not_due again met = by_due_lem (is_due s.sender n) refl
     where

@@ -18,7 +18,6 @@ use Rattle.multi_timer.specs.Map.{keys_of, ascending, lookup, is_some, due_at, d
 use Rattle.multi_timer.specs.MultiTimer.{next_expired_unchecked}
 use Rattle.multi_timer.proofs.Laws.{used_ascending, due_from_all, due_from_next, due_from_first, next_key_lem, next_nothing}
 use Rattle.path.specs.Path.{is_going}
-use Rattle.path.specs.declared.Stop.TheVariants.{Going}
 use Rattle.clock.specs.Clock.{timers_of}
 use Rattle.clock.specs.Timers.{GoodTimers}
 use Rattle.clock.specs.declared.Timing.TheVariants.{PerNumber}
@@ -34,12 +33,12 @@ use Rattle.timeouts.proofs.Numbers.{above_kept, fire_number_good, fire_number_ti
 
 -- ---- one turn
 module _ (limit : ℕ) (rolls : List Float) (now : ℕ) where
-  pub numbers_none : (s : FireState) → fire_numbers limit rolls now [] s ≡ fire_exit s true Going
+  pub numbers_none : (s : FireState) → fire_numbers limit rolls now [] s ≡ fire_exit s true (None)
   unfolding fire_numbers
   numbers_none s = refl
 
   module _ (n : ℕ) (ns : List ℕ) (s : FireState) where
-    pub numbers_exhausted : ceiling_met limit s.resends ≡ true → fire_numbers limit rolls now (n ∷ ns) s ≡ fire_exit (with_resends s (exhausted s.resends)) true Going
+    pub numbers_exhausted : ceiling_met limit s.resends ≡ true → fire_numbers limit rolls now (n ∷ ns) s ≡ fire_exit (with_resends s (exhausted s.resends)) true (None)
     unfolding fire_numbers
     numbers_exhausted c = rw c
 
@@ -154,7 +153,7 @@ timer_set now (some d) e = refl
 
 module _ {limit : ℕ} {rolls : List Float} {now : ℕ} {u v : FireState} {from : ℕ} (l : Left limit rolls now u v from) {k : Option ℕ}
     (next : k ≡ next_expired_unchecked (timers_of v.outgoing.clock) v.outgoing.clock.keys v.outgoing.clock.deadlines from now) where
-  pub left_none : k ≡ None → fire_exit v true Going ≡ fire_numbers limit rolls now (expired u.outgoing.clock now) u
+  pub left_none : k ≡ None → fire_exit v true (None) ≡ fire_numbers limit rolls now (expired u.outgoing.clock now) u
   left_none e = sym (numbers_none limit rolls now v) ∙ ap (λ (ks : List ℕ). fire_numbers limit rolls now ks v) (sym (next_nothing (due_keys_from from now (running v.outgoing.clock)) (sym next ∙ e))) ∙ l.eq
 
   module _ {n : ℕ} (e : k ≡ Some n) where
@@ -188,8 +187,8 @@ module _ {limit : ℕ} {rolls : List Float} {now : ℕ} {u v : FireState} {from 
     whole = ap (λ (ks : List ℕ). fire_numbers limit rolls now ks v) (sym found.1) ∙ l.eq
 
     module _ {b : Bool} (m : b ≡ ceiling_met limit v.resends) where
-      pub left_exhausted : b ≡ true → {r : Resends} → r ≡ exhausted v.resends → fire_exit (with_resends v r) true Going ≡ fire_numbers limit rolls now (expired u.outgoing.clock now) u
-      left_exhausted h p = ap (λ (r : Resends). fire_exit (with_resends v r) true Going) p ∙ sym (numbers_exhausted limit rolls now n found.0 v (sym m ∙ h)) ∙ whole
+      pub left_exhausted : b ≡ true → {r : Resends} → r ≡ exhausted v.resends → fire_exit (with_resends v r) true (None) ≡ fire_numbers limit rolls now (expired u.outgoing.clock now) u
+      left_exhausted h p = ap (λ (r : Resends). fire_exit (with_resends v r) true (None)) p ∙ sym (numbers_exhausted limit rolls now n found.0 v (sym m ∙ h)) ∙ whole
 
       module _ (few : b ≡ false) {x : FireExit} (d : x ≡ fire_number limit rolls now n v) {g : Bool} (i : g ≡ is_going x.stop) where
         c : ceiling_met limit v.resends ≡ false

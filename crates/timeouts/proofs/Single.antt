@@ -1,4 +1,5 @@
 -- A timeout: what its calls ask, what it leaves and what it keeps; and the single timer's.
+use Rattle.std.specs.Prelude.{None}
 use Prim.Native.Nat.{ℕ, zero, suc, ◌+◌, ◌*◌, ◌^◌, ◌≤◌, ◌<◌, max}
 use native.Mathlib.Omega.{arith}
 use mathlib.Core.Path.{◌≡◌, refl, sym, ap, ◌∙◌, subst}
@@ -11,7 +12,6 @@ use Rattle.delivery.specs.Calls.{number_of}
 use Rattle.tallies.proofs.Laws.{how_many}
 use Rattle.path.specs.Rolls.{packet_rolls}
 use Rattle.path.specs.Path.{is_going}
-use Rattle.path.specs.declared.Stop.TheVariants.{Going}
 use Rattle.multi_timer.specs.MultiTimer.{timers_exit}
 use Rattle.rto.specs.Rto.{counts_full, on_timeout_unchecked}
 use Rattle.rto.specs.declared.RtoEstimator.{RtoEstimator}
@@ -38,14 +38,14 @@ use Rattle.timeouts.specs.Good.{Counted, GoodFire, CanFire}
 
 -- ---- by whether there is something to send
 module _ (limit : ℕ) (t : Timing) (rolls : List Float) (now : ℕ) where
-  resending_by : (Q : FireExit → Type 0) (packets : List (List ℕ)) (u : SenderEnd) (e : RtoEstimator) (r : Resends) (o : Outgoing) → (packets ≡ [] → Q (fire_exit (fire_state u e r o) true Going))
+  resending_by : (Q : FireExit → Type 0) (packets : List (List ℕ)) (u : SenderEnd) (e : RtoEstimator) (r : Resends) (o : Outgoing) → (packets ≡ [] → Q (fire_exit (fire_state u e r o) true (None)))
       → (0 < length packets → Q (after_resending u (on_timeout_unchecked e) (retransmit_all limit t rolls (on_timeout_unchecked e).current_rto now (oldest_outstanding u.sender) packets r o)))
       → Q (resending limit t rolls now packets (fire_state u e r o))
   resending_by Q [] u e r o nothing some = nothing refl
   resending_by Q (packet ∷ packets) u e r o nothing some = some (omega arith)
 
   module _ (of : Timeout) (s : FireState) where
-    pub timed_out_by : (Q : FireExit → Type 0) → ((resent s.sender of).packets ≡ [] → Q (fire_exit (fire_state (resent s.sender of).after s.estimator s.resends s.outgoing) true Going))
+    pub timed_out_by : (Q : FireExit → Type 0) → ((resent s.sender of).packets ≡ [] → Q (fire_exit (fire_state (resent s.sender of).after s.estimator s.resends s.outgoing) true (None)))
         → (0 < length (resent s.sender of).packets → Q (after_resending (resent s.sender of).after (on_timeout_unchecked s.estimator) (retransmit_all limit t rolls (on_timeout_unchecked s.estimator).current_rto now (oldest_outstanding (resent s.sender of).after.sender) (resent s.sender of).packets s.resends s.outgoing)))
         → Q (timed_out limit t rolls now of s)
     unfolding timed_out
@@ -73,7 +73,7 @@ module _ (limit : ℕ) (t : Timing) (rolls : List Float) (now : ℕ) where
       abbrev by_resent : Resent → FireExit
       by_resent x = resending limit t rolls now x.packets (fire_state x.after s.estimator s.resends s.outgoing)
 
-      pub timed_out_none : count ≡ 0 → fire_exit (fire_state u s.estimator s.resends s.outgoing) true Going ≡ timed_out limit t rolls now of s
+      pub timed_out_none : count ≡ 0 → fire_exit (fire_state u s.estimator s.resends s.outgoing) true (None) ≡ timed_out limit t rolls now of s
       unfolding timed_out
       timed_out_none z = ap (λ (k : ℕ). resending limit t rolls now (packets_from u first k) (fire_state u s.estimator s.resends s.outgoing)) (sym z) ∙ ap by_resent e
 
@@ -341,7 +341,7 @@ module _ {t : Timing} {rolls : List Float} {now : ℕ} {s : FireState} (can : Ca
   pub fire_timer_held : deadline_too_late (timer_of s.outgoing.clock).deadline ≡ false
   fire_timer_held = can.good.outgoing.clock.timer
 
-  pub fire_none : (limit : ℕ) (of : Timeout) {u : SenderEnd} {first count : ℕ} → Within (window_of u.sender) first count → resent_numbers u first count ≡ resent s.sender of → count ≡ 0 → fire_exit (fire_state u s.estimator s.resends s.outgoing) true Going ≡ timed_out limit t rolls now of s
+  pub fire_none : (limit : ℕ) (of : Timeout) {u : SenderEnd} {first count : ℕ} → Within (window_of u.sender) first count → resent_numbers u first count ≡ resent s.sender of → count ≡ 0 → fire_exit (fire_state u s.estimator s.resends s.outgoing) true (None) ≡ timed_out limit t rolls now of s
   fire_none limit of w e z = timed_out_none limit t rolls now of s w e z
 
   pub fire_some : (limit : ℕ) (of : Timeout) {u : SenderEnd} {first count : ℕ} → Within (window_of u.sender) first count → resent_numbers u first count ≡ resent s.sender of → (count ≡ 0 → ⊥) → {d : RtoEstimator} → d ≡ on_timeout_unchecked s.estimator → {y : RetransmitExit}

@@ -1,5 +1,5 @@
 -- `fire_timers`: by what is due, what it leaves and what it keeps.
-use Rattle.std.specs.Prelude.{Option}
+use Rattle.std.specs.Prelude.{Option, None}
 use Prim.Native.Nat.{ℕ, ◌≤◌}
 use native.Mathlib.Omega.{arith}
 use native.Mathlib.Nat.{le_trans}
@@ -12,7 +12,6 @@ use lib.Dec.{lit≤}
 use Rattle.bounds.specs.Bounds.{max_duration, max_time}
 use Rattle.window.specs.State.{numbers_broken}
 use Rattle.path.specs.Path.{is_going}
-use Rattle.path.specs.declared.Stop.TheVariants.{Going}
 use Rattle.timer.specs.Timer.{expired_at}
 use Rattle.delivery.specs.Calls.{number_of}
 use Rattle.multi_timer.specs.Map.{Entry, lookup, is_some, due_keys}
@@ -69,7 +68,7 @@ module _ (limit : ℕ) (t : Timing) (rolls : List Float) (now : ℕ) (s : FireSt
   abbrev due_numbers : FireExit
   due_numbers = fire_numbers limit rolls now (expired s.outgoing.clock now) s
 
-  pub timers_met : ceiling_met limit s.resends ≡ true → fire_timers limit t rolls now s ≡ fire_exit (with_resends s (exhausted s.resends)) false Going
+  pub timers_met : ceiling_met limit s.resends ≡ true → fire_timers limit t rolls now s ≡ fire_exit (with_resends s (exhausted s.resends)) false (None)
   unfolding fire_timers
   timers_met c = rw c
 
@@ -78,8 +77,8 @@ module _ (limit : ℕ) (t : Timing) (rolls : List Float) (now : ℕ) (s : FireSt
   timers_due_lem c e = rw c (ap (λ (k : Due). by_due k limit t rolls now s) (sym e))
 
   -- whatever holds of the five ends holds of the call's
-  pub timers_by : (Q : FireExit → Type 0) → (ceiling_met limit s.resends ≡ true → Q (fire_exit (with_resends s (exhausted s.resends)) false Going)) → (ceiling_met limit s.resends ≡ false → Q (fire_exit s false Going))
-      → Q (fire_exit (with_clock s (stopped s.outgoing.clock)) true Going) → ((t ≡ timing.PerNumber → ⊥) → Q (fire_single limit t rolls now s)) → (t ≡ timing.PerNumber → Q due_numbers) → Q (fire_timers limit t rolls now s)
+  pub timers_by : (Q : FireExit → Type 0) → (ceiling_met limit s.resends ≡ true → Q (fire_exit (with_resends s (exhausted s.resends)) false (None))) → (ceiling_met limit s.resends ≡ false → Q (fire_exit s false (None)))
+      → Q (fire_exit (with_clock s (stopped s.outgoing.clock)) true (None)) → ((t ≡ timing.PerNumber → ⊥) → Q (fire_single limit t rolls now s)) → (t ≡ timing.PerNumber → Q due_numbers) → Q (fire_timers limit t rolls now s)
   timers_by Q met nothing idle single numbers = by_ceiling (ceiling_met limit s.resends) refl
     where
       by_what : ceiling_met limit s.resends ≡ false → (d : Due) → d ≡ due t s.outgoing.clock now (has_outstanding s.sender.sender) → Q (fire_timers limit t rolls now s)
@@ -184,9 +183,9 @@ module _ (limit : ℕ) (rolls : List Float) (now : ℕ) where
       by_ceiling true c rest = ap (λ (x : FireExit). x.progress) (numbers_exhausted limit rolls now n ns s c)
       by_ceiling false c rest = by_stop_lem c (is_going (fire_number limit rolls now n s).stop) refl rest
 
-  pub fire_timers_idle : (t : Timing) (s : FireState) → (fire_timers limit t rolls now s).progress ≡ false → fire_timers limit t rolls now s ≡ fire_exit (cond (ceiling_met limit s.resends) (with_resends s (exhausted s.resends)) s) false Going
+  pub fire_timers_idle : (t : Timing) (s : FireState) → (fire_timers limit t rolls now s).progress ≡ false → fire_timers limit t rolls now s ≡ fire_exit (cond (ceiling_met limit s.resends) (with_resends s (exhausted s.resends)) s) false (None)
   fire_timers_idle t s =
-      timers_by limit t rolls now s (λ (x : FireExit). x.progress ≡ false → x ≡ fire_exit (cond (ceiling_met limit s.resends) (with_resends s (exhausted s.resends)) s) false Going) (λ c e. rw c) (λ c e. rw c) (λ e. absurd (true≢false e))
+      timers_by limit t rolls now s (λ (x : FireExit). x.progress ≡ false → x ≡ fire_exit (cond (ceiling_met limit s.resends) (with_resends s (exhausted s.resends)) s) false (None)) (λ c e. rw c) (λ c e. rw c) (λ e. absurd (true≢false e))
       (λ i e. absurd (true≢false (sym (timed_out_progress limit t rolls now (timeout_of t) (with_clock s (stopped s.outgoing.clock))) ∙ e)))
       (λ i e. absurd (true≢false (sym (numbers_progress (expired s.outgoing.clock now) s) ∙ e)))
 
@@ -230,17 +229,17 @@ module _ {t : Timing} {rolls : List Float} {now : ℕ} {s : FireState} (can : Ca
   fire_due_asks = (can.good.outgoing.clock, le_trans can.good.outgoing.notes.within (lit≤ tt))
 
   module _ (limit : ℕ) {b : Bool} (e : b ≡ ceiling_met limit s.resends) where
-    pub fires_exhausted : b ≡ true → {r : Resends} → r ≡ exhausted s.resends → fire_exit (with_resends s r) false Going ≡ fire_timers limit t rolls now s
+    pub fires_exhausted : b ≡ true → {r : Resends} → r ≡ exhausted s.resends → fire_exit (with_resends s r) false (None) ≡ fire_timers limit t rolls now s
     fires_exhausted f p = rw p (sym (timers_met limit t rolls now s (sym e ∙ f)))
 
     module _ (f : b ≡ false) {o : Bool} (h : o ≡ has_outstanding s.sender.sender) {d : Due} (i : d ≡ due t s.outgoing.clock now o) where
       by_what : {k : Due} → d ≡ k → by_due k limit t rolls now s ≡ fire_timers limit t rolls now s
       by_what j = sym (timers_due_lem limit t rolls now s (sym e ∙ f) (sym j ∙ i ∙ ap (due t s.outgoing.clock now) h))
 
-      pub fires_nothing : d ≡ ran.Nothing → fire_exit s false Going ≡ fire_timers limit t rolls now s
+      pub fires_nothing : d ≡ ran.Nothing → fire_exit s false (None) ≡ fire_timers limit t rolls now s
       fires_nothing j = by_what j
 
-      pub fires_idle : d ≡ ran.Idle → {k : Clock} → k ≡ cancel s.outgoing.clock.answer → fire_exit (with_clock s (timers_exit k s.outgoing.clock.keys s.outgoing.clock.deadlines)) true Going ≡ fire_timers limit t rolls now s
+      pub fires_idle : d ≡ ran.Idle → {k : Clock} → k ≡ cancel s.outgoing.clock.answer → fire_exit (with_clock s (timers_exit k s.outgoing.clock.keys s.outgoing.clock.deadlines)) true (None) ≡ fire_timers limit t rolls now s
       fires_idle j q = rw q (by_what j)
 
       pub fires_single : d ≡ ran.Single → {x : FireExit} → x ≡ fire_single limit t rolls now s → x ≡ fire_timers limit t rolls now s

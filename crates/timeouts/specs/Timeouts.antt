@@ -1,5 +1,5 @@
 -- app/transfer.rs, `fire_timers`: what the timers that have run out send again.
-use Rattle.std.specs.Prelude.{ℕ, Bool, true, false, cond, ◌||◌, List, [], ◌∷◌, Float}
+use Rattle.std.specs.Prelude.{ℕ, Bool, true, false, cond, ◌||◌, List, [], ◌∷◌, Float, None, Option}
 use Rattle.multi_timer.specs.Map.{due_keys}
 use Rattle.multi_timer.specs.MultiTimer.{timers_exit, used}
 use Rattle.rto.specs.Rto.{on_timeout_unchecked}
@@ -34,9 +34,9 @@ fire_state v e r o = record { sender = v; estimator = e; resends = r; outgoing =
 pub record FireExit : Type 0 where
   pub state : FireState
   pub progress : Bool
-  pub stop : Stop
+  pub stop : Option Stop
 
-abbrev pub fire_exit : FireState → Bool → Stop → FireExit
+abbrev pub fire_exit : FireState → Bool → Option Stop → FireExit
 fire_exit s progress st = record { state = s; progress = progress; stop = st }
 
 abbrev pub with_resends : FireState → Resends → FireState
@@ -53,7 +53,7 @@ abbrev pub after_resending : SenderEnd → RtoEstimator → RetransmitExit → F
 after_resending v e x = fire_exit (fire_state v e x.resends x.outgoing) true x.stop
 
 abbrev pub resending : ℕ → Timing → List Float → ℕ → List (List ℕ) → FireState → FireExit
-resending limit t rolls now [] s = fire_exit s true stop.Going
+resending limit t rolls now [] s = fire_exit s true (None)
 resending limit t rolls now (packet ∷ packets) s =
     let e = on_timeout_unchecked s.estimator in
     after_resending s.sender e
@@ -85,10 +85,10 @@ fire_number limit rolls now n s =
 
 -- one after the other; the ceiling is looked at before each
 unfoldable pub fire_numbers : ℕ → List Float → ℕ → List ℕ → FireState → FireExit
-fire_numbers limit rolls now [] s = fire_exit s true stop.Going
+fire_numbers limit rolls now [] s = fire_exit s true (None)
 fire_numbers limit rolls now (n ∷ ns) s =
     let x = fire_number limit rolls now n s in
-    cond (ceiling_met limit s.resends) (fire_exit (with_resends s (exhausted s.resends)) true stop.Going)
+    cond (ceiling_met limit s.resends) (fire_exit (with_resends s (exhausted s.resends)) true (None))
     (cond (is_going x.stop) (fire_numbers limit rolls now ns x.state) x)
 
 -- the numbers whose timers have run out, ascending
@@ -97,15 +97,15 @@ expired c now = due_keys now (used (timers_of c) c.keys c.deadlines)
 
 -- ---- `fire_timers`
 abbrev pub by_due : Due → ℕ → Timing → List Float → ℕ → FireState → FireExit
-by_due ran.Nothing limit t rolls now s = fire_exit s false stop.Going
-by_due ran.Idle limit t rolls now s = fire_exit (with_clock s (stopped s.outgoing.clock)) true stop.Going
+by_due ran.Nothing limit t rolls now s = fire_exit s false (None)
+by_due ran.Idle limit t rolls now s = fire_exit (with_clock s (stopped s.outgoing.clock)) true (None)
 by_due ran.Single limit t rolls now s = fire_single limit t rolls now s
 by_due ran.Numbers limit t rolls now s = fire_numbers limit rolls now (expired s.outgoing.clock now) s
 
 -- exhausted where the ceiling is met, even with nothing due
 unfoldable pub fire_timers : ℕ → Timing → List Float → ℕ → FireState → FireExit
 fire_timers limit t rolls now s =
-    cond (ceiling_met limit s.resends) (fire_exit (with_resends s (exhausted s.resends)) false stop.Going)
+    cond (ceiling_met limit s.resends) (fire_exit (with_resends s (exhausted s.resends)) false (None))
     (by_due (due t s.outgoing.clock now (has_outstanding s.sender.sender)) limit t rolls now s)
 
 -- whether it has something to do

@@ -31,7 +31,7 @@ pub struct FireResult {
     pub resends: Resends,
     pub outbound: Outbound,
     pub progress: bool,
-    pub stop: Stop,
+    pub stop: Option<Stop>,
 }
 
 // What the timers that have run out send again; exhausted where the ceiling is met, even with nothing due.
@@ -74,7 +74,7 @@ pub fn fire_timers_unchecked(
             resends,
             outbound,
             progress: false,
-            stop: Stop::Going,
+            stop: None,
         };
     }
     let outstanding = sender.has_outstanding_unchecked();
@@ -87,7 +87,7 @@ pub fn fire_timers_unchecked(
             resends,
             outbound,
             progress: false,
-            stop: Stop::Going,
+            stop: None,
         },
         Due::Idle => {
             let clock = clock.cancel_unchecked();
@@ -99,7 +99,7 @@ pub fn fire_timers_unchecked(
                 resends,
                 outbound,
                 progress: true,
-                stop: Stop::Going,
+                stop: None,
             }
         }
         Due::Single => fire_single(
@@ -181,7 +181,7 @@ fn timed_out(
             resends,
             outbound,
             progress: true,
-            stop: Stop::Going,
+            stop: None,
         };
     }
     let estimator = estimator.on_timeout_unchecked();
@@ -383,7 +383,7 @@ fn fire_numbers(
                     resends,
                     outbound,
                     progress: true,
-                    stop: Stop::Going,
+                    stop: None,
                 };
             }
             Some(n) => {
@@ -396,7 +396,7 @@ fn fire_numbers(
                         resends,
                         outbound,
                         progress: true,
-                        stop: Stop::Going,
+                        stop: None,
                     };
                 }
                 let fired = fire_number(

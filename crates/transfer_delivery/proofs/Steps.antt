@@ -1,4 +1,5 @@
 -- What every step of a run keeps of both lines, both ends and the events, also the last.
+use Rattle.std.specs.Prelude.{None, Option, Some}
 use Prim.Native.Nat.{ℕ, zero, suc}
 use mathlib.Core.Path.{◌≡◌, refl, sym, ap, ◌∙◌, subst}
 use mathlib.Core.Bool.{Bool, true, false, cond, ◌||◌}
@@ -29,11 +30,11 @@ module _ (Q : Kept) (p : Plan) (g : Given) (s : RunState) where
   settled : (u : RunState) → At Q u → At Q (settle p u).state
   settled u q = settle_cases p u (λ (x : StepExit). At Q x.state) (λ time. q) (λ t e h. q) (λ t e h k z. q) (λ t e h k z. q)
 
-  by_stop_lem : (st : Stop) (u : RunState) (rest : StepExit) → At Q u → (is_going st ≡ true → At Q rest.state) → At Q (unless_stopped st u rest).state
-  by_stop_lem stop.Going u rest q h = h refl
-  by_stop_lem stop.RollsSpent u rest q h = q
-  by_stop_lem stop.EventsFull u rest q h = q
-  by_stop_lem stop.ScheduleFull u rest q h = q
+  by_stop_lem : (st : Option Stop) (u : RunState) (rest : StepExit) → At Q u → (is_going st ≡ true → At Q rest.state) → At Q (unless_stopped st u rest).state
+  by_stop_lem (None) u rest q h = h refl
+  by_stop_lem (Some stop.RollsSpent) u rest q h = q
+  by_stop_lem (Some stop.EventsFull) u rest q h = q
+  by_stop_lem (Some stop.ScheduleFull) u rest q h = q
 
   either : (b : Bool) (x y : StepExit) → At Q x.state → At Q y.state → At Q (cond b x y).state
   either true x y p q = p

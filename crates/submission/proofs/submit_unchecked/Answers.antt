@@ -11,34 +11,34 @@ pub note_after-requires : goal.note_after-requires
 note_after-requires c = (noted_timely c.args.timing c.args.rolls.now (record { time = c.args.now; seq = c.args.seq; rto = c.args.rto; retransmission = c.args.retransmission; oldest = c.args.oldest }) c.args.wire.now (outgoing (direction c.args.records.now c.args.places.now c.args.outbound.forward) (seg_metas c.args.outbound.notes c.args.rows.now) c.args.outbound.events c.args.events.now (timers_exit c.args.outbound.clock c.args.keys.now c.args.deadlines.now)) c.note_before-notes.ensures c.requires).fits
 
 pub put_unchecked-requires : goal.put_unchecked-requires
-put_unchecked-requires c = had_entry c.args.timing c.args.rolls.now (record { time = c.args.now; seq = c.args.seq; rto = c.args.rto; retransmission = c.args.retransmission; oldest = c.args.oldest }) c.args.wire.now (outgoing (direction c.args.records.now c.args.places.now c.args.outbound.forward) (seg_metas c.args.outbound.notes c.args.rows.now) c.args.outbound.events c.args.events.now (timers_exit c.args.outbound.clock c.args.keys.now c.args.deadlines.now)) c.note_before-notes.ensures c.carry_unchecked-carried.ensures.result_after c.in-Carried.is
+put_unchecked-requires c = had_entry c.args.timing c.args.rolls.now (record { time = c.args.now; seq = c.args.seq; rto = c.args.rto; retransmission = c.args.retransmission; oldest = c.args.oldest }) c.args.wire.now (outgoing (direction c.args.records.now c.args.places.now c.args.outbound.forward) (seg_metas c.args.outbound.notes c.args.rows.now) c.args.outbound.events c.args.events.now (timers_exit c.args.outbound.clock c.args.keys.now c.args.deadlines.now)) c.note_before-notes.ensures c.carry_unchecked-carried.ensures.result_after c.in-Ok.is
 
 pub arm_after_submit_unchecked-clock-requires : goal.arm_after_submit_unchecked-clock-requires
 arm_after_submit_unchecked-clock-requires c = can_arm c.args.timing c.args.rolls.now (record { time = c.args.now; seq = c.args.seq; rto = c.args.rto; retransmission = c.args.retransmission; oldest = c.args.oldest }) c.args.wire.now (outgoing (direction c.args.records.now c.args.places.now c.args.outbound.forward) (seg_metas c.args.outbound.notes c.args.rows.now) c.args.outbound.events c.args.events.now (timers_exit c.args.outbound.clock c.args.keys.now c.args.deadlines.now)) c.note_before-notes.ensures _ c.requires c.note_after.ensures
 
 pub overflow_add-result : goal.overflow_add-result
-overflow_add-result c = let h = had_entry c.args.timing c.args.rolls.now (record { time = c.args.now; seq = c.args.seq; rto = c.args.rto; retransmission = c.args.retransmission; oldest = c.args.oldest }) c.args.wire.now (outgoing (direction c.args.records.now c.args.places.now c.args.outbound.forward) (seg_metas c.args.outbound.notes c.args.rows.now) c.args.outbound.events c.args.events.now (timers_exit c.args.outbound.clock c.args.keys.now c.args.deadlines.now)) c.note_before-notes.ensures c.carry_unchecked-carried.ensures.result_after c.in-Carried.is in record { fits = omega (arith, c.well_formed.1.1.1.1.1.1.1.1.1.1.0.0) }
+overflow_add-result c = let h = had_entry c.args.timing c.args.rolls.now (record { time = c.args.now; seq = c.args.seq; rto = c.args.rto; retransmission = c.args.retransmission; oldest = c.args.oldest }) c.args.wire.now (outgoing (direction c.args.records.now c.args.places.now c.args.outbound.forward) (seg_metas c.args.outbound.notes c.args.rows.now) c.args.outbound.events c.args.events.now (timers_exit c.args.outbound.clock c.args.keys.now c.args.deadlines.now)) c.note_before-notes.ensures c.carry_unchecked-carried.ensures.result_after c.in-Ok.is in record { fits = omega (arith, c.well_formed.1.1.1.1.1.1.1.1.1.1.0.0) }
 
-pub returns-in-RollsSpent : goal.returns-in-RollsSpent
-returns-in-RollsSpent c = record { stop_after = by_carriage c.args.timing c.args.rolls.now (record { time = c.args.now; seq = c.args.seq; rto = c.args.rto; retransmission = c.args.retransmission; oldest = c.args.oldest }) c.args.wire.now (outgoing (direction c.args.records.now c.args.places.now c.args.outbound.forward) (seg_metas c.args.outbound.notes c.args.rows.now) c.args.outbound.events c.args.events.now (timers_exit c.args.outbound.clock c.args.keys.now c.args.deadlines.now)) c.note_before-notes.ensures c.carry_unchecked-carried.ensures.result_after c.in-RollsSpent.is; wire_after = c.carry_unchecked-carried.ensures.wire_after }
+pub returns-in-Err-RollsSpent : goal.returns-in-Err-RollsSpent
+returns-in-Err-RollsSpent c = record { stop_after = by_carriage c.args.timing c.args.rolls.now (record { time = c.args.now; seq = c.args.seq; rto = c.args.rto; retransmission = c.args.retransmission; oldest = c.args.oldest }) c.args.wire.now (outgoing (direction c.args.records.now c.args.places.now c.args.outbound.forward) (seg_metas c.args.outbound.notes c.args.rows.now) c.args.outbound.events c.args.events.now (timers_exit c.args.outbound.clock c.args.keys.now c.args.deadlines.now)) c.note_before-notes.ensures c.carry_unchecked-carried.ensures.result_after c.in-Err-RollsSpent.is; wire_after = c.carry_unchecked-carried.ensures.wire_after }
 
-pub returns-in-EventsFull : goal.returns-in-EventsFull
-returns-in-EventsFull c = record { stop_after = by_carriage c.args.timing c.args.rolls.now (record { time = c.args.now; seq = c.args.seq; rto = c.args.rto; retransmission = c.args.retransmission; oldest = c.args.oldest }) c.args.wire.now (outgoing (direction c.args.records.now c.args.places.now c.args.outbound.forward) (seg_metas c.args.outbound.notes c.args.rows.now) c.args.outbound.events c.args.events.now (timers_exit c.args.outbound.clock c.args.keys.now c.args.deadlines.now)) c.note_before-notes.ensures c.carry_unchecked-carried.ensures.result_after c.in-EventsFull.is; wire_after = c.carry_unchecked-carried.ensures.wire_after }
+pub returns-in-Err-EventsFull : goal.returns-in-Err-EventsFull
+returns-in-Err-EventsFull c = record { stop_after = by_carriage c.args.timing c.args.rolls.now (record { time = c.args.now; seq = c.args.seq; rto = c.args.rto; retransmission = c.args.retransmission; oldest = c.args.oldest }) c.args.wire.now (outgoing (direction c.args.records.now c.args.places.now c.args.outbound.forward) (seg_metas c.args.outbound.notes c.args.rows.now) c.args.outbound.events c.args.events.now (timers_exit c.args.outbound.clock c.args.keys.now c.args.deadlines.now)) c.note_before-notes.ensures c.carry_unchecked-carried.ensures.result_after c.in-Err-EventsFull.is; wire_after = c.carry_unchecked-carried.ensures.wire_after }
 
-pub returns-in-ScheduleFull : goal.returns-in-ScheduleFull
-returns-in-ScheduleFull c = record { stop_after = by_carriage c.args.timing c.args.rolls.now (record { time = c.args.now; seq = c.args.seq; rto = c.args.rto; retransmission = c.args.retransmission; oldest = c.args.oldest }) c.args.wire.now (outgoing (direction c.args.records.now c.args.places.now c.args.outbound.forward) (seg_metas c.args.outbound.notes c.args.rows.now) c.args.outbound.events c.args.events.now (timers_exit c.args.outbound.clock c.args.keys.now c.args.deadlines.now)) c.note_before-notes.ensures c.carry_unchecked-carried.ensures.result_after c.in-ScheduleFull.is; wire_after = c.carry_unchecked-carried.ensures.wire_after }
+pub returns-in-Err-ScheduleFull : goal.returns-in-Err-ScheduleFull
+returns-in-Err-ScheduleFull c = record { stop_after = by_carriage c.args.timing c.args.rolls.now (record { time = c.args.now; seq = c.args.seq; rto = c.args.rto; retransmission = c.args.retransmission; oldest = c.args.oldest }) c.args.wire.now (outgoing (direction c.args.records.now c.args.places.now c.args.outbound.forward) (seg_metas c.args.outbound.notes c.args.rows.now) c.args.outbound.events c.args.events.now (timers_exit c.args.outbound.clock c.args.keys.now c.args.deadlines.now)) c.note_before-notes.ensures c.carry_unchecked-carried.ensures.result_after c.in-Err-ScheduleFull.is; wire_after = c.carry_unchecked-carried.ensures.wire_after }
 
-pub shape_of-wire-in-Carried : goal.shape_of-wire-in-Carried
-shape_of-wire-in-Carried c = c.carry_unchecked-carried.auto.wire
+pub shape_of-wire-in-Ok : goal.shape_of-wire-in-Ok
+shape_of-wire-in-Ok c = c.carry_unchecked-carried.auto.wire
 
-pub shape_of-rows-in-Carried : goal.shape_of-rows-in-Carried
-shape_of-rows-in-Carried c = c.note_after.auto.rows ∙ c.note_before-notes.auto.rows
+pub shape_of-rows-in-Ok : goal.shape_of-rows-in-Ok
+shape_of-rows-in-Ok c = c.note_after.auto.rows ∙ c.note_before-notes.auto.rows
 
-pub shape_of-records-in-Carried : goal.shape_of-records-in-Carried
-shape_of-records-in-Carried c = c.carry_unchecked-carried.auto.records
+pub shape_of-records-in-Ok : goal.shape_of-records-in-Ok
+shape_of-records-in-Ok c = c.carry_unchecked-carried.auto.records
 
-pub shape_of-places-in-Carried : goal.shape_of-places-in-Carried
-shape_of-places-in-Carried c = c.carry_unchecked-carried.auto.places
+pub shape_of-places-in-Ok : goal.shape_of-places-in-Ok
+shape_of-places-in-Ok c = c.carry_unchecked-carried.auto.places
 
-pub returns-in-Carried : goal.returns-in-Carried
-returns-in-Carried c = record { stop_after = by_carried c.args.timing c.args.rolls.now (record { time = c.args.now; seq = c.args.seq; rto = c.args.rto; retransmission = c.args.retransmission; oldest = c.args.oldest }) c.args.wire.now (outgoing (direction c.args.records.now c.args.places.now c.args.outbound.forward) (seg_metas c.args.outbound.notes c.args.rows.now) c.args.outbound.events c.args.events.now (timers_exit c.args.outbound.clock c.args.keys.now c.args.deadlines.now)) c.note_before-notes.ensures c.carry_unchecked-carried.ensures.result_after c.in-Carried.is c.note_after.ensures c.event_row.ensures c.put_unchecked.ensures c.arm_after_submit_unchecked-clock.ensures; wire_after = c.carry_unchecked-carried.ensures.wire_after }
+pub returns-in-Ok : goal.returns-in-Ok
+returns-in-Ok c = record { stop_after = by_carried c.args.timing c.args.rolls.now (record { time = c.args.now; seq = c.args.seq; rto = c.args.rto; retransmission = c.args.retransmission; oldest = c.args.oldest }) c.args.wire.now (outgoing (direction c.args.records.now c.args.places.now c.args.outbound.forward) (seg_metas c.args.outbound.notes c.args.rows.now) c.args.outbound.events c.args.events.now (timers_exit c.args.outbound.clock c.args.keys.now c.args.deadlines.now)) c.note_before-notes.ensures c.carry_unchecked-carried.ensures.result_after c.in-Ok.is c.note_after.ensures c.event_row.ensures c.put_unchecked.ensures c.arm_after_submit_unchecked-clock.ensures; wire_after = c.carry_unchecked-carried.ensures.wire_after }
