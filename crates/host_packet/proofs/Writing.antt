@@ -13,7 +13,7 @@ use Rattle.packet.specs.Writing as writing
 use Rattle.packet.specs.Writing.{to_bytes}
 use Rattle.packet.specs.declared.Packet.{Packet}
 use Rattle.packet.specs.declared.PacketType.{PacketType}
-use Rattle.host_packet.specs.Packet.{WriteExit, write_exit, max_byte, length_code, written, packet_of, write_of}
+use Rattle.host_packet.specs.Packet.{write_exit, max_byte, length_code, written, packet_of, write_of}
 use Rattle.refusal.specs.declared.Refusal.{Refusal}
 
 -- number and flags that the header holds
