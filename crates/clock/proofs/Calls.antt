@@ -1,10 +1,9 @@
 -- One law a return.
-use Rattle.std.specs.Prelude.{Err, None, Ok, Result, Some}
+use Rattle.std.specs.Prelude.{Err, None, Ok, Result, Some, Option}
 use Prim.Native.Nat.{ℕ, ◌+◌, ◌-◌, zero-le}
 use mathlib.Core.Path.{◌≡◌, refl, sym, ap, ◌∙◌}
 use mathlib.Core.Bool.{Bool, true, false, ◌||◌}
 use mathlib.Core.List.{List}
-use mathlib.Core.Option.{Option, none, some}
 use native.Mathlib.Omega.{arith}
 use Rattle.timer.specs.Timer.{new_timer, expired_at, started_at_unchecked, cancelled_unchecked}
 use Rattle.timer.specs.declared.RetransmissionTimer.{RetransmissionTimer}
@@ -126,19 +125,19 @@ module _ (s : ClockState) {t : Timing} where
     o = earliest (deadlines_of (used (timers_of s) s.keys s.deadlines))
 
     answer_at : (o : Option ℕ) (d : ℕ) → earliest_answer o ≡ Ok (Some d) → Some d ≡ as_deadline o
-    answer_at none d q = let z : ◌≡◌ {A = ℕ} 0 1 = cc in absurd (omega arith)
-    answer_at (some x) d q = ap Some (same q)
+    answer_at None d q = let z : ◌≡◌ {A = ℕ} 0 1 = cc in absurd (omega arith)
+    answer_at (Some x) d q = ap Some (same q)
       where
         same : Ok (Some x) ≡ Ok (Some d) → d ≡ x
         same q = cc
 
     answer_none : (o : Option ℕ) → earliest_answer o ≡ Ok None → None ≡ as_deadline o
-    answer_none none q = refl
-    answer_none (some x) q = let z : ◌≡◌ {A = ℕ} 0 1 = cc in absurd (omega arith)
+    answer_none None q = refl
+    answer_none (Some x) q = let z : ◌≡◌ {A = ℕ} 0 1 = cc in absurd (omega arith)
 
     answer_refused : (o : Option ℕ) (r : Refusal) → earliest_answer o ≡ Err r → None ≡ as_deadline o
-    answer_refused none r q = refl
-    answer_refused (some x) r q = let z : ◌≡◌ {A = ℕ} 0 1 = cc in absurd (omega arith)
+    answer_refused None r q = refl
+    answer_refused (Some x) r q = let z : ◌≡◌ {A = ℕ} 0 1 = cc in absurd (omega arith)
 
     pub deadline_at : {d : ℕ} → a ≡ Ok (Some d) → Some d ≡ next_deadline t s
     unfolding next_deadline

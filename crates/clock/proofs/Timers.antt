@@ -1,12 +1,12 @@
 -- Each number that has a timer is outstanding and not acknowledged: so it is when the run starts, and after each call. So
 -- the set never has more entries than the window numbers.
+use Rattle.std.specs.Prelude.{None, Some}
 use Prim.Native.Nat.{ℕ, ◌+◌, ◌-◌, ◌≤◌}
 use native.Mathlib.Nat.{le_trans}
 use native.Mathlib.Omega.{arith}
 use mathlib.Core.Path.{◌≡◌, refl, sym, ap, ◌∙◌}
 use mathlib.Core.Bool.{Bool, true, false, cond, true≢false}
 use mathlib.Core.List.{List}
-use mathlib.Core.Option.{none, some}
 use lib.Dec.{eqb}
 use lib.ListN.{length}
 use borrow.Author.Tests.{eqb-true, eqb-false}
@@ -83,7 +83,7 @@ arm_timers PerNumber v c m x g can due =
       entries = λ q. rw (submit_keys PerNumber c m x can) (g.entries q);
     }
   where
-    by_key : (key : ℕ) (b : Bool) → (b ≡ true → x.seq ≡ key) → is_some (cond b (some (x.time + rto_at_send m x.seq x.rto)) (lookup key (running c))) ≡ true → is_due v key ≡ true
+    by_key : (key : ℕ) (b : Bool) → (b ≡ true → x.seq ≡ key) → is_some (cond b (Some (x.time + rto_at_send m x.seq x.rto)) (lookup key (running c))) ≡ true → is_due v key ≡ true
     by_key key true same h = rw (← same refl) (due refl)
     by_key key false same h = g.due key h
 
@@ -92,7 +92,7 @@ module _ (c : ClockState) (seq : ℕ) (held : Held c) where
   other_timer : (key : ℕ) → HasTimer (cancel_number c seq) key → (key ≡ seq → ⊥) × HasTimer c key
   other_timer key h = by_key (eqb seq key) (eqb-false _ _) (ap is_some (sym (lookup_remove seq key (running c))) ∙ ap (λ (es : List Entry). is_some (lookup key es)) (sym (cancel_number_entries c seq held.state)) ∙ h)
     where
-      by_key : (b : Bool) → (b ≡ false → seq ≡ key → ⊥) → is_some (cond b none (lookup key (running c))) ≡ true → (key ≡ seq → ⊥) × HasTimer c key
+      by_key : (b : Bool) → (b ≡ false → seq ≡ key → ⊥) → is_some (cond b None (lookup key (running c))) ≡ true → (key ≡ seq → ⊥) × HasTimer c key
       by_key true other h = absurd (true≢false (sym h))
       by_key false other h = ((λ e. other refl (sym e)), h)
 

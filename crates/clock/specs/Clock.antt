@@ -1,7 +1,6 @@
 -- When a run sends again: the reference's `app/transfer.rs`, `arm_after_submit`, `arm_oldest`, `rearm_after_ack`,
 -- `due`, `next_deadline` and `sample_rtt`; and the edition clock in their place.
-use Rattle.std.specs.Prelude.{ℕ, ◌+◌, ◌-◌, ◌≤◌, ◌≡◌, Bool, true, false, cond, ◌||◌, List, [], ◌∷◌, eqb, length, None, Some}
-use Rattle.std.proofs.Math.Option.{Option, none, some}
+use Rattle.std.specs.Prelude.{ℕ, ◌+◌, ◌-◌, ◌≤◌, ◌≡◌, Bool, true, false, cond, ◌||◌, List, [], ◌∷◌, eqb, length, None, Some, Option}
 use Rattle.bounds.specs.Bounds.{max_duration}
 use Rattle.timer.specs.Timer.{new_timer, deadline_too_late, expired_at, started_at_unchecked, cancelled_unchecked}
 use Rattle.timer.specs.declared.RetransmissionTimer.{RetransmissionTimer}
@@ -117,8 +116,8 @@ due timing.TheVariants.Edition s now outstanding =
 
 -- ---- `next_deadline`, of the timers
 abbrev pub as_deadline : Option ℕ → Option ℕ
-as_deadline none = None
-as_deadline (some d) = Some d
+as_deadline None = None
+as_deadline (Some d) = Some d
 
 unfoldable pub next_deadline : Timing → ClockState → Option ℕ
 next_deadline timing.TheVariants.Single s = (timer_of s).deadline

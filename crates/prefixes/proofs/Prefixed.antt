@@ -1,10 +1,9 @@
 -- What holds of a run's ends and its forward line on any rolls; each part of a step keeps it, and at the end it says what was written.
-use Rattle.std.specs.Prelude.{Ok, Some}
+use Rattle.std.specs.Prelude.{Ok, Some, Option, None}
 use Prim.Native.Nat.{ℕ, zero, suc, ◌+◌, ◌≤◌, ◌<◌}
 use mathlib.Core.Path.{◌≡◌, refl, sym, ap, ◌∙◌, subst}
 use mathlib.Core.Bool.{Bool, true, false, not, true≢false}
 use mathlib.Core.List.{List, [], ◌∷◌, flatten}
-use mathlib.Core.Option.{Option, none, some}
 use native.Mathlib.Omega.{arith}
 use borrow.Author.Tests.{ltb-false}
 use lib.Dec.{ltb}
@@ -63,15 +62,15 @@ module _ (P : ℕ → Chunk → Type 0) (output : List ℕ) where
   unfolding flatten
   none_written = record { mark = omega arith; parts = []; count = refl; each = λ i l. absurd (omega arith); joined = refl; behind = refl }
 
-  vacant : (w i : ℕ) → get_or (replicate {A = Option Chunk} w none) i none ≡ none
+  vacant : (w i : ℕ) → get_or (replicate {A = Option Chunk} w None) i None ≡ None
   vacant zero i = refl
   vacant (suc w) zero = refl
   vacant (suc w) (suc i) = vacant w i
 
-  none_held : (w : ℕ) → HeldOk P 0 (replicate w none)
+  none_held : (w : ℕ) → HeldOk P 0 (replicate w None)
   none_held w = record { at = λ i c e. no_chunk c (sym (vacant w i) ∙ e) }
     where
-      no_chunk : {X : Type 0} (c : Chunk) → ◌≡◌ {A = Option Chunk} none (some c) → X
+      no_chunk : {X : Type 0} (c : Chunk) → ◌≡◌ {A = Option Chunk} None (Some c) → X
       no_chunk c e = let z : ◌≡◌ {A = ℕ} 0 1 = cc in absurd (omega arith)
 
   positive : (w : ℕ) → window_broken w ≡ false → 0 < w

@@ -1,7 +1,7 @@
 -- Traces that compute: loss, repetition, reordering, a flipped copy, a full window; and one resending.
+use Rattle.std.specs.Prelude.{None}
 use mathlib.Core.Path.{◌≡◌, refl}
 use mathlib.Core.Bool.{true, false}
-use mathlib.Core.Option.{none}
 use mathlib.Core.List.Memᴰ
 use mathlib.Core.List.{List, [], ◌∷◌}
 use Prim.Native.Nat.{ℕ}
@@ -33,7 +33,7 @@ selective =
 selective_run : run SelectiveRepeat 2 (new_world SelectiveRepeat 2) selective
     ≡ record {
       sender = record { base = 0; chunks = (7 ∷ []) ∷ (8 ∷ 9 ∷ []) ∷ []; acknowledged = false ∷ true ∷ [] };
-      receiver = record { base = 2; held = none ∷ none ∷ [] };
+      receiver = record { base = 2; held = None ∷ None ∷ [] };
       delivered = (7 ∷ []) ∷ (8 ∷ 9 ∷ []) ∷ [];
       segments = q0 ∷ q1 ∷ q0 ∷ [];
       acks = 1 ∷ 0 ∷ 0 ∷ [];

@@ -1,7 +1,7 @@
 -- What holds of the two ends and the plain machine after every fair list; and what sending and sending again do to it.
+use Rattle.std.specs.Prelude.{Option, None}
 use mathlib.Core.Path.{◌≡◌, refl, sym, ap, ◌∙◌}
 use mathlib.Core.Bool.{Bool, true, false}
-use mathlib.Core.Option.{Option, none}
 use mathlib.Core.List.{List, [], ◌∷◌, ◌++◌, map}
 use Prim.Native.Nat.{ℕ, zero, suc, ◌+◌, ◌-◌, ◌≤◌, ◌<◌}
 use native.Mathlib.Omega.{arith}
@@ -34,7 +34,7 @@ pub record Ends (w : ℕ) (sender : SenderState) (receiver : ReceiverState) (del
 
 -- the receiver's places, from number n on, hold what is noted
 abbrev pub Holds : ℕ → List (Option Chunk) → List Bool → List Chunk → ℕ → Type 0
-Holds w held marks s n = (i : ℕ) → i < w → get_or held i none ≡ place (get_or marks (n + i) false) (get_or s (n + i) [])
+Holds w held marks s n = (i : ℕ) → i < w → get_or held i None ≡ place (get_or marks (n + i) false) (get_or s (n + i) [])
 
 -- of Selective Repeat: what is noted, and what the ends mark and hold of it
 pub record Selective (w : ℕ) (sender : SenderState) (receiver : ReceiverState) (s : PlainState) : Type 0 where
@@ -90,8 +90,8 @@ own_start SelectiveRepeat w =
       A-is = refl;
       marks_is = λ i. refl;
       as_many = refl;
-      all_places = length-replicate w none;
-      held_is = λ i l. get_or-replicate w i none none l;
+      all_places = length-replicate w None;
+      held_is = λ i l. get_or-replicate w i None None l;
       noted_sent = λ n e. false_true e;
       both_noted = λ n e. e;
     }

@@ -1,8 +1,8 @@
 -- Where the ends follow Kurose and Ross, and where they depart.
+use Rattle.std.specs.Prelude.{Option, None, Some}
 use mathlib.Core.Path.{◌≡◌, refl, sym, ap, ap₂, ◌∙◌}
 use mathlib.Core.Logic.{◌≢◌}
 use mathlib.Core.Bool.{Bool, true, false, cond}
-use mathlib.Core.Option.{Option, none, some}
 use mathlib.Core.List.{List, [], ◌∷◌, ◌++◌, map}
 use Prim.Native.Nat.{ℕ, zero, suc, ◌+◌, ◌-◌, ◌%◌, ◌≤◌, ◌<◌, zero-le, suc-le-suc}
 use native.Mathlib.Nat.{le_of_suc-le-suc, not-suc-le-zero}
@@ -423,7 +423,7 @@ sr_ack_past N b s n h l =
 
 -- ---- Selective Repeat: the receiver
 
-consecutive_run : (f : ℕ → Option Chunk) (l : List (Option Chunk)) (a : ℕ) → ((i : ℕ) → f (a + i) ≡ get_or l i none)
+consecutive_run : (f : ℕ → Option Chunk) (l : List (Option Chunk)) (a : ℕ) → ((i : ℕ) → f (a + i) ≡ get_or l i None)
     → consecutive f a (length l) ≡ Machine.held_run l
 consecutive_run f [] a h = refl
 consecutive_run f (x ∷ l) a h =
@@ -433,67 +433,67 @@ consecutive_run f (x ∷ l) a h =
     ap₂ then_next y ih ∙ go x
   where
     go : (x : Option Chunk) → then_next x (Machine.held_run l) ≡ Machine.held_run (x ∷ l)
-    go none = refl
-    go (some c) = refl
+    go None = refl
+    go (Some c) = refl
 
 -- what is delivered ends where a place is empty
-run_stops : (l : List (Option Chunk)) → get_or l (length (Machine.held_run l)) none ≡ none
+run_stops : (l : List (Option Chunk)) → get_or l (length (Machine.held_run l)) None ≡ None
 run_stops [] = refl
-run_stops (none ∷ l) = refl
-run_stops (some c ∷ l) = run_stops l
+run_stops (None ∷ l) = refl
+run_stops (Some c ∷ l) = run_stops l
 
 run_short : (l : List (Option Chunk)) → length (Machine.held_run l) ≤ length l
 run_short [] = zero-le
-run_short (none ∷ l) = zero-le
-run_short (some c ∷ l) = suc-le-suc (run_short l)
+run_short (None ∷ l) = zero-le
+run_short (Some c ∷ l) = suc-le-suc (run_short l)
 
-run_none : (l : List (Option Chunk)) → get_or l 0 none ≡ none → Machine.held_run l ≡ []
+run_none : (l : List (Option Chunk)) → get_or l 0 None ≡ None → Machine.held_run l ≡ []
 run_none [] h = refl
-run_none (none ∷ l) h = refl
-run_none (some c ∷ l) h = let z : ◌≡◌ {A = ℕ} 0 1 = cc in absurd (omega arith)
+run_none (None ∷ l) h = refl
+run_none (Some c ∷ l) h = let z : ◌≡◌ {A = ℕ} 0 1 = cc in absurd (omega arith)
 
 buffered_hold : (o : Option Chunk) (c : Chunk) → buffered o c ≡ hold o c
-buffered_hold none c = refl
-buffered_hold (some d) c = refl
+buffered_hold None c = refl
+buffered_hold (Some d) c = refl
 
-none_free : (k i : ℕ) → get_or (replicate {A = Option Chunk} k none) i none ≡ none
+none_free : (k i : ℕ) → get_or (replicate {A = Option Chunk} k None) i None ≡ None
 none_free k i = elim (dec_lt i k) [
-  | yes l ↦ get_or-replicate k i none none l
-  | no l ↦ let x : length (replicate {A = Option Chunk} k none) ≡ k = length-replicate k none in get_or-eq_default (replicate k none) none (omega arith)
+  | yes l ↦ get_or-replicate k i None None l
+  | no l ↦ let x : length (replicate {A = Option Chunk} k None) ≡ k = length-replicate k None in get_or-eq_default (replicate k None) None (omega arith)
 ]
 
 -- k places are freed at the front and as many added at the end
-places_moved : (l : List (Option Chunk)) (k i : ℕ) → k ≤ length l → get_or (drop k l ++ replicate k none) i none ≡ get_or l (k + i) none
+places_moved : (l : List (Option Chunk)) (k i : ℕ) → k ≤ length l → get_or (drop k l ++ replicate k None) i None ≡ get_or l (k + i) None
 places_moved l k i h = elim (dec_lt (k + i) (length l)) [
   | yes m ↦
       let x : length (drop k l) ≡ length l - k = length-drop k l in
-      get_or-append (drop k l) (replicate k none) none i (omega arith) ∙ get_or-drop k l i none
+      get_or-append (drop k l) (replicate k None) None i (omega arith) ∙ get_or-drop k l i None
   | no m ↦
       let x : length (drop k l) ≡ length l - k = length-drop k l in
       let e : length (drop k l) + (i - length (drop k l)) ≡ i = omega arith in
-      let y : get_or (drop k l ++ replicate k none) i none ≡ none =
-      rw e at (get_or-append-add (drop k l) (replicate k none) (i - length (drop k l)) none ∙ none_free k (i - length (drop k l))) in
-      y ∙ sym (get_or-eq_default l none (omega arith))
+      let y : get_or (drop k l ++ replicate k None) i None ≡ None =
+      rw e at (get_or-append-add (drop k l) (replicate k None) (i - length (drop k l)) None ∙ none_free k (i - length (drop k l))) in
+      y ∙ sym (get_or-eq_default l None (omega arith))
 ]
 
 pub sr_receiver_start : (N : ℕ) → SrReceiverIs N sr_receiver (new_receiver SelectiveRepeat N)
 sr_receiver_start N =
-    record { base_is = refl; places = length-replicate N none; holds = λ i. sym (none_free N i); base_unbuffered = none_free N 0 }
+    record { base_is = refl; places = length-replicate N None; holds = λ i. sym (none_free N i); base_unbuffered = none_free N 0 }
 
 -- what is delivered leaves the window, which is moved by as many
-sr_delivered : (N : ℕ) (f : ℕ → Option Chunk) (l : List (Option Chunk)) (a n : ℕ) → length l ≡ N → ((i : ℕ) → f (n + i) ≡ get_or l i none)
+sr_delivered : (N : ℕ) (f : ℕ → Option Chunk) (l : List (Option Chunk)) (a n : ℕ) → length l ≡ N → ((i : ℕ) → f (n + i) ≡ get_or l i None)
     → a ≡ n + length (Machine.held_run l)
     → SrReceiverIs N (record { rcv_base = a; buffer = f })
-    (record { base = n + length (Machine.held_run l); held = drop (length (Machine.held_run l)) l ++ replicate (length (Machine.held_run l)) none })
+    (record { base = n + length (Machine.held_run l); held = drop (length (Machine.held_run l)) l ++ replicate (length (Machine.held_run l)) None })
 sr_delivered N f l a n e h i =
     let k : ℕ = length (Machine.held_run l) in
     let s : k ≤ length l = run_short l in
     let x : length (drop k l) ≡ length l - k = length-drop k l in
-    let y : length (replicate {A = Option Chunk} k none) ≡ k = length-replicate k none in
+    let y : length (replicate {A = Option Chunk} k None) ≡ k = length-replicate k None in
     let z : k + 0 ≡ k = omega arith in
     record {
       base_is = i;
-      places = length-append (drop k l) (replicate k none) ∙ omega arith;
+      places = length-append (drop k l) (replicate k None) ∙ omega arith;
       holds = λ j. let o : n + k + j ≡ n + (k + j) = omega arith in rw o (h (k + j) ∙ sym (places_moved l k j s));
       base_unbuffered = places_moved l k 0 s ∙ rw z (run_stops l);
     }
@@ -505,14 +505,14 @@ sr_in_window_lem N b r q h t u =
     let n : ℕ = q.number in
     let i : ℕ = n - r.base in
     let z : r.base + i ≡ n = omega (arith, h) in
-    let o : Option Chunk = hold (get_or r.held i none) q.payload in
+    let o : Option Chunk = hold (get_or r.held i None) q.payload in
     let o' : Option Chunk = buffered (b.buffer n) q.payload in
-    let same : o' ≡ o = ap (λ (x : Option Chunk). buffered x q.payload) (rw z at (h.holds i)) ∙ buffered_hold (get_or r.held i none) q.payload in
+    let same : o' ≡ o = ap (λ (x : Option Chunk). buffered x q.payload) (rw z at (h.holds i)) ∙ buffered_hold (get_or r.held i None) q.payload in
     let l : List (Option Chunk) = set r.held i o in
     let f : ℕ → Option Chunk = store b.buffer n o' in
     let x : length l ≡ N = length-set r.held i o ∙ h.places in
-    let g : (j : ℕ) → f (r.base + j) ≡ get_or l j none = λ j.
-    array_set none b.buffer r.held r.base n o' t (omega (arith, h)) h.holds j ∙ ap (λ (y : Option Chunk). get_or (set r.held i y) j none) same in
+    let g : (j : ℕ) → f (r.base + j) ≡ get_or l j None = λ j.
+    array_set None b.buffer r.held r.base n o' t (omega (arith, h)) h.holds j ∙ ap (λ (y : Option Chunk). get_or (set r.held i y) j None) same in
     elim (ℕ_discrete n b.rcv_base) [
       | yes y ↦
           let e : eqb n b.rcv_base ≡ true = eq-eqb n b.rcv_base y in
@@ -524,7 +524,7 @@ sr_in_window_lem N b r q h t u =
       | no y ↦
           let e : eqb n b.rcv_base ≡ false = ne_eqb n b.rcv_base y in
           let k : 0 ≢ i = λ (k : 0 ≡ i). y (omega (arith, h)) in
-          let d : Machine.held_run l ≡ [] = run_none l (get_or-set_other r.held i 0 o none k ∙ h.base_unbuffered) in
+          let d : Machine.held_run l ≡ [] = run_none l (get_or-set_other r.held i 0 o None k ∙ h.base_unbuffered) in
           let c : length (Machine.held_run l) ≡ 0 = ap length d in
           rw e record { after = sr_delivered N f l b.rcv_base r.base x g (omega (arith, h)); delivered = sym d; acks = refl }
     ]

@@ -1,8 +1,8 @@
 -- Laws of `lead`, the lowest number not noted, and of `note`; and what a receiver holds of the numbers noted.
+use Rattle.std.specs.Prelude.{Option, None, Some}
 use mathlib.Core.Path.{◌≡◌, refl, sym, ap, ◌∙◌}
 use mathlib.Core.Logic.{◌≢◌}
 use mathlib.Core.Bool.{Bool, true, false}
-use mathlib.Core.Option.{Option, none, some}
 use mathlib.Core.List.{List, [], ◌∷◌, ◌++◌}
 use Prim.Native.Nat.{ℕ, zero, suc, ◌+◌, ◌≤◌, ◌<◌, zero-le, suc-le-suc}
 use native.Mathlib.Nat.{le_of_suc-le-suc, not-suc-le-zero}
@@ -108,15 +108,15 @@ get_d_more (b ∷ l) (suc i) = get_d_more l i
 
 -- what the receiver has in the place of a number: its chunk if it is noted
 abbrev pub place : Bool → Chunk → Option Chunk
-place true c = some c
-place false c = none
+place true c = Some c
+place false c = None
 
 pub place_same : (b : Bool) (x y : Chunk) → (b ≡ true → x ≡ y) → place b x ≡ place b y
-place_same true x y f = ap some (f refl)
+place_same true x y f = ap Some (f refl)
 place_same false x y f = refl
 
 pub run_is : (held : List (Option Chunk)) (m : List Bool) (s : List Chunk)
-    → ((i : ℕ) → i < length held → get_or held i none ≡ place (get_or m i false) (get_or s i [])) → lead m ≤ length held → lead m ≤ length s
+    → ((i : ℕ) → i < length held → get_or held i None ≡ place (get_or m i false) (get_or s i [])) → lead m ≤ length held → lead m ≤ length s
     → held_run held ≡ take (lead m) s
 run_is [] m s f h k = let z : lead m ≡ 0 = omega arith in rw z
 run_is (x ∷ held) [] s f h k = rw (f 0 (suc-le-suc zero-le))

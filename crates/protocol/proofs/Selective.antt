@@ -1,8 +1,8 @@
 -- Selective Repeat: what a segment handed to the receiver and an ACK handed to the sender do to the invariant.
+use Rattle.std.specs.Prelude.{Option, None, Some}
 use mathlib.Core.Path.{◌≡◌, refl, sym, ap, ap₂, ◌∙◌}
 use mathlib.Core.Logic.{◌≢◌}
 use mathlib.Core.Bool.{Bool, true, false, cond}
-use mathlib.Core.Option.{Option, none, some}
 use mathlib.Core.List.{List, [], ◌∷◌, ◌++◌, append-nil, Memᴰ}
 use Prim.Native.Nat.{ℕ, ◌+◌, ◌-◌, ◌≤◌, ◌<◌}
 use native.Mathlib.Omega.{arith}
@@ -23,42 +23,42 @@ use Rattle.protocol.proofs.Invariant.{Carries, Ends, Selective, Holds, Invariant
 
 -- ---- a segment is handed to the receiver
 
-hold_place : (b : Bool) (c x : Chunk) → x ≡ c → hold (place b c) x ≡ some c
+hold_place : (b : Bool) (c x : Chunk) → x ≡ c → hold (place b c) x ≡ Some c
 hold_place true c x e = refl
-hold_place false c x e = ap some e
+hold_place false c x e = ap Some e
 
 -- the payload is put into its place
 holds_put : (w : ℕ) (held : List (Option Chunk)) (m : List Bool) (s : List Chunk) (n i : ℕ) (c : Chunk) → length held ≡ w → i < w
-    → c ≡ get_or s (n + i) [] → Holds w held m s n → Holds w (set held i (hold (get_or held i none) c)) (note m (n + i)) s n
+    → c ≡ get_or s (n + i) [] → Holds w held m s n → Holds w (set held i (hold (get_or held i None) c)) (note m (n + i)) s n
 holds_put w held m s n i c l k e f j y = go (ℕ_discrete j i)
   where
-    go : Dec (j ≡ i) → get_or (set held i (hold (get_or held i none) c)) j none ≡ place (get_or (note m (n + i)) (n + j) false) (get_or s (n + j) [])
+    go : Dec (j ≡ i) → get_or (set held i (hold (get_or held i None) c)) j None ≡ place (get_or (note m (n + i)) (n + j) false) (get_or s (n + j) [])
     go (yes q) =
         let x : i < length held = omega arith in
-        rw (q, get_or-set_same held i (hold (get_or held i none) c) none x, note_same m (n + i), f i k)
+        rw (q, get_or-set_same held i (hold (get_or held i None) c) None x, note_same m (n + i), f i k)
         (hold_place (get_or m (n + i) false) (get_or s (n + i) []) c e)
     go (no q) =
         let z : n + j ≢ n + i = λ (o : n + j ≡ n + i). q (omega arith) in
-        rw (get_or-set_other held i j (hold (get_or held i none) c) none q, note_other m (n + i) (n + j) z) (f j y)
+        rw (get_or-set_other held i j (hold (get_or held i None) c) None q, note_other m (n + i) (n + j) z) (f j y)
 
 -- the window goes on by k: the places left move to the front, and the new ones are empty
 holds_rest : (w : ℕ) (held : List (Option Chunk)) (m : List Bool) (s : List Chunk) (n k : ℕ) → length held ≡ w → k ≤ w → ((i : ℕ) → On m i → i < n + w)
-    → Holds w held m s n → Holds w (drop k held ++ replicate k none) m s (n + k)
+    → Holds w held m s n → Holds w (drop k held ++ replicate k None) m s (n + k)
 holds_rest w held m s n k lh kw lm f i l = go (dec_lt (k + i) w)
   where
     rest : List (Option Chunk)
-    rest = replicate k none
+    rest = replicate k None
 
-    go : Dec (k + i < w) → get_or (drop k held ++ rest) i none ≡ place (get_or m (n + k + i) false) (get_or s (n + k + i) [])
+    go : Dec (k + i < w) → get_or (drop k held ++ rest) i None ≡ place (get_or m (n + k + i) false) (get_or s (n + k + i) [])
     go (yes y) =
         let u : length (drop k held) ≡ length held - k = length-drop k held in
         let e : n + k + i ≡ n + (k + i) = omega arith in
-        rw (e, get_or-append (drop k held) rest none i (omega arith), get_or-drop k held i none) (f (k + i) y)
+        rw (e, get_or-append (drop k held) rest None i (omega arith), get_or-drop k held i None) (f (k + i) y)
     go (no y) =
         let u : length (drop k held) ≡ length held - k = length-drop k held in
         let e : length (drop k held) + (i - length (drop k held)) ≡ i = omega arith in
-        let o : get_or (drop k held ++ rest) (length (drop k held) + (i - length (drop k held))) none ≡ none =
-        get_or-append-add (drop k held) rest (i - length (drop k held)) none ∙ get_or-replicate k (i - length (drop k held)) none none (omega arith) in
+        let o : get_or (drop k held ++ rest) (length (drop k held) + (i - length (drop k held))) None ≡ None =
+        get_or-append-add (drop k held) rest (i - length (drop k held)) None ∙ get_or-replicate k (i - length (drop k held)) None None (omega arith) in
         let z : get_or m (n + k + i) false ≡ false = not_on (get_or m (n + k + i) false) (λ x. let b = lm (n + k + i) x in absurd (omega arith)) in
         rw z (rw e at o)
 
@@ -67,8 +67,8 @@ record Delivers (w : ℕ) (held : List (Option Chunk)) (m : List Bool) (s : List
   lead_is : lead m ≡ n + k
   delivers : Machine.held_run held ≡ take k (drop n s)
   long : length (Machine.held_run held) ≡ k
-  all_places : length (drop k held ++ replicate k none) ≡ w
-  rest : Holds w (drop k held ++ replicate k none) m s (n + k)
+  all_places : length (drop k held ++ replicate k None) ≡ w
+  rest : Holds w (drop k held ++ replicate k None) m s (n + k)
 
 holds_deliver : (w : ℕ) (held : List (Option Chunk)) (m : List Bool) (s : List Chunk) (n : ℕ) → length held ≡ w → n ≤ lead m → lead m ≤ length s
     → length s ≤ n + w → ((i : ℕ) → On m i → i < length s) → Holds w held m s n → Delivers w held m s n (lead (drop n m))
@@ -79,12 +79,12 @@ holds_deliver w held m s n lh nl ls fits on f =
     let g : Machine.held_run held ≡ take k (drop n s) =
     run_is held (drop n m) (drop n s) (λ i l. rw (get_or-drop n m, get_or-drop n s) (f i (omega arith))) (omega arith) (omega arith) in
     let u : length (drop k held) ≡ length held - k = length-drop k held in
-    let t : length (replicate {A = Option Chunk} k none) ≡ k = length-replicate k none in
+    let t : length (replicate {A = Option Chunk} k None) ≡ k = length-replicate k None in
     record {
       lead_is = e;
       delivers = g;
       long = ap length g ∙ length-take-le k (drop n s) (omega arith);
-      all_places = length-append (drop k held) (replicate k none) ∙ omega arith;
+      all_places = length-append (drop k held) (replicate k None) ∙ omega arith;
       rest = holds_rest w held m s n k lh (omega arith) (λ i x. let b = on i x in omega arith) f;
     }
 
@@ -133,7 +133,7 @@ received_selective w v s q i m = go (leb v.receiver.base q.number) refl
         let t : v.receiver.base ≤ q.number = leb-true v.receiver.base q.number e in
         let e₁ : ltb q.number (v.receiver.base + w) ≡ true = lt-ltb q.number (v.receiver.base + w) (omega (arith, h, c)) in
         let z : s.D + (q.number - s.D) ≡ q.number = omega (arith, h) in
-        let held : List (Option Chunk) = set v.receiver.held (q.number - s.D) (hold (get_or v.receiver.held (q.number - s.D) none) q.payload) in
+        let held : List (Option Chunk) = set v.receiver.held (q.number - s.D) (hold (get_or v.receiver.held (q.number - s.D) None) q.payload) in
         let m' : List Bool = note s.at_receiver q.number in
         let put : Holds w held m' s.sent s.D =
         rw z at (holds_put w v.receiver.held s.at_receiver s.sent s.D (q.number - s.D) q.payload o.all_places (omega (arith, h, c))
@@ -142,7 +142,7 @@ received_selective w v s q i m = go (leb v.receiver.base q.number) refl
         let more : (i : ℕ) → On m' i → i < length s.sent = noted_more s.at_receiver q.number (length s.sent) o.noted_sent c.known in
         let top : lead m' ≤ length s.sent = lead_below_all m' (length s.sent) more in
         let g = holds_deliver w held m' s.sent s.D
-        (length-set v.receiver.held (q.number - s.D) (hold (get_or v.receiver.held (q.number - s.D) none) q.payload) ∙ o.all_places)
+        (length-set v.receiver.held (q.number - s.D) (hold (get_or v.receiver.held (q.number - s.D) None) q.payload) ∙ o.all_places)
         (omega (arith, o.D-is)) top (omega (arith, h)) more put in
         rw (below, e, e₁) rw h.expected_is rw g.long record {
           ends = record {

@@ -1,8 +1,7 @@
 -- J. Kurose, K. Ross, Computer Networking, section 3.4: events and actions of rdt3.0, Go-Back-N and Selective Repeat,
 -- in the book's names. start_timer and stop_timer are left out: the host keeps the timers, and a timeout is an event
 -- like the others.
-use Rattle.std.specs.Prelude.{◌≡◌, ℕ, zero, suc, ◌+◌, ◌-◌, ◌%◌, ◌≤◌, ◌<◌, Bool, true, false, cond, ◌&&◌, List, [], ◌∷◌, map, length, get_or, ltb, leb, eqb}
-use Rattle.std.proofs.Math.Option.{Option, none, some}
+use Rattle.std.specs.Prelude.{◌≡◌, ℕ, zero, suc, ◌+◌, ◌-◌, ◌%◌, ◌≤◌, ◌<◌, Bool, true, false, cond, ◌&&◌, List, [], ◌∷◌, map, length, get_or, ltb, leb, eqb, Option, None, Some}
 use Rattle.protocol.specs.Runs.{lead, up_from}
 use Rattle.protocol.specs.Machine.{Chunk, Segment, SenderState, ReceiverState, Received, next_number}
 
@@ -201,12 +200,12 @@ pub record SrReceiver : Type 0 where
   pub buffer : ℕ → Option Data
 
 abbrev pub sr_receiver : SrReceiver
-sr_receiver = record { rcv_base = 0; buffer = λ n. none }
+sr_receiver = record { rcv_base = 0; buffer = λ n. None }
 
 -- buffered if it was not previously received
 abbrev pub buffered : Option Data → Data → Option Data
-buffered (some c) d = some c
-buffered none d = some d
+buffered (Some c) d = Some c
+buffered None d = Some d
 
 abbrev pub buffer_pkt : SrReceiver → Packet → SrReceiver
 buffer_pkt r p = record {
@@ -215,8 +214,8 @@ buffer_pkt r p = record {
 }
 
 abbrev pub then_next : Option Data → List Data → List Data
-then_next none ds = []
-then_next (some d) ds = d ∷ ds
+then_next None ds = []
+then_next (Some d) ds = d ∷ ds
 
 -- the buffered and consecutively numbered packets beginning with number n, up to k of them
 abbrev pub consecutive : (ℕ → Option Data) → ℕ → ℕ → List Data
@@ -299,8 +298,8 @@ pub record SrSenderIs (N : ℕ) (b : SrSender) (s : SenderState) : Type 0 where
 pub record SrReceiverIs (N : ℕ) (b : SrReceiver) (r : ReceiverState) : Type 0 where
   pub base_is : b.rcv_base ≡ r.base
   pub places : length r.held ≡ N
-  pub holds : (i : ℕ) → b.buffer (r.base + i) ≡ get_or r.held i none
-  pub base_unbuffered : get_or r.held 0 none ≡ none
+  pub holds : (i : ℕ) → b.buffer (r.base + i) ≡ get_or r.held i None
+  pub base_unbuffered : get_or r.held 0 None ≡ None
 
 pub record SrAnswerIs (N : ℕ) (x : ReceiverDid SrReceiver) (y : Received) : Type 0 where
   pub after : SrReceiverIs N x.after y.after

@@ -1,7 +1,6 @@
 -- The ends of the three protocols over numbers, marks and chunks: what arq/sw.rs, gbn.rs and sr.rs do on a call that
 -- isn't refused.
-use Rattle.std.specs.Prelude.{ℕ, suc, ◌+◌, ◌-◌, List, [], ◌∷◌, ◌++◌, map, Bool, true, false, cond, ◌&&◌, length, get_or, drop, set, replicate, ltb, leb, eqb}
-use Rattle.std.proofs.Math.Option.{Option, none, some}
+use Rattle.std.specs.Prelude.{ℕ, suc, ◌+◌, ◌-◌, List, [], ◌∷◌, ◌++◌, map, Bool, true, false, cond, ◌&&◌, length, get_or, drop, set, replicate, ltb, leb, eqb, Option, None, Some}
 use Rattle.protocol.specs.Runs.{lead, up_from}
 use Rattle.protocol.specs.declared.ProtocolType.{ProtocolType}
 use Rattle.protocol.specs.declared.ProtocolType.TheVariants.{StopAndWait, GoBackN, SelectiveRepeat}
@@ -35,7 +34,7 @@ places GoBackN w = 0
 places SelectiveRepeat w = w
 
 abbrev pub new_receiver : ProtocolType → ℕ → ReceiverState
-new_receiver p w = record { base = 0; held = replicate (places p w) none }
+new_receiver p w = record { base = 0; held = replicate (places p w) None }
 
 -- the number of the next chunk
 abbrev pub next_number : SenderState → ℕ
@@ -107,13 +106,13 @@ receive_in_order p r q =
 -- Selective Repeat: the chunks held in a row from the front
 abbrev pub held_run : List (Option Chunk) → List Chunk
 held_run [] = []
-held_run (some c ∷ held) = c ∷ held_run held
-held_run (none ∷ held) = []
+held_run (Some c ∷ held) = c ∷ held_run held
+held_run (None ∷ held) = []
 
 -- a chunk is held once
 abbrev pub hold : Option Chunk → Chunk → Option Chunk
-hold (some c) d = some c
-hold none d = some d
+hold (Some c) d = Some c
+hold None d = Some d
 
 -- what is held in a row is delivered, and as many places become free at the end
 abbrev pub deliver_run : ReceiverState → ℕ → Received
@@ -121,7 +120,7 @@ deliver_run r n =
     received
     (record {
       base = r.base + length (held_run r.held);
-      held = drop (length (held_run r.held)) r.held ++ replicate (length (held_run r.held)) none;
+      held = drop (length (held_run r.held)) r.held ++ replicate (length (held_run r.held)) None;
     })
     (held_run r.held)
     (n ∷ [])
@@ -129,7 +128,7 @@ deliver_run r n =
 abbrev pub hold_at : ReceiverState → Segment → ReceiverState
 hold_at r q = record {
   base = r.base;
-  held = set r.held (q.number - r.base) (hold (get_or r.held (q.number - r.base) none) q.payload);
+  held = set r.held (q.number - r.base) (hold (get_or r.held (q.number - r.base) None) q.payload);
 }
 
 -- from base to base + w - 1 held, and delivered in order; from base - w to base - 1 acknowledged again; else unanswered

@@ -1,8 +1,8 @@
 -- The slots of a Selective Repeat receiver, read as what the machine holds: a run of them, one more held, a run delivered.
+use Rattle.std.specs.Prelude.{Option, None, Some}
 use Prim.Native.Nat.{ℕ, zero, suc, ◌+◌, ◌-◌, ◌*◌, ◌%◌, ◌≤◌, ◌<◌}
 use mathlib.Core.Path.{◌≡◌, refl, sym, ap, ◌∙◌}
 use mathlib.Core.Bool.{Bool, true, false, ◌||◌, ◌&&◌}
-use mathlib.Core.Option.{Option, none, some}
 use mathlib.Core.List.{List, ◌∷◌, ◌++◌, flatten}
 use native.Mathlib.Omega.{arith}
 use native.Mathlib.Decide.{ℕ_discrete, dec_lt}
@@ -42,13 +42,13 @@ base_empty n mark e =
     let f = or_false (out_of_bounds n mark || is_filled mark) (eqb mark 2) e in
     eqb-true mark 0 (not-false (eqb mark 0) (or_false (out_of_bounds n mark) (is_filled mark) f.0).1)
 
-pub empty_none : (slot : List ℕ) → slot_mark slot ≡ 0 → held_in slot ≡ none
+pub empty_none : (slot : List ℕ) → slot_mark slot ≡ 0 → held_in slot ≡ None
 empty_none slot e = rw e
 
-pub full_some : (slot : List ℕ) → slot_mark slot ≡ 1 → held_in slot ≡ some (slot_payload slot)
+pub full_some : (slot : List ℕ) → slot_mark slot ≡ 1 → held_in slot ≡ Some (slot_payload slot)
 full_some slot e = rw e
 
-zeros_none : held_in (replicate 1404 0) ≡ none
+zeros_none : held_in (replicate 1404 0) ≡ None
 zeros_none = empty_none (replicate 1404 0) zeros_mark
 
 -- a run of slots that are held
@@ -92,7 +92,7 @@ module _ (store : List ℕ) (w base : ℕ) (positive : 0 < w) (room : w * 1404 �
   after_base i = higher_base store w base 1 i
 
   -- base is not held
-  pub held_is : slots_read held_in store w base w ≡ none ∷ slots_read held_in store w (base + 1) (w - 1)
+  pub held_is : slots_read held_in store w base w ≡ None ∷ slots_read held_in store w (base + 1) (w - 1)
   held_is =
       let e : w ≡ suc (w - 1) = omega arith in
       let z : base + 0 ≡ base = omega arith in
@@ -104,15 +104,15 @@ module _ (store : List ℕ) (w base : ℕ) (positive : 0 < w) (room : w * 1404 �
 
   -- one more held
   pub held_more : (j : ℕ) (payload : List ℕ) → j < w → length payload ≤ 1400
-      → slots_read held_in (fill_slot store ((base + j) % w) payload 1 0) w base w ≡ set (slots_read held_in store w base w) j (some payload)
+      → slots_read held_in (fill_slot store ((base + j) % w) payload 1 0) w base w ≡ set (slots_read held_in store w base w) j (Some payload)
   held_more j payload h short =
       let before = slots_read held_in store w base w in
       let n = read_length held_in store w base w in
-      read_is held_in (fill_slot store ((base + j) % w) payload 1 0) w base w none (set before j (some payload)) (length-set before j (some payload) ∙ n)
+      read_is held_in (fill_slot store ((base + j) % w) payload 1 0) w base w None (set before j (Some payload)) (length-set before j (Some payload) ∙ n)
       (λ i l. elim (ℕ_discrete i j) [
-        | yes e ↦ rw e (ap held_in (filled_same store w base j payload 1 positive room short) ∙ full_some (slot_bytes payload 1 0) (filled_mark payload 1 0) ∙ ap some (filled_payload payload 1 0)
-            ∙ sym (get_or-set_same before j (some payload) none (rw n h)))
-        | no e ↦ ap held_in (filled_other store w base j payload 1 positive room short i l h e) ∙ sym (read_at held_in store w base w none i l) ∙ sym (get_or-set_other before j i (some payload) none e)
+        | yes e ↦ rw e (ap held_in (filled_same store w base j payload 1 positive room short) ∙ full_some (slot_bytes payload 1 0) (filled_mark payload 1 0) ∙ ap Some (filled_payload payload 1 0)
+            ∙ sym (get_or-set_same before j (Some payload) None (rw n h)))
+        | no e ↦ ap held_in (filled_other store w base j payload 1 positive room short i l h e) ∙ sym (read_at held_in store w base w None i l) ∙ sym (get_or-set_other before j i (Some payload) None e)
       ])
 
   -- base and the k numbers after it delivered
@@ -120,20 +120,20 @@ module _ (store : List ℕ) (w base : ℕ) (positive : 0 < w) (room : w * 1404 �
   wrapped = let e : 1 + (w - 1) ≡ 0 + w = omega arith in after_base (w - 1) ∙ ap (slot_of store w base) e ∙ turn store w base 0
 
   pub held_delivered : (k : ℕ) → k ≤ w - 1
-      → slots_read held_in (empty_from store w (base + 1) k) w (base + 1 + k) w ≡ drop k (slots_read held_in store w (base + 1) (w - 1)) ++ replicate (suc k) none
+      → slots_read held_in (empty_from store w (base + 1) k) w (base + 1 + k) w ≡ drop k (slots_read held_in store w (base + 1) (w - 1)) ++ replicate (suc k) None
   held_delivered k h =
       let rest = slots_read held_in store w (base + 1) (w - 1) in
       let n = read_length held_in store w (base + 1) (w - 1) in
       let m : length (drop k rest) ≡ w - 1 - k = length-drop k rest ∙ ap (λ (x : ℕ). x - k) n in
-      let size : length (drop k rest ++ replicate (suc k) none) ≡ w = length-append (drop k rest) (replicate (suc k) none) ∙ simp (m, length-replicate) (omega arith) in
-      read_is held_in (empty_from store w (base + 1) k) w (base + 1 + k) w none (drop k rest ++ replicate (suc k) none) size
+      let size : length (drop k rest ++ replicate (suc k) None) ≡ w = length-append (drop k rest) (replicate (suc k) None) ∙ simp (m, length-replicate) (omega arith) in
+      read_is held_in (empty_from store w (base + 1) k) w (base + 1 + k) w None (drop k rest ++ replicate (suc k) None) size
       (λ i l. elim (dec_lt (k + i) (w - 1)) [
-        | yes a ↦ ap held_in (released_kept w positive store (base + 1) k i room (omega arith)) ∙ sym (read_at held_in store w (base + 1) (w - 1) none (k + i) a) ∙ sym (get_or-drop k rest i none)
-            ∙ sym (get_or-append (drop k rest) (replicate (suc k) none) none i (rw m (omega arith)))
+        | yes a ↦ ap held_in (released_kept w positive store (base + 1) k i room (omega arith)) ∙ sym (read_at held_in store w (base + 1) (w - 1) None (k + i) a) ∙ sym (get_or-drop k rest i None)
+            ∙ sym (get_or-append (drop k rest) (replicate (suc k) None) None i (rw m (omega arith)))
         | no a ↦ freed k h i l (omega arith) ∙ sym (past k h i l m (omega arith))
       ])
     where
-      freed : (k : ℕ) → k ≤ w - 1 → (i : ℕ) → i < w → w - 1 ≤ k + i → held_in (slot_of (empty_from store w (base + 1) k) w (base + 1 + k) i) ≡ none
+      freed : (k : ℕ) → k ≤ w - 1 → (i : ℕ) → i < w → w - 1 ≤ k + i → held_in (slot_of (empty_from store w (base + 1) k) w (base + 1 + k) i) ≡ None
       freed k h i l a = elim (dec_lt (k + i) w) [
         | yes b ↦ let e : k + i ≡ w - 1 = omega arith in
             ap held_in (released_kept w positive store (base + 1) k i room b ∙ ap (slot_of store w (base + 1)) e ∙ wrapped) ∙ empty_none (slot_of store w base 0) base_mark
@@ -141,9 +141,9 @@ module _ (store : List ℕ) (w base : ℕ) (positive : 0 < w) (room : w * 1404 �
       ]
 
       past : (k : ℕ) → k ≤ w - 1 → (i : ℕ) → i < w → length (drop k (slots_read held_in store w (base + 1) (w - 1))) ≡ w - 1 - k → w - 1 ≤ k + i
-          → get_or (drop k (slots_read held_in store w (base + 1) (w - 1)) ++ replicate (suc k) none) i none ≡ none
+          → get_or (drop k (slots_read held_in store w (base + 1) (w - 1)) ++ replicate (suc k) None) i None ≡ None
       past k h i l m a =
           let rest = drop k (slots_read held_in store w (base + 1) (w - 1)) in
           let e : i ≡ length rest + (i - (w - 1 - k)) = omega arith in
-          ap (λ (x : ℕ). get_or (rest ++ replicate (suc k) none) x none) e ∙ get_or-append-add rest (replicate (suc k) none) (i - (w - 1 - k)) none
-          ∙ get_or-replicate (suc k) (i - (w - 1 - k)) none none (omega arith)
+          ap (λ (x : ℕ). get_or (rest ++ replicate (suc k) None) x None) e ∙ get_or-append-add rest (replicate (suc k) None) (i - (w - 1 - k)) None
+          ∙ get_or-replicate (suc k) (i - (w - 1 - k)) None None (omega arith)

@@ -1,8 +1,8 @@
 -- Fresh ends are the machine's, and no call turns them away.
+use Rattle.std.specs.Prelude.{None}
 use Prim.Native.Nat.{ℕ, ◌+◌, ◌-◌, ◌*◌, ◌<◌}
 use mathlib.Core.Path.{◌≡◌, refl, sym, ◌∙◌}
 use mathlib.Core.Bool.{false}
-use mathlib.Core.Option.{none}
 use mathlib.Core.List.{List, ◌++◌}
 use native.Mathlib.Omega.{arith}
 use borrow.Author.Tests.{ltb-false, le-ltb}
@@ -36,8 +36,8 @@ zeroed w store = replicate (w * slot_size) 0 ++ drop (w * slot_size) store
 
 pub fresh_receiver_follows : (w : ℕ) (store : List ℕ) → 0 < w → receiver_of w 0 (zeroed w store) ≡ new_receiver SelectiveRepeat w
 fresh_receiver_follows w store p =
-    let held : slots_read held_in (zeroed w store) w 0 w ≡ replicate w none = read_is held_in (zeroed w store) w 0 w none (replicate w none) (length-replicate w none)
-    (λ i h. empty_none (slot_of (zeroed w store) w 0 i) (fresh_byte store w i 2 p (omega arith)) ∙ sym (get_or-replicate w i none none h)) in
+    let held : slots_read held_in (zeroed w store) w 0 w ≡ replicate w None = read_is held_in (zeroed w store) w 0 w None (replicate w None) (length-replicate w None)
+    (λ i h. empty_none (slot_of (zeroed w store) w 0 i) (fresh_byte store w i 2 p (omega arith)) ∙ sym (get_or-replicate w i None None h)) in
     rw held
 
 pub fresh_receiver_good : (w : ℕ) (store output : List ℕ) → window_broken w ≡ false → store_short store w ≡ false → GoodSelectiveReceiver (receiver (selective_repeat.new_receiver w) (zeroed w store)) output

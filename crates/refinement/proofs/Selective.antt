@@ -1,8 +1,8 @@
 -- What the machine's Selective Repeat receiver does with a segment, over a store.
+use Rattle.std.specs.Prelude.{Option, None, Some}
 use Prim.Native.Nat.{ℕ, zero, suc, ◌+◌, ◌-◌, ◌*◌, ◌%◌, ◌≤◌, ◌<◌}
 use mathlib.Core.Path.{◌≡◌, refl, sym, ap, ◌∙◌}
 use mathlib.Core.Bool.{false}
-use mathlib.Core.Option.{Option, none, some}
 use mathlib.Core.List.{List, [], ◌∷◌, ◌++◌, append-nil}
 use native.Mathlib.Omega.{arith}
 use borrow.Author.Tests.{lt-ltb, le-ltb, le-leb, lt-leb}
@@ -37,7 +37,7 @@ module _ (store : List ℕ) (w base : ℕ) (positive : 0 < w) (room : w * 1404 �
   within n payload h k = rw (le-leb base n h, lt-ltb n (base + w) k)
 
   deliver_is : (held : List (Option Chunk)) (k : ℕ) (chunks : List Chunk) (n b : ℕ) → held_run held ≡ chunks → length chunks ≡ k
-      → deliver_run (record { base = b; held = held }) n ≡ received (record { base = b + k; held = drop k held ++ replicate k none }) chunks (n ∷ [])
+      → deliver_run (record { base = b; held = held }) n ≡ received (record { base = b + k; held = drop k held ++ replicate k None }) chunks (n ∷ [])
   deliver_is held k chunks n b e f = rw (e, f)
 
   pub at_base : (payload : List ℕ)
@@ -47,11 +47,11 @@ module _ (store : List ℕ) (w base : ℕ) (positive : 0 < w) (room : w * 1404 �
       let r = run_after_base store w base positive room slots in
       let le = run_within 1 store w (base + 1) (w - 1) in
       let z : base - base ≡ 0 = omega arith in
-      let held : set before.held (base - base) (hold (get_or before.held (base - base) none) payload) ≡ some payload ∷ rest = rw (held_is store w base positive room slots, z) in
+      let held : set before.held (base - base) (hold (get_or before.held (base - base) None) payload) ≡ Some payload ∷ rest = rw (held_is store w base positive room slots, z) in
       let n : base + suc following ≡ base + 1 + following = omega arith in
       within base payload (omega arith) (omega arith)
       ∙ ap (λ (l : List (Option Chunk)). deliver_run (record { base = base; held = l }) base) held
-      ∙ deliver_is (some payload ∷ rest) (suc following) (payload ∷ held_run rest) base base refl (ap suc r.count)
+      ∙ deliver_is (Some payload ∷ rest) (suc following) (payload ∷ held_run rest) base base refl (ap suc r.count)
       ∙ ap (λ (s : ReceiverState). received s (payload ∷ held_run rest) (base ∷ [])) (receiver_is n (sym (held_delivered store w base positive room slots following le)))
 
   -- a number above base: base stays unheld, so that nothing is delivered
@@ -69,26 +69,26 @@ module _ (store : List ℕ) (w base : ℕ) (positive : 0 < w) (room : w * 1404 �
   above n payload h k =
       within n payload (omega arith) k ∙ none_delivered (hold_at before (record { number = n; payload = payload })).held n (first_none (n - base) _ (omega arith))
 
-  held_at : (n : ℕ) → base < n → n < base + w → get_or before.held (n - base) none ≡ held_in (slot_at store (n % w))
+  held_at : (n : ℕ) → base < n → n < base + w → get_or before.held (n - base) None ≡ held_in (slot_at store (n % w))
   held_at n h k =
       let e : base + (n - base) ≡ n = omega arith in
-      read_at held_in store w base w none (n - base) (omega arith) ∙ ap (λ (m : ℕ). held_in (slot_at store (m % w))) e
+      read_at held_in store w base w None (n - base) (omega arith) ∙ ap (λ (m : ℕ). held_in (slot_at store (m % w))) e
 
   pub held_again : (n : ℕ) (payload : List ℕ) → base < n → n < base + w → slot_mark (slot_at store (n % w)) ≡ 1
       → receive_selective w before (record { number = n; payload = payload }) ≡ received before [] (n ∷ [])
   held_again n payload h k m =
-      let at : get_or before.held (n - base) none ≡ some (slot_payload (slot_at store (n % w))) = held_at n h k ∙ full_some (slot_at store (n % w)) m in
-      let same : set before.held (n - base) (hold (get_or before.held (n - base) none) payload) ≡ before.held =
-      ap (λ (o : Option Chunk). set before.held (n - base) (hold o payload)) at ∙ ap (set before.held (n - base)) (sym at) ∙ set-get_or before.held (n - base) none in
+      let at : get_or before.held (n - base) None ≡ Some (slot_payload (slot_at store (n % w))) = held_at n h k ∙ full_some (slot_at store (n % w)) m in
+      let same : set before.held (n - base) (hold (get_or before.held (n - base) None) payload) ≡ before.held =
+      ap (λ (o : Option Chunk). set before.held (n - base) (hold o payload)) at ∙ ap (set before.held (n - base)) (sym at) ∙ set-get_or before.held (n - base) None in
       above n payload h k ∙ ap (λ (l : List (Option Chunk)). received (record { base = base; held = l }) [] (n ∷ [])) same
 
   pub held_new : (n : ℕ) (payload : List ℕ) → base < n → n < base + w → slot_mark (slot_at store (n % w)) ≡ 0 → length payload ≤ 1400
       → receive_selective w before (record { number = n; payload = payload }) ≡ received (receiver_of w base (fill_slot store (n % w) payload 1 0)) [] (n ∷ [])
   held_new n payload h k m short =
       let e : base + (n - base) ≡ n = omega arith in
-      let at : get_or before.held (n - base) none ≡ none = held_at n h k ∙ empty_none (slot_at store (n % w)) m in
+      let at : get_or before.held (n - base) None ≡ None = held_at n h k ∙ empty_none (slot_at store (n % w)) m in
       let more = rw e at (held_more store w base positive room slots (n - base) payload (omega arith) short) in
-      let new : set before.held (n - base) (hold (get_or before.held (n - base) none) payload) ≡ slots_read held_in (fill_slot store (n % w) payload 1 0) w base w =
+      let new : set before.held (n - base) (hold (get_or before.held (n - base) None) payload) ≡ slots_read held_in (fill_slot store (n % w) payload 1 0) w base w =
       ap (λ (o : Option Chunk). set before.held (n - base) (hold o payload)) at ∙ sym more in
       above n payload h k ∙ ap (λ (l : List (Option Chunk)). received (record { base = base; held = l }) [] (n ∷ [])) new
 

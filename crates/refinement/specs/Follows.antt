@@ -1,6 +1,5 @@
 -- The ends over a byte store as the ends over numbers, marks and chunks: what the one holds, read as the other.
-use Rattle.std.specs.Prelude.{ℕ, List, [], ◌∷◌, map, Bool, cond, eqb, Err, None, Ok, Result, Some}
-use Rattle.std.proofs.Math.Option.{Option, none, some}
+use Rattle.std.specs.Prelude.{ℕ, List, [], ◌∷◌, map, Bool, cond, eqb, Err, None, Ok, Result, Some, Option}
 use Rattle.protocol.specs.Runs.{up_from}
 use Rattle.protocol.specs.Machine.{Chunk, SenderState, ReceiverState}
 use Rattle.store.specs.Slot.{slot_mark, slot_payload}
@@ -14,7 +13,7 @@ abbrev pub acknowledged_in : List ℕ → Bool
 acknowledged_in slot = eqb (slot_mark slot) 2
 
 abbrev pub held_in : List ℕ → Option Chunk
-held_in slot = cond (eqb (slot_mark slot) 0) none (some (slot_payload slot))
+held_in slot = cond (eqb (slot_mark slot) 0) None (Some (slot_payload slot))
 
 -- the slots of count numbers from base on, each read
 unfoldable pub slots_read : {A : Type 0} → (List ℕ → A) → List ℕ → ℕ → ℕ → ℕ → List A

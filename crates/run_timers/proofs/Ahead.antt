@@ -1,11 +1,10 @@
 -- On the source's timing no timer is set further ahead than the largest RTO.
-use Rattle.std.specs.Prelude.{None, Some}
+use Rattle.std.specs.Prelude.{None, Some, Option}
 use Prim.Native.Nat.{ℕ, ◌+◌, ◌-◌, ◌≤◌, ◌<◌}
 use native.Mathlib.Omega.{arith}
 use mathlib.Core.Path.{◌≡◌, refl, sym, ap, ◌∙◌, subst}
 use mathlib.Core.Bool.{Bool, true, false, cond, ◌||◌}
 use mathlib.Core.List.{List}
-use mathlib.Core.Option.{Option, none, some}
 use lib.Dec.{eqb}
 use lib.Ieee.{Float}
 use lib.ListN.{take}
@@ -36,7 +35,7 @@ use Rattle.run_timers.proofs.Notes.{Limited, sampled_limited, Short, short_rto, 
 -- no timer of the timing is set more than `top` ahead
 pub record Near (top : ℕ) (t : Timing) (now : ℕ) (c : ClockState) : Type 0 where
   pub timer : t ≡ Single → (d : ℕ) → (timer_of c).deadline ≡ Some d → d ≤ now + top
-  pub numbers : t ≡ PerNumber → (n d : ℕ) → lookup n (running c) ≡ some d → d ≤ now + top
+  pub numbers : t ≡ PerNumber → (n d : ℕ) → lookup n (running c) ≡ Some d → d ≤ now + top
 
 pub near_later : {top : ℕ} {t : Timing} {now later : ℕ} {c : ClockState} → now ≤ later → Near top t now c → Near top t later c
 near_later h q = record { timer = λ i d e. let k = q.timer i d e in omega (arith, h, k); numbers = λ i n d e. let k = q.numbers i n d e in omega (arith, h, k) }
@@ -68,23 +67,23 @@ module _ (top : ℕ) where
           omega (arith, k, a, b)
       by_noted false n e = let z : ◌≡◌ {A = ℕ} 0 1 = cc in absurd (omega arith)
 
-  some_is : {d e : ℕ} → ◌≡◌ {A = Option ℕ} (some d) (some e) → d ≡ e
+  some_is : {d e : ℕ} → ◌≡◌ {A = Option ℕ} (Some d) (Some e) → d ≡ e
   some_is e = cc
 
-  none_is : {A : Type 0} {d : ℕ} → ◌≡◌ {A = Option ℕ} none (some d) → A
+  none_is : {A : Type 0} {d : ℕ} → ◌≡◌ {A = Option ℕ} None (Some d) → A
   none_is e = let z : ◌≡◌ {A = ℕ} 0 1 = cc in absurd (omega arith)
 
-  pub put_near : (bound k x : ℕ) (es : List Entry) → x ≤ bound → ((n d : ℕ) → lookup n es ≡ some d → d ≤ bound) → (n d : ℕ) → lookup n (put k x es) ≡ some d → d ≤ bound
+  pub put_near : (bound k x : ℕ) (es : List Entry) → x ≤ bound → ((n d : ℕ) → lookup n es ≡ Some d → d ≤ bound) → (n d : ℕ) → lookup n (put k x es) ≡ Some d → d ≤ bound
   put_near bound k x es h near n d e = by_key (eqb k n) (sym (lookup_put k x n es) ∙ e)
     where
-      by_key : (b : Bool) → cond b (some x) (lookup n es) ≡ some d → d ≤ bound
+      by_key : (b : Bool) → cond b (Some x) (lookup n es) ≡ Some d → d ≤ bound
       by_key true e = let q = some_is e in omega (arith, h, q)
       by_key false e = near n d e
 
-  pub remove_near : (bound k : ℕ) (es : List Entry) → ((n d : ℕ) → lookup n es ≡ some d → d ≤ bound) → (n d : ℕ) → lookup n (remove k es) ≡ some d → d ≤ bound
+  pub remove_near : (bound k : ℕ) (es : List Entry) → ((n d : ℕ) → lookup n es ≡ Some d → d ≤ bound) → (n d : ℕ) → lookup n (remove k es) ≡ Some d → d ≤ bound
   remove_near bound k es near n d e = by_key (eqb k n) (sym (lookup_remove k n es) ∙ e)
     where
-      by_key : (b : Bool) → cond b none (lookup n es) ≡ some d → d ≤ bound
+      by_key : (b : Bool) → cond b None (lookup n es) ≡ Some d → d ≤ bound
       by_key true e = none_is e
       by_key false e = near n d e
 

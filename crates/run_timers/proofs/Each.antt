@@ -1,10 +1,9 @@
 -- Selective Repeat's timers: each number that is outstanding and not acknowledged has one.
-use Rattle.std.specs.Prelude.{None, Some}
+use Rattle.std.specs.Prelude.{None, Some, Option}
 use Prim.Native.Nat.{ℕ}
 use mathlib.Core.Path.{◌≡◌, refl, sym, ap, ◌∙◌, subst}
 use mathlib.Core.Bool.{Bool, true, false, cond, not, true≢false, and-eq-true_iff}
 use mathlib.Core.List.{List, [], ◌∷◌}
-use mathlib.Core.Option.{Option, none, some}
 use lib.Dec.{eqb}
 use lib.Ieee.{Float}
 use lib.ListN.{take}
@@ -53,14 +52,14 @@ pub record Each (v : SenderEnd) (c : ClockState) : Type 0 where
 removed_some : (n k : ℕ) (es : List Entry) → (k ≡ n → ⊥) → is_some (lookup k es) ≡ true → is_some (lookup k (remove n es)) ≡ true
 removed_some n k es other h = ap is_some (lookup_remove n k es) ∙ by_test_lem (eqb n k) (eqb-true n k)
   where
-    by_test_lem : (b : Bool) → (b ≡ true → n ≡ k) → is_some (cond b none (lookup k es)) ≡ true
+    by_test_lem : (b : Bool) → (b ≡ true → n ≡ k) → is_some (cond b None (lookup k es)) ≡ true
     by_test_lem true e = absurd (other (sym (e refl)))
     by_test_lem false e = h
 
-started_some : (n k d : ℕ) (x y : Option ℕ) → y ≡ cond (eqb n k) (some d) x → ((k ≡ n → ⊥) → is_some x ≡ true) → is_some y ≡ true
+started_some : (n k d : ℕ) (x y : Option ℕ) → y ≡ cond (eqb n k) (Some d) x → ((k ≡ n → ⊥) → is_some x ≡ true) → is_some y ≡ true
 started_some n k d x y e h = ap is_some e ∙ by_test_lem (eqb n k) (eqb-false n k)
   where
-    by_test_lem : (b : Bool) → (b ≡ false → n ≡ k → ⊥) → is_some (cond b (some d) x) ≡ true
+    by_test_lem : (b : Bool) → (b ≡ false → n ≡ k → ⊥) → is_some (cond b (Some d) x) ≡ true
     by_test_lem true other = refl
     by_test_lem false other = h (λ f. other refl (sym f))
 
@@ -200,7 +199,7 @@ module _ (top now : ℕ) (rolls : List Float) (samples : ℕ) where
 
     pump_each : (s : PumpState) → CanPump PerNumber rolls size file total rto now s → OfPump s → is_going (pump_sends PerNumber rolls (chunks_of size file) rto now s).stop ≡ true → OfPump (pump_sends PerNumber rolls (chunks_of size file) rto now s).state
     pump_each =
-        pump_turns (λ (s : PumpState) (x : PumpExit). OfPump s → is_going x.stop ≡ true → OfPump x.state) (λ s can none h g. h) (λ s x can free g rest h on. rest (chunk_each s can free g h) on)
+        pump_turns (λ (s : PumpState) (x : PumpExit). OfPump s → is_going x.stop ≡ true → OfPump x.state) (λ s can None h g. h) (λ s x can free g rest h on. rest (chunk_each s can free g h) on)
         (λ s can free g h on. absurd (true≢false (sym on ∙ g)))
 
   -- ---- the departures of a moment

@@ -4,7 +4,6 @@ use Prim.Native.Nat.{ℕ, ◌+◌, ◌-◌, ◌≤◌, ◌<◌}
 use native.Mathlib.Omega.{arith}
 use mathlib.Core.Path.{◌≡◌, refl, sym, ◌∙◌, subst}
 use mathlib.Core.Bool.{true, false}
-use mathlib.Core.Option.{some}
 use borrow.Author.Tests.{lt-ltb, le-ltb}
 use Rattle.timer.specs.Timer.{active}
 use Rattle.multi_timer.specs.Map.{lookup}
@@ -130,7 +129,7 @@ pub record Held (top : ℕ) (p : Plan) (s : RunState) : Type 0 where
   pub off : p.timing ≡ Single → (window_in s).next_seq_num ≤ (window_in s).send_base → active (timer_of s.arrivals.clock).deadline ≡ false
   pub each : p.timing ≡ PerNumber → (n : ℕ) → Unacknowledged s n → HasTimer s.arrivals.clock n
   pub near : (p.timing ≡ PerNumber → ⊥) → (d : ℕ) → (timer_of s.arrivals.clock).deadline ≡ Some d → d ≤ s.time + top
-  pub each_near : p.timing ≡ PerNumber → (n d : ℕ) → lookup n (running s.arrivals.clock) ≡ some d → d ≤ s.time + top
+  pub each_near : p.timing ≡ PerNumber → (n d : ℕ) → lookup n (running s.arrivals.clock) ≡ Some d → d ≤ s.time + top
 
 pub single_held : {limit : ℕ} (top : ℕ) (p : Plan) (s : RunState) → p.timing ≡ Single → Holds (SingleKept limit top p.timing) s → Held top p s
 single_held top p s e q =

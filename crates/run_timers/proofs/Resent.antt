@@ -1,11 +1,10 @@
 -- On the source's timing a step that goes on sends a packet again where a timer has run out.
-use Rattle.std.specs.Prelude.{Option}
+use Rattle.std.specs.Prelude.{Option, Some}
 use Prim.Native.Nat.{ℕ, ◌≤◌, ◌<◌}
 use native.Mathlib.Omega.{arith}
 use mathlib.Core.Path.{◌≡◌, refl, sym, ap, ◌∙◌, subst}
 use mathlib.Core.Bool.{Bool, true, false, cond, true≢false}
 use mathlib.Core.List.{List, [], ◌∷◌}
-use mathlib.Core.Option.{some}
 use lib.Dec.{eqb, leb}
 use lib.Ieee.{Float}
 use borrow.Author.Tests.{eqb-false, leb-false}
@@ -108,7 +107,7 @@ unfolding keys_of keep lookup
 listed now [] n more e = let z : ◌≡◌ {A = ℕ} 0 1 = cc in absurd (omega arith)
 listed now (x ∷ es) n more e = by_test_lem (leb x.deadline now) e (eqb x.key n) (eqb-false x.key n) (listed now es n more)
   where
-    by_test_lem : (b : Bool) → keys_of (cond b (x ∷ keep (map.due now) es) (keep (map.due now) es)) ≡ n ∷ more → (k : Bool) → (k ≡ false → x.key ≡ n → ⊥) → (due_keys now es ≡ n ∷ more → is_some (lookup n es) ≡ true) → is_some (cond k (some x.deadline) (lookup n es)) ≡ true
+    by_test_lem : (b : Bool) → keys_of (cond b (x ∷ keep (map.due now) es) (keep (map.due now) es)) ≡ n ∷ more → (k : Bool) → (k ≡ false → x.key ≡ n → ⊥) → (due_keys now es ≡ n ∷ more → is_some (lookup n es) ≡ true) → is_some (cond k (Some x.deadline) (lookup n es)) ≡ true
     by_test_lem b e true h rest = refl
     by_test_lem true e false h rest = let k : x.key ≡ n = cc in absurd (h refl k)
     by_test_lem false e false h rest = rest e

@@ -1,11 +1,10 @@
 -- The departures set no timer further ahead than the largest RTO.
-use Rattle.std.specs.Prelude.{Option}
+use Rattle.std.specs.Prelude.{Option, Some}
 use Prim.Native.Nat.{ℕ, ◌+◌, ◌≤◌}
 use native.Mathlib.Omega.{arith}
 use mathlib.Core.Path.{◌≡◌, refl, sym, subst}
 use mathlib.Core.Bool.{Bool, true, false, cond}
 use mathlib.Core.List.{List}
-use mathlib.Core.Option.{some}
 use lib.Ieee.{Float}
 use Rattle.bounds.specs.Bounds.{max_duration}
 use Rattle.multi_timer.specs.Map.{Entry, lookup}
@@ -101,7 +100,7 @@ module _ (top now limit : ℕ) (rolls : List Float) {samples : ℕ} where
         near = record {
           timer = λ i. let z : ◌≡◌ {A = ℕ} 0 1 = cc in absurd (omega arith);
           numbers = λ i.
-              by_timers g limit n (λ (es : List Entry). (k d : ℕ) → lookup k es ≡ some d → d ≤ now + top) others
+              by_timers g limit n (λ (es : List Entry). (k d : ℕ) → lookup k es ≡ Some d → d ≤ now + top) others
               (λ due. put_near top (now + top) n (now + (on_timeout_unchecked s.estimator).current_rto) _ (omega (arith, rto)) others);
         };
       }

@@ -1,12 +1,11 @@
 -- With a number outstanding the next time is set and near: so a run that ended has every chunk acknowledged, or met a ceiling.
-use Rattle.std.specs.Prelude.{None, Some}
+use Rattle.std.specs.Prelude.{None, Some, Option}
 use Prim.Native.Nat.{ℕ, ◌+◌, ◌-◌, ◌≤◌, ◌<◌, min}
 use native.Mathlib.Omega.{arith}
 use mathlib.Core.Path.{◌≡◌, refl, sym, ap, ◌∙◌, subst}
 use mathlib.Core.Bool.{Bool, true, false, cond, not, true≢false, and-eq-true_iff}
 use mathlib.Core.Logic.{◌⊎◌, inl, inr, ⊎_elim}
 use mathlib.Core.List.{List, [], ◌∷◌}
-use mathlib.Core.Option.{Option, none, some}
 use lib.Dec.{ltb, eqb}
 use borrow.Author.Tests.{ltb-true, ltb-false, not-true}
 use Rattle.timer.specs.Timer.{active}
@@ -39,10 +38,10 @@ use Rattle.run_timers.proofs.Held.{single_other, edition_each, Held}
 use Rattle.run_timers.proofs.Went.{Passed}
 
 -- ---- the earliest deadline of the timer set is no later than any
-none_some : {A : Type 0} {d : ℕ} → ◌≡◌ {A = Option ℕ} none (some d) → A
+none_some : {A : Type 0} {d : ℕ} → ◌≡◌ {A = Option ℕ} None (Some d) → A
 none_some e = let z : ◌≡◌ {A = ℕ} 0 1 = cc in absurd (omega arith)
 
-some_some : {d e : ℕ} → ◌≡◌ {A = Option ℕ} (some d) (some e) → d ≡ e
+some_some : {d e : ℕ} → ◌≡◌ {A = Option ℕ} (Some d) (Some e) → d ≡ e
 some_some e = cc
 
 min_first : (a : ℕ) (ds : List ℕ) → min_of a ds ≤ a
@@ -50,12 +49,12 @@ unfolding min_of
 min_first a [] = omega arith
 min_first a (x ∷ xs) = omega arith
 
-min_below : (a : ℕ) (es : List Entry) (k d : ℕ) → lookup k es ≡ some d → min_of a (deadlines_of es) ≤ d
+min_below : (a : ℕ) (es : List Entry) (k d : ℕ) → lookup k es ≡ Some d → min_of a (deadlines_of es) ≤ d
 unfolding min_of deadlines_of lookup
 min_below a [] k d e = none_some e
 min_below a (y ∷ es) k d e = by_key (eqb y.key k) e (min_below y.deadline es k d)
   where
-    by_key : (b : Bool) → cond b (some y.deadline) (lookup k es) ≡ some d → (lookup k es ≡ some d → min_of y.deadline (deadlines_of es) ≤ d) → min a (min_of y.deadline (deadlines_of es)) ≤ d
+    by_key : (b : Bool) → cond b (Some y.deadline) (lookup k es) ≡ Some d → (lookup k es ≡ Some d → min_of y.deadline (deadlines_of es) ≤ d) → min a (min_of y.deadline (deadlines_of es)) ≤ d
     by_key true e rest = let q = some_some e in let m = min_first y.deadline (deadlines_of es) in omega (arith, q, m)
     by_key false e rest = let m = rest e in omega (arith, m)
 
@@ -64,12 +63,12 @@ record Earliest (es : List Entry) (d : ℕ) : Type 0 where
   is : as_deadline (earliest (deadlines_of es)) ≡ Some at
   first : at ≤ d
 
-earliest_of_lem : (es : List Entry) (k d : ℕ) → lookup k es ≡ some d → Earliest es d
+earliest_of_lem : (es : List Entry) (k d : ℕ) → lookup k es ≡ Some d → Earliest es d
 unfolding deadlines_of lookup earliest
 earliest_of_lem [] k d e = none_some e
 earliest_of_lem (x ∷ es) k d e = record { at = min_of x.deadline (deadlines_of es); is = refl; first = by_key (eqb x.key k) e }
   where
-    by_key : (b : Bool) → cond b (some x.deadline) (lookup k es) ≡ some d → min_of x.deadline (deadlines_of es) ≤ d
+    by_key : (b : Bool) → cond b (Some x.deadline) (lookup k es) ≡ Some d → min_of x.deadline (deadlines_of es) ≤ d
     by_key true e = let q = some_some e in let m = min_first x.deadline (deadlines_of es) in omega (arith, q, m)
     by_key false e = min_below x.deadline es k d e
 
@@ -89,8 +88,8 @@ module _ (top : ℕ) (p : Plan) (s : RunState) (held : Held top p s) (unbroken :
       set other (Some d) f = (d, (f, held.near other d f))
 
       listed : p.timing ≡ PerNumber → (x : Option ℕ) → lookup (window_in s).send_base (running s.arrivals.clock) ≡ x → Next PerNumber
-      listed i none f = absurd (true≢false (sym (held.each i (window_in s).send_base (record { from = omega arith; below = o; plain = base_unmarked s.arrivals.sender unbroken })) ∙ ap is_some f))
-      listed i (some d) f =
+      listed i None f = absurd (true≢false (sym (held.each i (window_in s).send_base (record { from = omega arith; below = o; plain = base_unmarked s.arrivals.sender unbroken })) ∙ ap is_some f))
+      listed i (Some d) f =
           let x = earliest_of_lem (running s.arrivals.clock) (window_in s).send_base d f in
           let a = x.first in
           let b = held.each_near i (window_in s).send_base d f in

@@ -1,7 +1,6 @@
 -- app/transfer.rs, `arm_after_submit`, `arm_oldest`, `rearm_after_ack`: whatever is outstanding has a timer; on the
 -- source's timing nothing else has one.
-use Rattle.std.specs.Prelude.{ℕ, ◌+◌, ◌*◌, ◌≤◌, ◌<◌, max, ◌≡◌, true, false, Some}
-use Rattle.std.proofs.Math.Option.{Option, some}
+use Rattle.std.specs.Prelude.{ℕ, ◌+◌, ◌*◌, ◌≤◌, ◌<◌, max, ◌≡◌, true, false, Some, Option}
 use Rattle.bounds.specs.Bounds.{max_duration}
 use Rattle.protocol.specs.declared.ProtocolType.TheVariants.{StopAndWait}
 use Rattle.timer.specs.Timer.{active}
@@ -52,7 +51,7 @@ pub record Timed (c : TransferConfig) (p : Plan) (s : RunState) : Type 0 where
   pub only : p.timing ≡ PerNumber → (n : ℕ) → HasTimer s.arrivals.clock n → Unacknowledged s n
   pub near : (p.timing ≡ PerNumber → ⊥) → (d : ℕ) → (timer_of s.arrivals.clock).deadline ≡ Some d
       → d ≤ s.time + largest_rto c.rto
-  pub each_near : p.timing ≡ PerNumber → (n d : ℕ) → deadline_for s.arrivals.clock n ≡ some d
+  pub each_near : p.timing ≡ PerNumber → (n d : ℕ) → deadline_for s.arrivals.clock n ≡ Some d
       → d ≤ s.time + largest_rto c.rto
 
 -- Stop-and-Wait may send a packet again as often as it comes to it: at most as often as a run may send packets again,

@@ -1,11 +1,10 @@
 -- The timers after a submission.
-use Rattle.std.specs.Prelude.{None}
+use Rattle.std.specs.Prelude.{None, Some}
 use Prim.Native.Nat.{ℕ, ◌+◌, ◌-◌, ◌≤◌, ◌<◌}
 use native.Mathlib.Omega.{arith}
 use mathlib.Core.Path.{◌≡◌, refl, ap, ◌∙◌}
 use mathlib.Core.Bool.{Bool, true, false, cond}
 use mathlib.Core.List.{List}
-use mathlib.Core.Option.{some}
 use lib.Dec.{ltb, eqb}
 use lib.Ieee.{Float}
 use lib.ListN.{length}
@@ -71,7 +70,7 @@ module _ (rolls : List Float) (x : Submission) (wire : List ℕ) (o : Outgoing) 
     pub number_running : running (submit PerNumber rolls x wire o).outgoing.clock ≡ put x.seq (x.time + rto_at_send (metas_of rolls x o) x.seq x.rto) (running o.clock)
     number_running = ap (λ (y : Outgoing). running y.clock) (submit_going PerNumber rolls x wire o e) ∙ submit_entries o.clock (metas_of rolls x o) x (armed PerNumber rolls x wire o can)
 
-    pub number_lookup : (key : ℕ) → lookup key (running (submit PerNumber rolls x wire o).outgoing.clock) ≡ cond (eqb x.seq key) (some (x.time + rto_at_send (metas_of rolls x o) x.seq x.rto)) (lookup key (running o.clock))
+    pub number_lookup : (key : ℕ) → lookup key (running (submit PerNumber rolls x wire o).outgoing.clock) ≡ cond (eqb x.seq key) (Some (x.time + rto_at_send (metas_of rolls x o) x.seq x.rto)) (lookup key (running o.clock))
     number_lookup key = ap (lookup key) number_running ∙ lookup_put x.seq (x.time + rto_at_send (metas_of rolls x o) x.seq x.rto) key (running o.clock)
 
   -- one timer leaves the set alone

@@ -1,12 +1,11 @@
 -- One number's timer: what `fire_number` leaves, and what it keeps.
-use Rattle.std.specs.Prelude.{Option, None}
+use Rattle.std.specs.Prelude.{Option, None, Some}
 use Prim.Native.Nat.{ℕ, suc, ◌+◌, ◌*◌, ◌≤◌, ◌<◌}
 use native.Mathlib.Omega.{arith}
 use native.Mathlib.Nat.{le_refl}
 use mathlib.Core.Path.{◌≡◌, refl, sym, ap, ◌∙◌, subst}
 use mathlib.Core.Bool.{Bool, true, false, cond, true≢false}
 use mathlib.Core.List.{List, [], ◌∷◌}
-use mathlib.Core.Option.{none, some}
 use borrow.Author.Tests.{eqb-true}
 use lib.Dec.{eqb}
 use lib.Ieee.{Float}
@@ -278,11 +277,11 @@ module _ {rolls : List Float} {samples now : ℕ} {s : FireState} (g : GoodFire 
       others : (key : ℕ) → is_some (lookup key (remove n (running s.outgoing.clock))) ≡ true → is_due (fire_number limit rolls now n s).state.sender key ≡ true
       others key h = fire_number_due key (t.due key (other (eqb n key) (ap is_some (sym (lookup_remove n key (running s.outgoing.clock))) ∙ h)))
         where
-          other : (b : Bool) → is_some (cond b none (lookup key (running s.outgoing.clock))) ≡ true → is_some (lookup key (running s.outgoing.clock)) ≡ true
+          other : (b : Bool) → is_some (cond b None (lookup key (running s.outgoing.clock))) ≡ true → is_some (lookup key (running s.outgoing.clock)) ≡ true
           other true h = absurd (true≢false (sym h))
           other false h = h
 
-      by_key : (key : ℕ) (b : Bool) → (b ≡ true → n ≡ key) → is_due (fire_number limit rolls now n s).state.sender n ≡ true → is_some (cond b (some (now + (on_timeout_unchecked s.estimator).current_rto)) (lookup key (remove n (running s.outgoing.clock)))) ≡ true
+      by_key : (key : ℕ) (b : Bool) → (b ≡ true → n ≡ key) → is_due (fire_number limit rolls now n s).state.sender n ≡ true → is_some (cond b (Some (now + (on_timeout_unchecked s.estimator).current_rto)) (lookup key (remove n (running s.outgoing.clock)))) ≡ true
           → is_due (fire_number limit rolls now n s).state.sender key ≡ true
       by_key key true e d h = subst (λ (k : ℕ). is_due (fire_number limit rolls now n s).state.sender k ≡ true) (e refl) d
       by_key key false e d h = others key h

@@ -1,6 +1,6 @@
 -- `fire_numbers` by its turns, what it keeps, and its loop: the due numbers from the cursor on make of the present what
 -- all of them make of the start.
-use Rattle.std.specs.Prelude.{None, Some}
+use Rattle.std.specs.Prelude.{None, Some, Option}
 use Prim.Native.Nat.{ℕ, ◌+◌, ◌-◌, ◌^◌, ◌≤◌, ◌<◌, zero-le}
 use native.Mathlib.Omega.{arith}
 use native.Mathlib.Nat.{le_trans}
@@ -8,7 +8,6 @@ use native.Mathlib.Numerals.{add-one}
 use mathlib.Core.Path.{◌≡◌, refl, sym, ap, ◌∙◌, subst}
 use mathlib.Core.Bool.{Bool, true, false, not, true≢false}
 use mathlib.Core.List.{List, [], ◌∷◌}
-use mathlib.Core.Option.{Option, none, some}
 use lib.Dec.{lit<}
 use lib.Ieee.{Float}
 use lib.ListN.{length}
@@ -148,8 +147,8 @@ left_start limit {rolls} {now} {u} can =
     }
 
 timer_set : (now : ℕ) (o : Option ℕ) → due_at now o ≡ true → is_some o ≡ true
-timer_set now none e = e
-timer_set now (some d) e = refl
+timer_set now None e = e
+timer_set now (Some d) e = refl
 
 module _ {limit : ℕ} {rolls : List Float} {now : ℕ} {u v : FireState} {from : ℕ} (l : Left limit rolls now u v from) {k : Option ℕ}
     (next : k ≡ next_expired_unchecked (timers_of v.outgoing.clock) v.outgoing.clock.keys v.outgoing.clock.deadlines from now) where
