@@ -1,5 +1,5 @@
 -- Whether a copy is due, by the time of the first; where none is, nothing is taken.
-use Rattle.std.specs.Prelude.{Err, None, Ok, Option, Result, Some}
+use Rattle.std.specs.Prelude.{None, Ok, Option, Some}
 use Prim.Native.Nat.{ℕ}
 use mathlib.Core.Path.{◌≡◌, refl, ap, ◌∙◌}
 use mathlib.Core.Bool.{Bool, true, false, cond, ◌&&◌}
@@ -8,18 +8,17 @@ use lib.Dec.{ltb, leb}
 use Rattle.schedule.specs.Record.{time_of}
 use Rattle.schedule.specs.Schedule.{first_record, due, first_time, pop_unchecked}
 use Rattle.path.specs.Direction.{Direction}
-use Rattle.path.specs.Path.{take_ready, is_due}
-use Rattle.refusal.specs.declared.Refusal.{Refusal}
+use Rattle.path.specs.Path.{take_ready, is_due, deadline_of}
 
-abbrev reached : Result (Option ℕ) Refusal → ℕ → Bool
-reached (Ok (Some t)) now = leb t now
-reached (Ok None) now = false
-reached (Err r) now = false
+abbrev reached : Option ℕ → ℕ → Bool
+reached (Some t) now = leb t now
+reached None now = false
 
-pub due_reached : (count : ℕ) (rs : List (List ℕ)) (now : ℕ) {a : Result (Option ℕ) Refusal} → a ≡ first_time count rs → reached a now ≡ due count rs now
-due_reached count rs now e = ap (λ (a : Result (Option ℕ) Refusal). reached a now) e ∙ by_test_lem (ltb 0 count)
+pub due_reached : (count : ℕ) (rs : List (List ℕ)) (now : ℕ) {a : Option ℕ} → a ≡ deadline_of (first_time count rs) → reached a now ≡ due count rs now
+unfolding deadline_of
+due_reached count rs now e = ap (λ (a : Option ℕ). reached a now) e ∙ by_test_lem (ltb 0 count)
   where
-    by_test_lem : (b : Bool) → reached (cond b (Ok (Some (time_of (first_record rs)))) (Ok None)) now ≡ (b && leb (time_of (first_record rs)) now)
+    by_test_lem : (b : Bool) → reached (deadline_of (cond b (Ok (Some (time_of (first_record rs)))) (Ok None))) now ≡ (b && leb (time_of (first_record rs)) now)
     by_test_lem true = refl
     by_test_lem false = refl
 

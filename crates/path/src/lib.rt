@@ -179,11 +179,9 @@ impl Path {
         requires { self.scheduler.count ≤ length records.now }
         ensures { result ≡ is_due self records.now now }
     {
-        let scheduler = self.scheduler;
-        match scheduler.next_deadline_unchecked(records) {
-            Ok(Some(time)) => time <= now,
-            Ok(None) => false,
-            Err(_) => false,
+        match self.next_deadline_unchecked(records) {
+            Some(time) => time <= now,
+            None => false,
         }
     }
 
@@ -192,11 +190,7 @@ impl Path {
         ensures { result ≡ next_deadline self records.now }
     {
         let scheduler = self.scheduler;
-        match scheduler.next_deadline_unchecked(records) {
-            Ok(Some(time)) => Some(time),
-            Ok(None) => None,
-            Err(_) => None,
-        }
+        scheduler.next_deadline_unchecked(records).unwrap_or(None)
     }
 
     // Whether no copy waits.

@@ -1,16 +1,15 @@
-use mathlib.Core.Path.{sym, ◌∙◌, ap}
+use Rattle.std.specs.Prelude.{ℕ, Err, None, Ok, Option, Result, Some}
+use Rattle.std.specs.Result.{result_unwrap_or}
+use mathlib.Core.Path.{◌≡◌, refl, ◌∙◌, ap}
+use Rattle.refusal.specs.declared.Refusal.{Refusal}
 use Rattle.path.specs.Path.{deadline_of}
-use Rattle.refusal.proofs.Laws.{ok_is}
 use Rattle.path.proofs.Path.next_deadline_unchecked.Goals as goal
 
-pub returns-in-Ok-Some : goal.returns-in-Ok-Some
+or_none : (a : Result (Option ℕ) Refusal) → result_unwrap_or a None ≡ deadline_of a
 unfolding deadline_of
-returns-in-Ok-Some c = ap deadline_of (sym (ok_is c.in-Ok-Some.is (rw c.in-Ok-Some.is at c.in-Ok-Some.field-0-is)) ∙ c.next_deadline_unchecked.ensures)
+or_none (Ok None) = refl
+or_none (Ok (Some t)) = refl
+or_none (Err r) = refl
 
-pub returns-in-Ok-None : goal.returns-in-Ok-None
-unfolding deadline_of
-returns-in-Ok-None c = ap deadline_of (sym (ok_is c.in-Ok-None.is (rw c.in-Ok-None.is at c.in-Ok-None.field-0-is)) ∙ c.next_deadline_unchecked.ensures)
-
-pub returns-in-Err : goal.returns-in-Err
-unfolding deadline_of
-returns-in-Err c = ap deadline_of (sym c.in-Err.is ∙ c.next_deadline_unchecked.ensures)
+pub returns : goal.returns
+returns c = c.unwrap_or.ensures ∙ or_none _ ∙ ap deadline_of c.next_deadline_unchecked.ensures
