@@ -35,6 +35,7 @@ use Rattle.edition_clock.proofs.Rules.{submit_5_1}
 use Rattle.edition_clock.proofs.Senders.{Again}
 use Rattle.schedule.specs.declared.Deliveries.{Deliveries}
 use Rattle.path.specs.declared.Stop.{Stop}
+use Rattle.path.specs.declared.Stop.TheVariants as stop
 
 -- ---- (5.5): the edition clock's setup has the limits of 1 s and 60 s, and doubled is never below the lower one
 pub record EditionLimits (c : RtoConfig) : Type 0 where

@@ -13,6 +13,7 @@ use Rattle.multi_timer.specs.MultiTimer.{start_full}
 use Rattle.clock.specs.Clock.{ClockState, timers_of, Submission, arm_after_submit, Held}
 use Rattle.clock.specs.declared.Timing.{Timing}
 use Rattle.clock.specs.declared.Timing.TheVariants.{PerNumber}
+use Rattle.path.specs.declared.Stop.TheVariants as stop
 
 -- what a submission works on: the forward direction of the line, the notes, the events in the first `written` rows, the
 -- timers
