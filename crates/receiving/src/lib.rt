@@ -332,9 +332,7 @@ fn any_copies(answer: Result<(Deliveries, u16), Stop>) -> bool
 {
     match answer {
         Ok((deliveries, _)) => 0 < copies_of(deliveries),
-        Err(Stop::RollsSpent) => false,
-        Err(Stop::EventsFull) => false,
-        Err(Stop::ScheduleFull) => false,
+        Err(_) => false,
     }
 }
 

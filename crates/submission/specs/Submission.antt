@@ -53,9 +53,7 @@ on_carriage (Ok (ds, fold)) timing x o =
     let event = forward_event x.seq x.retransmission ds fold in
     outgoing o.forward metas (o.written + 1) (set o.events o.written (row_of event))
     (arm_after_submit timing o.clock metas x)
-on_carriage (Err stop.RollsSpent) timing x o = o
-on_carriage (Err stop.EventsFull) timing x o = o
-on_carriage (Err stop.ScheduleFull) timing x o = o
+on_carriage (Err s) timing x o = o
 
 unfoldable pub submit : Timing → List Float → Submission → List ℕ → Outgoing → SubmitExit
 submit timing rolls x wire o =
