@@ -18,7 +18,7 @@ use bounds::{HEADER_SIZE, PLACE_SIZE};
 use notes::{Note, Notes};
 use packet::{DatagramReading, Packet, PacketType};
 use path::{Path, Stop};
-use schedule::{ScheduledRow, copies_of};
+use schedule::{Deliveries, ScheduledRow, copies_of};
 use session::Receiver;
 
 // completed_at is the moment at which the last chunk was delivered, 0 before.
