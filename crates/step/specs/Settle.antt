@@ -37,12 +37,15 @@ finishing_time s time =
 abbrev pub over : RunState → End → ℕ → StepExit
 over s e time = step_exit s (Over e (finishing_time s time))
 
+abbrev pub end_by : Stop → End
+end_by stop.RollsSpent = end.RollsSpent
+end_by stop.EventsFull = end.EventsFull
+end_by stop.ScheduleFull = end.ScheduleFull
+
 -- a packet that can't be carried ends the run
 abbrev pub unless_stopped : Option Stop → RunState → StepExit → StepExit
-unless_stopped (None) s rest = rest
-unless_stopped (Some stop.RollsSpent) s rest = over s end.RollsSpent s.time
-unless_stopped (Some stop.EventsFull) s rest = over s end.EventsFull s.time
-unless_stopped (Some stop.ScheduleFull) s rest = over s end.ScheduleFull s.time
+unless_stopped None s rest = rest
+unless_stopped (Some why) s rest = over s (end_by why) s.time
 
 -- ---- `sender_idle`: all chunks sent and acknowledged, nothing on the lines, no number has a timer
 unfoldable pub sender_idle : ℕ → Sender → Path → Path → Clock → Bool

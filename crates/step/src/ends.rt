@@ -62,9 +62,7 @@ pub(super) fn stopped(state: State, stop: Option<Stop>) -> StepResult
     let now = state.now;
     match stop {
         None => going(state),
-        Some(Stop::RollsSpent) => over(state, End::RollsSpent, now),
-        Some(Stop::EventsFull) => over(state, End::EventsFull, now),
-        Some(Stop::ScheduleFull) => over(state, End::ScheduleFull, now),
+        Some(stop) => over(state, End::from(stop), now),
     }
 }
 

@@ -4,7 +4,7 @@
 
 ghost use Rattle.std.specs.Prelude.{◌≡◌};
 ghost use Rattle.step.specs.State.{given, lent, run_of};
-ghost use Rattle.step.specs.Settle.{step_exit};
+ghost use Rattle.step.specs.Settle.{end_by, step_exit};
 ghost use Rattle.step.specs.Step.{step};
 ghost use Rattle.step.specs.Good.{GoodPlan, GoodRun};
 
@@ -15,6 +15,7 @@ use events::Event;
 use finish::finish_round;
 use notes::Note;
 use parts::{either, round_less, with_forward, with_reverse};
+use path::Stop;
 use schedule::ScheduledRow;
 use sending::Resends;
 
@@ -54,7 +55,19 @@ pub enum End {
     ScheduleFull,
 }
 
-// Whether a run goes on, or how and when it ended.
+impl From<Stop> for End {
+    ghost from_gives = { λ stop end. end ≡ end_by stop };
+
+    fn from(stop: Stop) -> End {
+        match stop {
+            Stop::RollsSpent => End::RollsSpent,
+            Stop::EventsFull => End::EventsFull,
+            Stop::ScheduleFull => End::ScheduleFull,
+        }
+    }
+}
+
+// Whether a run goes on, or how and when it ended. No Option: `Going` says more than None would.
 #[derive(Clone, Copy)]
 pub enum Course {
     Going,
