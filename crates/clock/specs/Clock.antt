@@ -116,8 +116,7 @@ due timing.TheVariants.Edition s now outstanding =
 
 -- ---- `next_deadline`, of the timers
 abbrev pub as_deadline : Option ℕ → Option ℕ
-as_deadline None = None
-as_deadline (Some d) = Some d
+as_deadline d = d
 
 unfoldable pub next_deadline : Timing → ClockState → Option ℕ
 next_deadline timing.TheVariants.Single s = (timer_of s).deadline

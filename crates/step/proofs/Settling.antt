@@ -46,9 +46,6 @@ pub stopped_by : (s : RunState) (rest : StepExit) {st st' : Option Stop} {x : St
 stopped_by s rest e h = h ∙ ap (λ (z : Option Stop). unless_stopped z s rest) (sym e)
 
 -- ---- the earlier of two deadlines
-pub of_path_at : {d : Option ℕ} {t : ℕ} → d ≡ Some t → Some t ≡ of_path d
-of_path_at e = sym (ap of_path e)
-
 module _ {a b : Option ℕ} {t : ℕ} (e : a ≡ Some t) where
   pub earlier_first : b ≡ None → Some t ≡ earlier a b
   earlier_first f = rw (e, f)

@@ -56,8 +56,7 @@ sender_idle total sender forward reverse clock =
 
 -- ---- `next_deadline`: the earliest of both directions and of the timers
 abbrev pub of_path : Option ℕ → Option ℕ
-of_path (Some t) = Some t
-of_path None = None
+of_path d = d
 
 abbrev pub earlier : Option ℕ → Option ℕ → Option ℕ
 earlier None d = d

@@ -7,7 +7,7 @@ ghost use Rattle.path.specs.Path.{is_going};
 ghost use Rattle.clock.specs.Clock.{Held};
 ghost use Rattle.session.specs.Sending.{window_of};
 ghost use Rattle.step.specs.State.{Lent, lent, run_of, exhausted};
-ghost use Rattle.step.specs.Settle.{StepExit, step_exit, over, unless_stopped, sender_idle, of_path, earlier};
+ghost use Rattle.step.specs.Settle.{StepExit, step_exit, over, unless_stopped, sender_idle, earlier};
 ghost use Rattle.step.specs.Settle.{next_deadline, moved, move_to, settle};
 ghost use Rattle.step.specs.declared.Course.TheVariants.{Going};
 
@@ -66,15 +66,6 @@ pub(super) fn stopped(state: State, stop: Option<Stop>) -> StepResult
     }
 }
 
-fn of_path(d: Option<u64>) -> Option<u64>
-    ensures { result ≡ of_path d }
-{
-    match d {
-        Some(t) => Some(t),
-        None => None,
-    }
-}
-
 fn earlier(a: Option<u64>, b: Option<u64>) -> Option<u64>
     ensures { result ≡ earlier a b }
 {
@@ -109,8 +100,7 @@ fn next_deadline(
     let a = forward.next_deadline_unchecked(forward_records);
     let b = reverse.next_deadline_unchecked(reverse_records);
     let c = clock.next_deadline_unchecked(timing, keys, deadlines);
-    let due = earlier(of_path(b), c);
-    earlier(of_path(a), due)
+    earlier(a, earlier(b, c))
 }
 
 // All chunks sent and acknowledged, nothing on the lines, no number has a timer.
