@@ -66,7 +66,7 @@ impl GoBackNSender {
         }
     }
 
-    // A datagram as an ACK. Stop-and-Wait's does the same with another sender, by an `acknowledge_unchecked` of its own.
+    // A datagram as an ACK. Stop-and-Wait's does the same with another sender and its `acknowledge_unchecked`.
     pub fn handle_ack(self, store: &mut [u8], raw: &[u8]) -> GoBackNAckResult
         ensures { ack_exit result.answer (sender result.sender.window store.new)
             ≡ handle_ack (sender self.window store.old) raw.now }

@@ -106,7 +106,7 @@ impl StopAndWaitSender {
         }
     }
 
-    // A datagram as an ACK. Go-Back-N's does the same with another sender, by an `acknowledge_unchecked` of its own.
+    // A datagram as an ACK. Go-Back-N's does the same with another sender and its `acknowledge_unchecked`.
     pub fn handle_ack(self, store: &mut [u8], raw: &[u8]) -> StopAndWaitAckResult
         ensures { ack_exit result.answer (end_of result.sender store.new)
             ≡ handle_ack (end_of self store.old) raw.now }
