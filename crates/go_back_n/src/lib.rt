@@ -48,10 +48,8 @@ impl GoBackNSender {
     pub fn new(window_size: usize, store: &mut [u8]) -> Result<GoBackNSender, Refusal>
         ensures { make_exit (made_window result) store.new ≡ make_window window_size store.old }
     {
-        match SendWindow::new(window_size, store) {
-            Ok(window) => Ok(GoBackNSender { window }),
-            Err(r) => Err(r),
-        }
+        let window = SendWindow::new(window_size, store)?;
+        Ok(GoBackNSender { window })
     }
 
     // A chunk into its slot and as a datagram to the start of out.
@@ -59,23 +57,22 @@ impl GoBackNSender {
         ensures { send_exit result.answer (sender result.sender.window store.new) out.new
             ≡ send_chunk false (sender self.window store.old) payload.now out.old }
     {
-        let window = self.window;
-        let sent = window.send_chunk(false, store, payload, out);
-        let window = sent.window;
-        let answer = sent.answer;
+        let sent = self.window.send_chunk(false, store, payload, out);
         GoBackNSendResult {
-            sender: GoBackNSender { window },
-            answer,
+            sender: GoBackNSender {
+                window: sent.window,
+            },
+            answer: sent.answer,
         }
     }
 
-    // A datagram as an ACK.
+    // A datagram as an ACK. Stop-and-Wait's does the same with another sender and its `acknowledge_unchecked`.
     pub fn handle_ack(self, store: &mut [u8], raw: &[u8]) -> GoBackNAckResult
         ensures { ack_exit result.answer (sender result.sender.window store.new)
             ≡ handle_ack (sender self.window store.old) raw.now }
     {
         match self.decide_ack(store, raw) {
-            Ok(AckDecision::Accept { seq_num, base: _ }) => GoBackNAckResult {
+            Ok(AckDecision::Accept { seq_num, .. }) => GoBackNAckResult {
                 sender: self.acknowledge_unchecked(store, seq_num, false),
                 answer: Ok(true),
             },
@@ -95,14 +92,13 @@ impl GoBackNSender {
         ensures { timeout_exit result.answer (sender result.sender.window store.new) out.new
             ≡ handle_timeout (sender self.window store.old) out.old }
     {
-        let window = self.window;
         let all = bounds::MAX_WINDOW_SIZE as u32;
-        let result = window.resend_outstanding(store, all, out);
-        let window = result.window;
-        let answer = result.answer;
+        let result = self.window.resend_outstanding(store, all, out);
         GoBackNTimeoutResult {
-            sender: GoBackNSender { window },
-            answer,
+            sender: GoBackNSender {
+                window: result.window,
+            },
+            answer: result.answer,
         }
     }
 
@@ -111,13 +107,12 @@ impl GoBackNSender {
         ensures { timeout_exit result.answer (sender result.sender.window store.new) out.new
             ≡ handle_timeout_earliest (sender self.window store.old) out.old }
     {
-        let window = self.window;
-        let result = window.resend_outstanding(store, 1, out);
-        let window = result.window;
-        let answer = result.answer;
+        let result = self.window.resend_outstanding(store, 1, out);
         GoBackNTimeoutResult {
-            sender: GoBackNSender { window },
-            answer,
+            sender: GoBackNSender {
+                window: result.window,
+            },
+            answer: result.answer,
         }
     }
 
@@ -125,8 +120,7 @@ impl GoBackNSender {
     pub fn decide_ack(self, store: &[u8], raw: &[u8]) -> Result<AckDecision, Refusal>
         ensures { result ≡ decide_ack (sender self.window store.now) raw.now }
     {
-        let window = self.window;
-        window.decide_ack(false, store, raw)
+        self.window.decide_ack(false, store, raw)
     }
 
     // What the accepted ACK of an outstanding number does. `clean`: whether the bytes of the slots past their lengths
@@ -139,30 +133,26 @@ impl GoBackNSender {
         ensures { sender result.window store.new
             ≡ acknowledged (sender self.window store.old) seq_num }
     {
-        let window = self.window;
-        let window = window.release_unchecked(store, seq_num + 1, clean);
+        let window = self.window.release_unchecked(store, seq_num + 1, clean);
         GoBackNSender { window }
     }
 
     pub fn can_send(self) -> Result<bool, Refusal>
         ensures { result ≡ can_send self.window }
     {
-        let window = self.window;
-        window.can_send()
+        self.window.can_send()
     }
 
     pub fn in_flight_count(self) -> Result<usize, Refusal>
         ensures { result ≡ in_flight_count self.window }
     {
-        let window = self.window;
-        window.in_flight_count()
+        self.window.in_flight_count()
     }
 
     pub fn has_unacked_packets(self) -> Result<bool, Refusal>
         ensures { result ≡ has_unacked_packets self.window }
     {
-        let window = self.window;
-        window.has_unacked_packets()
+        self.window.has_unacked_packets()
     }
 }
 
@@ -231,7 +221,7 @@ impl GoBackNReceiver {
         }
     }
 
-    // A packet that was read.
+    // A packet that was read. Stop-and-Wait's does the same with another receiver, which decides otherwise.
     pub fn handle_packet_unchecked(
         self,
         reading: PacketReading,
@@ -294,6 +284,7 @@ impl GoBackNReceiver {
         self.decided(false, Some(expected - 1))
     }
 
+    // Stop-and-Wait's differs in the type of the state alone, which both give back.
     fn decided(self, deliver: bool, reply: Option<u32>) -> GoBackNDecision
         ensures { result ≡ decided self deliver reply }
     {

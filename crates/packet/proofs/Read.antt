@@ -1,6 +1,6 @@
 -- Laws of reading a datagram.
-use Rattle.std.specs.Prelude.{Err, Ok}
-use Prim.Native.Nat.{ℕ, ◌+◌, ◌-◌, ◌≤◌, ◌<◌}
+use Rattle.std.specs.Prelude.{Err, Ok, Result}
+use Prim.Native.Nat.{ℕ, ◌+◌, ◌≤◌, ◌<◌}
 use mathlib.Core.Path.{◌≡◌, refl, sym, ap, ◌∙◌}
 use mathlib.Core.Bool.{Bool, true, false, cond, not}
 use mathlib.Core.List.{List, [], ◌∷◌}
@@ -81,6 +81,11 @@ pub type_refused : (b : ℕ) (r : Refusal) → try_from b ≡ Err r → is_type 
 unfolding try_from verdict first_of numbered or_else order decide
 type_refused b r e = by_type_lem b r (is_type b) refl e
 
+-- a byte that is no kind is refused by that byte
+pub type_refused_by : (b : ℕ) (r : Refusal) → try_from b ≡ Err r → Kind b ≡ r
+unfolding try_from verdict first_of numbered or_else order decide
+type_refused_by b r e = let k = type_refused b r e in let f : ◌≡◌ {A = Result PacketType Refusal} (Err (Kind b)) (Err r) = (rw k at e) in cc
+
 pub payload_is : (raw : List ℕ) → verdict (read_checks raw) ≡ passed → payload_of raw ≡ take (declared raw) (drop 10 raw)
 unfolding payload_of payload_part
 payload_is raw v = on_accepted (λ (r : Refusal). []) (payload_part raw) v
@@ -104,6 +109,11 @@ validity_is raw p e =
     on_accepted Err _ v
     ∙ ap (λ (q : Packet). cond (matches q (payload_part raw)) (Ok true) (Ok false)) (read_header raw p e)
     ∙ ap (λ (l : List ℕ). cond (matches p l) (Ok true) (Ok false)) (sym (payload_is raw v))
+
+-- a test that is answered
+pub as_cond : (b : Bool) → ◌≡◌ {A = Result Bool Refusal} (Ok b) (cond b (Ok true) (Ok false))
+as_cond true = refl
+as_cond false = refl
 
 pub validity_none : (raw : List ℕ) {r : Refusal} → verdict (read_checks raw) ≡ Err r → validity raw ≡ Err r
 unfolding validity

@@ -1,6 +1,7 @@
 -- Document 01, `packet.rs` and "Turned away" 1, 2, 3: what a datagram reads as. Bytes after the declared payload are
 -- ignored.
-use Rattle.std.specs.Prelude.{ℕ, ◌+◌, ◌-◌, ◌*◌, List, [], ◌∷◌, Bool, true, false, cond, not, length, get_or, take, drop, ltb, leb, eqb, Err, Ok, Result}
+use Rattle.std.specs.Prelude.{ℕ, ◌+◌, ◌-◌, ◌*◌, List, [], ◌∷◌, Bool, true, false, cond, not, length, get_or, take, drop}
+use Rattle.std.specs.Prelude.{ltb, leb, eqb, Err, Ok, Result}
 use Rattle.bounds.specs.Bounds.{header_size}
 use Rattle.refusal.specs.declared.Refusal.TheVariants.{Short, Kind, Cut}
 use Rattle.refusal.specs.Order.{Check, check, verdict, decide}
@@ -66,7 +67,8 @@ given_checks raw = check_long (payload_of raw) ∷ read_checks raw
 unfoldable pub read_datagram : List ℕ → Result DatagramReading Refusal
 read_datagram raw =
     decide (verdict (given_checks raw)) Err
-    (cond (matches (header_of raw) (payload_of raw)) (Ok (reading.Valid (header_of raw))) (Ok (reading.Corrupted (header_of raw))))
+    (cond (matches (header_of raw) (payload_of raw)) (Ok (reading.Valid (header_of raw)))
+    (Ok (reading.Corrupted (header_of raw))))
 
 -- a refused reading, as a check among those of the call that is given the datagram
 abbrev pub reading_checks : Result DatagramReading Refusal → List Check

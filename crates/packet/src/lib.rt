@@ -49,20 +49,30 @@ impl PacketType {
             PacketType::Fin => 3,
         }
     }
+}
 
-    pub fn try_from(byte: u8) -> Result<PacketType, Refusal>
-        ensures { result ≡ try_from byte }
-    {
-        if byte == 1 {
-            return Ok(PacketType::Data);
+// The kind of a byte on the wire, or a refusal that names the byte.
+impl TryFrom<u8> for PacketType {
+    type Error = Refusal;
+
+    ghost try_from_gives = { λ byte answer. answer ≡ try_from byte };
+
+    fn try_from(byte: u8) -> Result<Self, Refusal> {
+        match byte {
+            1 => Ok(PacketType::Data),
+            2 => Ok(PacketType::Ack),
+            3 => Ok(PacketType::Fin),
+            _ => Err(Refusal::Kind(byte)),
         }
-        if byte == 2 {
-            return Ok(PacketType::Ack);
-        }
-        if byte == 3 {
-            return Ok(PacketType::Fin);
-        }
-        Err(Refusal::Kind(byte))
+    }
+}
+
+// The byte on the wire.
+impl From<PacketType> for u8 {
+    ghost from_gives = { λ kind byte. byte ≡ byte_of kind };
+
+    fn from(kind: PacketType) -> u8 {
+        kind.to_byte()
     }
 }
 
@@ -74,31 +84,27 @@ impl Packet {
     pub fn new_data(seq_num: u32) -> Packet
         ensures { result ≡ new_packet seq_num PacketType.Data }
     {
-        Packet {
-            seq_num,
-            pkt_type: PacketType::Data,
-            flags: 0,
-            checksum: 0,
-        }
+        Packet::new(seq_num, PacketType::Data)
     }
 
     pub fn new_ack(seq_num: u32) -> Packet
         ensures { result ≡ new_packet seq_num PacketType.Ack }
     {
-        Packet {
-            seq_num,
-            pkt_type: PacketType::Ack,
-            flags: 0,
-            checksum: 0,
-        }
+        Packet::new(seq_num, PacketType::Ack)
     }
 
     pub fn new_fin(seq_num: u32) -> Packet
         ensures { result ≡ new_packet seq_num PacketType.Fin }
     {
+        Packet::new(seq_num, PacketType::Fin)
+    }
+
+    fn new(seq_num: u32, pkt_type: PacketType) -> Packet
+        ensures { result ≡ new_packet seq_num pkt_type }
+    {
         Packet {
             seq_num,
-            pkt_type: PacketType::Fin,
+            pkt_type,
             flags: 0,
             checksum: 0,
         }
@@ -113,7 +119,7 @@ impl Packet {
     pub fn set_retransmitted(mut self) -> Packet
         ensures { result ≡ set_retransmitted self }
     {
-        self.flags = self.flags | FLAG_RETRANSMITTED;
+        self.flags |= FLAG_RETRANSMITTED;
         self
     }
 
@@ -140,16 +146,8 @@ impl Packet {
     pub fn is_valid(raw: &[u8]) -> Result<bool, Refusal>
         ensures { result ≡ validity raw.now }
     {
-        match Packet::from_bytes(raw) {
-            Ok(p) => {
-                if p.is_valid_unchecked(Packet::payload_unchecked(raw)) {
-                    Ok(true)
-                } else {
-                    Ok(false)
-                }
-            }
-            Err(r) => Err(r),
-        }
+        let p = Packet::from_bytes(raw)?;
+        Ok(p.is_valid_unchecked(Packet::payload_unchecked(raw)))
     }
 
     // Writes the datagram, with the checksum field as it stands, to the start of out.
@@ -174,10 +172,7 @@ impl Packet {
         if raw.len() < Packet::HEADER_SIZE {
             return Err(Refusal::Short(raw.len()));
         }
-        let byte = raw[4];
-        let Ok(pkt_type) = PacketType::try_from(byte) else {
-            return Err(Refusal::Kind(byte));
-        };
+        let pkt_type = PacketType::try_from(raw[4])?;
         let declared = octets::be16(raw[6], raw[7]);
         let present = raw.len() - Packet::HEADER_SIZE;
         if present < declared as usize {
@@ -206,19 +201,15 @@ impl Packet {
     pub fn read_datagram(raw: &[u8]) -> Result<DatagramReading, Refusal>
         ensures { result ≡ read_datagram raw.now }
     {
-        match Packet::from_bytes(raw) {
-            Ok(p) => {
-                let payload = Packet::payload_unchecked(raw);
-                if Packet::MAX_PAYLOAD_SIZE < payload.len() {
-                    return Err(Refusal::Long);
-                }
-                if p.is_valid_unchecked(payload) {
-                    Ok(DatagramReading::Valid(p))
-                } else {
-                    Ok(DatagramReading::Corrupted(p))
-                }
-            }
-            Err(r) => Err(r),
+        let p = Packet::from_bytes(raw)?;
+        let payload = Packet::payload_unchecked(raw);
+        if Packet::MAX_PAYLOAD_SIZE < payload.len() {
+            return Err(Refusal::Long);
+        }
+        if p.is_valid_unchecked(payload) {
+            Ok(DatagramReading::Valid(p))
+        } else {
+            Ok(DatagramReading::Corrupted(p))
         }
     }
 
@@ -234,10 +225,9 @@ impl Packet {
         requires { length payload.now ≤ 65535 }
         ensures { result ≡ checksum_of self payload.now }
     {
-        let pkt_type = self.pkt_type;
         let high = (self.seq_num >> 16) as u16;
         let low = (self.seq_num % 65536) as u16;
-        let kind_and_flags = octets::be16(pkt_type.to_byte(), self.flags);
+        let kind_and_flags = octets::be16(self.pkt_type.to_byte(), self.flags);
         let header = checksum::ones_add(
             checksum::ones_add(checksum::ones_add(high, low), kind_and_flags),
             payload.len() as u16,
@@ -249,13 +239,9 @@ impl Packet {
         requires { length payload.now ≤ 65535 }
         ensures { result ≡ with_checksum self payload.now }
     {
-        let checksum = self.compute_checksum_unchecked(payload);
-        let pkt_type = self.pkt_type;
         Packet {
-            seq_num: self.seq_num,
-            pkt_type,
-            flags: self.flags,
-            checksum,
+            checksum: self.compute_checksum_unchecked(payload),
+            ..self
         }
     }
 
@@ -284,12 +270,11 @@ fn put_header(p: Packet, payload_len: u16, out: &mut [u8])
     ensures { out.new
         ≡ header_bytes p payload_len p.checksum ++ drop header_size out.old }
 {
-    let pkt_type = p.pkt_type;
     out[0] = (p.seq_num >> 24) as u8;
     out[1] = ((p.seq_num >> 16) % 256) as u8;
     out[2] = ((p.seq_num >> 8) % 256) as u8;
     out[3] = (p.seq_num % 256) as u8;
-    out[4] = pkt_type.to_byte();
+    out[4] = p.pkt_type.to_byte();
     out[5] = p.flags;
     out[6] = (payload_len >> 8) as u8;
     out[7] = (payload_len % 256) as u8;

@@ -1,5 +1,5 @@
 -- A datagram given to a receiver: read first, and then received by what it was read as.
-use Rattle.std.specs.Prelude.{Err, None, Ok, Option, Result, Some}
+use Rattle.std.specs.Prelude.{Err, Ok, Option, Result}
 use Prim.Native.Nat.{ℕ, ◌≤◌, ◌<◌}
 use mathlib.Core.Path.{◌≡◌, refl, sym, ap, ◌∙◌}
 use mathlib.Core.Bool.{Bool, true, false, cond, ◌&&◌}
@@ -195,7 +195,6 @@ module _ {R : Type 0} (x : Reception R) (raw output ack : List ℕ) where
   receive_read h e =
       let k = read_facts raw x.state_broken x.counts_broken h e in
       receive_unchecked_lem k.state_sound k.counts_low k.taken k.not_high
-
 
 pub apply_done : (d : Decision) (payload : List ℕ) (filled : ℕ) (output ack written acked : List ℕ) (n : ℕ) (a : Result (Option ℕ) Refusal) → room_missing d (length payload) filled output ack ≡ false
     → a ≡ answer_of d.reply → apply_exit n written acked ≡ applied d payload filled output ack → receive_exit a n written acked ≡ apply d payload filled output ack

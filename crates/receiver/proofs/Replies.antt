@@ -1,5 +1,5 @@
 -- Laws of carrying a decision out.
-use Rattle.std.specs.Prelude.{Option, Some}
+use Rattle.std.specs.Prelude.{Option, Some, None, is_some}
 use Prim.Native.Nat.{ℕ, ◌+◌, ◌-◌, ◌≤◌}
 use mathlib.Core.Path.{◌≡◌, refl}
 use mathlib.Core.Bool.{Bool, true, false, ◌||◌, ◌&&◌}
@@ -68,3 +68,8 @@ module _ (d : Decision) (payload more : List ℕ) (filled : ℕ) (output ack : L
 
   pub carried_on : apply_exit ((applied d payload filled output ack).filled + length more) (written_at (applied d payload filled output ack).output (applied d payload filled output ack).filled more) (applied d payload filled output ack).ack ≡ applied d (payload ++ more) filled output ack
   carried_on = (carried_parts d.deliver refl).1
+
+-- a buffer for an ACK is missing where there is a reply and it is shorter than a header
+pub ack_missing_is : (reply : Option ℕ) (ack : List ℕ) → ack_missing reply ack ≡ (is_some reply && ltb (length ack) 10)
+ack_missing_is (Some n) ack = refl
+ack_missing_is None ack = refl

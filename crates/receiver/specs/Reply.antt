@@ -1,6 +1,7 @@
 -- Document 01, "`delivered_data` becomes a lent output and its fill mark", "Turned away" 5, and arq/*.rs,
 -- `handle_packet`.
-use Rattle.std.specs.Prelude.{ℕ, ◌+◌, ◌-◌, ◌≤◌, List, [], ◌++◌, Bool, true, false, cond, ◌||◌, ◌&&◌, ◌≡◌, length, take, drop, ltb, None, Ok, Option, Result, Some, is_err}
+use Rattle.std.specs.Prelude.{ℕ, ◌+◌, ◌-◌, ◌≤◌, List, [], ◌++◌, Bool, false, cond, ◌||◌, ◌&&◌, ◌≡◌, length, take, drop}
+use Rattle.std.specs.Prelude.{ltb, None, Ok, Option, Result, Some, is_err}
 use Rattle.bounds.specs.Bounds.{header_size}
 use Rattle.packet.specs.Format.{new_packet, made}
 use Rattle.packet.specs.declared.PacketType.TheVariants.{Ack}

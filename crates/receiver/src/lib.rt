@@ -1,7 +1,7 @@
 // What the three receivers share: reading a datagram, delivering a payload into the lent output, writing the ACK.
 #![tactic(auto)]
 
-ghost use Rattle.std.specs.Prelude.{◌≡◌, ◌+◌, ◌≤◌, length, ltb, ◌&&◌};
+ghost use Rattle.std.specs.Prelude.{◌≡◌, ◌+◌, ◌≤◌, length};
 ghost use Rattle.packet.specs.Reading.{read_datagram};
 ghost use Rattle.receiver.specs.State.{state_broken, counts_broken};
 ghost use Rattle.receiver.specs.Reading.{packet_reading, is_number_high, reading_answer, read_after, read_held};
@@ -42,10 +42,8 @@ pub struct ApplyResult {
 pub fn read_after(verdict: Result<(), Refusal>, raw: &[u8]) -> Result<PacketReading, Refusal>
     ensures { result ≡ read_after verdict raw.now }
 {
-    match verdict {
-        Ok(()) => read_packet(raw),
-        Err(r) => Err(r),
-    }
+    verdict?;
+    read_packet(raw)
 }
 
 // A datagram for a receiver in order, by what it holds: its base, its fill mark in the output and its counters.
@@ -71,8 +69,7 @@ pub fn packet_reading(packet: Packet, valid: bool) -> PacketReading
 {
     if valid {
         let seq_num = packet.seq_num;
-        let pkt_type = packet.pkt_type;
-        match pkt_type {
+        match packet.pkt_type {
             PacketType::Data => PacketReading::Data(seq_num),
             PacketType::Ack => PacketReading::Ack,
             PacketType::Fin => PacketReading::Fin(seq_num),
@@ -101,14 +98,14 @@ pub fn apply_unchecked(
         };
     }
     let end = apply_in_room_unchecked(decision, payload, filled, output, ack);
-    let reply = decision.reply;
     ApplyResult {
         filled: end,
-        answer: Ok(reply),
+        answer: Ok(decision.reply),
     }
 }
 
 // Whether a buffer is shorter than what the decision writes: size bytes to the output from its fill mark on, an ACK.
+#[tactic(auto, using(crate::proofs::Replies::ack_missing_is), unfolding(crate::specs::Reply::room_missing))]
 pub fn room_missing_unchecked(
     decision: Decision,
     size: usize,
@@ -119,23 +116,8 @@ pub fn room_missing_unchecked(
     requires { filled ≤ length output.now }
     ensures { result ≡ room_missing decision size filled output.now ack.now }
 {
-    if output_missing(decision.deliver, size, output.len() - filled) {
-        return true;
-    }
-    let reply = decision.reply;
-    match reply {
-        Some(_) => ack.len() < Packet::HEADER_SIZE,
-        None => false,
-    }
-}
-
-fn output_missing(deliver: bool, size: usize, left: usize) -> bool
-    ensures { result ≡ (deliver && ltb left size) }
-{
-    if deliver {
-        return left < size;
-    }
-    false
+    (decision.deliver && output.len() - filled < size)
+        || (decision.reply.is_some() && ack.len() < Packet::HEADER_SIZE)
 }
 
 // Carries a decision out: the payload to the output, the ACK to its buffer. Answers the fill mark.
@@ -150,8 +132,7 @@ pub fn apply_in_room_unchecked(
     ensures { apply_exit result output.new ack.new
         ≡ applied decision payload.now filled output.old ack.old }
 {
-    let reply = decision.reply;
-    write_reply(reply, ack);
+    write_reply(decision.reply, ack);
     if decision.deliver {
         let end = filled + payload.len();
         octets::copy_unchecked(payload, &mut output[filled..end]);
@@ -173,40 +154,32 @@ fn write_reply(reply: Option<u32>, ack: &mut [u8])
 }
 
 // Whether check 9 is true of a receiver's base and fill mark.
+#[tactic(auto, unfolding(crate::specs::State::state_broken, refusal::specs::Clauses::any_of))]
 pub fn state_broken(base: u32, filled: usize, output: &[u8]) -> bool
     ensures { result ≡ state_broken base filled output.now }
 {
-    if SEQ_NUM_LIMIT < base {
-        return true;
-    }
-    output.len() < filled
+    SEQ_NUM_LIMIT < base || output.len() < filled
 }
 
 // Whether check 8 is true of a receiver's counters.
+#[tactic(auto, unfolding(crate::specs::State::counts_broken, refusal::specs::Clauses::any_of))]
 pub fn counts_broken(a: u64, b: u64, c: u64) -> bool
     ensures { result ≡ counts_broken a b c }
 {
-    if COUNT_LIMIT <= a {
-        return true;
-    }
-    if COUNT_LIMIT <= b {
-        return true;
-    }
-    COUNT_LIMIT <= c
+    COUNT_LIMIT <= a || COUNT_LIMIT <= b || COUNT_LIMIT <= c
 }
 
 fn read_packet(raw: &[u8]) -> Result<PacketReading, Refusal>
     ensures { result ≡ reading_answer (read_datagram raw.now) }
 {
-    match Packet::read_datagram(raw) {
-        Ok(DatagramReading::Valid(packet)) => {
+    match Packet::read_datagram(raw)? {
+        DatagramReading::Valid(packet) => {
             if is_number_high(packet) {
                 return Err(Refusal::Numbers);
             }
             Ok(packet_reading(packet, true))
         }
-        Ok(DatagramReading::Corrupted(packet)) => { Ok(packet_reading(packet, false)) }
-        Err(r) => Err(r),
+        DatagramReading::Corrupted(packet) => Ok(packet_reading(packet, false)),
     }
 }
 
@@ -214,10 +187,5 @@ fn read_packet(raw: &[u8]) -> Result<PacketReading, Refusal>
 pub fn is_number_high(packet: Packet) -> bool
     ensures { result ≡ is_number_high packet }
 {
-    let pkt_type = packet.pkt_type;
-    match pkt_type {
-        PacketType::Data => bounds::SEQ_NUM_LIMIT <= packet.seq_num,
-        PacketType::Ack => false,
-        PacketType::Fin => false,
-    }
+    matches!(packet.pkt_type, PacketType::Data) && SEQ_NUM_LIMIT <= packet.seq_num
 }

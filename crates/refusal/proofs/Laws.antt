@@ -7,6 +7,8 @@ use mathlib.Core.List.{List, [], ◌∷◌}
 use native.Mathlib.Omega.{arith}
 use borrow.Author.Tests.{eq-eqb, eqb-true}
 use lib.Dec.{eqb}
+use Rattle.std.specs.Prelude.{IsErrAnd}
+use Rattle.std.proofs.lemmas.Result.{err_from_is_err_and}
 use Rattle.refusal.specs.Refusal.{entry_of}
 use Rattle.refusal.specs.Clauses.{any_of}
 use Rattle.refusal.specs.Order.{Check, check, order, or_else, numbered, first_of, verdict, decide, held_checks}
@@ -269,3 +271,7 @@ held_none = refl
 -- an answer whose value is known besides
 pub ok_is : {T E : Type 0} {r : Result T E} {x y : T} → r ≡ Ok x → x ≡ y → r ≡ Ok y
 ok_is e f = e ∙ ap (λ z. Ok z) f
+
+-- what a `?` returns, where the call before it was refused
+pub err_returned : {A : Type 0} (answer : Result A Refusal) {r : Refusal} {t : Result A Refusal} → IsErrAnd answer (λ e. e ≡ r) → Err r ≡ t → answer ≡ t
+err_returned answer h e = let p = err_from_is_err_and answer h in p.1 ∙ ap (λ x. Err x) p.2 ∙ e

@@ -1,6 +1,7 @@
 -- arq/sr.rs, `SelectiveRepeatReceiver`, and document 01, "Turned away": Data in the window from base on is acknowledged
 -- and held once, Data of the window before base is acknowledged and counted as a duplicate, any other is not answered.
-use Rattle.std.specs.Prelude.{ℕ, ◌+◌, ◌-◌, ◌*◌, ◌%◌, ◌≤◌, ◌<◌, List, [], ◌∷◌, ◌++◌, Bool, true, false, cond, ◌&&◌, ◌≡◌, length, drop, replicate, ltb, leb, eqb, Err, None, Ok, Option, Result, Some}
+use Rattle.std.specs.Prelude.{ℕ, ◌+◌, ◌-◌, ◌*◌, ◌%◌, ◌≤◌, ◌<◌, List, [], ◌∷◌, ◌++◌, Bool, true, false, cond, ◌&&◌}
+use Rattle.std.specs.Prelude.{◌≡◌, length, drop, replicate, ltb, leb, eqb, Err, None, Ok, Option, Result, Some}
 use Rattle.bounds.specs.Bounds.{max_window, seq_num_limit, slot_size}
 use Rattle.refusal.specs.declared.Refusal.TheVariants.{State, Setup}
 use Rattle.refusal.specs.Clauses.{any_of}

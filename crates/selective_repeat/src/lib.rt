@@ -52,10 +52,8 @@ impl SelectiveRepeatSender {
     pub fn new(window_size: usize, store: &mut [u8]) -> Result<SelectiveRepeatSender, Refusal>
         ensures { make_exit (made_window result) store.new ≡ make_window window_size store.old }
     {
-        match SendWindow::new(window_size, store) {
-            Ok(window) => { Ok(SelectiveRepeatSender { window }) }
-            Err(r) => Err(r),
-        }
+        let window = SendWindow::new(window_size, store)?;
+        Ok(SelectiveRepeatSender { window })
     }
 
     // A chunk into its slot and as a datagram to the start of out.
@@ -68,13 +66,12 @@ impl SelectiveRepeatSender {
         ensures { send_exit result.answer (sender result.sender.window store.new) out.new
             ≡ send_chunk true (sender self.window store.old) payload.now out.old }
     {
-        let window = self.window;
-        let sent = window.send_chunk(true, store, payload, out);
-        let window = sent.window;
-        let answer = sent.answer;
+        let sent = self.window.send_chunk(true, store, payload, out);
         SelectiveRepeatSendResult {
-            sender: SelectiveRepeatSender { window },
-            answer,
+            sender: SelectiveRepeatSender {
+                window: sent.window,
+            },
+            answer: sent.answer,
         }
     }
 
@@ -112,15 +109,14 @@ impl SelectiveRepeatSender {
         ensures { timeout_exit result.answer (sender result.sender.window store.new) out.new
             ≡ handle_timeout (sender self.window store.old) seq_num out.old }
     {
-        let window = self.window;
         match self.decide_timeout(store, seq_num) {
             Ok(TimeoutDecision::Resend { first, count }) => {
-                let result = window.resend_unchecked(store, first, count, out);
-                let window = result.window;
-                let answer = result.answer;
+                let result = self.window.resend_unchecked(store, first, count, out);
                 SelectiveRepeatTimeoutResult {
-                    sender: SelectiveRepeatSender { window },
-                    answer,
+                    sender: SelectiveRepeatSender {
+                        window: result.window,
+                    },
+                    answer: result.answer,
                 }
             }
             Ok(TimeoutDecision::Nothing) => SelectiveRepeatTimeoutResult {
@@ -139,13 +135,12 @@ impl SelectiveRepeatSender {
         ensures { result ≡ decide_ack (sender self.window store.now) raw.now }
     {
         let window = self.window;
-        match window.decide_ack(true, store, raw) {
-            Ok(AckDecision::Accept { seq_num, base: _ }) => Ok(AckDecision::Accept {
+        match window.decide_ack(true, store, raw)? {
+            AckDecision::Accept { seq_num, .. } => Ok(AckDecision::Accept {
                 seq_num,
                 base: base_after(window, store, seq_num),
             }),
-            Ok(AckDecision::NotAccepted) => Ok(AckDecision::NotAccepted),
-            Err(r) => Err(r),
+            AckDecision::NotAccepted => Ok(AckDecision::NotAccepted),
         }
     }
 
@@ -172,8 +167,7 @@ impl SelectiveRepeatSender {
     pub fn can_send(self) -> Result<bool, Refusal>
         ensures { result ≡ can_send self.window }
     {
-        let window = self.window;
-        window.can_send()
+        self.window.can_send()
     }
 
     // How many numbers are outstanding and not acknowledged.
@@ -181,14 +175,12 @@ impl SelectiveRepeatSender {
         ensures { result ≡ in_flight_count (sender self.window store.now) }
     {
         let window = self.window;
-        match refusal::held_verdict(window.state_broken(true, store), window.counts_broken()) {
-            Ok(()) => Ok(self.in_flight_count_unchecked(store)),
-            Err(r) => Err(r),
-        }
+        refusal::held_verdict(window.state_broken(true, store), window.counts_broken())?;
+        Ok(self.in_flight_count_unchecked(store))
     }
 
-    // What an accepted ACK of an outstanding number does. `clean`: whether the bytes of the slots past their lengths are
-    // zeros.
+    // What an accepted ACK of an outstanding number does. `clean`: whether the bytes of the slots past their lengths
+    // are zeros.
     pub fn acknowledge_unchecked(
         self,
         store: &mut [u8],
@@ -215,10 +207,8 @@ impl SelectiveRepeatSender {
         ensures { result ≡ due (sender self.window store.now) seq_num }
     {
         let window = self.window;
-        if !window.is_outstanding(seq_num) {
-            return false;
-        }
-        store::mark_unchecked(store, seq_num as usize % window.window_size) != 2
+        window.is_outstanding(seq_num)
+            && store::mark_unchecked(store, seq_num as usize % window.window_size) != 2
     }
 
     pub fn in_flight_count_unchecked(self, store: &[u8]) -> usize
@@ -308,8 +298,7 @@ impl SlotChange {
     {
         match self {
             SlotChange::Release(k) => k,
-            SlotChange::Hold(_) => 0,
-            SlotChange::Unchanged => 0,
+            SlotChange::Hold(_) | SlotChange::Unchanged => 0,
         }
     }
 }
@@ -367,14 +356,9 @@ impl SelectiveRepeatReceiver {
     pub fn buffered_count(self, store: &[u8]) -> Result<usize, Refusal>
         ensures { result ≡ buffered_count (receiver self store.now) }
     {
-        match refusal::held_verdict(self.state_broken(store), self.counts_broken()) {
-            Ok(()) => {
-                let window = self.window_size;
-                let base = self.recv_base;
-                Ok(store::marked_count_unchecked(store, window, base, window, 1))
-            }
-            Err(r) => Err(r),
-        }
+        refusal::held_verdict(self.state_broken(store), self.counts_broken())?;
+        let window = self.window_size;
+        Ok(store::marked_count_unchecked(store, window, self.recv_base, window, 1))
     }
 
     // Whether check 9 is true of all but the fill mark.
@@ -383,6 +367,7 @@ impl SelectiveRepeatReceiver {
     {
         let window = self.window_size;
         let base = self.recv_base;
+        // Early returns and no `||`: the last call asks that the first two clauses are false.
         if window::window_broken(window) {
             return true;
         }
@@ -422,12 +407,11 @@ impl SelectiveRepeatReceiver {
             };
         }
         let filled = self.apply_in_room(store, decision, change, payload, output, ack);
-        let reply = decision.reply;
         let mut receiver = after.receiver;
         receiver.filled = filled;
         SelectiveRepeatReceiveResult {
             receiver,
-            answer: Ok(reply),
+            answer: Ok(decision.reply),
         }
     }
 
@@ -452,7 +436,8 @@ impl SelectiveRepeatReceiver {
 
     fn decide_data(mut self, store: &[u8], n: u32) -> SelectiveRepeatDecision
         requires ready { Ready self store.now }
-        requires buffered_out_of_order_bound { (self.buffered_out_of_order < count_limit) × (self.duplicates_count < count_limit) }
+        requires buffered_out_of_order_bound { (self.buffered_out_of_order < count_limit)
+            × (self.duplicates_count < count_limit) }
         ensures { result ≡ data_decision (receiver self store.now) n }
     {
         let window = self.window_size;
@@ -562,13 +547,11 @@ impl SelectiveRepeatReceiver {
     }
 
     // Whether check 9 is true, with the fill mark.
+    #[tactic(auto, unfolding(crate::specs::Receiver::receiving_broken, refusal::specs::Clauses::any_of))]
     fn receiving_broken(self, store: &[u8], output: &[u8]) -> bool
         ensures { result ≡ receiving_broken self store.now output.now }
     {
-        if self.state_broken(store) {
-            return true;
-        }
-        output.len() < self.filled
+        self.state_broken(store) || output.len() < self.filled
     }
 
     // Whether check 8 is true.

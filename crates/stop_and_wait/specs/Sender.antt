@@ -1,5 +1,6 @@
 -- arq/sw.rs, `StopAndWaitSender`; document 01, "Turned away".
-use Rattle.std.specs.Prelude.{ℕ, ◌+◌, List, [], ◌∷◌, Bool, true, false, cond, not, ltb, Err, None, Ok, Option, Result, Some}
+use Rattle.std.specs.Prelude.{ℕ, ◌+◌, List, [], ◌∷◌, Bool, true, false, cond, not, ltb}
+use Rattle.std.specs.Prelude.{Err, None, Ok, Option, Result, Some}
 use Rattle.refusal.specs.declared.Refusal.TheVariants.{State}
 use Rattle.refusal.specs.Order.{check, verdict, decide}
 use Rattle.window.specs.State.{store_short}

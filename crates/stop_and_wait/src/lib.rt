@@ -100,21 +100,19 @@ impl StopAndWaitSender {
         }
         let window = self.window_unchecked();
         let result = window.send_chunk(false, store, payload, out);
-        let answer = result.answer;
-        let window = result.window;
         StopAndWaitSendResult {
-            sender: self.after_send(answer, window),
-            answer,
+            sender: self.after_send(result.answer, result.window),
+            answer: result.answer,
         }
     }
 
-    // A datagram as an ACK.
+    // A datagram as an ACK. Go-Back-N's does the same with another sender and its `acknowledge_unchecked`.
     pub fn handle_ack(self, store: &mut [u8], raw: &[u8]) -> StopAndWaitAckResult
         ensures { ack_exit result.answer (end_of result.sender store.new)
             ≡ handle_ack (end_of self store.old) raw.now }
     {
         match self.decide_ack(store, raw) {
-            Ok(AckDecision::Accept { seq_num, base: _ }) => StopAndWaitAckResult {
+            Ok(AckDecision::Accept { seq_num, .. }) => StopAndWaitAckResult {
                 sender: self.acknowledge_unchecked(store, seq_num, false),
                 answer: Ok(true),
             },
@@ -138,11 +136,9 @@ impl StopAndWaitSender {
             Ok(TimeoutDecision::Resend { first, count }) => {
                 let window = self.window_unchecked();
                 let result = window.resend_unchecked(store, first, count, out);
-                let answer = result.answer;
-                let window = result.window;
                 StopAndWaitTimeoutResult {
-                    sender: self.after_timeout_unchecked(answer, window),
-                    answer,
+                    sender: self.after_timeout_unchecked(result.answer, result.window),
+                    answer: result.answer,
                 }
             }
             Ok(TimeoutDecision::Nothing) => StopAndWaitTimeoutResult {
@@ -208,7 +204,8 @@ impl StopAndWaitSender {
         clean: bool,
     ) -> StopAndWaitSender
         requires self_value { numbers_broken (window_of self) ≡ false }
-        requires current_seq_bound { (self.current_seq ≤ seq_num) × (seq_num < seq_num_limit) × (slot_size ≤ length store.old) }
+        requires current_seq_bound { (self.current_seq ≤ seq_num) × (seq_num < seq_num_limit)
+            × (slot_size ≤ length store.old) }
         requires clean { clean ≡ true → Clean (window_end (end_of self store.old)) }
         ensures { end_of result store.new ≡ acknowledged (end_of self store.old) seq_num }
     {
@@ -221,7 +218,7 @@ impl StopAndWaitSender {
     }
 
     // Marks the packet in flight as sent again and counts it.
-    pub fn mark_retransmitted_unchecked(self, store: &mut [u8]) -> StopAndWaitSender
+    pub fn mark_retransmitted_unchecked(mut self, store: &mut [u8]) -> StopAndWaitSender
         requires self_value { (numbers_broken (window_of self) ≡ false) × (slot_size ≤ length store.old) }
         requires total_sent_bound { (self.total_sent < count_limit) × (self.retransmissions < count_limit) }
         requires current_retries_bound { self.current_retries < self.max_retries }
@@ -229,11 +226,10 @@ impl StopAndWaitSender {
     {
         let window = self.window_unchecked();
         let window = window.mark_retransmitted_unchecked(store, self.current_seq);
-        let mut sender = self;
-        sender.current_retries = self.current_retries + 1;
-        sender.total_sent = window.total_sent;
-        sender.retransmissions = window.retransmissions;
-        sender
+        self.current_retries += 1;
+        self.total_sent = window.total_sent;
+        self.retransmissions = window.retransmissions;
+        self
     }
 
     fn unless_broken(self, answer: bool) -> Result<bool, Refusal>
@@ -249,14 +245,15 @@ impl StopAndWaitSender {
         Ok(answer)
     }
 
-    // Whether its window breaks the clauses of line 9 that don't speak of the store.
+    // Whether its window breaks the clauses of check 9 that don't speak of the store.
     fn numbers_broken(self) -> bool
         ensures { result ≡ numbers_broken (window_of self) }
     {
         if self.in_flight {
-            return bounds::SEQ_NUM_LIMIT <= self.current_seq;
+            bounds::SEQ_NUM_LIMIT <= self.current_seq
+        } else {
+            bounds::SEQ_NUM_LIMIT < self.current_seq
         }
-        bounds::SEQ_NUM_LIMIT < self.current_seq
     }
 
     // Its window of 1: base, next number and counters.
@@ -285,17 +282,13 @@ impl StopAndWaitSender {
     ) -> StopAndWaitSender
         ensures { result ≡ by_send self answer window }
     {
-        match answer {
-            Ok(Some(_)) => {
-                self.in_flight = true;
-                self.current_retries = 0;
-                self.total_sent = window.total_sent;
-                self.retransmissions = window.retransmissions;
-                self
-            }
-            Ok(None) => self,
-            Err(_) => self,
+        if let Ok(Some(_)) = answer {
+            self.in_flight = true;
+            self.current_retries = 0;
+            self.total_sent = window.total_sent;
+            self.retransmissions = window.retransmissions;
         }
+        self
     }
 
     fn after_timeout_unchecked(
@@ -306,16 +299,12 @@ impl StopAndWaitSender {
         requires { (n : ℕ) → answer ≡ Ok (Some n) → self.current_retries < self.max_retries }
         ensures { result ≡ by_timeout self answer window }
     {
-        match answer {
-            Ok(Some(_)) => {
-                self.current_retries += 1;
-                self.total_sent = window.total_sent;
-                self.retransmissions = window.retransmissions;
-                self
-            }
-            Ok(None) => self,
-            Err(_) => self,
+        if let Ok(Some(_)) = answer {
+            self.current_retries += 1;
+            self.total_sent = window.total_sent;
+            self.retransmissions = window.retransmissions;
         }
+        self
     }
 
     // How many packets a timeout may send again.
@@ -323,9 +312,10 @@ impl StopAndWaitSender {
         ensures { result ≡ retries_left self }
     {
         if self.current_retries < self.max_retries {
-            return 1;
+            1
+        } else {
+            0
         }
-        0
     }
 }
 
@@ -394,7 +384,7 @@ impl StopAndWaitReceiver {
         }
     }
 
-    // A packet that was read.
+    // A packet that was read. Go-Back-N's does the same with another receiver, which decides otherwise.
     pub fn handle_packet_unchecked(
         self,
         reading: PacketReading,
@@ -455,9 +445,11 @@ impl StopAndWaitReceiver {
             self.duplicates_count += 1;
             return self.decided(false, Some(n));
         }
-        self.decided(false, Some(last_number(expected)))
+        // The number before the expected one; 0 before the first.
+        self.decided(false, Some(expected.saturating_sub(1)))
     }
 
+    // Go-Back-N's differs in the type of the state alone, which both give back.
     fn decided(self, deliver: bool, reply: Option<u32>) -> StopAndWaitDecision
         ensures { result ≡ decided self deliver reply }
     {
@@ -466,14 +458,4 @@ impl StopAndWaitReceiver {
             decision: Decision { deliver, reply },
         }
     }
-}
-
-// The number before the expected one; 0 before the first.
-fn last_number(expected: u32) -> u32
-    ensures { result ≡ expected - 1 }
-{
-    if expected == 0 {
-        return 0;
-    }
-    expected - 1
 }

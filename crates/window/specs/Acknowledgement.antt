@@ -34,7 +34,8 @@ by_reading s (Err r) = Err r
 
 unfoldable pub ack_decision : Bool → SendWindow → List ℕ → List ℕ → Result AckDecision Refusal
 ack_decision selective s store raw =
-    decide (verdict (reading_checks (read_datagram raw) ++ held_checks (state_broken selective s store) (counts_broken s)))
+    decide
+    (verdict (reading_checks (read_datagram raw) ++ held_checks (state_broken selective s store) (counts_broken s)))
     Err
     (by_reading s (read_datagram raw))
 

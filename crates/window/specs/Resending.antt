@@ -1,5 +1,6 @@
 -- Document 01, "Turned away" 9, 8, 5, and arq/*.rs, `handle_timeout`: numbers sent again.
-use Rattle.std.specs.Prelude.{ℕ, zero, suc, ◌+◌, ◌*◌, ◌≤◌, ◌<◌, min, List, [], ◌∷◌, ◌++◌, Bool, false, cond, length, drop, ltb, eqb, Err, None, Ok, Option, Result, Some}
+use Rattle.std.specs.Prelude.{ℕ, zero, suc, ◌+◌, ◌*◌, ◌≤◌, ◌<◌, min, List, [], ◌∷◌, ◌++◌, Bool, false, cond}
+use Rattle.std.specs.Prelude.{length, drop, ltb, eqb, Err, None, Ok, Option, Result, Some}
 use Rattle.bounds.specs.Bounds.{max_payload, max_window, seq_num_limit, slot_size}
 use Rattle.refusal.specs.declared.Refusal.TheVariants.{State, Counts, Full}
 use Rattle.refusal.specs.Order.{check, verdict, decide}

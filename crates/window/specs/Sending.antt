@@ -1,6 +1,7 @@
 -- Document 01, "Turned away" and "A full window is an ordinary answer"; arq/gbn.rs and arq/sr.rs, `new` and
 -- `send_chunk`.
-use Rattle.std.specs.Prelude.{ℕ, ◌+◌, ◌*◌, ◌≤◌, ◌<◌, List, [], ◌∷◌, ◌++◌, Bool, cond, ◌&&◌, length, drop, ltb, eqb, Err, None, Ok, Option, Result, Some}
+use Rattle.std.specs.Prelude.{ℕ, ◌+◌, ◌*◌, ◌≤◌, ◌<◌, List, [], ◌∷◌, ◌++◌, Bool, cond, ◌&&◌, length, drop}
+use Rattle.std.specs.Prelude.{ltb, eqb, Err, None, Ok, Option, Result, Some}
 use Rattle.bounds.specs.Bounds.{count_limit, header_size, max_payload, seq_num_limit, slot_size}
 use Rattle.refusal.specs.declared.Refusal.TheVariants.{State, Counts, Setup, Numbers, Full}
 use Rattle.refusal.specs.Order.{Check, check, verdict, decide}

@@ -36,6 +36,7 @@ pub struct SendResult {
 }
 
 // Whether an ACK is accepted, decided before anything is written: the number that it acknowledges, and the new base.
+// An enum and not an Option of a pair: two u32 side by side would say less than their names.
 #[derive(Clone, Copy)]
 pub enum AckDecision {
     Accept { seq_num: u32, base: u32 },
@@ -43,6 +44,7 @@ pub enum AckDecision {
 }
 
 // Which numbers a timeout sends again, decided before anything is written.
+// An enum and not an Option of a pair: two u32 side by side would say less than their names.
 #[derive(Clone, Copy)]
 pub enum TimeoutDecision {
     Resend { first: u32, count: u32 },
@@ -139,19 +141,15 @@ impl SendWindow {
     pub fn can_send(self) -> Result<bool, Refusal>
         ensures { result ≡ can_send self }
     {
-        match self.in_flight_count() {
-            Ok(n) => Ok(n < self.window_size),
-            Err(r) => Err(r),
-        }
+        let n = self.in_flight_count()?;
+        Ok(n < self.window_size)
     }
 
     pub fn has_unacked_packets(self) -> Result<bool, Refusal>
         ensures { result ≡ has_unacked_packets self }
     {
-        match self.in_flight_count() {
-            Ok(n) => Ok(0 < n),
-            Err(r) => Err(r),
-        }
+        let n = self.in_flight_count()?;
+        Ok(0 < n)
     }
 
     // Sends the lowest outstanding numbers of a Stop-and-Wait or Go-Back-N sender again, at most so many.
@@ -215,7 +213,8 @@ impl SendWindow {
     // Marks a number's slot as sent again and counts it.
     pub fn mark_retransmitted_unchecked(mut self, store: &mut [u8], seq_num: u32) -> SendWindow
         requires window_size_nonzero { (0 < self.window_size) × (self.window_size * slot_size ≤ length store.old) }
-        requires total_sent_bound { (self.total_sent < 9223372036854775808) × (self.retransmissions < 9223372036854775808) }
+        requires total_sent_bound { (self.total_sent < 9223372036854775808)
+            × (self.retransmissions < 9223372036854775808) }
         ensures { sender result store.new
             ≡ mark_retransmitted (sender self store.old) seq_num }
     {
@@ -366,10 +365,9 @@ impl SendWindow {
     ) -> Result<AckDecision, Refusal>
         ensures { result ≡ by_reading self reading }
     {
-        match reading {
-            Ok(DatagramReading::Valid(packet)) => self.decide_packet(packet),
-            Ok(DatagramReading::Corrupted(_)) => Ok(AckDecision::NotAccepted),
-            Err(r) => Err(r),
+        match reading? {
+            DatagramReading::Valid(packet) => self.decide_packet(packet),
+            DatagramReading::Corrupted(_) => Ok(AckDecision::NotAccepted),
         }
     }
 
@@ -377,33 +375,20 @@ impl SendWindow {
         ensures { result ≡ by_packet self packet }
     {
         let seq_num = packet.seq_num;
-        let pkt_type = packet.pkt_type;
-        match pkt_type {
-            PacketType::Ack => {
-                if seq_num < self.send_base {
-                    return Ok(AckDecision::NotAccepted);
-                }
-                if seq_num < self.next_seq_num {
-                    return Ok(AckDecision::Accept {
-                        seq_num,
-                        base: seq_num + 1,
-                    });
-                }
-                Ok(AckDecision::NotAccepted)
-            }
-            PacketType::Data => Ok(AckDecision::NotAccepted),
-            PacketType::Fin => Ok(AckDecision::NotAccepted),
+        if matches!(packet.pkt_type, PacketType::Ack) && self.is_outstanding(seq_num) {
+            return Ok(AckDecision::Accept {
+                seq_num,
+                base: seq_num + 1,
+            });
         }
+        Ok(AckDecision::NotAccepted)
     }
 
     // Whether a number is one of those from send_base to next_seq_num - 1.
     pub fn is_outstanding(self, seq_num: u32) -> bool
         ensures { result ≡ is_in_window self seq_num }
     {
-        if seq_num < self.send_base {
-            return false;
-        }
-        seq_num < self.next_seq_num
+        self.send_base <= seq_num && seq_num < self.next_seq_num
     }
 
     // What a timeout of a Stop-and-Wait or Go-Back-N sender does: the lowest outstanding numbers, at most so many.
@@ -426,7 +411,7 @@ impl SendWindow {
         })
     }
 
-    // Whether document 01's line 9 is true; selective is set for a Selective Repeat sender.
+    // Whether check 9 is true; selective is set for a Selective Repeat sender.
     pub fn state_broken(self, selective: bool, store: &[u8]) -> bool
         ensures { result ≡ state_broken selective self store.now }
     {
@@ -441,43 +426,34 @@ impl SendWindow {
         store::sender_slots_broken_unchecked(selective, store, window, self.send_base, count)
     }
 
-    // Whether the clauses of line 9 that don't speak of the store are true.
+    // Whether the clauses of check 9 that don't speak of the store are true.
+    #[tactic(auto, unfolding(crate::specs::State::numbers_broken, refusal::specs::Clauses::any_of))]
     pub fn numbers_broken(self) -> bool
         ensures { result ≡ numbers_broken self }
     {
         let window = self.window_size;
         let base = self.send_base;
         let next = self.next_seq_num;
-        if window_broken(window) {
-            return true;
-        }
-        if next < base {
-            return true;
-        }
-        if window < (next - base) as usize {
-            return true;
-        }
-        SEQ_NUM_LIMIT < next
+        window_broken(window)
+            || next < base
+            || window < (next - base) as usize
+            || SEQ_NUM_LIMIT < next
     }
 
-    // Whether document 01's line 8 is true.
+    // Whether check 8 is true.
+    #[tactic(auto, unfolding(crate::specs::State::counts_broken, refusal::specs::Clauses::any_of))]
     pub fn counts_broken(self) -> bool
         ensures { result ≡ counts_broken self }
     {
-        if COUNT_LIMIT <= self.total_sent {
-            return true;
-        }
-        COUNT_LIMIT <= self.retransmissions
+        COUNT_LIMIT <= self.total_sent || COUNT_LIMIT <= self.retransmissions
     }
 }
 
+#[tactic(auto, unfolding(crate::specs::State::window_broken, refusal::specs::Clauses::any_of))]
 pub fn window_broken(window: usize) -> bool
     ensures { result ≡ window_broken window }
 {
-    if window < 1 {
-        return true;
-    }
-    MAX_WINDOW_SIZE < window
+    window < 1 || MAX_WINDOW_SIZE < window
 }
 
 pub fn store_short(store: &[u8], window: usize) -> bool

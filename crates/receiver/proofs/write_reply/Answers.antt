@@ -1,5 +1,4 @@
 use mathlib.Core.Path.{◌∙◌}
-use Prim.Native.Nat.{◌-◌}
 use native.Mathlib.Omega.{arith}
 use Rattle.receiver.specs.Reply.{ack_after}
 use Rattle.receiver.proofs.Replies.{ack_room}

@@ -1,6 +1,5 @@
-use Prim.Native.Nat.{◌-◌}
 use native.Mathlib.Omega.{arith}
-use Rattle.selective_repeat.specs.Receiver.{receiver, decision, released}
+use Rattle.selective_repeat.specs.Receiver.{receiver, released}
 use Rattle.selective_repeat.proofs.States.{payloads_in}
 use Rattle.selective_repeat.proofs.Carrying.{payload_room, held_room, held_carried}
 use Rattle.selective_repeat.proofs.SelectiveRepeatReceiver.apply_in_room.Goals as goal

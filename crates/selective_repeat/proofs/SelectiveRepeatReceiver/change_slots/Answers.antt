@@ -1,6 +1,6 @@
 use mathlib.Core.Bool.{false≢true}
 use mathlib.Core.Path.{ap, ◌∙◌}
-use Prim.Native.Nat.{◌+◌, ◌-◌}
+use Prim.Native.Nat.{◌+◌}
 use native.Mathlib.Omega.{arith}
 use Rattle.store.proofs.Laws.{slot_in}
 use native.Mathlib.Nat.{add-sub_cancel_left}

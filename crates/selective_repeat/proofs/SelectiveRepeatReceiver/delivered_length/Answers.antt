@@ -1,5 +1,4 @@
 use mathlib.Core.Path.{sym}
-use Prim.Native.Nat.{◌-◌}
 use native.Mathlib.Omega.{arith}
 use Rattle.selective_repeat.specs.Receiver.{released, delivered_bytes}
 use Rattle.selective_repeat.proofs.States.{payloads_in}

@@ -1,6 +1,5 @@
 use Rattle.window.proofs.Laws.{windows_fit}
 use mathlib.Core.Path.{sym, ◌∙◌}
-use Prim.Native.Nat.{◌-◌}
 use Rattle.refusal.specs.Order.{order, or_else, numbered, first_of, verdict, decide}
 use Rattle.selective_repeat.specs.Receiver.{make_receiver}
 use Rattle.selective_repeat.proofs.SelectiveRepeatReceiver.new.Goals as goal

@@ -3,7 +3,6 @@ use Prim.Native.Nat.{ℕ}
 use mathlib.Core.Path.{◌≡◌, sym, ap, ◌∙◌}
 use mathlib.Core.Bool.{Bool, true, cond}
 use native.Mathlib.Omega.{arith}
-use borrow.Author.Tests.{not-true, not-false}
 use Rattle.window.specs.State.{state_broken, counts_broken}
 use Rattle.window.specs.Slots.{sender}
 use Rattle.window.specs.declared.TimeoutDecision.TheVariants as decision

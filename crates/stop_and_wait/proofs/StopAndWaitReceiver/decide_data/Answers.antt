@@ -12,4 +12,4 @@ returns-then-n-expected-2 c = simp (c.decided-then-n-expected-2.ensures, ne_eqb 
 
 pub returns : goal.returns
 unfolding data_decision
-returns c = simp (c.decided-2.ensures, ne_eqb _ _ c.if-n-expected.false, le-ltb _ _ c.if-n-expected-2.false, c.last_number.ensures)
+returns c = simp (c.decided-2.ensures, ne_eqb _ _ c.if-n-expected.false, le-ltb _ _ c.if-n-expected-2.false, c.saturating_sub.ensures)
