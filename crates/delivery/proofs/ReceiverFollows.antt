@@ -25,7 +25,7 @@ use Rattle.delivery.proofs.Datagrams.{DataBytes, AckBytes, Each}
 use Rattle.delivery.proofs.SenderFollows.{false_true}
 use Rattle.refusal.specs.declared.Refusal.{Refusal}
 
--- a Refused packet changes nothing
+-- a refused packet changes nothing
 pub answered : (r : Option ℕ) → is_received (answer_of r) ≡ true
 answered (Some n) = refl
 answered None = refl

@@ -21,7 +21,7 @@ abbrev pub NoneTrue : List Check → Type 0
 NoneTrue [] = Prim.Unit {0}
 NoneTrue (c ∷ cs) = (c.fires ≡ false) × NoneTrue cs
 
--- a call is Accepted exactly when no line is true
+-- a call is accepted exactly when no line is true
 first_accepted : (v w : Result Unit Refusal) → or_else v w ≡ passed → v ≡ passed
 unfolding or_else
 first_accepted (Ok tt) w e = refl
@@ -142,7 +142,7 @@ pub on_refused : {A : Type 0} {v : Result Unit Refusal} {r : Refusal} (f : Refus
 unfolding decide
 on_refused f a e = rw e
 
--- what holds of each Refused answer, and of the other one if the call is Accepted (no line is true), holds of the answer
+-- what holds of each refused answer, and of the other one if the call is accepted (no line is true), holds of the answer
 pub either_answer : {A : Type 0} (P : A → Type 0) (v : Result Unit Refusal) (f : Refusal → A) (a : A) → ((r : Refusal) → P (f r)) → (v ≡ passed → P a) → P (decide v f a)
 unfolding decide
 either_answer P (Ok tt) f a h k = k refl

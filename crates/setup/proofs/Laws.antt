@@ -172,7 +172,7 @@ pub many_chunks : (c : TransferConfig) (file : List ℕ) → max_chunks < length
 unfolding setup_broken
 many_chunks c file h = or_right (window_broken c.window_size) _ (or_left (chunks_broken c.chunk_size file) _ (or_right (ltb c.chunk_size 1) _ (or_right (ltb max_payload c.chunk_size) _ (lt-ltb _ _ h))))
 
--- ---- Accepted exactly where all that is asked is met
+-- ---- accepted exactly where all that is asked is met
 module _ (s : Start) where
   pub start_accepted : verdict (start_checks s) ≡ passed → CanStart s
   start_accepted h =

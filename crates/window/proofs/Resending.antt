@@ -214,7 +214,7 @@ module _ (broken counts : Bool) (v : Sender) (n k : ℕ) (out : List ℕ) where
   resend_some total w last e f z h t m l =
       rw (t, m, l) (sym (on_accepted (λ (r : Refusal). timeout_exit (Err r) v out) _ (fits e f h) ∙ rw (ne_eqb k 0 z)))
 
--- how many numbers matters only where the state isn't Refused
+-- how many numbers matters only where the state isn't refused
 pub resend_count : (broken counts : Bool) (v : Sender) (n k m : ℕ) (out : List ℕ) → (broken ≡ false → k ≡ m) → resend broken counts v n k out ≡ resend broken counts v n m out
 resend_count true counts v n k m out h = sym (resend_state true counts v n k out refl) ∙ resend_state true counts v n m out refl
 resend_count false counts v n k m out h = ap (λ (j : ℕ). resend false counts v n j out) (h refl)
