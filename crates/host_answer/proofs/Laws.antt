@@ -1,6 +1,6 @@
 -- Laws of the packed answers, for crates above to cite: status and value are read back; which answers refuse; what
 -- survives the packing.
-use Rattle.std.specs.Prelude.{Err, Ok, Result}
+use Rattle.std.specs.Prelude.{Err, Ok, Result, MatchResult, IsOkAnd}
 use Prim.Native.Nat.{ℕ, ◌+◌, ◌*◌, ◌/◌, ◌%◌, ◌≤◌, ◌<◌}
 use mathlib.Core.Path.{◌≡◌, refl}
 use mathlib.Core.Bool.{Bool}
@@ -11,13 +11,21 @@ use Rattle.refusal.specs.declared.Refusal.{Refusal}
 use Rattle.refusal.specs.Order.{Check, verdict, decide}
 use Rattle.refusal.proofs.Laws.{NoneTrue, accepted_none_true, EachRefusal, refused_one_of}
 use Rattle.refusal.specs.declared.Refusal.TheVariants.{Short, Kind, Cut, Setup, Full, Long, Numbers, Counts, State, Time, Roll}
-use Rattle.host_answer.specs.Answer.{status_limit, value_limit, packed, status_in, value_in, word_limit, first_value, second_value, refusal_answer, Refusing, ValuesFit}
+use Rattle.host_answer.specs.Answer.{status_limit, value_limit, packed, status_in, value_in, word_limit, first_value, second_value, refusal_answer, done_answer, Refusing, ValuesFit}
 
 pub status_back : (status value : ℕ) → status < status_limit → status_in (packed status value) ≡ status
 status_back status value h = omega arith
 
 pub value_back : (status value : ℕ) → status < status_limit → value < value_limit → value_in (packed status value) ≡ value
 value_back status value h k = omega arith
+
+-- done or refused as before the value was dropped
+pub done_dropped : {A : Type 0} (a : Result A Refusal) (b : Result Unit Refusal) (P : A → Unit {0} → Type 0)
+    → MatchResult a (λ x. IsOkAnd b (P x)) (λ e. b ≡ Err e) → done_answer b ≡ done_answer a
+unfolding done_answer
+done_dropped (Ok x) (Ok u) P h = refl
+done_dropped (Ok x) (Err r) P h = absurd h
+done_dropped (Err r) b P h = rw h
 
 -- a refusal's number is 1 to 11
 pub record NumberWithin (n : ℕ) : Type 0 where

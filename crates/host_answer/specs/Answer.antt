@@ -1,6 +1,6 @@
 -- What a call of the host interface answers: one number of 64 bits, a status in its lowest 8 bits and a value in the 56
 -- above them. The statuses 1 to 11 are the refusals of document 01, "Turned away", by their numbers.
-use Rattle.std.specs.Prelude.{ℕ, ◌+◌, ◌*◌, ◌/◌, ◌%◌, ◌≤◌, ◌<◌, cond, Bool, Err, Ok, Result}
+use Rattle.std.specs.Prelude.{ℕ, ◌+◌, ◌*◌, ◌/◌, ◌%◌, ◌≤◌, ◌<◌, cond, Bool, Err, None, Ok, Option, Result, Some}
 use Rattle.refusal.specs.Refusal.{entry_of, values_of}
 use Rattle.refusal.specs.declared.Refusal.{Refusal}
 
@@ -62,9 +62,16 @@ unfoldable pub count_answer : Result ℕ Refusal → ℕ
 count_answer (Ok n) = packed done_status n
 count_answer (Err r) = refusal_answer r
 
-unfoldable pub done_answer : Result Unit Refusal → ℕ
-done_answer (Ok tt) = packed done_status 0
+-- done, whatever the value
+unfoldable pub done_answer : {A : Type 0} → Result A Refusal → ℕ
+done_answer (Ok x) = packed done_status 0
 done_answer (Err r) = refusal_answer r
+
+-- with the value where there is one, otherwise a status alone
+abbrev pub optional_answer : Result (Option ℕ) Refusal → ℕ → ℕ
+optional_answer (Ok (Some n)) none = packed done_status n
+optional_answer (Ok None) none = packed none 0
+optional_answer (Err r) none = refusal_answer r
 
 -- an answer says that the call was refused
 pub record Refusing (answer : ℕ) : Type 0 where

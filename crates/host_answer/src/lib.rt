@@ -4,7 +4,7 @@
 
 ghost use Rattle.std.specs.Prelude.{◌≡◌, ◌<◌};
 ghost use Rattle.host_answer.specs.Answer.{packed, status_limit, refusal_answer, test_answer, count_answer};
-ghost use Rattle.host_answer.specs.Answer.{done_answer};
+ghost use Rattle.host_answer.specs.Answer.{done_answer, optional_answer};
 
 use refusal::Refusal;
 
@@ -32,30 +32,28 @@ pub fn pack_unchecked(status: u64, value: u64) -> u64
 }
 
 // Its number, and its values in 16 bits each.
+#[tactic(auto, unfolding(crate::specs::Answer::refusal_answer))]
 pub fn refusal_answer(r: Refusal) -> u64
     ensures { result ≡ refusal_answer r }
 {
     let values = r.values();
     pack_unchecked(
-        widened(r.number()),
+        r.number() as u64,
         values.first % WORD_LIMIT + values.second % WORD_LIMIT * WORD_LIMIT,
     )
 }
 
+#[tactic(auto, unfolding(crate::specs::Answer::test_answer))]
 pub fn test_answer(a: Result<bool, Refusal>) -> u64
     ensures { result ≡ test_answer a }
 {
     match a {
-        Ok(b) => {
-            if b {
-                return pack_unchecked(DONE, 1);
-            }
-            pack_unchecked(DONE, 0)
-        }
+        Ok(b) => pack_unchecked(DONE, u64::from(b)),
         Err(r) => refusal_answer(r),
     }
 }
 
+#[tactic(auto, unfolding(crate::specs::Answer::count_answer))]
 pub fn count_answer(a: Result<usize, Refusal>) -> u64
     ensures { result ≡ count_answer a }
 {
@@ -65,6 +63,7 @@ pub fn count_answer(a: Result<usize, Refusal>) -> u64
     }
 }
 
+#[tactic(auto, unfolding(crate::specs::Answer::done_answer))]
 pub fn done_answer(a: Result<(), Refusal>) -> u64
     ensures { result ≡ done_answer a }
 {
@@ -74,8 +73,13 @@ pub fn done_answer(a: Result<(), Refusal>) -> u64
     }
 }
 
-fn widened(n: u8) -> u64
-    ensures { result ≡ n }
+// With the value where there is one, otherwise the status `none`.
+pub fn optional_answer(a: Result<Option<u64>, Refusal>, none: u64) -> u64
+    ensures { result ≡ optional_answer a none }
 {
-    n as u64
+    match a {
+        Ok(Some(n)) => pack_unchecked(DONE, n),
+        Ok(None) => none,
+        Err(r) => refusal_answer(r),
+    }
 }

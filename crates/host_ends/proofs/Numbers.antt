@@ -14,7 +14,7 @@ use Rattle.selective_repeat.specs.Sender as selective_repeat
 use Rattle.session.specs.declared.SenderState.{SenderState}
 use Rattle.session.specs.declared.SenderState.TheVariants as senderState
 use Rattle.session.specs.declared.Timeout.TheVariants as timeouts
-use Rattle.session.specs.Sending.{SenderEnd, sender_end, selective_repeat_end, window_in, timed_out_as, handle_timeout_in, handle_timeout}
+use Rattle.session.specs.Sending.{selective_repeat_end, window_in, timed_out_as, handle_timeout_in, handle_timeout}
 use Rattle.host_words.specs.Words.{held_sender}
 use Rattle.host_words.proofs.Words.{sender_next}
 use Rattle.host_ends.specs.Sender.{timed_out, timeout_held, timeout}

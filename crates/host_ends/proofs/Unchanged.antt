@@ -1,16 +1,15 @@
 -- A refused call changes nothing: where the status of an answer is 1 to 11, every list that was lent is as it was.
 use Rattle.std.specs.Prelude.{Err, None, Ok, Option, Result, Some}
-use Prim.Native.Nat.{ℕ, ◌≤◌, ◌<◌}
-use mathlib.Core.Path.{◌≡◌, refl, sym, ap, ◌∙◌}
+use Prim.Native.Nat.{ℕ}
+use mathlib.Core.Path.{◌≡◌, refl, ap, ◌∙◌}
 use mathlib.Core.Bool.{Bool, true, false, cond}
 use mathlib.Core.List.{List, [], ◌∷◌, ◌++◌}
 use native.Mathlib.Omega.{arith}
 use lib.ListN.{length, drop}
 use lib.Dec.{eqb, ltb}
-use Rattle.bounds.specs.Bounds.{header_size}
 use Rattle.refusal.specs.declared.Refusal.{Refusal}
 use Rattle.refusal.specs.declared.Refusal.TheVariants.{State, Counts, Setup, Full}
-use Rattle.refusal.specs.Order.{check, verdict, decide}
+use Rattle.refusal.specs.Order.{check, verdict}
 use Rattle.refusal.proofs.Laws.{either_answer}
 use Rattle.protocol.specs.declared.ProtocolType.{ProtocolType}
 use Rattle.protocol.specs.declared.ProtocolType.TheVariants as protocol
@@ -36,7 +35,7 @@ use Rattle.session.specs.declared.Timeout.{Timeout}
 use Rattle.session.specs.declared.Timeout.TheVariants as timeouts
 use Rattle.session.specs.Sending.{SenderEnd, sender_end, sender_in, stop_and_wait_end, go_back_nEnd, selective_repeat_end, sent_as, send_chunk_in, send_chunk, acknowledged_as, handle_ack_in, handle_ack, go_back_nTimeout, timed_out_as, handle_timeout_in, handle_timeout}
 use Rattle.session.specs.Receiving.{ReceiverEnd, receiver_end, receiver_in, stop_and_wait_receiver_end, go_back_nReceiver_end, selective_repeat_receiver_end, received_as, handle_packet_in, handle_packet}
-use Rattle.host_answer.specs.Answer.{packed, refusal_answer, Refusing}
+use Rattle.host_answer.specs.Answer.{refusal_answer, Refusing}
 use Rattle.host_answer.proofs.Laws.{done_not_refusing, ordinary_not_refusing}
 use Rattle.host_words.specs.Words.{state_words, held_sender, held_receiver, with_receiver}
 use Rattle.host_words.proofs.Words.{sender_back, receiver_back}

@@ -1,8 +1,8 @@
 -- What the calls of the ends answer: status and value.
-use Rattle.std.specs.Prelude.{ℕ, List, Bool, Err, None, Ok, Option, Result, Some, false, true}
+use Rattle.std.specs.Prelude.{ℕ, List, Bool, Err, Ok, Option, Result, false, true}
 use Rattle.refusal.specs.declared.Refusal.TheVariants.{State}
 use Rattle.host_answer.specs.Answer.{packed, refusal_answer, done_status, window_full_status, not_accepted_status}
-use Rattle.host_answer.specs.Answer.{nothing_status, silent_status}
+use Rattle.host_answer.specs.Answer.{nothing_status, silent_status, optional_answer}
 use Rattle.refusal.specs.declared.Refusal.{Refusal}
 
 -- the answer, and every list that was lent to be written when the call returns
@@ -19,9 +19,7 @@ broken lent = call_exit (refusal_answer State) lent
 
 -- the datagram's length
 unfoldable pub send_code : Result (Option ℕ) Refusal → ℕ
-send_code (Ok (Some n)) = packed done_status n
-send_code (Ok None) = packed window_full_status 0
-send_code (Err r) = refusal_answer r
+send_code a = optional_answer a window_full_status
 
 -- n the datagram's number
 unfoldable pub ack_code : ℕ → Result Bool Refusal → ℕ
@@ -31,12 +29,8 @@ ack_code n (Err r) = refusal_answer r
 
 -- how many bytes were written
 unfoldable pub timeout_code : Result (Option ℕ) Refusal → ℕ
-timeout_code (Ok (Some n)) = packed done_status n
-timeout_code (Ok None) = packed nothing_status 0
-timeout_code (Err r) = refusal_answer r
+timeout_code a = optional_answer a nothing_status
 
 -- the number of the ACK that was written
 unfoldable pub receive_code : Result (Option ℕ) Refusal → ℕ
-receive_code (Ok (Some n)) = packed done_status n
-receive_code (Ok None) = packed silent_status 0
-receive_code (Err r) = refusal_answer r
+receive_code a = optional_answer a silent_status

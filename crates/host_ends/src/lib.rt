@@ -7,7 +7,7 @@ ghost use Rattle.bounds.specs.Bounds.{slot_size};
 ghost use Rattle.window.specs.Slots as slots;
 ghost use Rattle.session.specs.Sending.{slot_count, sender_in, sender_end, window_end};
 ghost use Rattle.session.specs.Receiving.{receiver_slot_count};
-ghost use Rattle.host_ends.specs.Answers.{call_exit, send_code, ack_code, timeout_code, receive_code};
+ghost use Rattle.host_ends.specs.Answers.{call_exit, ack_code};
 ghost use Rattle.host_ends.specs.Sender.{send, number_of, acknowledge, timeout, can_send_in, can_send, in_flight_in};
 ghost use Rattle.host_ends.specs.Sender.{in_flight, sender_verdict, unless_broken, sent_again, is_retransmitted};
 ghost use Rattle.host_ends.specs.Internal.{verdict_of};
@@ -82,7 +82,7 @@ pub fn send(state: &mut [u64], store: &mut [u8], payload: &[u8], out: &mut [u8])
             let sender = result.sender;
             let answer = result.answer;
             host_words::put_stop_and_wait_unchecked(state, sender);
-            send_code(answer)
+            host_answer::optional_answer(widened(answer), host_answer::WINDOW_FULL)
         }
         Kind::GoBackN => {
             let window = host_words::window_in_unchecked(state);
@@ -90,7 +90,7 @@ pub fn send(state: &mut [u64], store: &mut [u8], payload: &[u8], out: &mut [u8])
             let sender = result.sender;
             let answer = result.answer;
             host_words::put_window_unchecked(state, sender.window);
-            send_code(answer)
+            host_answer::optional_answer(widened(answer), host_answer::WINDOW_FULL)
         }
         Kind::SelectiveRepeat => {
             let window = host_words::window_in_unchecked(state);
@@ -98,7 +98,7 @@ pub fn send(state: &mut [u64], store: &mut [u8], payload: &[u8], out: &mut [u8])
             let sender = result.sender;
             let answer = result.answer;
             host_words::put_window_unchecked(state, sender.window);
-            send_code(answer)
+            host_answer::optional_answer(widened(answer), host_answer::WINDOW_FULL)
         }
         Kind::Broken => host_answer::refusal_answer(Refusal::State),
     }
@@ -149,7 +149,7 @@ pub fn timeout(state: &mut [u64], store: &mut [u8], which: Timeout, out: &mut [u
             let sender = result.sender;
             let answer = result.answer;
             host_words::put_sender_unchecked(state, sender);
-            timeout_code(answer)
+            host_answer::optional_answer(widened(answer), host_answer::NOTHING)
         }
         None => host_answer::refusal_answer(Refusal::State),
     }
@@ -218,7 +218,10 @@ pub fn receive(
             let receiver = result.receiver;
             let answer = result.answer;
             host_words::put_receiver_unchecked(state, receiver);
-            receive_code(answer)
+            match answer {
+                Ok(n) => host_answer::optional_answer(Ok(n.map(u64::from)), host_answer::SILENT),
+                Err(r) => host_answer::refusal_answer(r),
+            }
         }
         None => host_answer::refusal_answer(Refusal::State),
     }
@@ -385,11 +388,8 @@ fn check_sender(state: SenderState, store: &[u8]) -> Result<(), Refusal>
 fn verdict_of(decision: Result<TimeoutDecision, Refusal>) -> Result<(), Refusal>
     ensures { result ≡ verdict_of decision }
 {
-    match decision {
-        Err(r) => Err(r),
-        Ok(TimeoutDecision::Nothing) => Ok(()),
-        Ok(TimeoutDecision::Resend { first: _, count: _ }) => Ok(()),
-    }
+    decision?;
+    Ok(())
 }
 
 // The answer, unless the state was refused.
@@ -425,10 +425,8 @@ fn buffered_count_in(state: ReceiverState, store: &[u8]) -> Result<usize, Refusa
 fn none_held(base: u32, counts_broken: bool) -> Result<usize, Refusal>
     ensures { result ≡ none_held base counts_broken }
 {
-    match refusal::held_verdict(bounds::SEQ_NUM_LIMIT < base, counts_broken) {
-        Ok(()) => Ok(0),
-        Err(r) => Err(r),
-    }
+    refusal::held_verdict(bounds::SEQ_NUM_LIMIT < base, counts_broken)?;
+    Ok(0)
 }
 
 fn at_most_u32(n: u64) -> u32
@@ -447,16 +445,6 @@ fn number_of(raw: &[u8]) -> u32
     }
 }
 
-fn send_code(a: Result<Option<usize>, Refusal>) -> u64
-    ensures { result ≡ send_code a }
-{
-    match a {
-        Ok(Some(n)) => host_answer::pack_unchecked(host_answer::DONE, n as u64),
-        Ok(None) => host_answer::pack_unchecked(host_answer::WINDOW_FULL, 0),
-        Err(r) => host_answer::refusal_answer(r),
-    }
-}
-
 fn ack_code(seq_num: u32, a: Result<bool, Refusal>) -> u64
     ensures { result ≡ ack_code seq_num a }
 {
@@ -467,22 +455,9 @@ fn ack_code(seq_num: u32, a: Result<bool, Refusal>) -> u64
     }
 }
 
-fn timeout_code(a: Result<Option<usize>, Refusal>) -> u64
-    ensures { result ≡ timeout_code a }
+// The same value in 64 bits.
+fn widened(a: Result<Option<usize>, Refusal>) -> Result<Option<u64>, Refusal>
+    ensures { result ≡ a }
 {
-    match a {
-        Ok(Some(n)) => host_answer::pack_unchecked(host_answer::DONE, n as u64),
-        Ok(None) => host_answer::pack_unchecked(host_answer::NOTHING, 0),
-        Err(r) => host_answer::refusal_answer(r),
-    }
-}
-
-fn receive_code(a: Result<Option<u32>, Refusal>) -> u64
-    ensures { result ≡ receive_code a }
-{
-    match a {
-        Ok(Some(n)) => host_answer::pack_unchecked(host_answer::DONE, n as u64),
-        Ok(None) => host_answer::pack_unchecked(host_answer::SILENT, 0),
-        Err(r) => host_answer::refusal_answer(r),
-    }
+    Ok(a?.map(|n| n as u64))
 }

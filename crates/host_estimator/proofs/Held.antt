@@ -1,6 +1,7 @@
 -- What is known of words and doubles that hold an estimator; to put it back changes nothing, and what is put into them
 -- is what they hold.
-use Rattle.std.specs.Prelude.{None, Option, Some, unwrap_or}
+use Rattle.std.specs.Prelude.{None, Option, Some, is_some, unwrap_or}
+use Rattle.std.specs.Int.{from_bool}
 use Prim.Native.Nat.{ℕ, zero, suc, ◌+◌, ◌≤◌}
 use mathlib.Core.Path.{◌≡◌, refl, sym, ap, ◌∙◌}
 use mathlib.Core.Bool.{Bool, true, false, cond, not}
@@ -17,6 +18,10 @@ use Rattle.rto.specs.declared.RtoEstimator.{RtoEstimator}
 use Rattle.host_estimator.specs.Words.{estimator_words, estimator_doubles, estimator_word, is_set, time_of, duration_of, duration_broken, estimator_in, numbers_broken, broken_at, durations_broken, held_estimator, first_words, second_words, third_words, words_of, doubles_of, with_words, with_doubles, Readable, Room}
 
 -- ---- durations that may be unset
+pub set_or_0 : (m : Option ℕ) → from_bool (is_some m) ≡ is_set m
+set_or_0 None = refl
+set_or_0 (Some d) = refl
+
 pub time_or_0 : (m : Option ℕ) → unwrap_or m 0 ≡ time_of m
 time_or_0 None = refl
 time_or_0 (Some d) = refl
@@ -43,6 +48,10 @@ duration_sound None = refl
 duration_sound (Some d) = refl
 
 -- a flag
+pub flag_is : (b : Bool) → from_bool b ≡ cond b 1 0
+flag_is true = refl
+flag_is false = refl
+
 flag_back : (n : ℕ) → n ≤ 1 → (b : Bool) → eqb n 1 ≡ b → cond b 1 0 ≡ n
 flag_back n h true e = sym (eqb-true n 1 e)
 flag_back zero h false e = refl

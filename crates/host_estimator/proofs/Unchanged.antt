@@ -17,7 +17,7 @@ use Rattle.rto.specs.declared.RtoEstimator.{RtoEstimator}
 use Rattle.rto.specs.declared.UpdateResult.{UpdateResult}
 use Rattle.rto.specs.declared.TimeoutResult.{TimeoutResult}
 use Rattle.rto.specs.declared.ResetResult.{ResetResult}
-use Rattle.host_answer.specs.Answer.{packed, refusal_answer, done_answer, Refusing}
+use Rattle.host_answer.specs.Answer.{packed, refusal_answer, test_answer, done_answer, Refusing}
 use Rattle.host_answer.proofs.Laws.{done_not_refusing}
 use Rattle.host_estimator.specs.Words.{estimator_words, estimator_doubles, held_estimator, with_words, with_doubles}
 use Rattle.host_estimator.specs.Estimator.{EstimatorExit, estimator_exit, left, on_held, make_estimator, update_code, update, rto_code, timeout, reset, mean_exit, mean_to, mean}
@@ -30,7 +30,7 @@ abbrev Keeps : {R : Type 0} → (R → ℕ) → (R → RtoEstimator) → RtoEsti
 Keeps code estimator e r = Refusing (code r) → estimator r ≡ e
 
 update_keeps : (sample : ℕ) (again : Bool) (e : RtoEstimator) → Keeps (λ x. update_code x.answer) (λ x. x.estimator) e (update_rtt e sample again)
-unfolding update_rtt update_code
+unfolding update_rtt test_answer
 update_keeps sample again e =
     either_answer (Keeps {R = UpdateResult} (λ x. update_code x.answer) (λ x. x.estimator) e) (call_verdict e (sample_too_long e sample)) (λ r. update_result e (Err r))
     (update_result (update_rtt_unchecked e sample again) (Ok (not again))) (λ r h. refl) (λ v h. absurd (done_not_refusing _ h))

@@ -57,9 +57,8 @@ make_estimator s d c =
     (left (packed done_status 0) s d (fresh c))
 
 -- a sample: 1 where it was used, 0 where it was one of a datagram sent again
-unfoldable pub update_code : Result Bool Refusal → ℕ
-update_code (Ok b) = packed done_status (cond b 1 0)
-update_code (Err r) = refusal_answer r
+abbrev pub update_code : Result Bool Refusal → ℕ
+update_code = test_answer
 
 abbrev pub updated : List ℕ → List Float → UpdateResult → EstimatorExit
 updated s d x = left (update_code x.answer) s d x.estimator

@@ -6,7 +6,7 @@ mod words;
 ghost use Rattle.std.specs.Prelude.{◌≡◌};
 ghost use Rattle.rto.specs.Rto.{default_config, has_exceeded_retry_limit};
 ghost use Rattle.host_estimator.specs.Words.{with_words, with_doubles, Room};
-ghost use Rattle.host_estimator.specs.Estimator.{estimator_exit, make_estimator, update_code, update, rto_code};
+ghost use Rattle.host_estimator.specs.Estimator.{estimator_exit, make_estimator, update, rto_code};
 ghost use Rattle.host_estimator.specs.Estimator.{timeout, reset, exceeded, mean_exit, mean_to, mean};
 
 use refusal::Refusal;
@@ -53,7 +53,7 @@ pub fn update_rtt(state: &mut [u64], doubles: &mut [f64], sample: u64, retransmi
             let e = result.estimator;
             let answer = result.answer;
             words::put_estimator(state, doubles, e);
-            update_code(answer)
+            host_answer::test_answer(answer)
         }
         None => host_answer::refusal_answer(Refusal::State),
     }
@@ -120,20 +120,6 @@ pub fn put_estimator_unchecked(state: &mut [u64], doubles: &mut [f64], e: RtoEst
     ensures doubles_after { doubles.new ≡ with_doubles doubles.old e }
 {
     words::put_estimator(state, doubles, e);
-}
-
-fn update_code(a: Result<bool, Refusal>) -> u64
-    ensures { result ≡ update_code a }
-{
-    match a {
-        Ok(b) => {
-            if b {
-                return host_answer::pack_unchecked(host_answer::DONE, 1);
-            }
-            host_answer::pack_unchecked(host_answer::DONE, 0)
-        }
-        Err(r) => host_answer::refusal_answer(r),
-    }
 }
 
 fn rto_code(a: Result<u64, Refusal>) -> u64

@@ -1,7 +1,7 @@
 // The estimator that words and doubles hold, and words and doubles with an estimator put into them.
-ghost use Rattle.std.specs.Prelude.{◌≡◌, cond, ◌≤◌, length};
+ghost use Rattle.std.specs.Prelude.{◌≡◌, ◌≤◌, length};
 ghost use Rattle.std.proofs.lemmas.List.Edits.{sets};
-ghost use Rattle.host_estimator.specs.Words.{estimator_words, is_set, duration_of, duration_broken, config_in};
+ghost use Rattle.host_estimator.specs.Words.{estimator_words, duration_of, duration_broken, config_in};
 ghost use Rattle.host_estimator.specs.Words.{stats_in, estimator_in, numbers_broken, durations_broken, held_estimator};
 ghost use Rattle.host_estimator.specs.Words.{first_words, second_words, third_words, doubles_of, with_words};
 ghost use Rattle.host_estimator.specs.Words.{with_doubles, Readable, Room};
@@ -171,9 +171,9 @@ fn put_first(state: &mut [u64], c: RtoConfig, srtt: Option<u64>, rttvar: Option<
     requires { estimator_words ≤ length state.old }
     ensures { state.new ≡ sets state.old 0 (first_words c srtt rttvar) }
 {
-    let srtt_set = set_word(srtt);
+    let srtt_set = u64::from(srtt.is_some());
     let srtt_time = srtt.unwrap_or(0);
-    let rttvar_set = set_word(rttvar);
+    let rttvar_set = u64::from(rttvar.is_some());
     let rttvar_time = rttvar.unwrap_or(0);
     state[0] = ESTIMATOR;
     state[1] = c.initial_rto;
@@ -191,7 +191,7 @@ fn put_second(state: &mut [u64], e: RtoEstimator)
     ensures { state.new ≡ sets state.old 9 (second_words e) }
 {
     let stats = e.stats;
-    let in_backoff = flag(e.in_backoff);
+    let in_backoff = u64::from(e.in_backoff);
     state[9] = e.current_rto;
     state[10] = e.base_rto;
     state[11] = in_backoff;
@@ -209,11 +209,11 @@ fn put_third(state: &mut [u64], stats: RtoStats)
     let min_rtt = stats.min_rtt;
     let max_rtt = stats.max_rtt;
     let latest_rtt = stats.latest_rtt;
-    let min_set = set_word(min_rtt);
+    let min_set = u64::from(min_rtt.is_some());
     let min_time = min_rtt.unwrap_or(0);
-    let max_set = set_word(max_rtt);
+    let max_set = u64::from(max_rtt.is_some());
     let max_time = max_rtt.unwrap_or(0);
-    let latest_set = set_word(latest_rtt);
+    let latest_set = u64::from(latest_rtt.is_some());
     let latest_time = latest_rtt.unwrap_or(0);
     state[17] = min_set;
     state[18] = min_time;
@@ -235,19 +235,4 @@ fn put_doubles(doubles: &mut [f64], e: RtoEstimator)
     doubles[2] = config.k;
     doubles[3] = config.rto_multiplier;
     doubles[4] = stats.sum_rtt_millis;
-}
-
-fn set_word(d: Option<u64>) -> u64
-    ensures { result ≡ is_set d }
-{
-    match d {
-        None => 0,
-        Some(_) => 1,
-    }
-}
-
-fn flag(b: bool) -> u64
-    ensures { result ≡ cond b 1 0 }
-{
-    if b { 1 } else { 0 }
 }

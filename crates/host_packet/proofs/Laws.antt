@@ -19,21 +19,22 @@ use Rattle.packet.specs.declared.PacketType.{PacketType}
 use Rattle.packet.specs.declared.PacketType.TheVariants.{Data, Ack, Fin}
 use Rattle.host_answer.specs.Answer.{value_limit, Refusing}
 use Rattle.host_answer.proofs.Laws.{done_not_refusing}
-use Rattle.host_packet.specs.Packet.{max_byte, header_value, length_code, packet_of, unwritable, write_of, write}
+use Rattle.host_answer.specs.Answer.{count_answer}
+use Rattle.host_packet.specs.Packet.{max_byte, header_value, packet_of, unwritable, write_of, write}
 use Rattle.refusal.specs.declared.Refusal.{Refusal}
 
 abbrev Kept : List ℕ → writing.Written → Type 0
-Kept out w = Refusing (length_code w.answer) → w.out ≡ out
+Kept out w = Refusing (count_answer w.answer) → w.out ≡ out
 
 bytes_kept : (p : Packet) (payload out : List ℕ) → Kept out (to_bytes p payload out)
-unfolding to_bytes length_code
+unfolding to_bytes count_answer
 bytes_kept p payload out =
     let size = header_size + length payload in
     either_answer (Kept out) (verdict (check_long payload ∷ check (ltb (length out) size) Full ∷ [])) (λ r. writing.written (Err r) out)
     (writing.written (Ok size) (datagram p payload ++ drop size out)) (λ r h. refl) (λ e h. absurd (done_not_refusing size h))
 
 of_kept : (t : Result PacketType Refusal) (n flags : ℕ) (payload out : List ℕ) → Kept out (write_of t n flags payload out)
-unfolding write_of length_code
+unfolding write_of count_answer
 of_kept (Ok t) n flags payload out =
     either_answer (Kept out) (verdict (check_long payload ∷ check (unwritable n flags) Numbers ∷ [])) (λ r. writing.written (Err r) out)
     (to_bytes (with_checksum (packet_of n t flags) payload) payload out) (λ r h. refl) (λ e. bytes_kept _ payload out)

@@ -13,7 +13,8 @@ use Rattle.packet.specs.Writing as writing
 use Rattle.packet.specs.Writing.{to_bytes}
 use Rattle.packet.specs.declared.Packet.{Packet}
 use Rattle.packet.specs.declared.PacketType.{PacketType}
-use Rattle.host_packet.specs.Packet.{write_exit, max_byte, length_code, written, packet_of, write_of}
+use Rattle.host_answer.specs.Answer.{count_answer}
+use Rattle.host_packet.specs.Packet.{write_exit, max_byte, written, packet_of, write_of}
 use Rattle.refusal.specs.declared.Refusal.{Refusal}
 
 -- number and flags that the header holds
@@ -23,7 +24,7 @@ unfolding write_of any_of verdict first_of numbered or_else order decide
 writable t n flags payload out h k l = rw (le-ltb max_payload (length payload) h, le-ltb 4294967295 n k, le-ltb max_byte flags l)
 
 pub on_written : (t : PacketType) (n flags : ℕ) (payload out : List ℕ) {x : ℕ} {a : Result ℕ Refusal} {o : List ℕ} {q : Packet} → length payload ≤ max_payload → n ≤ 4294967295
-    → flags ≤ max_byte → x ≡ length_code a → writing.written a o ≡ to_bytes q payload out → q ≡ with_checksum (packet_of n t flags) payload
+    → flags ≤ max_byte → x ≡ count_answer a → writing.written a o ≡ to_bytes q payload out → q ≡ with_checksum (packet_of n t flags) payload
     → write_exit x o ≡ written (write_of (Ok t) n flags payload out)
 on_written t n flags payload out {x} {a} {o} h k l e f g =
     ap (λ (y : ℕ). write_exit y o) e ∙ ap written f ∙ ap (λ (z : Packet). written (to_bytes z payload out)) g

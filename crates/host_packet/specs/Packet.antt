@@ -9,7 +9,7 @@ use Rattle.packet.specs.Writing as writing
 use Rattle.packet.specs.Writing.{Written, to_bytes}
 use Rattle.packet.specs.declared.Packet.{Packet}
 use Rattle.packet.specs.declared.PacketType.{PacketType}
-use Rattle.host_answer.specs.Answer.{packed, done_status, invalid_status, refusal_answer}
+use Rattle.host_answer.specs.Answer.{packed, done_status, invalid_status, refusal_answer, count_answer}
 use Rattle.refusal.specs.declared.Refusal.{Refusal}
 
 abbrev pub max_byte : ℕ
@@ -50,9 +50,8 @@ pub record WriteExit : Type 0 where
 abbrev pub write_exit : ℕ → List ℕ → WriteExit
 write_exit answer out = record { answer = answer; out = out }
 
-unfoldable pub length_code : Result ℕ Refusal → ℕ
-length_code (Ok n) = packed done_status n
-length_code (Err r) = refusal_answer r
+abbrev pub length_code : Result ℕ Refusal → ℕ
+length_code = count_answer
 
 abbrev pub written : Written → WriteExit
 written w = write_exit (length_code w.answer) w.out

@@ -1,9 +1,9 @@
 // Packets for a host outside Rattle.
 #![tactic(auto)]
 
-ghost use Rattle.std.specs.Prelude.{◌≡◌, min};
-ghost use Rattle.host_packet.specs.Packet.{header_value, read, validate, payload_length, length_code, write_exit};
-ghost use Rattle.host_packet.specs.Packet.{written, max_byte, write_of, write};
+ghost use Rattle.std.specs.Prelude.{◌≡◌};
+ghost use Rattle.host_packet.specs.Packet.{header_value, read, validate, payload_length, write_exit};
+ghost use Rattle.host_packet.specs.Packet.{written, write_of, write};
 
 use packet::{Packet, PacketType};
 use refusal::Refusal;
@@ -51,7 +51,7 @@ pub fn write(kind: u64, seq_num: u64, flags: u64, payload: &[u8], out: &mut [u8]
     ensures { write_exit result out.new
         ≡ write kind seq_num flags payload.now out.old }
 {
-    match PacketType::try_from(kind_byte(kind)) {
+    match PacketType::try_from(kind.min(MAX_BYTE) as u8) {
         Ok(pkt_type) => write_packet(seq_num, pkt_type, flags, payload, out),
         Err(r) => host_answer::refusal_answer(r),
     }
@@ -84,38 +84,13 @@ fn write_packet(
         checksum: 0,
     };
     let p = p.compute_and_set_checksum_unchecked(payload);
-    length_code(p.to_bytes(payload, out))
-}
-
-fn kind_byte(kind: u64) -> u8
-    ensures { result ≡ min kind max_byte }
-{
-    if MAX_BYTE < kind {
-        return 255;
-    }
-    kind as u8
-}
-
-fn length_code(a: Result<usize, Refusal>) -> u64
-    ensures { result ≡ length_code a }
-{
-    match a {
-        Ok(n) => host_answer::pack_unchecked(host_answer::DONE, n as u64),
-        Err(r) => host_answer::refusal_answer(r),
-    }
+    host_answer::count_answer(p.to_bytes(payload, out))
 }
 
 fn header_value(p: Packet) -> u64
     ensures { result ≡ header_value p }
 {
-    let pkt_type = p.pkt_type;
-    let kind = widened(pkt_type.to_byte());
-    let flags = widened(p.flags);
+    let kind = p.pkt_type.to_byte() as u64;
+    let flags = p.flags as u64;
     p.seq_num as u64 + kind * 4_294_967_296 + flags * 1_099_511_627_776
-}
-
-fn widened(n: u8) -> u64
-    ensures { result ≡ n }
-{
-    n as u64
 }

@@ -16,20 +16,20 @@ use Rattle.lent_events.specs.Checks.{event_checks}
 use Rattle.report.specs.Page.{page, write_report}
 use Rattle.report.specs.Lines.{Answered}
 use Rattle.report.proofs.Laws.{report_answered}
-use Rattle.host_answer.specs.Answer.{packed, done_status, Refusing}
+use Rattle.host_answer.specs.Answer.{packed, done_status, count_answer, Refusing}
 use Rattle.host_answer.proofs.Laws.{refusal_refusing, done_not_refusing}
-use Rattle.host_report.specs.Report.{report_exit, place_code, reported, report}
+use Rattle.host_report.specs.Report.{report_exit, reported, report}
 use Rattle.refusal.specs.declared.Refusal.{Refusal}
 
 -- what the call answers, from the equations of the calls below it
-pub on_reported : {x : ℕ} {a : Result ℕ Refusal} {o : List ℕ} {w : PlaceExit} → x ≡ place_code a → place_exit o a ≡ w → report_exit x o ≡ reported w
+pub on_reported : {x : ℕ} {a : Result ℕ Refusal} {o : List ℕ} {w : PlaceExit} → x ≡ count_answer a → place_exit o a ≡ w → report_exit x o ≡ reported w
 on_reported {x} {a} {o} {w} e f = ap (λ (y : ℕ). report_exit y o) e ∙ ap reported f
 
 abbrev Kept : List ℕ → PlaceExit → Type 0
-Kept out x = Refusing (place_code x.answer) → x.buffer ≡ out
+Kept out x = Refusing (count_answer x.answer) → x.buffer ≡ out
 
 place_kept : (out text : List ℕ) → Kept out (place out 0 text)
-unfolding place place_code
+unfolding place count_answer
 place_kept out text = by_room (leb (0 + length text) (length out))
   where
     by_room : (t : Bool) → Kept out (cond t (place_exit (written_at out 0 text) (Ok (0 + length text))) (place_exit out (Err Full)))
@@ -46,8 +46,8 @@ report_refused rows count out =
 abbrev pub Sized : List ℕ → ℕ → ℕ → Type 0
 Sized out count answer = Refusing answer ⊎ ((answer ≡ packed done_status ((count + 2) * 73)) × ((count + 2) * 73 ≤ length out))
 
-sized : (out : List ℕ) (count : ℕ) (a : Result ℕ Refusal) (after : List ℕ) → Answered out count a after → Sized out count (place_code a)
-unfolding place_code
+sized : (out : List ℕ) (count : ℕ) (a : Result ℕ Refusal) (after : List ℕ) → Answered out count a after → Sized out count (count_answer a)
+unfolding count_answer
 sized out count (Ok n) after d = inr (ap (packed done_status) d.size, subst (λ (m : ℕ). m ≤ length out) d.size d.room)
 sized out count (Err r) after d = inl (refusal_refusing r)
 

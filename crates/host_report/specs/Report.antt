@@ -1,6 +1,6 @@
 -- The page of a run's forward events for a host: done with its length, or refused and the buffer as it was.
-use Rattle.std.specs.Prelude.{ℕ, List, Err, Ok, Result}
-use Rattle.host_answer.specs.Answer.{packed, done_status, refusal_answer}
+use Rattle.std.specs.Prelude.{ℕ, List, Result}
+use Rattle.host_answer.specs.Answer.{count_answer}
 use Rattle.text.specs.Place.{PlaceExit}
 use Rattle.report.specs.Page.{write_report}
 use Rattle.refusal.specs.declared.Refusal.{Refusal}
@@ -13,9 +13,8 @@ pub record ReportExit : Type 0 where
 abbrev pub report_exit : ℕ → List ℕ → ReportExit
 report_exit answer out = record { answer = answer; out = out }
 
-unfoldable pub place_code : Result ℕ Refusal → ℕ
-place_code (Ok n) = packed done_status n
-place_code (Err r) = refusal_answer r
+abbrev pub place_code : Result ℕ Refusal → ℕ
+place_code = count_answer
 
 abbrev pub reported : PlaceExit → ReportExit
 reported x = report_exit (place_code x.answer) x.buffer

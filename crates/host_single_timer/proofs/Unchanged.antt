@@ -15,7 +15,7 @@ use Rattle.refusal.proofs.Laws.{either_answer, accepted_none_true, or_false}
 use Rattle.timer.specs.Timer.{deadline_too_late, start_too_late, read_too_late, deadline_remaining, new_timer, next_generation, timer_result, started_at_unchecked, started_at, cancelled_unchecked, cancelled, remaining_at}
 use Rattle.timer.specs.declared.RetransmissionTimer.{RetransmissionTimer}
 use Rattle.timer.specs.declared.TimerResult.{TimerResult}
-use Rattle.host_answer.specs.Answer.{packed, value_in, refusal_answer, Refusing}
+use Rattle.host_answer.specs.Answer.{packed, value_in, refusal_answer, done_answer, Refusing}
 use Rattle.host_answer.specs.Exit.{WordsExit, words_exit, broken_words}
 use Rattle.host_answer.proofs.Laws.{done_not_refusing, value_back}
 use Rattle.host_single_timer.specs.SingleTimer.{timer_words, held_timer, with_timer, make_timer, on_held, timer_code, changed, start, cancel, remaining_code}
@@ -30,13 +30,13 @@ abbrev Keeps : (RetransmissionTimer → TimerResult) → Type 0
 Keeps call = (t : RetransmissionTimer) → Refusing (timer_code (call t).answer) → (call t).timer ≡ t
 
 start_keeps : (now duration : ℕ) → Keeps (λ t. started_at t now duration)
-unfolding started_at timer_code
+unfolding started_at done_answer
 start_keeps now duration t =
     either_answer (λ (x : TimerResult). Refusing (timer_code x.answer) → x.timer ≡ t) (verdict (check (start_too_late t now duration) Time ∷ []))
     (λ r. timer_result t (Err r)) (timer_result (started_at_unchecked t now duration) (Ok (next_generation t.generation))) (λ r h. refl) (λ e h. absurd (done_not_refusing 0 h))
 
 cancel_keeps : Keeps cancelled
-unfolding cancelled timer_code
+unfolding cancelled done_answer
 cancel_keeps t =
     either_answer (λ (x : TimerResult). Refusing (timer_code x.answer) → x.timer ≡ t) (verdict (check (deadline_too_late t.deadline) Time ∷ []))
     (λ r. timer_result t (Err r)) (timer_result (cancelled_unchecked t) (Ok (next_generation t.generation))) (λ r h. refl) (λ e h. absurd (done_not_refusing 0 h))
@@ -72,5 +72,4 @@ remaining_within t now n =
     (λ v e. within t.deadline now n (or_false (deadline_too_late t.deadline) (ltb max_time now) (accepted_none_true (check (read_too_late t now) Time ∷ []) v).0).0 e)
 
 pub remaining_fits : (t : RetransmissionTimer) (now n : ℕ) → remaining_at t now ≡ Ok (Some n) → value_in (remaining_code (remaining_at t now)) ≡ n
-unfolding remaining_code
 remaining_fits t now n e = let small = remaining_within t now n e in rw e (value_back 0 n (omega arith) (omega arith))

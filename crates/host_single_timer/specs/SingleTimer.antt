@@ -1,13 +1,13 @@
 -- The retransmission timer for a host: its state in lent words, four at least: 0 the version of this layout times 256
 -- and the kind 8, 1 whether a deadline is set, 1 or 0, 2 the deadline, 0 where none is set, 3 the generation.
-use Rattle.std.specs.Prelude.{ℕ, List, [], ◌∷◌, Bool, cond, not, length, get_or, set, ltb, eqb, Err, None, Ok, Option, Result, Some}
+use Rattle.std.specs.Prelude.{ℕ, List, [], ◌∷◌, Bool, cond, not, length, get_or, set, ltb, eqb, None, Option, Result, Some}
 use Rattle.refusal.specs.Clauses.{any_of}
 use Rattle.refusal.specs.declared.Refusal.TheVariants.{State, Full}
 use Rattle.refusal.specs.Order.{check, verdict, decide}
 use Rattle.timer.specs.Timer.{timer, new_timer, started_at, cancelled, is_active, remaining_at, is_expired_at, is_expired_for_at}
 use Rattle.timer.specs.declared.RetransmissionTimer.{RetransmissionTimer}
 use Rattle.timer.specs.declared.TimerResult.{TimerResult}
-use Rattle.host_answer.specs.Answer.{packed, done_status, nothing_status, refusal_answer, test_answer}
+use Rattle.host_answer.specs.Answer.{packed, done_status, nothing_status, refusal_answer, test_answer, done_answer, optional_answer}
 use Rattle.host_answer.specs.Exit.{WordsExit, words_exit, broken_words}
 use Rattle.refusal.specs.declared.Refusal.{Refusal}
 
@@ -55,9 +55,8 @@ on_held (Some t) call broken = call t
 on_held None call broken = broken
 
 -- the generation is word 3
-unfoldable pub timer_code : Result ℕ Refusal → ℕ
-timer_code (Ok g) = packed done_status 0
-timer_code (Err r) = refusal_answer r
+abbrev pub timer_code : Result ℕ Refusal → ℕ
+timer_code a = done_answer a
 
 abbrev pub changed : List ℕ → TimerResult → WordsExit
 changed state x = words_exit (timer_code x.answer) (with_timer state x.timer)
@@ -76,10 +75,8 @@ reading state read = on_held (held_timer state) read (refusal_answer State)
 abbrev pub active : List ℕ → ℕ
 active state = reading state (λ t. test_answer (is_active t))
 
-unfoldable pub remaining_code : Result (Option ℕ) Refusal → ℕ
-remaining_code (Ok None) = packed nothing_status 0
-remaining_code (Ok (Some d)) = packed done_status d
-remaining_code (Err r) = refusal_answer r
+abbrev pub remaining_code : Result (Option ℕ) Refusal → ℕ
+remaining_code a = optional_answer a nothing_status
 
 abbrev pub remaining : List ℕ → ℕ → ℕ
 remaining state now = reading state (λ t. remaining_code (remaining_at t now))

@@ -3,9 +3,8 @@
 
 ghost use Rattle.std.specs.Prelude.{◌≡◌, ◌≤◌, length};
 ghost use Rattle.host_answer.specs.Exit.{words_exit};
-ghost use Rattle.host_single_timer.specs.SingleTimer.{timer_words, is_set, held_timer, with_timer, make_timer};
-ghost use Rattle.host_single_timer.specs.SingleTimer.{timer_code, start, cancel, active, remaining_code, remaining};
-ghost use Rattle.host_single_timer.specs.SingleTimer.{expired, expired_for};
+ghost use Rattle.host_single_timer.specs.SingleTimer.{timer_words, held_timer, with_timer, make_timer};
+ghost use Rattle.host_single_timer.specs.SingleTimer.{start, cancel, active, remaining, expired, expired_for};
 
 use refusal::Refusal;
 use timer::RetransmissionTimer;
@@ -36,7 +35,7 @@ pub fn start(state: &mut [u64], now: u64, duration: u64) -> u64
             let t = result.timer;
             let answer = result.answer;
             put_timer(state, t);
-            timer_code(answer)
+            host_answer::done_answer(answer.map(|_| ()))
         }
         None => host_answer::refusal_answer(Refusal::State),
     }
@@ -52,7 +51,7 @@ pub fn cancel(state: &mut [u64]) -> u64
             let t = result.timer;
             let answer = result.answer;
             put_timer(state, t);
-            timer_code(answer)
+            host_answer::done_answer(answer.map(|_| ()))
         }
         None => host_answer::refusal_answer(Refusal::State),
     }
@@ -73,7 +72,7 @@ pub fn remaining(state: &[u64], now: u64) -> u64
     ensures { result ≡ remaining state.now now }
 {
     match held_timer(state) {
-        Some(t) => remaining_code(t.remaining_at(now)),
+        Some(t) => host_answer::optional_answer(t.remaining_at(now), host_answer::NOTHING),
         None => host_answer::refusal_answer(Refusal::State),
     }
 }
@@ -95,25 +94,6 @@ pub fn is_expired_for(state: &[u64], expected: u64, now: u64) -> u64
     match held_timer(state) {
         Some(t) => host_answer::test_answer(t.is_expired_for_at(expected, now)),
         None => host_answer::refusal_answer(Refusal::State),
-    }
-}
-
-fn timer_code(a: Result<u64, Refusal>) -> u64
-    ensures { result ≡ timer_code a }
-{
-    match a {
-        Ok(_) => host_answer::pack_unchecked(host_answer::DONE, 0),
-        Err(r) => host_answer::refusal_answer(r),
-    }
-}
-
-fn remaining_code(a: Result<Option<u64>, Refusal>) -> u64
-    ensures { result ≡ remaining_code a }
-{
-    match a {
-        Ok(None) => host_answer::pack_unchecked(host_answer::NOTHING, 0),
-        Ok(Some(d)) => host_answer::pack_unchecked(host_answer::DONE, d),
-        Err(r) => host_answer::refusal_answer(r),
     }
 }
 
@@ -149,19 +129,10 @@ fn put_timer(state: &mut [u64], t: RetransmissionTimer)
     ensures { state.new ≡ with_timer state.old t }
 {
     let d = t.deadline;
-    let set = set_word(d);
+    let set = u64::from(d.is_some());
     let time = d.unwrap_or(0);
     state[0] = TIMER;
     state[1] = set;
     state[2] = time;
     state[3] = t.generation;
-}
-
-fn set_word(d: Option<u64>) -> u64
-    ensures { result ≡ is_set d }
-{
-    match d {
-        None => 0,
-        Some(_) => 1,
-    }
 }

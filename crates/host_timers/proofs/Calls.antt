@@ -114,7 +114,7 @@ module _ (t : MultiTimer) (ks ds : List ℕ) (now duration : ℕ) where
       refused_as_read (multi.broken t.count ks ds) (held_too_late t.count ds) (ltb max_time now) (ltb max_duration duration || ltb max_time (now + duration)) _ r (refusal_answer Full) e
 
 none_ran_of : (v : Result Unit Refusal) (o : Option ℕ) → none_ran (decide v Err (earliest_answer o)) ≡ decide v refusal_answer (packed 0 0)
-unfolding none_ran decide
+unfolding done_answer decide
 none_ran_of (Ok tt) o = refl
 none_ran_of (Err r) o = refl
 

@@ -17,7 +17,7 @@ use Rattle.multi_timer.specs.declared.StartResult.{StartResult}
 use Rattle.multi_timer.specs.declared.CancelResult.{CancelResult}
 use Rattle.multi_timer.specs.declared.PopResult.{PopResult}
 use Rattle.multi_timer.specs.declared.ClearResult.{ClearResult}
-use Rattle.host_answer.specs.Answer.{refusal_answer, done_answer, Refusing}
+use Rattle.host_answer.specs.Answer.{refusal_answer, test_answer, count_answer, done_answer, Refusing}
 use Rattle.host_answer.proofs.Laws.{done_not_refusing}
 use Rattle.host_answer.specs.Exit.{WordsExit, words_exit, wide}
 use Rattle.host_timers.specs.Timers as host
@@ -39,7 +39,7 @@ module _ (state ks ds : List ℕ) where
   StartKept t x = Refusing (start_code x.answer.answer) → x ≡ timers_exit (start_result t x.answer.answer) ks ds
 
   start_kept : (t : MultiTimer) (key now duration : ℕ) → StartKept t (start_timer_at t ks ds key now duration)
-  unfolding start_timer_at start_code
+  unfolding start_timer_at done_answer
   start_kept t key now duration =
       either_answer (StartKept t) (verdict (start_checks t ks ds key now duration)) (λ r. timers_exit (start_result t (Err r)) ks ds)
       (answering started (start_timer_at_unchecked t ks ds key (now + duration))) (λ r h. refl) (λ e h. absurd (done_not_refusing 0 h))
@@ -61,7 +61,7 @@ module _ (state ks ds : List ℕ) where
   CancelKept t x = Refusing (cancel_code x.answer.answer) → x ≡ timers_exit (cancel_result t x.answer.answer) ks ds
 
   cancel_kept : (t : MultiTimer) (key : ℕ) → CancelKept t (cancel_timer t ks ds key)
-  unfolding cancel_timer cancel_code
+  unfolding cancel_timer test_answer
   cancel_kept t key =
       either_answer (CancelKept t) (verdict (held_checks t ks ds)) (λ r. timers_exit (cancel_result t (Err r)) ks ds)
       (answering (cancelled (is_some (lookup key (used t ks ds)))) (cancel_timer_unchecked t ks ds key)) (λ r h. refl) (λ e h. absurd (done_not_refusing _ h))
@@ -79,7 +79,7 @@ module _ (state ks ds : List ℕ) where
   PopKept t out x = Refusing (pop_code x.rest.answer.answer) → x ≡ pop_exit (timers_exit (pop_result t x.rest.answer.answer) ks ds) out
 
   pop_kept : (t : MultiTimer) (now : ℕ) (out : List ℕ) → PopKept t out (pop_expired_at t ks ds now out)
-  unfolding pop_expired_at pop_code
+  unfolding pop_expired_at count_answer
   pop_kept t now out =
       either_answer (PopKept t out) (verdict (pop_checks t ks ds now (length out))) (λ r. pop_exit (timers_exit (pop_result t (Err r)) ks ds) out)
       (multi.popped (length (due_keys now (used t ks ds))) (pop_expired_at_unchecked t ks ds now out)) (λ r h. refl) (λ e h. absurd (done_not_refusing _ h))

@@ -1,6 +1,6 @@
 -- The timer set for a host: its state in lent words, three at least: 0 the version of this layout times 256 and the
 -- kind 7, 1 how many entries are used, 2 the generation; beside them the lent keys and deadlines.
-use Rattle.std.specs.Prelude.{ℕ, List, [], ◌∷◌, Bool, cond, not, length, get_or, set, ltb, eqb, Err, None, Ok, Option, Result, Some}
+use Rattle.std.specs.Prelude.{ℕ, List, [], ◌∷◌, Bool, cond, not, length, get_or, set, ltb, eqb, None, Option, Result, Some}
 use Rattle.refusal.specs.Clauses.{any_of}
 use Rattle.refusal.specs.declared.Refusal.TheVariants.{State, Time, Full}
 use Rattle.refusal.specs.Order.{check, verdict, decide}
@@ -13,7 +13,7 @@ use Rattle.multi_timer.specs.declared.StartResult.{StartResult}
 use Rattle.multi_timer.specs.declared.CancelResult.{CancelResult}
 use Rattle.multi_timer.specs.declared.PopResult.{PopResult}
 use Rattle.multi_timer.specs.declared.ClearResult.{ClearResult}
-use Rattle.host_answer.specs.Answer.{packed, done_status, nothing_status, refusal_answer, done_answer}
+use Rattle.host_answer.specs.Answer.{packed, done_status, nothing_status, refusal_answer, test_answer, count_answer, done_answer, optional_answer}
 use Rattle.host_answer.specs.Exit.{WordsExit, words_exit, wide, broken_words}
 use Rattle.refusal.specs.declared.Refusal.{Refusal}
 
@@ -47,9 +47,8 @@ make_timers state ks ds =
     (answering (made state) (new_unchecked ks ds))
 
 -- a start; the generation is word 2
-unfoldable pub start_code : Result ℕ Refusal → ℕ
-start_code (Ok g) = packed done_status 0
-start_code (Err r) = refusal_answer r
+abbrev pub start_code : Result ℕ Refusal → ℕ
+start_code a = done_answer a
 
 abbrev pub started : List ℕ → StartResult → WordsExit
 started state x = words_exit (start_code x.answer) (with_timers state x.timers)
@@ -76,9 +75,8 @@ start state ks ds key now duration =
     (start_key state ks ds key now duration)
 
 -- a cancel: 1 where the key had a timer
-unfoldable pub cancel_code : Result Bool Refusal → ℕ
-cancel_code (Ok b) = packed done_status (cond b 1 0)
-cancel_code (Err r) = refusal_answer r
+abbrev pub cancel_code : Result Bool Refusal → ℕ
+cancel_code = test_answer
 
 abbrev pub cancelled : List ℕ → CancelResult → WordsExit
 cancelled state x = words_exit (cancel_code x.answer) (with_timers state x.timers)
@@ -101,9 +99,8 @@ cancel state ks ds key =
     (cancel_key state ks ds key)
 
 -- the keys that are due, ascending, to the start of out; how many
-unfoldable pub pop_code : Result ℕ Refusal → ℕ
-pop_code (Ok n) = packed done_status n
-pop_code (Err r) = refusal_answer r
+abbrev pub pop_code : Result ℕ Refusal → ℕ
+pop_code = count_answer
 
 abbrev pub popped : List ℕ → PopResult → WordsExit
 popped state x = words_exit (pop_code x.answer) (with_timers state x.timers)
@@ -119,10 +116,8 @@ abbrev pub pop : List ℕ → List ℕ → List ℕ → ℕ → List ℕ → Pop
 pop state ks ds now out = pop_held (held_timers state) state ks ds now out
 
 -- the earliest deadline
-unfoldable pub earliest_code : Result (Option ℕ) Refusal → ℕ
-earliest_code (Ok None) = packed nothing_status 0
-earliest_code (Ok (Some d)) = packed done_status d
-earliest_code (Err r) = refusal_answer r
+abbrev pub earliest_code : Result (Option ℕ) Refusal → ℕ
+earliest_code a = optional_answer a nothing_status
 
 unfoldable pub earliest_held : Option MultiTimer → List ℕ → List ℕ → ℕ
 earliest_held (Some t) ks ds = earliest_code (earliest_deadline t ks ds)

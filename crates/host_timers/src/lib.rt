@@ -5,9 +5,8 @@ ghost use Rattle.std.specs.Prelude.{◌≡◌, ◌≤◌, length};
 ghost use Rattle.multi_timer.specs.MultiTimer.{timers_exit, pop_exit};
 ghost use Rattle.host_answer.specs.Exit.{words_exit};
 ghost use Rattle.host_timers.specs.Timers.{timers_words, held_timers, with_timers, make_timers};
-ghost use Rattle.host_timers.specs.Timers.{start_code, start_key, start_wide, start, cancel_code, cancel_key};
-ghost use Rattle.host_timers.specs.Timers.{cancel_wide, cancel, pop, earliest_code, earliest, clear};
-ghost use Rattle.host_timers.specs.Internal.{none_ran};
+ghost use Rattle.host_timers.specs.Timers.{start_key, start_wide, start, cancel_key, cancel_wide, cancel, pop};
+ghost use Rattle.host_timers.specs.Timers.{earliest, clear};
 
 use multi_timer::MultiTimer;
 use refusal::Refusal;
@@ -70,7 +69,7 @@ fn start_key(
             let t = result.timers;
             let answer = result.answer;
             put_timers(state, t);
-            start_code(answer)
+            host_answer::done_answer(answer.map(|_| ()))
         }
         None => host_answer::refusal_answer(Refusal::State),
     }
@@ -115,7 +114,7 @@ fn cancel_wide(state: &[u64], keys: &[u32], deadlines: &[u64]) -> u64
     ensures { result ≡ cancel_wide (held_timers state.now) keys.now deadlines.now }
 {
     match held_timers(state) {
-        Some(t) => none_ran(t.earliest_deadline(keys, deadlines)),
+        Some(t) => host_answer::done_answer(t.earliest_deadline(keys, deadlines).map(|_| ())),
         None => host_answer::refusal_answer(Refusal::State),
     }
 }
@@ -130,7 +129,7 @@ fn cancel_key(state: &mut [u64], keys: &mut [u32], deadlines: &mut [u64], key: u
             let t = result.timers;
             let answer = result.answer;
             put_timers(state, t);
-            cancel_code(answer)
+            host_answer::test_answer(answer)
         }
         None => host_answer::refusal_answer(Refusal::State),
     }
@@ -165,7 +164,10 @@ pub fn earliest(state: &[u64], keys: &[u32], deadlines: &[u64]) -> u64
     ensures { result ≡ earliest state.now keys.now deadlines.now }
 {
     match held_timers(state) {
-        Some(t) => earliest_code(t.earliest_deadline(keys, deadlines)),
+        Some(t) => {
+            let answer = t.earliest_deadline(keys, deadlines);
+            host_answer::optional_answer(answer, host_answer::NOTHING)
+        }
         None => host_answer::refusal_answer(Refusal::State),
     }
 }
@@ -184,48 +186,6 @@ pub fn clear(state: &mut [u64], keys: &mut [u32], deadlines: &mut [u64]) -> u64
             host_answer::done_answer(answer)
         }
         None => host_answer::refusal_answer(Refusal::State),
-    }
-}
-
-fn start_code(a: Result<u64, Refusal>) -> u64
-    ensures { result ≡ start_code a }
-{
-    match a {
-        Ok(_) => host_answer::pack_unchecked(host_answer::DONE, 0),
-        Err(r) => host_answer::refusal_answer(r),
-    }
-}
-
-fn cancel_code(a: Result<bool, Refusal>) -> u64
-    ensures { result ≡ cancel_code a }
-{
-    match a {
-        Ok(b) => {
-            if b {
-                return host_answer::pack_unchecked(host_answer::DONE, 1);
-            }
-            host_answer::pack_unchecked(host_answer::DONE, 0)
-        }
-        Err(r) => host_answer::refusal_answer(r),
-    }
-}
-
-fn none_ran(a: Result<Option<u64>, Refusal>) -> u64
-    ensures { result ≡ none_ran a }
-{
-    match a {
-        Ok(_) => host_answer::pack_unchecked(host_answer::DONE, 0),
-        Err(r) => host_answer::refusal_answer(r),
-    }
-}
-
-fn earliest_code(a: Result<Option<u64>, Refusal>) -> u64
-    ensures { result ≡ earliest_code a }
-{
-    match a {
-        Ok(None) => host_answer::pack_unchecked(host_answer::NOTHING, 0),
-        Ok(Some(d)) => host_answer::pack_unchecked(host_answer::DONE, d),
-        Err(r) => host_answer::refusal_answer(r),
     }
 }
 

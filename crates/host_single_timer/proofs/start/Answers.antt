@@ -1,5 +1,6 @@
 use mathlib.Core.Path.{sym, ◌∙◌}
 use Rattle.timer.specs.Timer.{started_at}
+use Rattle.host_answer.proofs.Laws.{done_dropped}
 use Rattle.host_single_timer.specs.SingleTimer.{on_held}
 use Rattle.host_single_timer.proofs.Words.{timer_long, on_changed}
 use Rattle.host_single_timer.proofs.start.Goals as goal
@@ -8,7 +9,7 @@ pub put_timer-requires : goal.put_timer-requires
 put_timer-requires c = timer_long c.args.state.now (sym c.held_timer.ensures ∙ c.in-Some.is)
 
 pub returns-in-Some : goal.returns-in-Some
-returns-in-Some c = on_changed c.args.state.now (λ x. started_at x c.args.now c.args.duration) (sym c.held_timer.ensures ∙ c.in-Some.is) c.started_at-result.ensures c.put_timer.ensures c.timer_code.ensures
+returns-in-Some c = on_changed c.args.state.now (λ x. started_at x c.args.now c.args.duration) (sym c.held_timer.ensures ∙ c.in-Some.is) c.started_at-result.ensures c.put_timer.ensures (c.done_answer.ensures ∙ done_dropped _ _ _ c.map.ensures.cases)
 
 pub returns-in-None : goal.returns-in-None
 unfolding on_held

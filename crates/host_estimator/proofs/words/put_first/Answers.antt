@@ -1,6 +1,6 @@
 use native.Mathlib.Omega.{arith}
 use lib.ListN.{length-set}
-use Rattle.host_estimator.proofs.Held.{time_or_0}
+use Rattle.host_estimator.proofs.Held.{set_or_0, time_or_0}
 use Rattle.host_estimator.proofs.words.put_first.Goals as goal
 
 pub bounds-state-1 : goal.bounds-state-1
@@ -28,4 +28,4 @@ pub bounds-state-8 : goal.bounds-state-8
 bounds-state-8 c = simp length-set (omega arith)
 
 pub returns : goal.returns
-returns c = rw (c.set_word-srtt_set.ensures, c.unwrap_or-srtt_time.ensures, time_or_0 c.args.srtt, c.set_word-rttvar_set.ensures, c.unwrap_or-rttvar_time.ensures, time_or_0 c.args.rttvar)
+returns c = rw (c.from-srtt_set.ensures, c.is_some.ensures, set_or_0 c.args.srtt, c.unwrap_or-srtt_time.ensures, time_or_0 c.args.srtt, c.from-rttvar_set.ensures, c.is_some-2.ensures, set_or_0 c.args.rttvar, c.unwrap_or-rttvar_time.ensures, time_or_0 c.args.rttvar)

@@ -1,5 +1,6 @@
 use native.Mathlib.Omega.{arith}
 use lib.ListN.{length-set}
+use Rattle.host_estimator.proofs.Held.{flag_is}
 use Rattle.host_estimator.proofs.words.put_second.Goals as goal
 
 pub bounds-state-10 : goal.bounds-state-10
@@ -24,4 +25,4 @@ pub bounds-state-16 : goal.bounds-state-16
 bounds-state-16 c = simp length-set (omega arith)
 
 pub returns : goal.returns
-returns c = rw c.flag-in_backoff.ensures
+returns c = rw (c.from-in_backoff.ensures, flag_is c.args.e.in_backoff)
