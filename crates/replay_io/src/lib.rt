@@ -246,6 +246,11 @@ pub fn prefix(bytes: &[u8], n: usize) -> &[u8] {
     &bytes[..n.min(bytes.len())]
 }
 
+pub fn prefix_mut(bytes: &mut [u8], n: usize) -> &mut [u8] {
+    let n = n.min(bytes.len());
+    &mut bytes[..n]
+}
+
 // The bytes from `from` to below `to`; none where there are no such.
 pub fn part(bytes: &[u8], from: usize, to: usize) -> &[u8] {
     if from <= to && to <= bytes.len() {
