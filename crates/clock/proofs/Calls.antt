@@ -128,7 +128,7 @@ module _ (s : ClockState) {t : Timing} where
     answer_at None d q = let z : ◌≡◌ {A = ℕ} 0 1 = cc in absurd (omega arith)
     answer_at (Some x) d q = ap Some (same q)
       where
-        same : Ok (Some x) ≡ Ok (Some d) → d ≡ x
+        same : ◌≡◌ {A = Result (Option ℕ) Refusal} (Ok (Some x)) (Ok (Some d)) → d ≡ x
         same q = cc
 
     answer_none : (o : Option ℕ) → earliest_answer o ≡ Ok None → None ≡ as_deadline o

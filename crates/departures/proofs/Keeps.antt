@@ -37,9 +37,7 @@ pub record Departs (t : Timing) (rolls : List Float) (total samples now : ℕ) (
 
 going_is : (st : Option Stop) → is_going st ≡ true → st ≡ None
 going_is (None) e = refl
-going_is (Some stop.RollsSpent) e = absurd (true≢false (sym e))
-going_is (Some stop.EventsFull) e = absurd (true≢false (sym e))
-going_is (Some stop.ScheduleFull) e = absurd (true≢false (sym e))
+going_is (Some why) e = absurd (true≢false (sym e))
 
 send_orders : (t : Timing) (rolls : List Float) (chunks : List (List ℕ)) (rto now : ℕ) (s : PumpState) → RiseAlike s.outgoing.forward (send_one t rolls chunks rto now s).state.outgoing.forward
 unfolding send_one

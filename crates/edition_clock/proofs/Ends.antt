@@ -118,9 +118,7 @@ module _ (limit : ℕ) (patient : max_duration < limit * min_rto) {p : Plan} {g 
 
   by_stop_lem : (st : Option Stop) (u : RunState) (rest : StepExit) → WithinLimits u → Ok rest → Ok (unless_stopped st u rest)
   by_stop_lem (None) u rest w h = h
-  by_stop_lem (Some stop.RollsSpent) u rest w h = w
-  by_stop_lem (Some stop.EventsFull) u rest w h = w
-  by_stop_lem (Some stop.ScheduleFull) u rest w h = w
+  by_stop_lem (Some why) u rest w h = w
 
   either : (b : Bool) (x y : StepExit) → Ok x → Ok y → Ok (cond b x y)
   either true x y h i = h

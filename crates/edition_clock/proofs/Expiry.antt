@@ -35,6 +35,7 @@ use Rattle.edition_clock.proofs.Rules.{submit_5_1}
 use Rattle.edition_clock.proofs.Senders.{Again}
 use Rattle.schedule.specs.declared.Deliveries.{Deliveries}
 use Rattle.path.specs.declared.Stop.{Stop}
+use Rattle.path.specs.declared.Stop.TheVariants as stop
 
 -- ---- (5.5): the edition clock's setup has the limits of 1 s and 60 s, and doubled is never below the lower one
 pub record EditionLimits (c : RtoConfig) : Type 0 where
@@ -157,9 +158,7 @@ sent_first rolls x rto wire o =
 
     by_answer : (a : Result (Deliveries × ℕ) Stop) → ((on_carriage a Edition x (before x.rto)).written ≡ (on_carriage a Edition (with_rto x rto) (before rto)).written) × ((on_carriage a Edition x (before x.rto)).events ≡ (on_carriage a Edition (with_rto x rto) (before rto)).events)
     by_answer (Ok (ds, fold)) = (refl, refl)
-    by_answer (Err stop.RollsSpent) = (refl, refl)
-    by_answer (Err stop.EventsFull) = (refl, refl)
-    by_answer (Err stop.ScheduleFull) = (refl, refl)
+    by_answer (Err why) = (refl, refl)
 
 pub sent_first_deadline : (now : ℕ) (x : RtoTimer) → on_expiry now (on_sent now (on_idle_expiry x)) ≡ on_expiry now x
 sent_first_deadline now x = refl

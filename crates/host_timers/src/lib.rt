@@ -6,7 +6,7 @@ ghost use Rattle.multi_timer.specs.MultiTimer.{timers_exit, pop_exit};
 ghost use Rattle.host_answer.specs.Exit.{words_exit};
 ghost use Rattle.host_timers.specs.Timers.{timers_words, held_timers, with_timers, make_timers};
 ghost use Rattle.host_timers.specs.Timers.{start_code, start_key, start_wide, start, cancel_code, cancel_key};
-ghost use Rattle.host_timers.specs.Timers.{cancel_wide, cancel, pop_code, pop, earliest_code, earliest, clear};
+ghost use Rattle.host_timers.specs.Timers.{cancel_wide, cancel, pop, earliest_code, earliest, clear};
 ghost use Rattle.host_timers.specs.Internal.{none_ran};
 
 use multi_timer::MultiTimer;
@@ -154,7 +154,7 @@ pub fn pop(
             let t = result.timers;
             let answer = result.answer;
             put_timers(state, t);
-            pop_code(answer)
+            host_answer::count_answer(answer)
         }
         None => host_answer::refusal_answer(Refusal::State),
     }
@@ -215,15 +215,6 @@ fn none_ran(a: Result<Option<u64>, Refusal>) -> u64
 {
     match a {
         Ok(_) => host_answer::pack_unchecked(host_answer::DONE, 0),
-        Err(r) => host_answer::refusal_answer(r),
-    }
-}
-
-fn pop_code(a: Result<usize, Refusal>) -> u64
-    ensures { result ≡ pop_code a }
-{
-    match a {
-        Ok(n) => host_answer::pack_unchecked(host_answer::DONE, n as u64),
         Err(r) => host_answer::refusal_answer(r),
     }
 }

@@ -92,15 +92,11 @@ pub record IsCarried (a : Result (Deliveries × ℕ) Stop) : Type 0 where
 -- a run goes on where a packet was carried, and only there
 pub going_is : (s : Option Stop) → is_going s ≡ true → s ≡ None
 going_is (None) e = refl
-going_is (Some stop.RollsSpent) e = absurd (false≢true e)
-going_is (Some stop.EventsFull) e = absurd (false≢true e)
-going_is (Some stop.ScheduleFull) e = absurd (false≢true e)
+going_is (Some why) e = absurd (false≢true e)
 
 pub stop_going : (a : Result (Deliveries × ℕ) Stop) → stop_of a ≡ None → IsCarried a
 stop_going (Ok (ds, n)) e = record { deliveries = ds; fold = n; is = refl }
-stop_going (Err stop.RollsSpent) e = absurd (false≢true (ap is_going e))
-stop_going (Err stop.EventsFull) e = absurd (false≢true (ap is_going e))
-stop_going (Err stop.ScheduleFull) e = absurd (false≢true (ap is_going e))
+stop_going (Err why) e = absurd (false≢true (ap is_going e))
 
 pub carried_going : {a : Result (Deliveries × ℕ) Stop} → IsCarried a → stop_of a ≡ None
 carried_going c = ap stop_of c.is

@@ -22,6 +22,7 @@ use Rattle.path.specs.Path.{new_path, left_by_carry, copy_fold, carry, CanCarry}
 use Rattle.path.proofs.Laws.{new_good}
 use Rattle.schedule.specs.declared.Deliveries.{Deliveries}
 use Rattle.path.specs.declared.Stop.{Stop}
+use Rattle.path.specs.declared.Stop.TheVariants as stop
 
 nought : Float
 nought = fin false 0 (pos 0)

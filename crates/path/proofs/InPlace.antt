@@ -23,6 +23,7 @@ use Rattle.path.specs.Direction.{Direction, schedule_of}
 use Rattle.path.specs.Path.{path_of, on_path, carry_exit, on_carry, rolls_spent, copy_fold, carry, wire_after, CanCarry}
 use Rattle.path.proofs.Packets.{can_put}
 use Rattle.path.proofs.Answers.{granted, copy_bytes, counted_channel, fills, carries}
+use Rattle.path.specs.declared.Stop.TheVariants as stop
 
 module _ (d : Direction) (rolls : List Float) (entry_free : Bool) (now : ℕ) (wire : List ℕ) where
   pub wire_spent : rolls_spent d.path rolls ≡ true → wire ≡ wire_after d.path rolls entry_free wire

@@ -23,6 +23,7 @@ use Rattle.channel.proofs.Laws.{counts_not_full, delays_in_bounds}
 use Rattle.path.specs.Rolls.{packet_rolls, roll_at, rolls_at, rolls_broken, Doubles}
 use Rattle.path.specs.Direction.{Direction, schedule_of, Counted, Good}
 use Rattle.path.specs.Path.{on_path, CarryExit, on_carry, rolls_spent, sent, sent_bytes, copy_fold, carry, CanCarry}
+use Rattle.path.specs.declared.Stop.TheVariants as stop
 
 -- ---- rolls
 four_fine : (a b c d : Bool) → a ≡ true → b ≡ true → c ≡ true → d ≡ true → (not a || (not b || (not c || not d))) ≡ false

@@ -32,6 +32,7 @@ use Rattle.receiving.specs.Receiving.{Inbound, inbound, ForwardExit, forward_exi
 use Rattle.receiving.specs.Good.{CanOnForward}
 use Rattle.receiving.specs.Internal.{data_arrival, arrival_of}
 use Rattle.receiving.specs.declared.ReceivingSide.{ReceivingSide}
+use Rattle.std.proofs.lemmas.Option.{some_pair_parts}
 
 -- ---- what a datagram is
 pub arrives : (d : Result DatagramReading Refusal) (p : Packet) (valid : Bool) {x : Result DatagramReading Refusal} {a : Option (Packet × Bool)} → x ≡ d → x ≡ read_as p valid → a ≡ data_arrival p.pkt_type p valid → a ≡ arrival_of d
@@ -46,7 +47,7 @@ record DataOf (d : Result DatagramReading Refusal) (p : Packet) (valid : Bool) :
   pub is : is_data d ≡ true
 
 typed : (t : PacketType) (q p : Packet) (b valid : Bool) → Some (p, valid) ≡ data_arrival t q b → (q ≡ p) × (b ≡ valid) × (is_data_type t ≡ true)
-typed packetType.Data q p b valid e = (cc, cc, refl)
+typed packetType.Data q p b valid e = let h = some_pair_parts p q valid b e in (sym h.0, sym h.1, refl)
 typed packetType.Ack q p b valid e = let z : ◌≡◌ {A = ℕ} 0 1 = cc in absurd (omega arith)
 typed packetType.Fin q p b valid e = let z : ◌≡◌ {A = ℕ} 0 1 = cc in absurd (omega arith)
 

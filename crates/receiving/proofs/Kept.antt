@@ -103,9 +103,7 @@ module _ (rolls : List Float) (now seq : ℕ) (wire : List ℕ) (b : Inbound) wh
   submit_stops a s e = rw (stop_same b.reverse rolls true now wire a s e, none a s)
     where
       none : (a : Result (Deliveries × ℕ) Stop) → stops a ≡ true → any_copies a ≡ false
-      none (Err stop.RollsSpent) s = refl
-      none (Err stop.EventsFull) s = refl
-      none (Err stop.ScheduleFull) s = refl
+      none (Err why) s = refl
       none (Ok (ds, n)) s = absurd (false≢true s)
 
   -- it is carried; where the line drops it, nothing is marked

@@ -68,9 +68,7 @@ ack_counted x = record {
 -- `!deliveries.is_empty()`
 abbrev pub any_copies : Result (Deliveries × ℕ) Stop → Bool
 any_copies (Ok (ds, fold)) = ltb 0 (copies ds)
-any_copies (Err stop.RollsSpent) = false
-any_copies (Err stop.EventsFull) = false
-any_copies (Err stop.ScheduleFull) = false
+any_copies (Err why) = false
 
 -- the ACK of the number goes out as `wire`; a dropped one is not scheduled
 unfoldable pub submit_ack : List Float → ℕ → ℕ → List ℕ → Inbound → ForwardExit

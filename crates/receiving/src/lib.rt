@@ -18,7 +18,7 @@ use bounds::{HEADER_SIZE, PLACE_SIZE};
 use notes::{Note, Notes};
 use packet::{DatagramReading, Packet, PacketType};
 use path::{Path, Stop};
-use schedule::{ScheduledRow, copies_of};
+use schedule::{Deliveries, ScheduledRow, copies_of};
 use session::Receiver;
 
 // completed_at is the moment at which the last chunk was delivered, 0 before.
@@ -332,9 +332,7 @@ fn any_copies(answer: Result<(Deliveries, u16), Stop>) -> bool
 {
     match answer {
         Ok((deliveries, _)) => 0 < copies_of(deliveries),
-        Err(Stop::RollsSpent) => false,
-        Err(Stop::EventsFull) => false,
-        Err(Stop::ScheduleFull) => false,
+        Err(_) => false,
     }
 }
 

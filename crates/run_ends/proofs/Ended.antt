@@ -162,9 +162,7 @@ module _ (p : Plan) (g : Given) (plan : GoodPlan p g) where
 
     unless : (st : Option Stop) (u : RunState) (rest : StepExit) → (is_going st ≡ true → Why s rest) → Why s (unless_stopped st u rest)
     unless (None) u rest h = h refl
-    unless (Some stop.RollsSpent) u rest h = record { goes = λ e. absurd (still_going e); ends = λ o e. let z : ◌≡◌ {A = ℕ} 0 1 = cc in absurd (omega arith) }
-    unless (Some stop.EventsFull) u rest h = record { goes = λ e. absurd (still_going e); ends = λ o e. let z : ◌≡◌ {A = ℕ} 0 1 = cc in absurd (omega arith) }
-    unless (Some stop.ScheduleFull) u rest h = record { goes = λ e. absurd (still_going e); ends = λ o e. let z : ◌≡◌ {A = ℕ} 0 1 = cc in absurd (omega arith) }
+    unless (Some why) u rest h = record { goes = λ e. absurd (still_going e); ends = λ o e. let z : ◌≡◌ {A = ℕ} 0 1 = cc in absurd (omega arith) }
 
     either : (b : Bool) (x y : StepExit) → (b ≡ true → Why s x) → (b ≡ false → Why s y) → Why s (cond b x y)
     either true x y h k = h refl

@@ -21,9 +21,7 @@ use Rattle.run_ends.proofs.Waiting.{Tidy, schedule_tidy, take_tidy, new_tidy}
 -- ---- whether the last packet that was due was carried; why not
 abbrev pub not_carried : Option Stop → ℕ
 not_carried (None) = 0
-not_carried (Some stop.RollsSpent) = 1
-not_carried (Some stop.EventsFull) = 1
-not_carried (Some stop.ScheduleFull) = 1
+not_carried (Some why) = 1
 
 abbrev pub StoppedAt : Option Stop → Direction → List Float → Bool → Type 0
 StoppedAt (None) d rolls free = Unit {0}

@@ -63,9 +63,7 @@ module _ (Q : RunState → Type 0) (moved : (u : RunState) (time moves rounds : 
 
   by_stop_lem : (st : Option Stop) (u : RunState) (rest : StepExit) → Q u → (is_going st ≡ true → Q rest.state) → Q (unless_stopped st u rest).state
   by_stop_lem (None) u rest q h = h refl
-  by_stop_lem (Some stop.RollsSpent) u rest q h = q
-  by_stop_lem (Some stop.EventsFull) u rest q h = q
-  by_stop_lem (Some stop.ScheduleFull) u rest q h = q
+  by_stop_lem (Some why) u rest q h = q
 
   either : (b : Bool) (x y : StepExit) → Q x.state → Q y.state → Q (cond b x y).state
   either true x y p q = p

@@ -112,9 +112,7 @@ module _ (p : Plan) (g : Given) (s : RunState) where
 
   unless : (st : Option Stop) (u : RunState) (rest : StepExit) → More u.resends.retx_submitted → Left rest → Left (unless_stopped st u rest)
   unless (None) u rest l h = h
-  unless (Some stop.RollsSpent) u rest l h = l
-  unless (Some stop.EventsFull) u rest l h = l
-  unless (Some stop.ScheduleFull) u rest l h = l
+  unless (Some why) u rest l h = l
 
   either : (b : Bool) (x y : StepExit) → Left x → Left y → Left (cond b x y)
   either true x y h k = h

@@ -63,9 +63,7 @@ module _ (Q : Kept) (lasting : Lasting Q) (p : Plan) (g : Given) where
 
   unless : (st : Option Stop) (u : RunState) (rest : StepExit) → (is_going st ≡ true → AtEnd rest) → AtEnd (unless_stopped st u rest)
   unless (None) u rest h = h refl
-  unless (Some stop.RollsSpent) u rest h = λ e. let z : ◌≡◌ {A = ℕ} 0 1 = cc in absurd (omega arith)
-  unless (Some stop.EventsFull) u rest h = λ e. let z : ◌≡◌ {A = ℕ} 0 1 = cc in absurd (omega arith)
-  unless (Some stop.ScheduleFull) u rest h = λ e. let z : ◌≡◌ {A = ℕ} 0 1 = cc in absurd (omega arith)
+  unless (Some why) u rest h = λ e. let z : ◌≡◌ {A = ℕ} 0 1 = cc in absurd (omega arith)
 
   either : (b : Bool) (x y : StepExit) → AtEnd x → AtEnd y → AtEnd (cond b x y)
   either true x y h k = h

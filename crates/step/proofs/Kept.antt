@@ -31,9 +31,7 @@ not_over e = let z : ◌≡◌ {A = ℕ} 0 1 = cc in omega arith
 -- a packet that ended the run didn't let it go on
 by_stop_lem : (P : StepExit → Type 0) (st : Option Stop) (s : RunState) (rest : StepExit) → (is_going st ≡ true → rest.course ≡ Going → P rest) → (unless_stopped st s rest).course ≡ Going → P (unless_stopped st s rest)
 by_stop_lem P (None) s rest h e = h refl e
-by_stop_lem P (Some stop.RollsSpent) s rest h e = absurd (not_over e)
-by_stop_lem P (Some stop.EventsFull) s rest h e = absurd (not_over e)
-by_stop_lem P (Some stop.ScheduleFull) s rest h e = absurd (not_over e)
+by_stop_lem P (Some why) s rest h e = absurd (not_over e)
 
 -- what holds of the state after both parts of a round and of the move from it holds of a step that goes on
 module _ (p : Plan) (g : Given) (s : RunState) where

@@ -18,9 +18,7 @@ use Rattle.step.specs.declared.Course.TheVariants.{Going}
 
 pub going_is : (st : Option Stop) → is_going st ≡ true → st ≡ None
 going_is (None) e = refl
-going_is (Some stop.RollsSpent) e = absurd (true≢false (sym e))
-going_is (Some stop.EventsFull) e = absurd (true≢false (sym e))
-going_is (Some stop.ScheduleFull) e = absurd (true≢false (sym e))
+going_is (Some why) e = absurd (true≢false (sym e))
 
 pub not_going : (b : Bool) → not b ≡ true → b ≡ false
 not_going true n = absurd (true≢false (sym n))

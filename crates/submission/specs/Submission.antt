@@ -13,6 +13,7 @@ use Rattle.multi_timer.specs.MultiTimer.{start_full}
 use Rattle.clock.specs.Clock.{ClockState, timers_of, Submission, arm_after_submit, Held}
 use Rattle.clock.specs.declared.Timing.{Timing}
 use Rattle.clock.specs.declared.Timing.TheVariants.{PerNumber}
+use Rattle.path.specs.declared.Stop.TheVariants as stop
 
 -- what a submission works on: the forward direction of the line, the notes, the events in the first `written` rows, the
 -- timers
@@ -52,9 +53,7 @@ on_carriage (Ok (ds, fold)) timing x o =
     let event = forward_event x.seq x.retransmission ds fold in
     outgoing o.forward metas (o.written + 1) (set o.events o.written (row_of event))
     (arm_after_submit timing o.clock metas x)
-on_carriage (Err stop.RollsSpent) timing x o = o
-on_carriage (Err stop.EventsFull) timing x o = o
-on_carriage (Err stop.ScheduleFull) timing x o = o
+on_carriage (Err s) timing x o = o
 
 unfoldable pub submit : Timing → List Float → Submission → List ℕ → Outgoing → SubmitExit
 submit timing rolls x wire o =

@@ -79,19 +79,15 @@ pub fn read_decimal(s: &[u8], at: usize, max: u64) -> Option<(u64, usize)>
 pub fn read_field(s: &[u8], at: usize, max: u64, letter: u8) -> Option<(u64, usize)>
     ensures { result ≡ read_field s.now at max letter }
 {
-    match read_decimal(s, at, max) {
-        Some((n, next)) => {
-            if s.len() <= next {
-                return None;
-            }
-            let b = s[next];
-            if b != letter {
-                return None;
-            }
-            Some((n, next + 1))
-        }
-        None => None,
+    let (n, next) = read_decimal(s, at, max)?;
+    if s.len() <= next {
+        return None;
     }
+    let b = s[next];
+    if b != letter {
+        return None;
+    }
+    Some((n, next + 1))
 }
 
 // Writes octets in hexadecimal at a place.

@@ -45,6 +45,6 @@ module _ (k : Ceilings) (c : TransferConfig) (g : Given) (l : Lent) where
   by_outcome P h o e =
       let s = outcome_starts e in
       let i = accepted_is s in
-      let same : Ok (outcome_of last) ≡ Ok o = sym (ap (λ (x : RunExit). x.answer) i) ∙ e in
+      let same : ◌≡◌ {A = Result Outcome Refusal} (Ok (outcome_of last)) (Ok o) = sym (ap (λ (x : RunExit). x.answer) i) ∙ e in
       let is : outcome_of last ≡ o = cc in
       subst (λ (x : RunExit). P o x.lent) (sym i) (subst (λ (y : Outcome). P y (lent_of last.state)) is (h s))

@@ -32,9 +32,7 @@ module _ (Q : Kept) (p : Plan) (g : Given) (s : RunState) where
 
   by_stop_lem : (st : Option Stop) (u : RunState) (rest : StepExit) → At Q u → (is_going st ≡ true → At Q rest.state) → At Q (unless_stopped st u rest).state
   by_stop_lem (None) u rest q h = h refl
-  by_stop_lem (Some stop.RollsSpent) u rest q h = q
-  by_stop_lem (Some stop.EventsFull) u rest q h = q
-  by_stop_lem (Some stop.ScheduleFull) u rest q h = q
+  by_stop_lem (Some why) u rest q h = q
 
   either : (b : Bool) (x y : StepExit) → At Q x.state → At Q y.state → At Q (cond b x y).state
   either true x y p q = p

@@ -1,5 +1,5 @@
 -- A pattern that isn't above infinity's, without its sign, is no NaN's.
-use Rattle.std.proofs.Common.{◌≤◌, ◌%◌, arith}
+use Rattle.std.proofs.Common.{arith}
 use Rattle.std.proofs.lemmas.Float.{not_nan_f64_bits}
 use Rattle.replay_io.proofs.real.Goals as goal
 

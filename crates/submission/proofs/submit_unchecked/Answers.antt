@@ -19,14 +19,8 @@ arm_after_submit_unchecked-clock-requires c = can_arm c.args.timing c.args.rolls
 pub overflow_add-result : goal.overflow_add-result
 overflow_add-result c = let h = had_entry c.args.timing c.args.rolls.now (record { time = c.args.now; seq = c.args.seq; rto = c.args.rto; retransmission = c.args.retransmission; oldest = c.args.oldest }) c.args.wire.now (outgoing (direction c.args.records.now c.args.places.now c.args.outbound.forward) (seg_metas c.args.outbound.notes c.args.rows.now) c.args.outbound.events c.args.events.now (timers_exit c.args.outbound.clock c.args.keys.now c.args.deadlines.now)) c.note_before-notes.ensures c.carry_unchecked-carried.ensures.result_after c.in-Ok.is in record { fits = omega (arith, c.well_formed.1.1.1.1.1.1.1.1.1.1.0.0) }
 
-pub returns-in-Err-RollsSpent : goal.returns-in-Err-RollsSpent
-returns-in-Err-RollsSpent c = record { stop_after = by_carriage c.args.timing c.args.rolls.now (record { time = c.args.now; seq = c.args.seq; rto = c.args.rto; retransmission = c.args.retransmission; oldest = c.args.oldest }) c.args.wire.now (outgoing (direction c.args.records.now c.args.places.now c.args.outbound.forward) (seg_metas c.args.outbound.notes c.args.rows.now) c.args.outbound.events c.args.events.now (timers_exit c.args.outbound.clock c.args.keys.now c.args.deadlines.now)) c.note_before-notes.ensures c.carry_unchecked-carried.ensures.result_after c.in-Err-RollsSpent.is; wire_after = c.carry_unchecked-carried.ensures.wire_after }
-
-pub returns-in-Err-EventsFull : goal.returns-in-Err-EventsFull
-returns-in-Err-EventsFull c = record { stop_after = by_carriage c.args.timing c.args.rolls.now (record { time = c.args.now; seq = c.args.seq; rto = c.args.rto; retransmission = c.args.retransmission; oldest = c.args.oldest }) c.args.wire.now (outgoing (direction c.args.records.now c.args.places.now c.args.outbound.forward) (seg_metas c.args.outbound.notes c.args.rows.now) c.args.outbound.events c.args.events.now (timers_exit c.args.outbound.clock c.args.keys.now c.args.deadlines.now)) c.note_before-notes.ensures c.carry_unchecked-carried.ensures.result_after c.in-Err-EventsFull.is; wire_after = c.carry_unchecked-carried.ensures.wire_after }
-
-pub returns-in-Err-ScheduleFull : goal.returns-in-Err-ScheduleFull
-returns-in-Err-ScheduleFull c = record { stop_after = by_carriage c.args.timing c.args.rolls.now (record { time = c.args.now; seq = c.args.seq; rto = c.args.rto; retransmission = c.args.retransmission; oldest = c.args.oldest }) c.args.wire.now (outgoing (direction c.args.records.now c.args.places.now c.args.outbound.forward) (seg_metas c.args.outbound.notes c.args.rows.now) c.args.outbound.events c.args.events.now (timers_exit c.args.outbound.clock c.args.keys.now c.args.deadlines.now)) c.note_before-notes.ensures c.carry_unchecked-carried.ensures.result_after c.in-Err-ScheduleFull.is; wire_after = c.carry_unchecked-carried.ensures.wire_after }
+pub returns-in-Err : goal.returns-in-Err
+returns-in-Err c = record { stop_after = by_carriage c.args.timing c.args.rolls.now (record { time = c.args.now; seq = c.args.seq; rto = c.args.rto; retransmission = c.args.retransmission; oldest = c.args.oldest }) c.args.wire.now (outgoing (direction c.args.records.now c.args.places.now c.args.outbound.forward) (seg_metas c.args.outbound.notes c.args.rows.now) c.args.outbound.events c.args.events.now (timers_exit c.args.outbound.clock c.args.keys.now c.args.deadlines.now)) c.note_before-notes.ensures c.carry_unchecked-carried.ensures.result_after c.in-Err.is; wire_after = c.carry_unchecked-carried.ensures.wire_after }
 
 pub shape_of-wire-in-Ok : goal.shape_of-wire-in-Ok
 shape_of-wire-in-Ok c = c.carry_unchecked-carried.auto.wire

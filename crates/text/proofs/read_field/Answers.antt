@@ -27,18 +27,18 @@ module _ (s : List ℕ) (at max letter : ℕ) where
     unfolding read_field followed
     same h g = rw (q, lt-ltb next (length s) h, eq-eqb (get_or s next 0) letter g)
 
+pub returns-in_err-n : goal.returns-in_err-n
+returns-in_err-n c = let a = c.args in
+    rw c.from_residual.ensures (no_number a.s.now a.at a.max a.letter (sym c.read_decimal.ensures ∙ c.in_err-n.was))
+
 pub returns-then-s-next : goal.returns-then-s-next
 returns-then-s-next c = let a = c.args in
-    ends a.s.now a.at a.max a.letter (sym c.read_decimal.ensures ∙ c.in-Some.is) (omega arith)
+    ends a.s.now a.at a.max a.letter (sym c.read_decimal.ensures ∙ c.in_ok-n.was) (omega arith)
 
 pub returns-then-b-letter : goal.returns-then-b-letter
 returns-then-b-letter c = let a = c.args in
-    other a.s.now a.at a.max a.letter (sym c.read_decimal.ensures ∙ c.in-Some.is) (omega arith) c.if-b-letter.true
+    other a.s.now a.at a.max a.letter (sym c.read_decimal.ensures ∙ c.in_ok-n.was) (omega arith) c.if-b-letter.true
 
-pub returns-else-b-letter : goal.returns-else-b-letter
-returns-else-b-letter c = let a = c.args in
-    same a.s.now a.at a.max a.letter (sym c.read_decimal.ensures ∙ c.in-Some.is) (omega arith) (omega arith)
-
-pub returns-in-None : goal.returns-in-None
-returns-in-None c = let a = c.args in
-    no_number a.s.now a.at a.max a.letter (sym c.read_decimal.ensures ∙ c.in-None.is)
+pub returns : goal.returns
+returns c = let a = c.args in
+    same a.s.now a.at a.max a.letter (sym c.read_decimal.ensures ∙ c.in_ok-n.was) (omega arith) (omega arith)
