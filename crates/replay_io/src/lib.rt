@@ -34,12 +34,7 @@ struct Number {
     next: usize,
 }
 
-// The number at place i; 0 where there is none.
-pub fn value(f: Fields, i: usize) -> u64 {
-    if i < 12 { f.values[i] } else { 0 }
-}
-
-pub fn read_fields(line: &[u8]) -> Fields {
+fn read_fields(line: &[u8]) -> Fields {
     let mut values = [0u64; 12];
     let mut next: usize = 2;
     let mut good = starts(line);
@@ -118,7 +113,7 @@ fn hexadecimal(digits: &[u8]) -> bool {
 }
 
 // The line's bytes, as many as `out` has room for; answers how many.
-pub fn read_bytes(line: &[u8], at: usize, out: &mut [u8]) -> usize
+fn read_bytes(line: &[u8], at: usize, out: &mut [u8]) -> usize
     ensures { IsPrefixLen result out.new }
 {
     decode(tail(line, at), out)
@@ -154,12 +149,6 @@ fn encode(bytes: &[u8], out: &mut [u8]) -> usize
         out[2 * i + 1] = low_digit(bytes[i]);
     }
     2 * most
-}
-
-pub fn min(a: usize, b: usize) -> usize
-    ensures { (result ≤ a) × (result ≤ b) }
-{
-    a.min(b)
 }
 
 // A hexadecimal digit's value; 0 for any other byte.
@@ -241,14 +230,14 @@ pub fn low(n: u64) -> u32 {
     (n % 4294967296) as u32
 }
 
-// The first n bytes, or all where there are fewer.
-pub fn prefix(bytes: &[u8], n: usize) -> &[u8] {
-    &bytes[..n.min(bytes.len())]
+// The first n of a list, or all where there are fewer.
+pub fn prefix<T>(list: &[T], n: usize) -> &[T] {
+    &list[..n.min(list.len())]
 }
 
-pub fn prefix_mut(bytes: &mut [u8], n: usize) -> &mut [u8] {
-    let n = n.min(bytes.len());
-    &mut bytes[..n]
+pub fn prefix_mut<T>(list: &mut [T], n: usize) -> &mut [T] {
+    let n = n.min(list.len());
+    &mut list[..n]
 }
 
 // The bytes from `from` to below `to`; none where there are no such.
@@ -258,10 +247,6 @@ pub fn part(bytes: &[u8], from: usize, to: usize) -> &[u8] {
     } else {
         &bytes[..0]
     }
-}
-
-pub fn fill(bytes: &mut [u8], b: u8) {
-    bytes.fill(b);
 }
 
 // CRC-32 (IEEE 802.3, reflected): of "123456789" it is cbf43926.
