@@ -20,8 +20,7 @@
 #![tactic(auto)]
 
 use go_back_n::{GoBackNReceiver, GoBackNSender};
-use refusal::Refusal;
-use replay_io::{Fields, Lines};
+use replay_io::{Answer, Fields, Replay};
 use selective_repeat::{SelectiveRepeatReceiver, SelectiveRepeatSender};
 use std::io;
 use std::io::Write;
@@ -42,67 +41,268 @@ enum Receiver {
     SelectiveRepeat(SelectiveRepeatReceiver),
 }
 
-// sent, held, output: the lengths of the stores and of the output.
-#[derive(Clone, Copy)]
+// sent: the sender's store; held: the receiver's. The ends have as much of each as its length says.
+#[derive(Drop)]
 struct Ends {
     sender: Sender,
     receiver: Receiver,
-    sent: usize,
-    held: usize,
-    output: usize,
+    sent: [u8; 46332],
+    held: [u8; 46332],
+    output: [u8; 65536],
+    sent_len: usize,
+    held_len: usize,
+    output_len: usize,
 }
 
 fn main(rt: HostRuntime) -> io::Result<()> {
-    let mut writer = rt.stdout();
-    let mut text = replay_io::buffer();
-    let n = replay_io::read_full(&mut rt.stdin(), &mut text)?;
-    let mut sent = no_slots();
-    let mut held = no_slots();
-    let mut output = no_output();
-    replay_io::print_if_full(&mut writer, &text, n)?;
-    replay(
-        &mut writer,
-        &text[..n],
-        start(),
-        &mut sent,
-        &mut held,
-        &mut output,
-    )
+    replay_io::answer_lines(&mut Ends::new(), &mut rt.stdin(), &mut rt.stdout())
 }
 
-// Functions for the reason of `replay_io::buffer`.
-fn no_slots() -> [u8; 46332] {
-    [0u8; 46332]
-}
-
-fn no_output() -> [u8; 65536] {
-    [0u8; 65536]
-}
-
-fn start() -> Ends {
-    Ends {
-        sender: idle_sender(),
-        receiver: idle_receiver(),
-        sent: 0,
-        held: 0,
-        output: 0,
+impl Replay for Ends {
+    fn answer(&mut self, writer: &mut impl Write, f: Fields, bytes: &[u8]) -> io::Result<()> {
+        let v = f.values;
+        match (f.letter, f.count) {
+            (b'n', 6) => self.make(writer, v),
+            (b's', 1) => self.send_chunk(writer, v[0] as usize, bytes),
+            (b'o', 2) => self.handle_timeout(writer, replay_io::low(v[0]), v[1] as usize),
+            (b'a', 0) => self.handle_ack(writer, bytes),
+            (b'p', 1) => self.handle_packet(writer, v[0] as usize, bytes),
+            (b'q', 0) => self.print_ends(writer),
+            (b'd', 0) => {
+                print_store(writer, replay_io::prefix(&self.sent, self.sent_len))?;
+                print_store(writer, replay_io::prefix(&self.held, self.held_len))
+            }
+            (b'i', 4) => {
+                self.sender = set_sender(v, self.sender);
+                Ok(())
+            }
+            (b'j', 5) => {
+                self.receiver = set_receiver(v, self.receiver);
+                Ok(())
+            }
+            (b'k', 2) => {
+                let n = self.sent_len;
+                set_byte(writer, v, replay_io::prefix_mut(&mut self.sent, n))
+            }
+            (b'l', 2) => {
+                let n = self.held_len;
+                set_byte(writer, v, replay_io::prefix_mut(&mut self.held, n))
+            }
+            _ => replay_io::print_bad_line(writer),
+        }
     }
 }
 
-// sent: the sender's store; held: the receiver's.
-fn replay(
-    writer: &mut impl Write,
-    text: &[u8],
-    first: Ends,
-    sent: &mut [u8],
-    held: &mut [u8],
-    output: &mut [u8],
-) -> io::Result<()> {
-    let mut ends = first;
-    for line in Lines::new(text) {
-        ends = case(writer, line, ends, sent, held, output)?;
+impl Ends {
+    fn new() -> Ends {
+        Ends {
+            sender: idle_sender(),
+            receiver: idle_receiver(),
+            sent: [0; 46332],
+            held: [0; 46332],
+            output: [0; 65536],
+            sent_len: 0,
+            held_len: 0,
+            output_len: 0,
+        }
     }
-    Ok(())
+
+    fn make(&mut self, writer: &mut impl Write, v: [u64; 12]) -> io::Result<()> {
+        let (sent, held, output) = (v[3] as usize, v[4] as usize, v[5] as usize);
+        if 2 < v[0]
+            || self.sent.len() < sent
+            || self.held.len() < held
+            || self.output.len() < output
+        {
+            return replay_io::print_bad_line(writer);
+        }
+        self.sent[..sent].fill(0xa5);
+        self.held[..held].fill(0xa5);
+        self.output[..output].fill(0xa5);
+        self.sent_len = sent;
+        self.held_len = held;
+        self.output_len = output;
+        let window = v[1] as usize;
+        let store = &mut self.sent[..sent];
+        let sender = match v[0] {
+            0 => StopAndWaitSender::new(replay_io::low(v[2]), store).map(Sender::StopAndWait),
+            1 => GoBackNSender::new(window, store).map(Sender::GoBackN),
+            _ => SelectiveRepeatSender::new(window, store).map(Sender::SelectiveRepeat),
+        };
+        self.sender = sender.unwrap_or(idle_sender());
+        let store = &mut self.held[..held];
+        let receiver = match v[0] {
+            0 => Ok(idle_receiver()),
+            1 => Ok(Receiver::GoBackN(GoBackNReceiver::new())),
+            _ => SelectiveRepeatReceiver::new(window, store).map(Receiver::SelectiveRepeat),
+        };
+        self.receiver = receiver.unwrap_or(idle_receiver());
+        sender.map(|_| "made").print(writer)?;
+        receiver.map(|_| "made").print(writer)
+    }
+
+    fn send_chunk(
+        &mut self,
+        writer: &mut impl Write,
+        room: usize,
+        payload: &[u8],
+    ) -> io::Result<()> {
+        let mut out = [0xa5u8; 2048];
+        if out.len() < room {
+            return replay_io::print_bad_line(writer);
+        }
+        let n = self.sent_len;
+        let store = replay_io::prefix_mut(&mut self.sent, n);
+        let (sender, answer) = match self.sender {
+            Sender::StopAndWait(s) => {
+                let done = s.send_chunk(store, payload, &mut out[..room]);
+                (Sender::StopAndWait(done.sender), done.answer)
+            }
+            Sender::GoBackN(s) => {
+                let done = s.send_chunk(store, payload, &mut out[..room]);
+                (Sender::GoBackN(done.sender), done.answer)
+            }
+            Sender::SelectiveRepeat(s) => {
+                let done = s.send_chunk(store, payload, &mut out[..room]);
+                (Sender::SelectiveRepeat(done.sender), done.answer)
+            }
+        };
+        self.sender = sender;
+        match answer {
+            Ok(None) => "full".print(writer)?,
+            _ => answer.print(writer)?,
+        }
+        replay_io::print_bytes(writer, &out[..room])?;
+        print_sender(writer, sender)
+    }
+
+    fn handle_timeout(
+        &mut self,
+        writer: &mut impl Write,
+        seq_num: u32,
+        room: usize,
+    ) -> io::Result<()> {
+        let mut out = marked();
+        if out.len() < room {
+            return replay_io::print_bad_line(writer);
+        }
+        let n = self.sent_len;
+        let store = replay_io::prefix_mut(&mut self.sent, n);
+        let (sender, answer) = match self.sender {
+            Sender::StopAndWait(s) => {
+                let done = s.handle_timeout(store, &mut out[..room]);
+                (Sender::StopAndWait(done.sender), done.answer)
+            }
+            Sender::GoBackN(s) => {
+                let done = s.handle_timeout(store, &mut out[..room]);
+                (Sender::GoBackN(done.sender), done.answer)
+            }
+            Sender::SelectiveRepeat(s) => {
+                let done = s.handle_timeout(store, seq_num, &mut out[..room]);
+                (Sender::SelectiveRepeat(done.sender), done.answer)
+            }
+        };
+        self.sender = sender;
+        answer.print(writer)?;
+        replay_io::print_bytes(writer, &out[..room])?;
+        print_sender(writer, sender)
+    }
+
+    fn handle_ack(&mut self, writer: &mut impl Write, raw: &[u8]) -> io::Result<()> {
+        let n = self.sent_len;
+        let store = replay_io::prefix_mut(&mut self.sent, n);
+        let (sender, answer) = match self.sender {
+            Sender::StopAndWait(s) => {
+                let done = s.handle_ack(store, raw);
+                (Sender::StopAndWait(done.sender), done.answer)
+            }
+            Sender::GoBackN(s) => {
+                let done = s.handle_ack(store, raw);
+                (Sender::GoBackN(done.sender), done.answer)
+            }
+            Sender::SelectiveRepeat(s) => {
+                let done = s.handle_ack(store, raw);
+                (Sender::SelectiveRepeat(done.sender), done.answer)
+            }
+        };
+        self.sender = sender;
+        answer
+            .map(|accepted| if accepted { "accepted" } else { "ignored" })
+            .print(writer)?;
+        print_sender(writer, sender)
+    }
+
+    // On a copy of the output, since only one field of a struct behind a reference can be lent as `&mut`.
+    fn handle_packet(
+        &mut self,
+        writer: &mut impl Write,
+        room: usize,
+        raw: &[u8],
+    ) -> io::Result<()> {
+        let mut ack = [0xa5u8; 64];
+        if ack.len() < room {
+            return replay_io::print_bad_line(writer);
+        }
+        let before = self.receiver;
+        let mut all_output = self.output;
+        let output = replay_io::prefix_mut(&mut all_output, self.output_len);
+        let n = self.held_len;
+        let store = replay_io::prefix_mut(&mut self.held, n);
+        let (receiver, answer) = match before {
+            Receiver::StopAndWait(r) => {
+                let done = r.handle_packet(raw, output, &mut ack[..room]);
+                (Receiver::StopAndWait(done.receiver), done.answer)
+            }
+            Receiver::GoBackN(r) => {
+                let done = r.handle_packet(raw, output, &mut ack[..room]);
+                (Receiver::GoBackN(done.receiver), done.answer)
+            }
+            Receiver::SelectiveRepeat(r) => {
+                let done = r.handle_packet(store, raw, output, &mut ack[..room]);
+                (Receiver::SelectiveRepeat(done.receiver), done.answer)
+            }
+        };
+        self.receiver = receiver;
+        self.output = all_output;
+        answer.print(writer)?;
+        replay_io::print_bytes(writer, &ack[..room])?;
+        print_receiver(
+            writer,
+            before,
+            receiver,
+            replay_io::prefix(&self.output, self.output_len),
+        )
+    }
+
+    fn print_ends(&self, writer: &mut impl Write) -> io::Result<()> {
+        match self.sender {
+            Sender::StopAndWait(s) => {
+                s.can_send().print(writer)?;
+                s.is_waiting_for_ack().print(writer)?;
+            }
+            Sender::GoBackN(s) => {
+                s.can_send().print(writer)?;
+                s.in_flight_count().print(writer)?;
+                s.has_unacked_packets().print(writer)?;
+            }
+            Sender::SelectiveRepeat(s) => {
+                s.can_send().print(writer)?;
+                s.in_flight_count(replay_io::prefix(&self.sent, self.sent_len))
+                    .print(writer)?;
+            }
+        }
+        match self.receiver {
+            Receiver::SelectiveRepeat(r) => r
+                .buffered_count(replay_io::prefix(&self.held, self.held_len))
+                .print(writer),
+            _ => Ok(()),
+        }
+    }
+}
+
+// A function for the reason of `replay_io::buffer`.
+fn marked() -> [u8; 46080] {
+    [0xa5u8; 46080]
 }
 
 fn idle_sender() -> Sender {
@@ -120,499 +320,7 @@ fn idle_receiver() -> Receiver {
     Receiver::StopAndWait(StopAndWaitReceiver::new())
 }
 
-fn case(
-    writer: &mut impl Write,
-    line: &[u8],
-    ends: Ends,
-    sent: &mut [u8],
-    held: &mut [u8],
-    output: &mut [u8],
-) -> io::Result<Ends> {
-    let f = replay_io::read_fields(line);
-    if f.letter == b'#' {
-        return Ok(ends);
-    }
-    let mut bytes = [0u8; 2048];
-    let n = replay_io::read_bytes(line, f.bytes_at, &mut bytes);
-    replay_io::print_letter(writer, f.letter)?;
-    let after = sized(writer, f, &bytes[..n], ends, sent, held, output)?;
-    replay_io::print(writer, b"\n")?;
-    Ok(after)
-}
-
-// The call on as much of the memory as the ends have, or are to have.
-fn sized(
-    writer: &mut impl Write,
-    f: Fields,
-    bytes: &[u8],
-    ends: Ends,
-    sent: &mut [u8],
-    held: &mut [u8],
-    output: &mut [u8],
-) -> io::Result<Ends> {
-    let a = replay_io::min(length_for(f, 3, ends.sent), sent.len());
-    let b = replay_io::min(length_for(f, 4, ends.held), held.len());
-    let c = replay_io::min(length_for(f, 5, ends.output), output.len());
-    call(
-        writer,
-        f,
-        bytes,
-        ends,
-        &mut sent[0..a],
-        &mut held[0..b],
-        &mut output[0..c],
-    )
-}
-
-// The number at place i where new ends are made.
-fn length_for(f: Fields, i: usize, before: usize) -> usize {
-    if f.letter == b'n' {
-        return replay_io::value(f, i) as usize;
-    }
-    before
-}
-
-fn call(
-    writer: &mut impl Write,
-    f: Fields,
-    bytes: &[u8],
-    ends: Ends,
-    sent: &mut [u8],
-    held: &mut [u8],
-    output: &mut [u8],
-) -> io::Result<Ends> {
-    if f.letter == b'n' {
-        return new_ends(writer, f, ends, sent, held, output);
-    }
-    if is_receiver_call(f) {
-        let before = ends.receiver;
-        return Ok(with_receiver(ends, receiver_call(writer, f, bytes, before, held, output)?));
-    }
-    if is_read(f) {
-        print_ends(writer, f, ends, sent, held)?;
-        return Ok(ends);
-    }
-    let before = ends.sender;
-    Ok(with_sender(ends, sender_call(writer, f, bytes, before, sent)?))
-}
-
-fn is_receiver_call(f: Fields) -> bool {
-    if f.letter == b'p' {
-        return true;
-    }
-    if f.letter == b'j' {
-        return true;
-    }
-    f.letter == b'l'
-}
-
-fn receiver_call(
-    writer: &mut impl Write,
-    f: Fields,
-    bytes: &[u8],
-    r: Receiver,
-    held: &mut [u8],
-    output: &mut [u8],
-) -> io::Result<Receiver> {
-    if replay_io::is(f, b'p', 1) {
-        return packet_handed(writer, f, bytes, r, held, output);
-    }
-    if replay_io::is(f, b'j', 5) {
-        return Ok(set_receiver(f, r));
-    }
-    if replay_io::is(f, b'l', 2) {
-        set_byte(writer, f, held)?;
-        return Ok(r);
-    }
-    replay_io::print_bad_line(writer)?;
-    Ok(r)
-}
-
-fn with_receiver(ends: Ends, r: Receiver) -> Ends {
-    let s = ends.sender;
-    Ends {
-        sender: s,
-        receiver: r,
-        sent: ends.sent,
-        held: ends.held,
-        output: ends.output,
-    }
-}
-
-fn with_sender(ends: Ends, s: Sender) -> Ends {
-    let r = ends.receiver;
-    Ends {
-        sender: s,
-        receiver: r,
-        sent: ends.sent,
-        held: ends.held,
-        output: ends.output,
-    }
-}
-
-fn new_ends(
-    writer: &mut impl Write,
-    f: Fields,
-    before: Ends,
-    sent: &mut [u8],
-    held: &mut [u8],
-    output: &mut [u8],
-) -> io::Result<Ends> {
-    if are_lengths(f, sent.len(), held.len(), output.len()) {
-        return made_ends(writer, f, sent, held, output);
-    }
-    replay_io::print_bad_line(writer)?;
-    Ok(before)
-}
-
-fn are_lengths(f: Fields, sent: usize, held: usize, output: usize) -> bool {
-    let v = f.values;
-    if replay_io::is(f, b'n', 6) {
-        if v[3] as usize == sent {
-            if v[4] as usize == held {
-                if v[0] < 3 {
-                    return v[5] as usize == output;
-                }
-            }
-        }
-    }
-    false
-}
-
-fn made_ends(
-    writer: &mut impl Write,
-    f: Fields,
-    sent: &mut [u8],
-    held: &mut [u8],
-    output: &mut [u8],
-) -> io::Result<Ends> {
-    let v = f.values;
-    replay_io::fill(sent, 0xa5);
-    replay_io::fill(held, 0xa5);
-    replay_io::fill(output, 0xa5);
-    let s = new_sender(writer, v[0], v[1] as usize, replay_io::low(v[2]), sent)?;
-    let r = new_receiver(writer, v[0], v[1] as usize, held)?;
-    Ok(Ends {
-        sender: s,
-        receiver: r,
-        sent: sent.len(),
-        held: held.len(),
-        output: output.len(),
-    })
-}
-
-fn new_sender(
-    writer: &mut impl Write,
-    protocol: u64,
-    window: usize,
-    retries: u32,
-    store: &mut [u8],
-) -> io::Result<Sender> {
-    if protocol == 0 {
-        return match StopAndWaitSender::new(retries, store) {
-            Ok(s) => made_sender(writer, Sender::StopAndWait(s)),
-            Err(r) => refused_sender(writer, r),
-        };
-    }
-    if protocol == 1 {
-        return match GoBackNSender::new(window, store) {
-            Ok(s) => made_sender(writer, Sender::GoBackN(s)),
-            Err(r) => refused_sender(writer, r),
-        };
-    }
-    match SelectiveRepeatSender::new(window, store) {
-        Ok(s) => made_sender(writer, Sender::SelectiveRepeat(s)),
-        Err(r) => refused_sender(writer, r),
-    }
-}
-
-fn made_sender(writer: &mut impl Write, s: Sender) -> io::Result<Sender> {
-    replay_io::print(writer, b" made")?;
-    Ok(s)
-}
-
-fn refused_sender(writer: &mut impl Write, r: Refusal) -> io::Result<Sender> {
-    replay_io::print_refusal(writer, r)?;
-    Ok(idle_sender())
-}
-
-fn new_receiver(
-    writer: &mut impl Write,
-    protocol: u64,
-    window: usize,
-    store: &mut [u8],
-) -> io::Result<Receiver> {
-    if protocol == 0 {
-        return made_receiver(writer, idle_receiver());
-    }
-    if protocol == 1 {
-        return made_receiver(writer, Receiver::GoBackN(GoBackNReceiver::new()));
-    }
-    match SelectiveRepeatReceiver::new(window, store) {
-        Ok(r) => made_receiver(writer, Receiver::SelectiveRepeat(r)),
-        Err(r) => refused_receiver(writer, r),
-    }
-}
-
-fn made_receiver(writer: &mut impl Write, r: Receiver) -> io::Result<Receiver> {
-    replay_io::print(writer, b" made")?;
-    Ok(r)
-}
-
-fn refused_receiver(writer: &mut impl Write, r: Refusal) -> io::Result<Receiver> {
-    replay_io::print_refusal(writer, r)?;
-    Ok(idle_receiver())
-}
-
-fn sender_call(
-    writer: &mut impl Write,
-    f: Fields,
-    bytes: &[u8],
-    s: Sender,
-    store: &mut [u8],
-) -> io::Result<Sender> {
-    let v = f.values;
-    if replay_io::is(f, b's', 1) {
-        let after = chunk_sent(writer, v[0] as usize, bytes, s, store)?;
-        return printed(writer, after);
-    }
-    if replay_io::is(f, b'o', 2) {
-        let after = timed_out(writer, replay_io::low(v[0]), v[1] as usize, s, store)?;
-        return printed(writer, after);
-    }
-    if replay_io::is(f, b'a', 0) {
-        let after = handle_ack(writer, s, store, bytes)?;
-        return printed(writer, after);
-    }
-    if replay_io::is(f, b'i', 4) {
-        return Ok(set_sender(f, s));
-    }
-    if replay_io::is(f, b'k', 2) {
-        set_byte(writer, f, store)?;
-        return Ok(s);
-    }
-    replay_io::print_bad_line(writer)?;
-    Ok(s)
-}
-
-fn chunk_sent(
-    writer: &mut impl Write,
-    room: usize,
-    payload: &[u8],
-    s: Sender,
-    store: &mut [u8],
-) -> io::Result<Sender> {
-    let mut out = [0xa5u8; 2048];
-    send_within(writer, room, payload, s, store, &mut out)
-}
-
-fn send_within(
-    writer: &mut impl Write,
-    room: usize,
-    payload: &[u8],
-    s: Sender,
-    store: &mut [u8],
-    out: &mut [u8],
-) -> io::Result<Sender> {
-    if out.len() < room {
-        replay_io::print_bad_line(writer)?;
-        return Ok(s);
-    }
-    send_chunk(writer, s, store, payload, &mut out[0..room])
-}
-
-fn send_chunk(
-    writer: &mut impl Write,
-    sender: Sender,
-    store: &mut [u8],
-    payload: &[u8],
-    out: &mut [u8],
-) -> io::Result<Sender> {
-    match sender {
-        Sender::StopAndWait(s) => {
-            let done = s.send_chunk(store, payload, out);
-            let answer = done.answer;
-            print_sent(writer, answer, out)?;
-            let after = done.sender;
-            Ok(Sender::StopAndWait(after))
-        }
-        Sender::GoBackN(s) => {
-            let done = s.send_chunk(store, payload, out);
-            let answer = done.answer;
-            print_sent(writer, answer, out)?;
-            let after = done.sender;
-            Ok(Sender::GoBackN(after))
-        }
-        Sender::SelectiveRepeat(s) => {
-            let done = s.send_chunk(store, payload, out);
-            let answer = done.answer;
-            print_sent(writer, answer, out)?;
-            let after = done.sender;
-            Ok(Sender::SelectiveRepeat(after))
-        }
-    }
-}
-
-fn timed_out(
-    writer: &mut impl Write,
-    n: u32,
-    room: usize,
-    s: Sender,
-    store: &mut [u8],
-) -> io::Result<Sender> {
-    let mut out = marked();
-    timeout_within(writer, n, room, s, store, &mut out)
-}
-
-// A function for the reason of `replay_io::buffer`.
-fn marked() -> [u8; 46080] {
-    [0xa5u8; 46080]
-}
-
-fn timeout_within(
-    writer: &mut impl Write,
-    n: u32,
-    room: usize,
-    s: Sender,
-    store: &mut [u8],
-    out: &mut [u8],
-) -> io::Result<Sender> {
-    if out.len() < room {
-        replay_io::print_bad_line(writer)?;
-        return Ok(s);
-    }
-    handle_timeout(writer, s, store, n, &mut out[0..room])
-}
-
-fn handle_timeout(
-    writer: &mut impl Write,
-    sender: Sender,
-    store: &mut [u8],
-    n: u32,
-    out: &mut [u8],
-) -> io::Result<Sender> {
-    match sender {
-        Sender::StopAndWait(s) => {
-            let done = s.handle_timeout(store, out);
-            let answer = done.answer;
-            print_resent(writer, answer, out)?;
-            let after = done.sender;
-            Ok(Sender::StopAndWait(after))
-        }
-        Sender::GoBackN(s) => {
-            let done = s.handle_timeout(store, out);
-            let answer = done.answer;
-            print_resent(writer, answer, out)?;
-            let after = done.sender;
-            Ok(Sender::GoBackN(after))
-        }
-        Sender::SelectiveRepeat(s) => {
-            let done = s.handle_timeout(store, n, out);
-            let answer = done.answer;
-            print_resent(writer, answer, out)?;
-            let after = done.sender;
-            Ok(Sender::SelectiveRepeat(after))
-        }
-    }
-}
-
-fn handle_ack(
-    writer: &mut impl Write,
-    sender: Sender,
-    store: &mut [u8],
-    raw: &[u8],
-) -> io::Result<Sender> {
-    match sender {
-        Sender::StopAndWait(s) => {
-            let done = s.handle_ack(store, raw);
-            let answer = done.answer;
-            print_acknowledged(writer, answer)?;
-            let after = done.sender;
-            Ok(Sender::StopAndWait(after))
-        }
-        Sender::GoBackN(s) => {
-            let done = s.handle_ack(store, raw);
-            let answer = done.answer;
-            print_acknowledged(writer, answer)?;
-            let after = done.sender;
-            Ok(Sender::GoBackN(after))
-        }
-        Sender::SelectiveRepeat(s) => {
-            let done = s.handle_ack(store, raw);
-            let answer = done.answer;
-            print_acknowledged(writer, answer)?;
-            let after = done.sender;
-            Ok(Sender::SelectiveRepeat(after))
-        }
-    }
-}
-
-fn packet_handed(
-    writer: &mut impl Write,
-    f: Fields,
-    raw: &[u8],
-    r: Receiver,
-    held: &mut [u8],
-    output: &mut [u8],
-) -> io::Result<Receiver> {
-    let v = f.values;
-    let mut ack = [0xa5u8; 64];
-    packet_within(writer, v[0] as usize, raw, r, held, output, &mut ack)
-}
-
-fn packet_within(
-    writer: &mut impl Write,
-    room: usize,
-    raw: &[u8],
-    r: Receiver,
-    held: &mut [u8],
-    output: &mut [u8],
-    ack: &mut [u8],
-) -> io::Result<Receiver> {
-    if ack.len() < room {
-        replay_io::print_bad_line(writer)?;
-        return Ok(r);
-    }
-    let after = handle_packet(writer, r, held, raw, output, &mut ack[0..room])?;
-    print_receiver(writer, r, after, output)?;
-    Ok(after)
-}
-
-fn handle_packet(
-    writer: &mut impl Write,
-    receiver: Receiver,
-    store: &mut [u8],
-    raw: &[u8],
-    output: &mut [u8],
-    ack: &mut [u8],
-) -> io::Result<Receiver> {
-    match receiver {
-        Receiver::StopAndWait(r) => {
-            let done = r.handle_packet(raw, output, ack);
-            let answer = done.answer;
-            print_received(writer, answer, ack)?;
-            let after = done.receiver;
-            Ok(Receiver::StopAndWait(after))
-        }
-        Receiver::GoBackN(r) => {
-            let done = r.handle_packet(raw, output, ack);
-            let answer = done.answer;
-            print_received(writer, answer, ack)?;
-            let after = done.receiver;
-            Ok(Receiver::GoBackN(after))
-        }
-        Receiver::SelectiveRepeat(r) => {
-            let done = r.handle_packet(store, raw, output, ack);
-            let answer = done.answer;
-            print_received(writer, answer, ack)?;
-            let after = done.receiver;
-            Ok(Receiver::SelectiveRepeat(after))
-        }
-    }
-}
-
-fn set_byte(writer: &mut impl Write, f: Fields, store: &mut [u8]) -> io::Result<()> {
-    let v = f.values;
+fn set_byte(writer: &mut impl Write, v: [u64; 12], store: &mut [u8]) -> io::Result<()> {
     let at = v[0] as usize;
     if at < store.len() {
         store[at] = (v[1] % 256) as u8;
@@ -622,41 +330,36 @@ fn set_byte(writer: &mut impl Write, f: Fields, store: &mut [u8]) -> io::Result<
     }
 }
 
-fn set_sender(f: Fields, sender: Sender) -> Sender {
+// Stop-and-Wait is in flight where next is not base.
+fn set_sender(v: [u64; 12], sender: Sender) -> Sender {
     match sender {
-        Sender::StopAndWait(s) => Sender::StopAndWait(set_stop_and_wait(f, s)),
+        Sender::StopAndWait(s) => Sender::StopAndWait(StopAndWaitSender {
+            current_seq: replay_io::low(v[0]),
+            in_flight: v[0] != v[1],
+            total_sent: v[2],
+            retransmissions: v[3],
+            ..s
+        }),
         Sender::GoBackN(s) => Sender::GoBackN(GoBackNSender {
-            window: set_window(f, s.window),
+            window: set_window(v, s.window),
         }),
         Sender::SelectiveRepeat(s) => Sender::SelectiveRepeat(SelectiveRepeatSender {
-            window: set_window(f, s.window),
+            window: set_window(v, s.window),
         }),
     }
 }
 
-// In flight where next is not base.
-fn set_stop_and_wait(f: Fields, s: StopAndWaitSender) -> StopAndWaitSender {
-    let v = f.values;
-    let mut t = s;
-    t.current_seq = replay_io::low(v[0]);
-    t.in_flight = v[0] != v[1];
-    t.total_sent = v[2];
-    t.retransmissions = v[3];
-    t
+fn set_window(v: [u64; 12], w: SendWindow) -> SendWindow {
+    SendWindow {
+        send_base: replay_io::low(v[0]),
+        next_seq_num: replay_io::low(v[1]),
+        total_sent: v[2],
+        retransmissions: v[3],
+        ..w
+    }
 }
 
-fn set_window(f: Fields, w: SendWindow) -> SendWindow {
-    let v = f.values;
-    let mut t = w;
-    t.send_base = replay_io::low(v[0]);
-    t.next_seq_num = replay_io::low(v[1]);
-    t.total_sent = v[2];
-    t.retransmissions = v[3];
-    t
-}
-
-fn set_receiver(f: Fields, receiver: Receiver) -> Receiver {
-    let v = f.values;
+fn set_receiver(v: [u64; 12], receiver: Receiver) -> Receiver {
     match receiver {
         Receiver::StopAndWait(_) => Receiver::StopAndWait(StopAndWaitReceiver {
             expected_seq: replay_io::low(v[0]),
@@ -665,7 +368,13 @@ fn set_receiver(f: Fields, receiver: Receiver) -> Receiver {
             duplicates_count: v[3],
             corrupted_count: v[4],
         }),
-        Receiver::GoBackN(r) => Receiver::GoBackN(set_go_back_n(f, r)),
+        Receiver::GoBackN(_) => Receiver::GoBackN(GoBackNReceiver {
+            expected_seq: replay_io::low(v[0]),
+            filled: v[1] as usize,
+            total_received: v[2],
+            discarded_out_of_order: v[3],
+            duplicate_acks_sent: v[4],
+        }),
         Receiver::SelectiveRepeat(r) => Receiver::SelectiveRepeat(SelectiveRepeatReceiver {
             window_size: r.window_size,
             recv_base: replay_io::low(v[0]),
@@ -677,71 +386,17 @@ fn set_receiver(f: Fields, receiver: Receiver) -> Receiver {
     }
 }
 
-fn set_go_back_n(f: Fields, r: GoBackNReceiver) -> GoBackNReceiver {
-    let v = f.values;
-    let mut t = r;
-    t.expected_seq = replay_io::low(v[0]);
-    t.filled = v[1] as usize;
-    t.total_received = v[2];
-    t.discarded_out_of_order = v[3];
-    t.duplicate_acks_sent = v[4];
-    t
-}
-
-fn print_sent(
-    writer: &mut impl Write,
-    a: Result<Option<usize>, Refusal>,
-    out: &[u8],
-) -> io::Result<()> {
-    match a {
-        Ok(Some(n)) => replay_io::print_number(writer, n as u64)?,
-        Ok(None) => replay_io::print(writer, b" full")?,
-        Err(r) => replay_io::print_refusal(writer, r)?,
-    }
-    replay_io::print_bytes(writer, out)
-}
-
-fn print_resent(
-    writer: &mut impl Write,
-    a: Result<Option<usize>, Refusal>,
-    out: &[u8],
-) -> io::Result<()> {
-    match a {
-        Ok(Some(n)) => replay_io::print_number(writer, n as u64)?,
-        Ok(None) => replay_io::print(writer, b" none")?,
-        Err(r) => replay_io::print_refusal(writer, r)?,
-    }
-    replay_io::print_bytes(writer, out)
-}
-
-fn print_received(
-    writer: &mut impl Write,
-    a: Result<Option<u32>, Refusal>,
-    ack: &[u8],
-) -> io::Result<()> {
-    match a {
-        Ok(Some(n)) => replay_io::print_number(writer, n as u64)?,
-        Ok(None) => replay_io::print(writer, b" none")?,
-        Err(r) => replay_io::print_refusal(writer, r)?,
-    }
-    replay_io::print_bytes(writer, ack)
-}
-
-fn print_acknowledged(writer: &mut impl Write, a: Result<bool, Refusal>) -> io::Result<()> {
-    match a {
-        Ok(true) => replay_io::print(writer, b" accepted"),
-        Ok(false) => replay_io::print(writer, b" ignored"),
-        Err(r) => replay_io::print_refusal(writer, r),
-    }
-}
-
-fn printed(writer: &mut impl Write, sender: Sender) -> io::Result<Sender> {
-    match sender {
-        Sender::StopAndWait(s) => print_window(writer, window_of(s), s.current_retries)?,
-        Sender::GoBackN(s) => print_window(writer, s.window, 0)?,
-        Sender::SelectiveRepeat(s) => print_window(writer, s.window, 0)?,
-    }
-    Ok(sender)
+fn print_sender(writer: &mut impl Write, sender: Sender) -> io::Result<()> {
+    let (w, retries) = match sender {
+        Sender::StopAndWait(s) => (window_of(s), s.current_retries),
+        Sender::GoBackN(s) => (s.window, 0),
+        Sender::SelectiveRepeat(s) => (s.window, 0),
+    };
+    w.send_base.print(writer)?;
+    w.next_seq_num.print(writer)?;
+    w.total_sent.print(writer)?;
+    w.retransmissions.print(writer)?;
+    retries.print(writer)
 }
 
 fn window_of(s: StopAndWaitSender) -> SendWindow {
@@ -759,168 +414,67 @@ fn window_of(s: StopAndWaitSender) -> SendWindow {
     }
 }
 
-fn print_window(writer: &mut impl Write, w: SendWindow, retries: u32) -> io::Result<()> {
-    replay_io::print_number(writer, w.send_base as u64)?;
-    replay_io::print_number(writer, w.next_seq_num as u64)?;
-    replay_io::print_number(writer, w.total_sent)?;
-    replay_io::print_number(writer, w.retransmissions)?;
-    replay_io::print_number(writer, retries as u64)
-}
-
 fn print_receiver(
     writer: &mut impl Write,
     before: Receiver,
     receiver: Receiver,
     output: &[u8],
 ) -> io::Result<()> {
-    let from = filled_of(before);
-    match receiver {
-        Receiver::StopAndWait(r) => {
-            print_marks(writer, r.expected_seq, r.filled)?;
-            print_counts(
-                writer,
-                r.total_received,
-                r.duplicates_count,
-                r.corrupted_count,
-            )?;
-        }
-        Receiver::GoBackN(r) => {
-            print_marks(writer, r.expected_seq, r.filled)?;
-            print_counts(
-                writer,
-                r.total_received,
-                r.discarded_out_of_order,
-                r.duplicate_acks_sent,
-            )?;
-        }
-        Receiver::SelectiveRepeat(r) => {
-            print_marks(writer, r.recv_base, r.filled)?;
-            print_counts(
-                writer,
-                r.total_received,
-                r.buffered_out_of_order,
-                r.duplicates_count,
-            )?;
-        }
-    }
-    replay_io::print_bytes(writer, replay_io::part(output, from, filled_of(receiver)))?;
+    marks_of(receiver).print(writer)?;
+    let [_, from, ..] = marks_of(before);
+    let [_, to, ..] = marks_of(receiver);
+    replay_io::print_bytes(writer, replay_io::part(output, from as usize, to as usize))?;
     replay_io::print_crc32(writer, output)
 }
 
-fn filled_of(receiver: Receiver) -> usize {
+// The base, the fill mark and the counters.
+fn marks_of(receiver: Receiver) -> [u64; 5] {
     match receiver {
-        Receiver::StopAndWait(r) => r.filled,
-        Receiver::GoBackN(r) => r.filled,
-        Receiver::SelectiveRepeat(r) => r.filled,
+        Receiver::StopAndWait(r) => [
+            r.expected_seq as u64,
+            r.filled as u64,
+            r.total_received,
+            r.duplicates_count,
+            r.corrupted_count,
+        ],
+        Receiver::GoBackN(r) => [
+            r.expected_seq as u64,
+            r.filled as u64,
+            r.total_received,
+            r.discarded_out_of_order,
+            r.duplicate_acks_sent,
+        ],
+        Receiver::SelectiveRepeat(r) => [
+            r.recv_base as u64,
+            r.filled as u64,
+            r.total_received,
+            r.buffered_out_of_order,
+            r.duplicates_count,
+        ],
     }
 }
 
-fn print_marks(writer: &mut impl Write, base: u32, filled: usize) -> io::Result<()> {
-    replay_io::print_number(writer, base as u64)?;
-    replay_io::print_number(writer, filled as u64)
-}
-
-fn print_counts(writer: &mut impl Write, first: u64, second: u64, third: u64) -> io::Result<()> {
-    replay_io::print_number(writer, first)?;
-    replay_io::print_number(writer, second)?;
-    replay_io::print_number(writer, third)
-}
-
-fn is_read(f: Fields) -> bool {
-    if replay_io::is(f, b'q', 0) {
-        return true;
+fn print_store(writer: &mut impl Write, store: &[u8]) -> io::Result<()> {
+    for slot in store.chunks_exact(bounds::SLOT_SIZE) {
+        print_slot(writer, slot)?;
     }
-    replay_io::is(f, b'd', 0)
-}
-
-fn print_ends(
-    writer: &mut impl Write,
-    f: Fields,
-    ends: Ends,
-    sent: &[u8],
-    held: &[u8],
-) -> io::Result<()> {
-    if f.letter == b'd' {
-        print_slots(writer, sent)?;
-        replay_io::print_crc32(writer, sent)?;
-        print_slots(writer, held)?;
-        return replay_io::print_crc32(writer, held);
-    }
-    let s = ends.sender;
-    let r = ends.receiver;
-    print_outstanding(writer, s, sent)?;
-    print_buffered(writer, r, held)
-}
-
-fn print_outstanding(writer: &mut impl Write, sender: Sender, store: &[u8]) -> io::Result<()> {
-    match sender {
-        Sender::StopAndWait(s) => {
-            print_test(writer, s.can_send())?;
-            print_test(writer, s.is_waiting_for_ack())
-        }
-        Sender::GoBackN(s) => {
-            print_test(writer, s.can_send())?;
-            print_count(writer, s.in_flight_count())?;
-            print_test(writer, s.has_unacked_packets())
-        }
-        Sender::SelectiveRepeat(s) => {
-            print_test(writer, s.can_send())?;
-            print_count(writer, s.in_flight_count(store))
-        }
-    }
-}
-
-fn print_buffered(writer: &mut impl Write, receiver: Receiver, store: &[u8]) -> io::Result<()> {
-    match receiver {
-        Receiver::StopAndWait(_) => { Ok(()) }
-        Receiver::GoBackN(_) => { Ok(()) }
-        Receiver::SelectiveRepeat(r) => print_count(writer, r.buffered_count(store)),
-    }
-}
-
-fn print_test(writer: &mut impl Write, a: Result<bool, Refusal>) -> io::Result<()> {
-    match a {
-        Ok(b) => replay_io::print_test(writer, b),
-        Err(r) => replay_io::print_refusal(writer, r),
-    }
-}
-
-fn print_count(writer: &mut impl Write, a: Result<usize, Refusal>) -> io::Result<()> {
-    match a {
-        Ok(n) => replay_io::print_number(writer, n as u64),
-        Err(r) => replay_io::print_refusal(writer, r),
-    }
-}
-
-fn print_slots(writer: &mut impl Write, store: &[u8]) -> io::Result<()> {
-    let slots = store.len() / bounds::SLOT_SIZE;
-    for i in 0..slots {
-        let from = i * bounds::SLOT_SIZE;
-        print_slot(
-            writer,
-            replay_io::part(store, from, from + bounds::SLOT_SIZE),
-        )?;
-    }
-    Ok(())
+    replay_io::print_crc32(writer, store)
 }
 
 // Length, mark and flags, and the payload where the length is in bounds.
 fn print_slot(writer: &mut impl Write, slot: &[u8]) -> io::Result<()> {
     let n = slot_length(slot);
-    if n <= bounds::MAX_PAYLOAD_SIZE {
-        replay_io::print_bytes(writer, replay_io::prefix(slot, 4 + n))
+    let shown = if n <= bounds::MAX_PAYLOAD_SIZE {
+        4 + n
     } else {
-        replay_io::print_bytes(writer, replay_io::prefix(slot, 4))
-    }
+        4
+    };
+    replay_io::print_bytes(writer, replay_io::prefix(slot, shown))
 }
 
 fn slot_length(slot: &[u8]) -> usize {
     if slot.len() < 2 {
         return 0;
     }
-    be16(slot[0], slot[1]) as usize
-}
-
-fn be16(a: u8, b: u8) -> u16 {
-    (a as u16) * 256 + (b as u16)
+    u16::from_be_bytes([slot[0], slot[1]]) as usize
 }

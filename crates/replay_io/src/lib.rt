@@ -34,17 +34,7 @@ struct Number {
     next: usize,
 }
 
-// Whether the line is good, and has this letter and so many numbers.
-pub fn is(f: Fields, letter: u8, count: usize) -> bool {
-    f.good && f.letter == letter && f.count == count
-}
-
-// The number at place i; 0 where there is none.
-pub fn value(f: Fields, i: usize) -> u64 {
-    if i < 12 { f.values[i] } else { 0 }
-}
-
-pub fn read_fields(line: &[u8]) -> Fields {
+fn read_fields(line: &[u8]) -> Fields {
     let mut values = [0u64; 12];
     let mut next: usize = 2;
     let mut good = starts(line);
@@ -123,7 +113,7 @@ fn hexadecimal(digits: &[u8]) -> bool {
 }
 
 // The line's bytes, as many as `out` has room for; answers how many.
-pub fn read_bytes(line: &[u8], at: usize, out: &mut [u8]) -> usize
+fn read_bytes(line: &[u8], at: usize, out: &mut [u8]) -> usize
     ensures { IsPrefixLen result out.new }
 {
     decode(tail(line, at), out)
@@ -159,12 +149,6 @@ fn encode(bytes: &[u8], out: &mut [u8]) -> usize
         out[2 * i + 1] = low_digit(bytes[i]);
     }
     2 * most
-}
-
-pub fn min(a: usize, b: usize) -> usize
-    ensures { (result ≤ a) × (result ≤ b) }
-{
-    a.min(b)
 }
 
 // A hexadecimal digit's value; 0 for any other byte.
@@ -246,9 +230,14 @@ pub fn low(n: u64) -> u32 {
     (n % 4294967296) as u32
 }
 
-// The first n bytes, or all where there are fewer.
-pub fn prefix(bytes: &[u8], n: usize) -> &[u8] {
-    &bytes[..n.min(bytes.len())]
+// The first n of a list, or all where there are fewer.
+pub fn prefix<T>(list: &[T], n: usize) -> &[T] {
+    &list[..n.min(list.len())]
+}
+
+pub fn prefix_mut<T>(list: &mut [T], n: usize) -> &mut [T] {
+    let n = n.min(list.len());
+    &mut list[..n]
 }
 
 // The bytes from `from` to below `to`; none where there are no such.
@@ -258,10 +247,6 @@ pub fn part(bytes: &[u8], from: usize, to: usize) -> &[u8] {
     } else {
         &bytes[..0]
     }
-}
-
-pub fn fill(bytes: &mut [u8], b: u8) {
-    bytes.fill(b);
 }
 
 // CRC-32 (IEEE 802.3, reflected): of "123456789" it is cbf43926.
@@ -318,38 +303,166 @@ pub fn print_if_full(writer: &mut impl Write, text: &[u8], n: usize) -> io::Resu
     Ok(())
 }
 
-pub fn print_letter(writer: &mut impl Write, letter: u8) -> io::Result<()> {
-    print(writer, &[letter])
+// A program that answers lines; it keeps what lasts from one to the next.
+pub trait Replay {
+    // Prints what stands after the letter of a good line with these bytes.
+    fn answer(&mut self, writer: &mut impl Write, f: Fields, bytes: &[u8]) -> io::Result<()>;
+}
+
+// Answers the input's lines, one after the other.
+pub fn answer_lines(
+    program: &mut impl Replay,
+    input: &mut impl Read,
+    writer: &mut impl Write,
+) -> io::Result<()> {
+    let mut text = buffer();
+    let n = read_full(input, &mut text)?;
+    if n == text.len() {
+        print(writer, b"input too long\n")?;
+    }
+    for line in Lines::new(&text[..n]) {
+        answer_line(program, writer, line)?;
+    }
+    Ok(())
+}
+
+fn answer_line(program: &mut impl Replay, writer: &mut impl Write, line: &[u8]) -> io::Result<()> {
+    let f = read_fields(line);
+    if f.letter == b'#' {
+        return Ok(());
+    }
+    print(writer, &[f.letter])?;
+    if f.good {
+        let mut bytes = [0u8; 2048];
+        let n = read_bytes(line, f.bytes_at, &mut bytes);
+        program.answer(writer, f, &bytes[..n])?;
+    } else {
+        print_bad_line(writer)?;
+    }
+    print(writer, b"\n")
 }
 
 pub fn print_bad_line(writer: &mut impl Write) -> io::Result<()> {
     print(writer, b" bad line")
 }
 
-pub fn print_refusal(writer: &mut impl Write, r: Refusal) -> io::Result<()> {
-    print(writer, b" refused")?;
-    print_number(writer, r.number() as u64)?;
-    let values = r.values();
-    if 0 < values.count {
-        print_number(writer, values.first)?;
+// What an answer is made of: a word or a number with a blank before it, or several.
+pub trait Answer: Drop {
+    fn print(self, writer: &mut impl Write) -> io::Result<()>;
+}
+
+impl Answer for u64 {
+    fn print(self, writer: &mut impl Write) -> io::Result<()> {
+        write!(writer, " {self}")
     }
-    if 1 < values.count {
-        print_number(writer, values.second)?;
+}
+
+impl Answer for u32 {
+    fn print(self, writer: &mut impl Write) -> io::Result<()> {
+        write!(writer, " {self}")
+    }
+}
+
+impl Answer for u16 {
+    fn print(self, writer: &mut impl Write) -> io::Result<()> {
+        write!(writer, " {self}")
+    }
+}
+
+impl Answer for u8 {
+    fn print(self, writer: &mut impl Write) -> io::Result<()> {
+        write!(writer, " {self}")
+    }
+}
+
+impl Answer for usize {
+    fn print(self, writer: &mut impl Write) -> io::Result<()> {
+        write!(writer, " {self}")
+    }
+}
+
+// 1 or 0.
+impl Answer for bool {
+    fn print(self, writer: &mut impl Write) -> io::Result<()> {
+        (self as u8).print(writer)
+    }
+}
+
+// The bits of a number from 0 on.
+impl Answer for f64 {
+    fn print(self, writer: &mut impl Write) -> io::Result<()> {
+        (if self >= 0.0 {
+            Some(self.to_bits())
+        } else {
+            None
+        })
+        .print(writer)
+    }
+}
+
+impl Answer for &str {
+    fn print(self, writer: &mut impl Write) -> io::Result<()> {
+        write!(writer, " {self}")
+    }
+}
+
+impl Answer for () {
+    fn print(self, writer: &mut impl Write) -> io::Result<()> {
+        "done".print(writer)
+    }
+}
+
+impl<T: Answer> Answer for Option<T> {
+    fn print(self, writer: &mut impl Write) -> io::Result<()> {
+        match self {
+            Some(x) => x.print(writer),
+            None => "none".print(writer),
+        }
+    }
+}
+
+impl<T: Answer> Answer for Result<T, Refusal> {
+    fn print(self, writer: &mut impl Write) -> io::Result<()> {
+        match self {
+            Ok(x) => x.print(writer),
+            Err(r) => r.print(writer),
+        }
+    }
+}
+
+// `refused`, its number and its values.
+impl Answer for Refusal {
+    fn print(self, writer: &mut impl Write) -> io::Result<()> {
+        "refused".print(writer)?;
+        self.number().print(writer)?;
+        let values = self.values();
+        if 0 < values.count {
+            values.first.print(writer)?;
+        }
+        if 1 < values.count {
+            values.second.print(writer)?;
+        }
+        Ok(())
+    }
+}
+
+impl<const N: usize> Answer for [u64; N] {
+    fn print(self, writer: &mut impl Write) -> io::Result<()> {
+        print_all(writer, &self)
+    }
+}
+
+// What stands in a list, one after the other.
+pub fn print_all<T: Answer + Copy>(writer: &mut impl Write, list: &[T]) -> io::Result<()> {
+    for x in list {
+        (*x).print(writer)?;
     }
     Ok(())
 }
 
-pub fn print_number(writer: &mut impl Write, n: u64) -> io::Result<()> {
-    write!(writer, " {n}")
-}
-
-pub fn print_test(writer: &mut impl Write, b: bool) -> io::Result<()> {
-    print_number(writer, b as u64)
-}
-
 pub fn print_bytes(writer: &mut impl Write, bytes: &[u8]) -> io::Result<()> {
     if 2048 < bytes.len() {
-        print_number(writer, bytes.len() as u64)?;
+        bytes.len().print(writer)?;
         return print_crc32(writer, bytes);
     }
     let mut text = [0u8; 4096];
