@@ -1,5 +1,6 @@
 -- The ends of the three protocols: the definitions that the contracts of their entry points cite.
-use Rattle.std.specs.Prelude.{ℕ, ◌*◌, List, [], ◌++◌, ◌≡◌, Bool, true, false, not, take, drop, replicate, Err, None, Ok, Option, Result, Some}
+use Rattle.std.specs.Prelude.{ℕ, ◌*◌, List, [], ◌++◌, ◌≡◌, Bool, true, false, not, take, drop, replicate, Err, None, Ok}
+use Rattle.std.specs.Prelude.{Option, Result, Some}
 use Rattle.bounds.specs.Bounds.{header_size, slot_size}
 use Rattle.octets.specs.Octets.{Octets}
 use Rattle.window.specs.State.{window_broken, store_short}

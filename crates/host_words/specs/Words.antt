@@ -4,7 +4,8 @@
 -- max_retries, 7 current_retries.
 -- A receiver: 1 window_size, Stop-and-Wait's and Go-Back-N's 1, 2 the number expected or base, 3 the fill mark, 4
 -- total_received, 5 and 6 its other two counters in the source's order.
-use Rattle.std.specs.Prelude.{ℕ, ◌+◌, ◌*◌, ◌≤◌, ◌≡◌, List, [], ◌∷◌, Bool, cond, not, ◌&&◌, length, get_or, set, ltb, eqb, None, Option, Some}
+use Rattle.std.specs.Prelude.{ℕ, ◌+◌, ◌*◌, ◌≤◌, ◌≡◌, List, [], ◌∷◌, Bool, cond, not, ◌&&◌, length, get_or, set, ltb}
+use Rattle.std.specs.Prelude.{eqb, None, Option, Some}
 use Rattle.refusal.specs.Clauses.{any_of}
 use Rattle.protocol.specs.declared.ProtocolType.{ProtocolType}
 use Rattle.protocol.specs.declared.ProtocolType.TheVariants as protocol

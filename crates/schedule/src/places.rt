@@ -1,7 +1,7 @@
 // The places of waiting records: which are doubled, which is the lowest free one, what a place holds.
-ghost use Rattle.std.specs.Prelude.{◌≡◌, true, false, [], ◌++◌, ◌+◌, ◌*◌, ◌≤◌, ◌<◌, length, get_or, take, drop, replicate};
+ghost use Rattle.std.specs.Prelude.{◌≡◌, true, false, ◌++◌, ◌+◌, ◌*◌, ◌≤◌, ◌<◌, length, take, drop, replicate};
 ghost use Rattle.bounds.specs.Bounds.{max_datagram, place_size};
-ghost use Rattle.schedule.specs.Record.{place_of, free_places, lowest_free};
+ghost use Rattle.schedule.specs.Record.{free_places, lowest_free};
 ghost use Rattle.schedule.specs.State.{ZerosFrom};
 ghost use Rattle.schedule.specs.Internal.{block_size, block_at, doubled, outside, first_unset, sum_from, sum_limit};
 ghost use Rattle.schedule.specs.Schedule.{placed, place_bytes};
