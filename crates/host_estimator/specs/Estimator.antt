@@ -87,7 +87,8 @@ reset s d = changing s d (λ e. reset_as s d (reset_backoff e))
 
 -- whether so many timeouts or more came without a sample between them
 abbrev pub exceeded : List ℕ → List Float → ℕ → ℕ
-exceeded s d limit = on_held (held_estimator s d) (λ e. test_answer (has_exceeded_retry_limit e limit)) (refusal_answer State)
+exceeded s d limit = on_held (held_estimator s d) (λ e. test_answer (has_exceeded_retry_limit e limit))
+    (refusal_answer State)
 
 -- the mean of the samples in milliseconds, to the first of out
 pub record MeanExit : Type 0 where

@@ -125,7 +125,8 @@ stop_and_wait_receiver_in s =
     stopAndWaitReceiver.state (get_or s 2 0) (get_or s 3 0) (get_or s 4 0) (get_or s 5 0) (get_or s 6 0)
 
 abbrev pub go_back_nReceiver_in : List ℕ → GoBackNReceiver
-go_back_nReceiver_in s = goBackNReceiver.state (get_or s 2 0) (get_or s 3 0) (get_or s 4 0) (get_or s 5 0) (get_or s 6 0)
+go_back_nReceiver_in s = goBackNReceiver.state (get_or s 2 0) (get_or s 3 0) (get_or s 4 0) (get_or s 5 0)
+    (get_or s 6 0)
 
 abbrev pub selective_repeat_receiver_in : List ℕ → SelectiveRepeatReceiver
 selective_repeat_receiver_in s =

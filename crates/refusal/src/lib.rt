@@ -1,6 +1,6 @@
-// Why a call is turned away, for every layer. A new refusal has six places: its case in `Refusal`, its arms in `number`,
-// `word` and, where it has values, `values`; its line of `entry_of` in specs/Refusal.antt; its place in `order` in
-// specs/Order.antt; its line of `in_order_lem` in proofs/Laws.antt.
+// Why a call is turned away, for every layer. A new refusal has six places: its case in `Refusal`, its arms in
+// `number`, `word` and, where it has values, `values`; its line of `entry_of` in specs/Refusal.antt; its place in
+// `order` in specs/Order.antt; its line of `in_order_lem` in proofs/Laws.antt.
 #![tactic(auto)]
 
 ghost use Rattle.std.specs.Prelude.{◌≡◌};

@@ -35,7 +35,8 @@ record_broken next n front r =
 -- one of these records is such a record, or a place is doubled; `front` stands in front of them
 unfoldable pub broken_from : ℕ → ℕ → List ℕ → List (List ℕ) → Bool
 broken_from next n front [] = false
-broken_from next n front (r ∷ rs) = record_broken next n front r || (place_in (place_of r) rs || broken_from next n r rs)
+broken_from next n front (r ∷ rs) = record_broken next n front r
+    || (place_in (place_of r) rs || broken_from next n r rs)
 
 -- check 9: a count above its slice, or such records
 unfoldable pub state_broken : Schedule → Bool

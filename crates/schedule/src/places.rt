@@ -45,7 +45,8 @@ pub(super) fn lowest_free(s: &[ScheduledRow], count: usize, places: usize) -> us
 
 // Fills a place: the packet, and zeros after it, which are there if the place is `cleared`.
 pub(super) fn fill_place(places: &mut [u8], place: usize, packet: &[u8], cleared: bool)
-    requires place_size_in_bounds { (place * place_size + place_size ≤ length places.old) × (length packet.now ≤ max_datagram) }
+    requires place_size_in_bounds { (place * place_size + place_size ≤ length places.old)
+        × (length packet.now ≤ max_datagram) }
     requires zeros_from { cleared ≡ true → ZerosFrom 0 places.old place }
     ensures { places.new ≡ placed places.old place (place_bytes packet.now) }
 {

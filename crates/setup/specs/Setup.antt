@@ -118,7 +118,8 @@ start_room s = room_missing s.config s.file s.output s.notes s.keys
 
 abbrev pub start_checks : Start → List Check
 start_checks s =
-    check (start_state s) State ∷ check (start_rolls s) Roll ∷ check (start_setup s) Setup ∷ check (start_room s) Full ∷ []
+    check (start_state s) State ∷ check (start_rolls s) Roll ∷ check (start_setup s) Setup
+    ∷ check (start_room s) Full ∷ []
 
 -- ---- what a start asks
 abbrev pub sender_slots : ProtocolType → ℕ → ℕ
