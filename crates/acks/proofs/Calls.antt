@@ -1,6 +1,6 @@
 -- What the calls of an ACK ask, and one law a return.
 use Rattle.std.specs.Prelude.{Err, None, Ok, Option, Result, Some}
-use Prim.Native.Nat.{ℕ, ◌+◌, ◌-◌, ◌≤◌, ◌<◌}
+use Prim.Native.Nat.{ℕ, ◌-◌, ◌≤◌, ◌<◌}
 use native.Mathlib.Omega.{arith}
 use mathlib.Core.Path.{◌≡◌, refl, sym, ap, ◌∙◌}
 use mathlib.Core.Bool.{Bool, true, false, cond}
@@ -21,7 +21,6 @@ use Rattle.clock.specs.Clock.{ClockState, rearm_after_ack, SampleRttExit, sample
 use Rattle.clock.specs.declared.Timing.{Timing}
 use Rattle.session.specs.Sending.{SenderEnd, window_of, oldest_outstanding, handle_ack, ack_answer_of, handle_ack_unchecked}
 use Rattle.session.specs.GoodSender.{SenderUnbroken}
-use Rattle.session.specs.declared.Sender.{Sender}
 use Rattle.session.proofs.Laws.{unbroken_numbers, good_unbroken, ack_of_number, ack_good}
 use Rattle.acks.specs.Acks.{AckState, ack_state, of_type, ack_number, sample_seq, on_accepted, counted, duplicate, is_accepted, by_number, on_ack}
 use Rattle.acks.specs.Good.{CanOnAck}

@@ -2,11 +2,11 @@
 use Prim.Native.Nat.{ℕ, ◌≤◌}
 use native.Mathlib.Omega.{arith}
 use lib.Dec.{lit<, lit≤}
-use mathlib.Core.Path.{◌≡◌, refl}
+use mathlib.Core.Path.{◌≡◌}
 use mathlib.Core.Bool.{true, false}
 use mathlib.Core.List.{List}
 use lib.ListN.{length}
-use Rattle.bounds.specs.Bounds.{count_limit, max_duration}
+use Rattle.bounds.specs.Bounds.{max_duration}
 use Rattle.protocol.specs.declared.ProtocolType.{ProtocolType}
 use Rattle.schedule.proofs.Laws.{new_sound, new_times, new_cleared}
 use Rattle.channel.specs.declared.ChannelConfig.{ChannelConfig}

@@ -2,14 +2,10 @@
 use Prim.Native.Nat.{ℕ, ◌+◌, ◌≤◌}
 use native.Mathlib.Omega.{arith}
 use mathlib.Core.Path.{◌≡◌, refl, sym, ap, ◌∙◌}
-use mathlib.Core.Bool.{true, false}
 use mathlib.Core.List.{List}
 use lib.ListN.{length}
-use Rattle.bounds.specs.Bounds.{max_duration}
 use Rattle.multi_timer.proofs.Laws.{cancel_holds, cancel_times}
-use Rattle.rto.specs.declared.RtoConfig.{RtoConfig}
 use Rattle.notes.specs.Notes.{SegMetas}
-use Rattle.notes.specs.declared.Notes.{Notes}
 use Rattle.notes.proofs.Laws.{sample_notes}
 use Rattle.clock.specs.Clock.{ClockState, timer_of, timers_of, is_outstanding, cancel_number, Accepted, rearm_after_ack, sample_rtt, Held, CanRearm}
 use Rattle.clock.specs.declared.Timing.{Timing}

@@ -1,6 +1,6 @@
 -- What every ACK of a run keeps (`app/transfer.rs`, `on_ack`), and what one asks: 8, 9 and 10 of document 01, "Turned
 -- away", are false of the sender, the estimator and the timers.
-use Rattle.std.specs.Prelude.{ℕ, ◌+◌, ◌≤◌, ◌<◌}
+use Rattle.std.specs.Prelude.{ℕ, ◌≤◌, ◌<◌}
 use Rattle.bounds.specs.Bounds.{count_limit}
 use Rattle.notes.specs.Notes.{Timely, ScheduledBelow}
 use Rattle.clock.specs.Clock.{Held}

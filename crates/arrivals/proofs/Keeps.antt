@@ -1,12 +1,12 @@
 -- What the arrivals of a moment keep of a run.
 use Prim.Native.Nat.{ℕ, ◌+◌, ◌≤◌}
 use native.Mathlib.Omega.{arith}
-use mathlib.Core.Path.{◌≡◌, refl, sym, ap, ◌∙◌, subst}
+use mathlib.Core.Path.{◌≡◌, refl, ap, ◌∙◌}
 use mathlib.Core.Bool.{Bool, true, false, cond}
 use mathlib.Core.List.{List}
 use lib.Ieee.{Float}
 use lib.ListN.{length}
-use Rattle.path.specs.Direction.{Direction, Good}
+use Rattle.path.specs.Direction.{Good}
 use Rattle.path.specs.Path.{is_going}
 use Rattle.path.proofs.Laws.{TakeKeeps}
 use Rattle.notes.specs.declared.Notes.{Notes}
@@ -15,11 +15,9 @@ use Rattle.clock.specs.declared.Timing.{Timing}
 use Rattle.clock.specs.declared.Timing.TheVariants.{PerNumber}
 use Rattle.session.specs.GoodSender.{is_selective}
 use Rattle.session.proofs.Laws.{AckKeepsSender, sender_keeps_same}
-use Rattle.acks.specs.Acks.{AckState}
 use Rattle.acks.specs.Good.{GoodAcks}
 use Rattle.acks.specs.Reverse.{ServeExit, serve_reverse}
 use Rattle.acks.proofs.Laws.{serve_reverse_good, serve_reverse_direction_good, serve_reverse_counts, serve_reverse_keeps, serve_reverse_keeps_direction, serve_reverse_timers}
-use Rattle.receiving.specs.Receiving.{Inbound, serve_forward}
 use Rattle.receiving.specs.Good.{GoodInbound}
 use Rattle.receiving.proofs.Laws.{serve_good, serve_forward_good, serve_keeps_forward, serve_keeps_sizes, serve_counts, serve_timely}
 use Rattle.arrivals.specs.Arrivals.{ArrivalState, ArrivalExit, arrival_exit, reverse_served, acks_of, with_forward, with_reverse, serve_arrivals, CanServeArrivals}

@@ -1,6 +1,7 @@
 -- Document 01, "Links that would ruin a book" (tallies from the history of calls) and `channel/mod.rs`: the counters as
 -- the calls and their rolls give them. The latest call stands first.
-use Rattle.std.specs.Prelude.{ℕ, ◌+◌, Bool, true, false, cond, not, ◌||◌, ◌&&◌, List, [], ◌∷◌, length, ltb, Err, Ok, Result}
+use Rattle.std.specs.Prelude.{ℕ, ◌+◌, Bool, true, false, cond, not, ◌||◌, ◌&&◌, List, [], ◌∷◌, length, ltb, Err, Ok}
+use Rattle.std.specs.Prelude.{Result}
 use Rattle.std.specs.Float.Ieee.{lt}
 use Rattle.bounds.specs.Bounds.{max_datagram}
 use Rattle.channel.specs.Bounds.{config_broken, stats_full, rolls_broken}

@@ -1,6 +1,7 @@
 -- Document 01, `channel/mod.rs` and "Turned away": what making a channel and handing it a packet answer and leave
 -- behind.
-use Rattle.std.specs.Prelude.{ℕ, ◌+◌, ◌≡◌, Bool, true, false, cond, not, ◌&&◌, List, [], ◌∷◌, ◌++◌, length, drop, ltb, Err, Ok, Result}
+use Rattle.std.specs.Prelude.{ℕ, ◌+◌, ◌≡◌, Bool, true, false, cond, not, ◌&&◌, List, [], ◌∷◌, ◌++◌, length, drop, ltb}
+use Rattle.std.specs.Prelude.{Err, Ok, Result}
 use Rattle.bounds.specs.Bounds.{max_datagram}
 use Rattle.refusal.specs.Order.{Check, check, verdict, decide}
 use Rattle.refusal.specs.declared.Refusal.TheVariants.{Setup, State, Counts, Roll, Long, Full}

@@ -1,7 +1,7 @@
 // A file in chunks: the reference's `Chunker`.
 #![tactic(auto)]
 
-ghost use Rattle.std.specs.Prelude.{◌≡◌, ◌≤◌, ◌<◌, List, [], length, get_or};
+ghost use Rattle.std.specs.Prelude.{◌≡◌, ◌≤◌, ◌<◌, [], length, get_or};
 ghost use Rattle.bounds.specs.Bounds.{max_payload};
 ghost use Rattle.chunks.specs.Chunks.{chunks_of};
 

@@ -1,6 +1,7 @@
 -- When a run sends again: the reference's `app/transfer.rs`, `arm_after_submit`, `arm_oldest`, `rearm_after_ack`,
 -- `due`, `next_deadline` and `sample_rtt`; and the edition clock in their place.
-use Rattle.std.specs.Prelude.{ℕ, ◌+◌, ◌-◌, ◌≤◌, ◌≡◌, Bool, true, false, cond, ◌||◌, List, [], ◌∷◌, eqb, length, None, Some, Option}
+use Rattle.std.specs.Prelude.{ℕ, ◌+◌, ◌-◌, ◌≤◌, ◌≡◌, Bool, true, false, cond, ◌||◌, List, [], ◌∷◌, eqb, length, None}
+use Rattle.std.specs.Prelude.{Some, Option}
 use Rattle.bounds.specs.Bounds.{max_duration}
 use Rattle.timer.specs.Timer.{new_timer, deadline_too_late, expired_at, started_at_unchecked, cancelled_unchecked}
 use Rattle.timer.specs.declared.RetransmissionTimer.{RetransmissionTimer}

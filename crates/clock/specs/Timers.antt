@@ -1,5 +1,5 @@
 -- The timers of a run beside its sender: each number that has one is outstanding and not acknowledged.
-use Rattle.std.specs.Prelude.{ℕ, ◌≤◌, ◌<◌, ◌≡◌, true, false, length}
+use Rattle.std.specs.Prelude.{ℕ, ◌≤◌, ◌<◌, ◌≡◌, true, length}
 use Rattle.multi_timer.specs.Map.{lookup, is_some}
 use Rattle.multi_timer.specs.MultiTimer.{used}
 use Rattle.window.specs.declared.SendWindow.{SendWindow}

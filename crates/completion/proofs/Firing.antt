@@ -8,7 +8,6 @@ use lib.Ieee.{Float}
 use Rattle.channel.specs.declared.ChannelConfig.{ChannelConfig}
 use Rattle.path.specs.Direction.{Direction}
 use Rattle.path.specs.Path.{is_going}
-use Rattle.path.specs.declared.Stop.TheVariants as stop
 use Rattle.rto.specs.Rto.{on_timeout_unchecked}
 use Rattle.clock.specs.Clock.{due, cancel_number}
 use Rattle.clock.specs.declared.Timing.{Timing}

@@ -16,7 +16,7 @@ use Rattle.selective_repeat.specs.Receiver as selectiveRepeatReceiver
 use Rattle.refinement.specs.Good.{Good}
 use Rattle.refinement.proofs.Laws.{fresh_good, fresh_receiver_good, stop_and_wait_made, send_good, ack_refused, ack_ignored, ack_taken, timeout_refused, nothing_sent, sent_again_lem}
 use Rattle.delivery.specs.Calls.{Ends}
-use Rattle.delivery.specs.Ends.{ends_of, stop_and_wait_ends, go_back_nEnds, selective_repeat_ends, ends, fresh_ends, Made}
+use Rattle.delivery.specs.Ends.{ends_of, ends, fresh_ends, Made}
 use Rattle.delivery.specs.AnyBytes.{SenderCall, send, timeout, ack, sender_step, sender_after, ReceiverCall, receiver_after, SenderSound, ReceiverSound}
 use Rattle.delivery.proofs.Instances.{SenderCalls}
 use Rattle.delivery.proofs.Demand3.{stop_and_wait_sender_lem, go_back_n_sender, selective_repeat_sender_lem, stop_and_wait_receiver, go_back_n_receiver, selective_repeat_receiver, GoodOf, fresh_mark}

@@ -4,7 +4,7 @@ use mathlib.Core.Path.{◌≡◌, refl, ap, ◌∙◌}
 use mathlib.Core.List.{List, []}
 use mathlib.Core.Bool.{Bool, true, false}
 use native.Mathlib.Omega.{arith}
-use lib.ListN.{length, take}
+use lib.ListN.{length}
 use Rattle.octets.specs.Octets.{Octets}
 use Rattle.octets.specs.Flip.{flip}
 use Rattle.protocol.specs.declared.ProtocolType.{ProtocolType}
@@ -13,7 +13,6 @@ use Rattle.window.specs.Slots as slots
 use Rattle.window.specs.Sending.{SendExit, send_chunk}
 use Rattle.window.specs.Resending.{TimeoutExit}
 use Rattle.window.specs.Acknowledgement.{AckExit}
-use Rattle.receiver.specs.State as receiverState
 use Rattle.receiver.specs.Receive.{ReceiveExit}
 use Rattle.packet.specs.Format.{new_packet}
 use Rattle.packet.specs.declared.PacketType.TheVariants.{Ack}

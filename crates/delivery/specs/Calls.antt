@@ -1,7 +1,8 @@
 -- Document 01, demand 3: lists of calls (a chunk to send, a timeout, a datagram handed to the receiver, an ACK handed
 -- to the sender) over two ends, and what each end made so far. An end is handed only copies of what the other made
 -- before, whole or with one bit flipped.
-use Rattle.std.specs.Prelude.{ℕ, zero, suc, ◌+◌, ◌<◌, ◌≡◌, List, [], ◌∷◌, ◌++◌, Bool, true, false, ◌&&◌, length, get_or, take, drop}
+use Rattle.std.specs.Prelude.{ℕ, zero, suc, ◌+◌, ◌<◌, ◌≡◌, List, [], ◌∷◌, ◌++◌, Bool, true, false, ◌&&◌, length, get_or}
+use Rattle.std.specs.Prelude.{take, drop}
 use Rattle.bounds.specs.Bounds.{header_size}
 use Rattle.octets.specs.Octets.{Octets}
 use Rattle.octets.specs.Flip.{flip}

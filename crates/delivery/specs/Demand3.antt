@@ -1,5 +1,6 @@
 -- Document 01, demand 3: the claim about a list of calls.
-use Rattle.std.specs.Prelude.{ℕ, ◌-◌, ◌≤◌, ◌≡◌, Bool, true, false, cond, not, ◌&&◌, length, get_or, take, drop, ltb, leb}
+use Rattle.std.specs.Prelude.{ℕ, ◌-◌, ◌≤◌, ◌≡◌, Bool, true, false, cond, not, ◌&&◌, length, get_or, take, drop, ltb}
+use Rattle.std.specs.Prelude.{leb}
 use mathlib.Core.List.{List, [], ◌∷◌, ◌++◌, map, flatten}
 use Rattle.protocol.specs.declared.ProtocolType.{ProtocolType}
 use Rattle.protocol.specs.PlainMachine.{PlainState, plain_start, plain_step, plain_run, plain_outstanding, First}

@@ -1,5 +1,6 @@
 -- The ends of the three protocols: the definitions that the contracts of their entry points cite.
-use Rattle.std.specs.Prelude.{ℕ, ◌*◌, List, [], ◌++◌, ◌≡◌, Bool, true, false, not, take, drop, replicate, Err, None, Ok, Option, Result, Some}
+use Rattle.std.specs.Prelude.{ℕ, ◌*◌, List, [], ◌++◌, ◌≡◌, Bool, true, false, not, take, drop, replicate, Err, None, Ok}
+use Rattle.std.specs.Prelude.{Option, Result, Some}
 use Rattle.bounds.specs.Bounds.{header_size, slot_size}
 use Rattle.octets.specs.Octets.{Octets}
 use Rattle.window.specs.State.{window_broken, store_short}
@@ -112,7 +113,8 @@ pub data SingleTimeout : Type 0 where
 
 abbrev pub stop_and_wait_ends : Ends
 stop_and_wait_ends =
-    ends_of {T = SingleTimeout} stop_and_wait.send_chunk (λ v t out. stop_and_wait.handle_timeout v out) stop_and_wait.handle_ack
+    ends_of {T = SingleTimeout} stop_and_wait.send_chunk
+    (λ v t out. stop_and_wait.handle_timeout v out) stop_and_wait.handle_ack
     stopAndWaitReceiver.handle_packet
     (λ v. v.sender.current_seq) (λ r. r.expected_seq) (λ r. r.filled)
 
@@ -133,7 +135,8 @@ go_back_nEnds =
 -- Selective Repeat: a timeout is of a number
 abbrev pub selective_repeat_ends : Ends
 selective_repeat_ends =
-    ends_of (send_chunk true) selective_repeat.handle_timeout selective_repeat.handle_ack selectiveRepeatReceiver.handle_packet
+    ends_of (send_chunk true) selective_repeat.handle_timeout selective_repeat.handle_ack
+    selectiveRepeatReceiver.handle_packet
     (λ v. v.window.send_base) (λ r. r.state.recv_base) (λ r. r.state.filled)
 
 abbrev pub ends : ProtocolType → Ends
@@ -144,7 +147,8 @@ ends SelectiveRepeat = selective_repeat_ends
 -- Fresh ends: what making leaves, of any stores and output; limit is Stop-and-Wait's greatest number of retries.
 abbrev pub fresh_ends : (p : ProtocolType) → ℕ → ℕ → List ℕ → List ℕ → List ℕ → World (ends p)
 fresh_ends StopAndWait w limit sending receiving output =
-    fresh stop_and_wait_ends (stop_and_wait.end_of (stop_and_wait.state 0 false limit 0 0 0) (slots.fresh 1 sending).store)
+    fresh stop_and_wait_ends (stop_and_wait.end_of (stop_and_wait.state 0 false limit 0 0 0)
+    (slots.fresh 1 sending).store)
     (with_output stopAndWaitReceiver.new_receiver output)
 fresh_ends GoBackN w limit sending receiving output =
     fresh go_back_nEnds (slots.fresh w sending) (with_output goBackNReceiver.new_receiver output)

@@ -1,27 +1,23 @@
 -- What the departures of a moment keep while the run goes on.
 use Rattle.std.specs.Prelude.{None, Option, Some}
-use Prim.Native.Nat.{ℕ, ◌*◌, ◌≤◌}
+use Prim.Native.Nat.{ℕ, ◌≤◌}
 use native.Mathlib.Omega.{arith}
-use mathlib.Core.Path.{◌≡◌, refl, sym, ap, ◌∙◌, subst}
+use mathlib.Core.Path.{◌≡◌, refl, sym, ◌∙◌}
 use mathlib.Core.Bool.{Bool, true, false, cond, not, ◌&&◌, true≢false}
 use mathlib.Core.List.{List}
 use lib.Ieee.{Float}
 use lib.ListN.{length}
 use Rattle.chunks.specs.Chunks.{chunks_of}
-use Rattle.path.specs.Rolls.{packet_rolls}
 use Rattle.path.specs.Path.{is_going}
 use Rattle.path.specs.declared.Stop.{Stop}
-use Rattle.path.specs.declared.Stop.TheVariants as stop
 use Rattle.path.proofs.Laws.{RiseAlike, rise_same, rise_then}
 use Rattle.clock.specs.Timers.{GoodTimers}
 use Rattle.clock.specs.declared.Timing.{Timing}
 use Rattle.session.specs.Sending.{window_of}
-use Rattle.submission.specs.Submission.{Outgoing}
 use Rattle.submission.proofs.Laws.{submit_orders}
 use Rattle.sending.specs.Sending.{PumpState, PumpExit, send_one, pump_sends}
-use Rattle.sending.specs.Good.{CanPump}
 use Rattle.sending.proofs.Laws.{pump_keeps, pump_can, pump_sender, pump_same, pump_next, pump_used, pump_counted, pump_timers}
-use Rattle.timeouts.specs.Timeouts.{FireState, FireExit, fire_timers}
+use Rattle.timeouts.specs.Timeouts.{FireState}
 use Rattle.timeouts.specs.Good.{GoodFire}
 use Rattle.timeouts.proofs.Laws.{fire_timers_keeps, fire_timers_timers}
 use Rattle.departures.specs.Departures.{pump_of, pumped, is_going_on, send_due, CanSendDue}

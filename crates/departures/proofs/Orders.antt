@@ -6,7 +6,7 @@ use mathlib.Core.Bool.{true}
 use mathlib.Core.List.{List}
 use lib.Ieee.{Float}
 use Rattle.path.proofs.Laws.{RiseAlike, rise_same, rise_then}
-use Rattle.clock.specs.Clock.{cancel_number, Submission}
+use Rattle.clock.specs.Clock.{cancel_number}
 use Rattle.clock.specs.declared.Timing.{Timing}
 use Rattle.clock.specs.declared.Timing.TheVariants as timing
 use Rattle.session.specs.declared.Timeout.{Timeout}

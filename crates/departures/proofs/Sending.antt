@@ -2,17 +2,14 @@
 use Prim.Native.Nat.{ℕ, ◌+◌, ◌-◌, ◌*◌, ◌^◌, ◌≤◌, ◌<◌}
 use native.Mathlib.Omega.{arith}
 use mathlib.Core.Path.{◌≡◌, refl, sym, ap}
-use mathlib.Core.Bool.{Bool, true, false, cond, not, ◌&&◌, and-eq-true_iff, true≢false}
+use mathlib.Core.Bool.{Bool, true, false, cond, not, and-eq-true_iff, true≢false}
 use mathlib.Core.List.{List}
 use lib.Ieee.{Float}
-use lib.ListN.{length}
 use Rattle.bounds.specs.Bounds.{count_limit, max_chunks}
-use Rattle.chunks.specs.Chunks.{chunks_of}
 use Rattle.path.specs.Rolls.{packet_rolls}
 use Rattle.path.specs.Path.{is_going}
 use Rattle.clock.specs.declared.Timing.{Timing}
 use Rattle.clock.proofs.Laws.{estimator_rto}
-use Rattle.session.specs.Sending.{window_of}
 use Rattle.sending.specs.Sending.{pump_sends}
 use Rattle.sending.specs.Good.{CanPump}
 use Rattle.sending.proofs.Laws.{counted_below}

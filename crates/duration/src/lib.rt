@@ -5,7 +5,8 @@ ghost use Rattle.std.specs.Prelude.{◌≡◌, ◌^◌, ◌<◌, ◌≤◌, T};
 ghost use Rattle.std.specs.Float.Ieee.Nearest.{closest};
 ghost use Rattle.float.proofs.Sticky.{sticky};
 ghost use Rattle.duration.specs.Bounds.{start_late};
-ghost use Rattle.duration.specs.Duration.{as_secs_f64, from_secs_f64, secs_in_bounds, below21, from21, from_secs_checked};
+ghost use Rattle.duration.specs.Duration.{as_secs_f64, from_secs_f64, secs_in_bounds, below21, from21};
+ghost use Rattle.duration.specs.Duration.{from_secs_checked};
 
 use bounds::{MAX_DURATION, MAX_TIME};
 

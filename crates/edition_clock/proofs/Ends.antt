@@ -13,7 +13,6 @@ use Rattle.chunks.specs.Chunks.{chunks_of}
 use Rattle.timer.specs.Timer.{expired_at}
 use Rattle.rto.specs.declared.RtoEstimator.{RtoEstimator}
 use Rattle.path.specs.declared.Stop.{Stop}
-use Rattle.path.specs.declared.Stop.TheVariants as stop
 use Rattle.clock.specs.Clock.{timer_of}
 use Rattle.clock.specs.declared.Timing.{Timing}
 use Rattle.clock.specs.declared.Timing.TheVariants.{Edition}

@@ -1,12 +1,12 @@
 -- Demand 3 of the exports with drains between the calls: a drain of words does what the receiver's own does.
 use Rattle.std.specs.Prelude.{Err, Ok, Option, Result}
-use Prim.Native.Nat.{ℕ, suc, ◌<◌}
+use Prim.Native.Nat.{ℕ, ◌<◌}
 use mathlib.Core.Path.{◌≡◌, refl, sym, ap, ◌∙◌, subst}
-use mathlib.Core.List.{List, []}
+use mathlib.Core.List.{List}
 use mathlib.Core.Bool.{true}
 use native.Mathlib.Omega.{arith}
 use borrow.Author.Tests.{eqb-true}
-use lib.ListN.{length, get_or, take}
+use lib.ListN.{length, take}
 use Rattle.bounds.specs.Bounds.{count_limit}
 use Rattle.protocol.specs.declared.ProtocolType.{ProtocolType}
 use Rattle.protocol.specs.declared.ProtocolType.TheVariants.{StopAndWait, GoBackN, SelectiveRepeat}
@@ -29,7 +29,7 @@ use Rattle.host_drain.proofs.EveryList.{Emptied, drained_claim, start_drains, Co
 use Rattle.host_drain.proofs.Delivered.{drained_end, emptied_is, nothing_present, emptied_good, CountedEnd, packet_counted, later_counted, emptied_counted, counted_done, fresh_counted}
 use Rattle.host_delivery.specs.Host.{HostReceiver, is_done, host_ends, Setup, window_of, made_ends, BothMade}
 use Rattle.host_delivery.specs.Drains.{drain_of, host_draining, made_drainable}
-use Rattle.host_delivery.proofs.Simulation.{ReceiverBy, simulated}
+use Rattle.host_delivery.proofs.Simulation.{simulated}
 use Rattle.host_delivery.proofs.Answers.{done_read, refused_not_done}
 use Rattle.host_delivery.proofs.Receivers.{HoldsReceiver, put_back, put_holds, host_packets, host_output, host_unwritten}
 use Rattle.host_delivery.proofs.Making.{start_of, made, window_fits, made_receiver}

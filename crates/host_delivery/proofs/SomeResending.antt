@@ -1,7 +1,7 @@
 -- After any admissible list of export calls there is a resending by export calls, where there is room for it.
 use Rattle.std.specs.Prelude.{Some}
 use Prim.Native.Nat.{ℕ}
-use mathlib.Core.Path.{◌≡◌, refl, sym, ap, ◌∙◌, subst}
+use mathlib.Core.Path.{◌≡◌, refl, sym, ap, subst}
 use mathlib.Core.List.{List, flatten}
 use native.Mathlib.Omega.{arith}
 use lib.ListN.{length}
@@ -9,7 +9,7 @@ use Rattle.protocol.specs.declared.ProtocolType.{ProtocolType}
 use Rattle.protocol.specs.declared.ProtocolType.TheVariants.{StopAndWait, GoBackN, SelectiveRepeat}
 use Rattle.protocol.specs.PlainMachine.{PlainState, plain_outstanding}
 use Rattle.delivery.specs.Calls.{Call, World, run, Admissible}
-use Rattle.delivery.specs.Demand3.{plain_after, ResendState, resend_start, ResendsAll}
+use Rattle.delivery.specs.Demand3.{plain_after, resend_start, ResendsAll}
 use Rattle.delivery.specs.Ends.{one, all, earliest, ends}
 use Rattle.delivery.specs.Room as room
 use Rattle.tallies.proofs.Laws.{some_resending}
@@ -19,10 +19,9 @@ use Rattle.session.specs.Ends.{sender_of}
 use Rattle.host_words.specs.Words.{held_sender}
 use Rattle.host_delivery.specs.Host.{Setup, host_ends, window_of, made_ends, BothMade}
 use Rattle.host_delivery.specs.Room.{RoomToResend, RetryLeft}
-use Rattle.host_delivery.proofs.Simulation.{calls_as, WorldAs}
 use Rattle.host_delivery.proofs.Resending.{ResendAs, resends_all_as, TimeoutFor, calls_for, calls_are}
 use Rattle.host_delivery.proofs.Making.{start_of, made}
-use Rattle.host_delivery.proofs.Demand3.{simulation, calls_of, made_world, host_run, host_admissible}
+use Rattle.host_delivery.proofs.Demand3.{simulation, calls_of, host_run, host_admissible}
 use Rattle.host_delivery.proofs.NotRefused.{unwritten_all, same_length, same_machine}
 
 -- every timeout of the ends is an export's

@@ -1,7 +1,7 @@
 -- What a drain over words answers, from the equation of the receiver's.
 use Rattle.std.specs.Prelude.{None, Some}
 use Prim.Native.Nat.{ℕ}
-use mathlib.Core.Path.{◌≡◌, refl, ap}
+use mathlib.Core.Path.{◌≡◌, ap}
 use mathlib.Core.List.{List}
 use Rattle.refusal.specs.declared.Refusal.TheVariants.{State}
 use Rattle.session.specs.declared.Receiver.{Receiver}

@@ -1,12 +1,12 @@
 -- Ends that follow the machine do so with drained bytes kept beside the receiver.
 use Prim.Native.Nat.{ℕ}
-use mathlib.Core.Path.{◌≡◌, refl, sym, ap, ◌∙◌}
+use mathlib.Core.Path.{sym, ap, ◌∙◌}
 use mathlib.Core.List.{List, ◌++◌, flatten, append_assoc}
 use Rattle.protocol.specs.declared.ProtocolType.{ProtocolType}
 use Rattle.protocol.specs.Machine.{Segment, SenderState, ReceiverState, receive}
 use Rattle.delivery.specs.Calls.{Done, Ends}
 use Rattle.delivery.proofs.Follow.{SenderKept, ReceiverKept, ChunkSent, SentAgain, PacketTaken, Follow}
-use Rattle.host_drain.specs.Calls.{WithDrained, with_drained, not_draining, drainable}
+use Rattle.host_drain.specs.Calls.{WithDrained, not_draining, drainable}
 
 module _ (p : ProtocolType) (w : ℕ) (E : Ends) (F : Follow p w E) where
   abbrev ReceiverIs : WithDrained E.Receiver → ReceiverState → Type 0

@@ -1,16 +1,16 @@
 -- After a drain an output of window × 1,400 bytes has room for all that one packet delivers.
 use Rattle.std.specs.Prelude.{None, Option, Some}
-use Prim.Native.Nat.{ℕ, zero, suc, ◌+◌, ◌-◌, ◌*◌, ◌%◌, ◌≤◌, ◌<◌}
-use mathlib.Core.Path.{◌≡◌, refl, sym, ap, ◌∙◌}
-use mathlib.Core.Bool.{Bool, true, false, cond, ◌&&◌, ◌||◌}
-use mathlib.Core.List.{List, [], ◌∷◌, ◌++◌}
+use Prim.Native.Nat.{ℕ, zero, suc, ◌+◌, ◌-◌, ◌*◌, ◌%◌, ◌≤◌}
+use mathlib.Core.Path.{◌≡◌, refl}
+use mathlib.Core.Bool.{Bool, true, false, cond, ◌&&◌}
+use mathlib.Core.List.{List}
 use native.Mathlib.Omega.{arith}
 use borrow.Author.Tests.{le-ltb}
-use lib.ListN.{length, take, drop, length-append, length-take, length-drop}
+use lib.ListN.{length, length-append, length-take, length-drop}
 use lib.Dec.{ltb, leb, eqb}
-use Rattle.bounds.specs.Bounds.{header_size, max_payload, slot_size}
-use Rattle.store.specs.Slot.{slot_length, slot_payload, slot_at}
-use Rattle.store.specs.Numbers.{marked_run, payloads_from}
+use Rattle.bounds.specs.Bounds.{header_size, max_payload}
+use Rattle.store.specs.Slot.{slot_payload, slot_at}
+use Rattle.store.specs.Numbers.{payloads_from}
 use Rattle.store.proofs.Laws.{run_within}
 use Rattle.receiver.specs.Receive.{Reception, no_room}
 use Rattle.receiver.specs.Reply.{ack_missing, room_missing}

@@ -2,8 +2,8 @@
 use Rattle.std.specs.Prelude.{Err, None, Ok, Option, Some}
 use Prim.Native.Nat.{ℕ, ◌≤◌, ◌<◌}
 use mathlib.Core.Path.{◌≡◌, refl, sym, ap, subst, ◌∙◌}
-use mathlib.Core.Bool.{Bool, true, false}
-use mathlib.Core.List.{List, [], ◌∷◌}
+use mathlib.Core.Bool.{false}
+use mathlib.Core.List.{List}
 use native.Mathlib.Omega.{arith}
 use borrow.Author.Tests.{ltb-false}
 use lib.ListN.{length}
@@ -16,8 +16,8 @@ use Rattle.session.specs.declared.ReceiverState.{ReceiverState}
 use Rattle.session.specs.declared.ReceiverState.TheVariants as receiverState
 use Rattle.session.specs.Receiving.{receiver_end, filled_in, filled}
 use Rattle.session.specs.GoodReceiver.{broken_in, counts_broken_in}
-use Rattle.host_answer.specs.Answer.{packed, value_in, value_limit, refusal_answer, count_answer, Refusing}
-use Rattle.host_answer.specs.Exit.{WordsExit, words_exit}
+use Rattle.host_answer.specs.Answer.{value_in, value_limit, count_answer, Refusing}
+use Rattle.host_answer.specs.Exit.{WordsExit}
 use Rattle.host_answer.proofs.Laws.{done_not_refusing, refusal_refusing, value_back}
 use Rattle.host_words.specs.Words.{held_receiver, with_receiver}
 use Rattle.host_words.proofs.Words.{receiver_back}

@@ -1,10 +1,12 @@
 -- The calls of the RTO estimator over lent words and doubles: the estimator's own on the one that they hold. 9 where
 -- they hold none; at making 4 the setup out of bounds, 5 too few words or doubles.
-use Rattle.std.specs.Prelude.{ℕ, List, [], ◌∷◌, Bool, cond, not, length, set, ltb, Float, Err, None, Ok, Option, Result, Some}
+use Rattle.std.specs.Prelude.{ℕ, List, [], ◌∷◌, Bool, cond, not, length, set, ltb, Float, Err, None, Ok, Option, Result}
+use Rattle.std.specs.Prelude.{Some}
 use Rattle.refusal.specs.Clauses.{any_of}
 use Rattle.refusal.specs.declared.Refusal.TheVariants.{State, Setup, Full}
 use Rattle.refusal.specs.Order.{check, verdict, decide}
-use Rattle.rto.specs.Rto.{config_in_bounds, fresh, update_rtt, on_timeout, reset_backoff, has_exceeded_retry_limit, mean_rtt_ms}
+use Rattle.rto.specs.Rto.{config_in_bounds, fresh, update_rtt, on_timeout, reset_backoff, has_exceeded_retry_limit}
+use Rattle.rto.specs.Rto.{mean_rtt_ms}
 use Rattle.rto.specs.declared.RtoConfig.{RtoConfig}
 use Rattle.rto.specs.declared.RtoEstimator.{RtoEstimator}
 use Rattle.rto.specs.declared.UpdateResult.{UpdateResult}
@@ -85,7 +87,8 @@ reset s d = changing s d (λ e. reset_as s d (reset_backoff e))
 
 -- whether so many timeouts or more came without a sample between them
 abbrev pub exceeded : List ℕ → List Float → ℕ → ℕ
-exceeded s d limit = on_held (held_estimator s d) (λ e. test_answer (has_exceeded_retry_limit e limit)) (refusal_answer State)
+exceeded s d limit = on_held (held_estimator s d) (λ e. test_answer (has_exceeded_retry_limit e limit))
+    (refusal_answer State)
 
 -- the mean of the samples in milliseconds, to the first of out
 pub record MeanExit : Type 0 where

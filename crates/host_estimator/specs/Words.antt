@@ -4,7 +4,8 @@
 -- sample_count, 14 karn_rejected_count, 15 timeout_count, 16 backoff_count, 17 and 18 min_rtt, 19 and 20 max_rtt, 21
 -- and 22 latest_rtt, 23 max_consecutive_timeouts. A duration that may be unset is 1 and the duration, or 0 and 0.
 -- Doubles: 0 alpha, 1 beta, 2 k, 3 rto_multiplier, 4 sum_rtt_millis.
-use Rattle.std.specs.Prelude.{ℕ, ◌+◌, ◌≤◌, List, [], ◌∷◌, ◌++◌, Bool, false, cond, not, length, get_or, drop, ltb, eqb, Float, None, Option, Some}
+use Rattle.std.specs.Prelude.{ℕ, ◌+◌, ◌≤◌, List, [], ◌∷◌, ◌++◌, Bool, false, cond, not, length, get_or, drop, ltb, eqb}
+use Rattle.std.specs.Prelude.{Float, None, Option, Some}
 use Rattle.std.specs.Float.{nan}
 use Rattle.refusal.specs.Clauses.{any_of}
 use Rattle.rto.specs.declared.RtoConfig.{RtoConfig}

@@ -1,15 +1,13 @@
 -- What a run over words answers, from the equation of `run_transfer`; the stores of an outcome.
 use Rattle.std.specs.Prelude.{Err, Ok, Result}
 use Prim.Native.Nat.{ℕ, ◌≤◌}
-use mathlib.Core.Path.{◌≡◌, refl, sym, ap, ◌∙◌}
-use mathlib.Core.Bool.{Bool, true, false, cond}
-use mathlib.Core.List.{List, [], ◌∷◌}
-use native.Mathlib.Omega.{arith}
+use mathlib.Core.Path.{◌≡◌, refl, ap, ◌∙◌}
+use mathlib.Core.Bool.{true, false, cond}
+use mathlib.Core.List.{List}
 use borrow.Author.Tests.{ltb-false}
 use lib.ListN.{length}
 use lib.Ieee.{Float}
 use lib.Seq.{sets, sets-eq}
-use Rattle.refusal.specs.Clauses.{any_of}
 use Rattle.refusal.proofs.Laws.{none_of}
 use Rattle.refusal.specs.declared.Refusal.{Refusal}
 use Rattle.refusal.specs.declared.Refusal.TheVariants.{Full}
@@ -26,7 +24,7 @@ use Rattle.host_answer.specs.Answer.{packed, refusal_answer}
 use Rattle.host_estimator.specs.Words.{estimator_words, estimator_doubles, with_words, with_doubles, Room}
 use Rattle.host_run.specs.Setup.{setup_numbers, setup_doubles, setup_short, read_setup, Long}
 use Rattle.host_run.specs.Outcome.{outcome_words, course_words, driver_words, sender_words, receiver_words, channel_words, words_of, with_outcome}
-use Rattle.host_run.specs.Run.{Results, results, with_results, results_short, host_run_exit, ended, ended_as, short_answer, run_with, run_read, run}
+use Rattle.host_run.specs.Run.{Results, results, results_short, host_run_exit, ended, ended_as, short_answer, run_with, run_read, run}
 
 pub long : (s : List ℕ) (d : List Float) → setup_short s d ≡ false → Long s d
 unfolding setup_short

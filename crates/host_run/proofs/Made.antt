@@ -1,30 +1,29 @@
 -- A run for a host is done exactly where it can run, and then it is the run of `run_transfer`; where only the places of
 -- the outcome are too short it is a 5.
 use Rattle.std.specs.Prelude.{Err, Ok, Result}
-use Prim.Native.Nat.{ℕ, ◌≤◌}
-use mathlib.Core.Path.{◌≡◌, refl, sym, ap, ◌∙◌, subst}
+use Prim.Native.Nat.{ℕ}
+use mathlib.Core.Path.{◌≡◌, refl, ap, ◌∙◌}
 use mathlib.Core.Bool.{Bool, true, false, cond}
-use mathlib.Core.List.{List, [], ◌∷◌}
+use mathlib.Core.List.{List}
 use native.Mathlib.Omega.{arith}
 use lib.Ieee.{Float}
 use Rattle.refusal.specs.declared.Refusal.{Refusal}
 use Rattle.refusal.specs.declared.Refusal.TheVariants.{Full}
-use Rattle.refusal.specs.Order.{verdict, decide}
+use Rattle.refusal.specs.Order.{verdict}
 use Rattle.refusal.proofs.Laws.{on_accepted, either_answer}
 use Rattle.setup.specs.Setup.{CanStart, start_checks}
 use Rattle.setup.proofs.Laws.{start_accepts}
 use Rattle.setup.specs.declared.TransferConfig.{TransferConfig}
 use Rattle.step.specs.State.{Given, Lent}
-use Rattle.transfer.specs.Start.{start_of, plan_for, new_run}
-use Rattle.transfer.specs.Run as transferRun
-use Rattle.transfer.specs.Transfer.{default_ceilings, RunExit, run_exit, outcome_of, run_transfer}
+use Rattle.transfer.specs.Start.{start_of}
+use Rattle.transfer.specs.Transfer.{default_ceilings, RunExit, run_exit, run_transfer}
 use Rattle.transfer.specs.declared.Outcome.{Outcome}
 use Rattle.transfer.proofs.Laws.{accepted_is, outcome_starts}
-use Rattle.host_answer.specs.Answer.{done_status, packed, status_in, refusal_answer, Refusing}
+use Rattle.host_answer.specs.Answer.{done_status, status_in, refusal_answer, Refusing}
 use Rattle.host_answer.proofs.Laws.{status_back, refusal_refusing}
 use Rattle.host_run.specs.Setup.{read_setup}
 use Rattle.host_run.specs.Layout.{SetupAt}
-use Rattle.host_run.specs.Run.{Results, HostRunExit, host_run_exit, results_short, ended, ended_as, short_answer, run_with, run_read, run}
+use Rattle.host_run.specs.Run.{Results, host_run_exit, results_short, ended, ended_as, short_answer, run_with, run_read, run}
 use Rattle.host_run.specs.Made.{CanRun, RunMade, IsDone}
 use Rattle.host_run.proofs.Fields.{setup_held, held_read, outcome_words}
 

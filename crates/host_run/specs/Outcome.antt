@@ -4,11 +4,10 @@
 -- the receiver's 14 base, 15 fill mark, 16 total_received, 17 and 18 its other two counters; of the forward channel 19
 -- packets_seen, 20 lost, 21 corrupted, 22 duplicated, 23 reordered, 24 copies_delivered; 25 to 30 of the reverse one.
 -- The estimator is in words and doubles of its own.
-use Rattle.std.specs.Prelude.{ℕ, List, [], ◌∷◌, ◌++◌, Bool, cond, length, drop}
+use Rattle.std.specs.Prelude.{ℕ, List, [], ◌∷◌, ◌++◌, Bool, cond, drop}
 use Rattle.channel.specs.declared.ChannelStats.{ChannelStats}
 use Rattle.window.specs.declared.SendWindow.{SendWindow}
 use Rattle.session.specs.Sending.{window_in}
-use Rattle.session.specs.declared.SenderState.{SenderState}
 use Rattle.host_words.specs.Words.{receiver_fields}
 use Rattle.host_words.specs.declared.ReceiverFields.{ReceiverFields}
 use Rattle.step.specs.declared.End.{End}

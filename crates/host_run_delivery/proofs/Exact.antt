@@ -1,13 +1,11 @@
 -- Demand 3 of a run for a host.
-use Prim.Native.Nat.{ℕ, ◌+◌, ◌≤◌, ◌<◌}
+use Prim.Native.Nat.{ℕ, ◌+◌, ◌≤◌}
 use native.Mathlib.Omega.{arith}
-use native.Mathlib.Nat.{le_trans}
 use mathlib.Core.Path.{◌≡◌, refl, sym, ap, ◌∙◌, subst}
 use mathlib.Core.Bool.{Bool, true, false, cond}
-use mathlib.Core.List.{List, [], ◌∷◌}
+use mathlib.Core.List.{List}
 use lib.Dec.{eqb}
 use lib.Ieee.{Float}
-use lib.ListN.{length, get_or}
 use Rattle.octets.specs.Octets.{Octets}
 use Rattle.path.specs.Rolls.{Doubles}
 use Rattle.clock.specs.Estimator.{Factors}
@@ -25,7 +23,7 @@ use Rattle.transfer_delivery.specs.Delivered.{file_chunks, events_at, Delivered}
 use Rattle.transfer_delivery.proofs.Laws.{transfer_delivered}
 use Rattle.host_run.specs.Layout.{protocol_number, SetupAt}
 use Rattle.host_run.specs.Run.{Results, HostRunExit, run}
-use Rattle.host_run.specs.Made.{RunMade, IsDone}
+use Rattle.host_run.specs.Made.{RunMade}
 use Rattle.host_run.proofs.Fields.{channel_is}
 use Rattle.host_run.proofs.Made.{run_made, run_else_refused}
 use Rattle.host_run.proofs.Unchanged.{run_refused}

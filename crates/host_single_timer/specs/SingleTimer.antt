@@ -1,13 +1,16 @@
 -- The retransmission timer for a host: its state in lent words, four at least: 0 the version of this layout times 256
 -- and the kind 8, 1 whether a deadline is set, 1 or 0, 2 the deadline, 0 where none is set, 3 the generation.
-use Rattle.std.specs.Prelude.{ℕ, List, [], ◌∷◌, Bool, cond, not, length, get_or, set, ltb, eqb, None, Option, Result, Some}
+use Rattle.std.specs.Prelude.{ℕ, List, [], ◌∷◌, Bool, cond, not, length, get_or, set, ltb, eqb, None, Option, Result}
+use Rattle.std.specs.Prelude.{Some}
 use Rattle.refusal.specs.Clauses.{any_of}
 use Rattle.refusal.specs.declared.Refusal.TheVariants.{State, Full}
 use Rattle.refusal.specs.Order.{check, verdict, decide}
-use Rattle.timer.specs.Timer.{timer, new_timer, started_at, cancelled, is_active, remaining_at, is_expired_at, is_expired_for_at}
+use Rattle.timer.specs.Timer.{timer, new_timer, started_at, cancelled, is_active, remaining_at, is_expired_at}
+use Rattle.timer.specs.Timer.{is_expired_for_at}
 use Rattle.timer.specs.declared.RetransmissionTimer.{RetransmissionTimer}
 use Rattle.timer.specs.declared.TimerResult.{TimerResult}
-use Rattle.host_answer.specs.Answer.{packed, done_status, nothing_status, refusal_answer, test_answer, done_answer, optional_answer}
+use Rattle.host_answer.specs.Answer.{packed, done_status, nothing_status, refusal_answer, test_answer, done_answer}
+use Rattle.host_answer.specs.Answer.{optional_answer}
 use Rattle.host_answer.specs.Exit.{WordsExit, words_exit, broken_words}
 use Rattle.refusal.specs.declared.Refusal.{Refusal}
 

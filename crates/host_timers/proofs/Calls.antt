@@ -17,7 +17,7 @@ use Rattle.refusal.specs.Order.{check, order, or_else, numbered, first_of, verdi
 use Rattle.bounds.specs.Bounds.{max_time, max_duration}
 use Rattle.duration.specs.Bounds.{start_late}
 use Rattle.multi_timer.specs.MultiTimer as multi
-use Rattle.multi_timer.specs.MultiTimer.{TimersExit, timers_exit, answering, new_unchecked, start_timer_at, held_too_late, held_checks, cancel_timer, is_expired_at, PopExit, pop_exit, pop_expired_at, earliest_answer, earliest_deadline, clear_timers}
+use Rattle.multi_timer.specs.MultiTimer.{timers_exit, answering, start_timer_at, held_too_late, held_checks, cancel_timer, is_expired_at, pop_exit, pop_expired_at, earliest_answer, earliest_deadline, clear_timers}
 use Rattle.multi_timer.specs.Map.{deadlines_of, earliest}
 use Rattle.multi_timer.specs.declared.MultiTimer.{MultiTimer}
 use Rattle.multi_timer.specs.declared.StartResult.{StartResult}

@@ -1,6 +1,7 @@
 -- The timer set for a host: its state in lent words, three at least: 0 the version of this layout times 256 and the
 -- kind 7, 1 how many entries are used, 2 the generation; beside them the lent keys and deadlines.
-use Rattle.std.specs.Prelude.{ℕ, List, [], ◌∷◌, Bool, cond, not, length, get_or, set, ltb, eqb, None, Option, Result, Some}
+use Rattle.std.specs.Prelude.{ℕ, List, [], ◌∷◌, Bool, cond, not, length, get_or, set, ltb, eqb, None, Option, Result}
+use Rattle.std.specs.Prelude.{Some}
 use Rattle.refusal.specs.Clauses.{any_of}
 use Rattle.refusal.specs.declared.Refusal.TheVariants.{State, Time, Full}
 use Rattle.refusal.specs.Order.{check, verdict, decide}
@@ -13,7 +14,8 @@ use Rattle.multi_timer.specs.declared.StartResult.{StartResult}
 use Rattle.multi_timer.specs.declared.CancelResult.{CancelResult}
 use Rattle.multi_timer.specs.declared.PopResult.{PopResult}
 use Rattle.multi_timer.specs.declared.ClearResult.{ClearResult}
-use Rattle.host_answer.specs.Answer.{packed, done_status, nothing_status, refusal_answer, test_answer, count_answer, done_answer, optional_answer}
+use Rattle.host_answer.specs.Answer.{packed, done_status, nothing_status, refusal_answer, test_answer, count_answer}
+use Rattle.host_answer.specs.Answer.{done_answer, optional_answer}
 use Rattle.host_answer.specs.Exit.{WordsExit, words_exit, wide, broken_words}
 use Rattle.refusal.specs.declared.Refusal.{Refusal}
 

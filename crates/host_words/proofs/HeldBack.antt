@@ -1,11 +1,11 @@
 -- What is put into words of its kind is what they hold, of every kind; and making writes such words.
 use Prim.Native.Nat.{ℕ, ◌+◌, ◌≤◌, ◌<◌}
-use mathlib.Core.Path.{◌≡◌, refl, sym, ap, ◌∙◌}
+use mathlib.Core.Path.{◌≡◌, refl, ap, ◌∙◌}
 use mathlib.Core.Bool.{Bool, true, false, cond, not, ◌&&◌}
 use mathlib.Core.List.{List, [], ◌∷◌}
 use native.Mathlib.Omega.{arith}
 use borrow.Author.Tests.{le-ltb, eq-eqb, ne_eqb}
-use lib.ListN.{length, get_or, set, length-set}
+use lib.ListN.{length, get_or, length-set}
 use lib.Dec.{ltb, eqb}
 use Rattle.refusal.specs.Clauses.{any_of}
 use Rattle.protocol.specs.declared.ProtocolType.{ProtocolType}
@@ -20,7 +20,6 @@ use Rattle.session.specs.declared.SenderState.{SenderState}
 use Rattle.session.specs.declared.SenderState.TheVariants as senderState
 use Rattle.session.specs.declared.ReceiverState.{ReceiverState}
 use Rattle.session.specs.declared.ReceiverState.TheVariants as receiverState
-use Rattle.host_answer.specs.Exit.{wide}
 use Rattle.host_words.specs.Words.{state_words, sender_word, receiver_word, with_kind, sender_unreadable, not_single, held, held_sender, with_window, with_stop_and_wait, with_sender, receiver_unreadable, held_by, held_receiver, with_fields, receiver_fields, with_receiver}
 
 -- words of a kind, taken apart

@@ -1,13 +1,13 @@
 -- What is known of words that hold an end; and to put back what words hold changes no word.
 use Rattle.std.specs.Prelude.{None, Option, Some}
-use Prim.Native.Nat.{ℕ, ◌+◌, ◌≤◌, ◌<◌}
+use Prim.Native.Nat.{ℕ, ◌+◌, ◌≤◌}
 use mathlib.Core.Path.{◌≡◌, refl, sym, ap, ◌∙◌, subst}
 use mathlib.Core.Bool.{Bool, true, false, cond, not, ◌&&◌}
-use mathlib.Core.List.{List, [], ◌∷◌}
+use mathlib.Core.List.{List}
 use native.Mathlib.Omega.{arith}
 use borrow.Author.Tests.{ltb-false, eqb-true, not-false}
-use lib.ListN.{length, get_or, set, length-set}
-use lib.Dec.{ltb, eqb}
+use lib.ListN.{length, get_or, length-set}
+use lib.Dec.{eqb}
 use lib.Seq.{set-get_or}
 use Rattle.refusal.proofs.Laws.{none_of}
 use Rattle.protocol.specs.declared.ProtocolType.TheVariants as protocol

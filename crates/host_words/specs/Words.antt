@@ -4,7 +4,8 @@
 -- max_retries, 7 current_retries.
 -- A receiver: 1 window_size, Stop-and-Wait's and Go-Back-N's 1, 2 the number expected or base, 3 the fill mark, 4
 -- total_received, 5 and 6 its other two counters in the source's order.
-use Rattle.std.specs.Prelude.{ℕ, ◌+◌, ◌*◌, ◌≤◌, ◌≡◌, List, [], ◌∷◌, Bool, cond, not, ◌&&◌, length, get_or, set, ltb, eqb, None, Option, Some}
+use Rattle.std.specs.Prelude.{ℕ, ◌+◌, ◌*◌, ◌≤◌, ◌≡◌, List, [], ◌∷◌, Bool, cond, not, ◌&&◌, length, get_or, set, ltb}
+use Rattle.std.specs.Prelude.{eqb, None, Option, Some}
 use Rattle.refusal.specs.Clauses.{any_of}
 use Rattle.protocol.specs.declared.ProtocolType.{ProtocolType}
 use Rattle.protocol.specs.declared.ProtocolType.TheVariants as protocol
@@ -124,7 +125,8 @@ stop_and_wait_receiver_in s =
     stopAndWaitReceiver.state (get_or s 2 0) (get_or s 3 0) (get_or s 4 0) (get_or s 5 0) (get_or s 6 0)
 
 abbrev pub go_back_nReceiver_in : List ℕ → GoBackNReceiver
-go_back_nReceiver_in s = goBackNReceiver.state (get_or s 2 0) (get_or s 3 0) (get_or s 4 0) (get_or s 5 0) (get_or s 6 0)
+go_back_nReceiver_in s = goBackNReceiver.state (get_or s 2 0) (get_or s 3 0) (get_or s 4 0) (get_or s 5 0)
+    (get_or s 6 0)
 
 abbrev pub selective_repeat_receiver_in : List ℕ → SelectiveRepeatReceiver
 selective_repeat_receiver_in s =

@@ -2,7 +2,8 @@
 #![tactic(auto)]
 
 ghost use Rattle.std.specs.Prelude.{◌≡◌, cond, ◌+◌, ◌≤◌, ◌<◌, length, set};
-ghost use Rattle.host_words.specs.Words.{state_words, sender_word, receiver_word, window_in, stop_and_wait_in, with_kind};
+ghost use Rattle.host_words.specs.Words.{state_words, sender_word, receiver_word, window_in, stop_and_wait_in};
+ghost use Rattle.host_words.specs.Words.{with_kind};
 ghost use Rattle.host_words.specs.Words.{sender_unreadable, not_single, held_sender, with_window, with_stop_and_wait};
 ghost use Rattle.host_words.specs.Words.{with_sender, stop_and_wait_receiver_in, go_back_nReceiver_in};
 ghost use Rattle.host_words.specs.Words.{selective_repeat_receiver_in, receiver_unreadable, held_receiver, with_fields};

@@ -2,9 +2,9 @@
 use Prim.Native.Nat.{ℕ, zero, suc, ◌*◌, ◌≤◌}
 use native.Mathlib.Omega.{arith}
 use mathlib.Core.Path.{◌≡◌, refl, ap}
-use mathlib.Core.Bool.{Bool, false, ◌||◌}
+use mathlib.Core.Bool.{false}
 use mathlib.Core.List.{List, [], ◌∷◌}
-use lib.Ieee.{Float, le, lt}
+use lib.Ieee.{le, lt}
 use lib.ListN.{length, replicate, length-replicate}
 use Rattle.bounds.specs.Bounds.{slot_size}
 use Rattle.rtt.specs.Rtt.{zero64}

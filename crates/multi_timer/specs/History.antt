@@ -1,6 +1,7 @@
 -- What the accepted calls of any list say of the timer set. The latest call stands first; calls that only read change
 -- nothing and are left out.
-use Rattle.std.specs.Prelude.{ℕ, suc, ◌+◌, Bool, true, false, cond, not, ◌&&◌, ◌||◌, List, [], ◌∷◌, length, replicate, ◌==◌, nat_le, nat_lt, Err, Ok, Result, Option, None, Some}
+use Rattle.std.specs.Prelude.{ℕ, suc, ◌+◌, Bool, true, false, cond, not, ◌&&◌, ◌||◌, List, [], ◌∷◌, length, replicate}
+use Rattle.std.specs.Prelude.{◌==◌, nat_le, nat_lt, Err, Ok, Result, Option, None, Some}
 use Rattle.bounds.specs.Bounds.{max_time}
 use Rattle.duration.specs.Bounds.{start_late}
 use Rattle.multi_timer.specs.declared.MultiTimer.{MultiTimer}

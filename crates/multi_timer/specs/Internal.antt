@@ -1,5 +1,6 @@
 -- What only contracts below the entry points cite. Where a key stands among ascending keys, or where it would stand.
-use Rattle.std.specs.Prelude.{◌≡◌, ℕ, suc, ◌+◌, ◌-◌, cond, List, [], ◌∷◌, ◌++◌, length, take, drop, replicate, ◌==◌, nat_le, nat_lt, Err, Ok, Option, Result}
+use Rattle.std.specs.Prelude.{◌≡◌, ℕ, suc, ◌+◌, ◌-◌, cond, List, [], ◌∷◌, ◌++◌, length, take, drop, replicate, ◌==◌}
+use Rattle.std.specs.Prelude.{nat_le, nat_lt, Err, Ok, Option, Result}
 use Rattle.multi_timer.specs.Map.{Entry, entries_of, keys_of, deadlines_of, keep, due, due_keys, pending}
 use Rattle.multi_timer.specs.MultiTimer.{next_key}
 

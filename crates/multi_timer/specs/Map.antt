@@ -1,6 +1,7 @@
 -- Document 01, "What the Rust forms turn into", of `MultiTimer`: the reference's `HashMap` of keys and deadlines, as
 -- the list of its entries by ascending key.
-use Rattle.std.specs.Prelude.{◌≡◌, ℕ, suc, ◌≤◌, min, Bool, true, false, cond, not, ◌&&◌, ◌||◌, List, [], ◌∷◌, ◌==◌, nat_le, nat_lt, Option, None, Some}
+use Rattle.std.specs.Prelude.{◌≡◌, ℕ, suc, ◌≤◌, min, Bool, true, false, cond, not, ◌&&◌, ◌||◌, List, [], ◌∷◌, ◌==◌}
+use Rattle.std.specs.Prelude.{nat_le, nat_lt, Option, None, Some}
 
 pub record Entry : Type 0 where
   pub key : ℕ

@@ -1,6 +1,7 @@
 -- Document 01, "What the Rust forms turn into", `timing/timer.rs` and "Turned away", checks 9, 10 and 5; the
 -- reference's MultiTimer.
-use Rattle.std.specs.Prelude.{ℕ, ◌+◌, ◌-◌, ◌%◌, ◌^◌, max, Bool, false, not, ◌&&◌, ◌||◌, List, [], ◌∷◌, ◌++◌, length, take, drop, replicate, ◌==◌, nat_le, nat_lt, Err, None, Ok, Result, Some, Option}
+use Rattle.std.specs.Prelude.{ℕ, ◌+◌, ◌-◌, ◌%◌, ◌^◌, max, Bool, false, not, ◌&&◌, ◌||◌, List, [], ◌∷◌, ◌++◌, length}
+use Rattle.std.specs.Prelude.{take, drop, replicate, ◌==◌, nat_le, nat_lt, Err, None, Ok, Result, Some, Option}
 use Rattle.bounds.specs.Bounds.{max_time}
 use Rattle.duration.specs.Bounds.{start_late}
 use Rattle.refusal.specs.Order.{Check, check, verdict, decide}

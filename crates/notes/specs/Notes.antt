@@ -1,6 +1,7 @@
 -- The reference's `meta: Vec<SegMeta>` and what its driver does with it (`app/transfer.rs`, `submit`,
 -- `mark_ack_scheduled`, `is_premature`, `arm_oldest`, `sample_rtt`), in lent rows.
-use Rattle.std.specs.Prelude.{ℕ, zero, suc, ◌+◌, ◌-◌, ◌≤◌, ◌<◌, min, max, ◌≡◌, Bool, not, cond, ◌&&◌, List, [], ◌∷◌, ltb, eqb, length, get_or, set, replicate, None, Option, Some}
+use Rattle.std.specs.Prelude.{ℕ, zero, suc, ◌+◌, ◌-◌, ◌≤◌, ◌<◌, min, max, ◌≡◌, Bool, not, cond, ◌&&◌, List, [], ◌∷◌}
+use Rattle.std.specs.Prelude.{ltb, eqb, length, get_or, set, replicate, None, Option, Some}
 use Rattle.bounds.specs.Bounds.{max_duration}
 use Rattle.rows.specs.Rows.{vacant, is_set}
 use Rattle.notes.specs.SegMeta.{SegMeta, seg_meta, note_row, first_sent, with_sending, with_dropped}

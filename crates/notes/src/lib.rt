@@ -3,7 +3,8 @@
 
 ghost use Rattle.std.specs.Prelude.{◌≡◌, [], ◌≤◌, ◌<◌, length, get_or, set};
 ghost use Rattle.bounds.specs.Bounds.{max_duration};
-ghost use Rattle.notes.specs.Notes.{seg_metas, new_notes, sent, sent_again, set_dropped, mark_ack_scheduled, marked_row};
+ghost use Rattle.notes.specs.Notes.{seg_metas, new_notes, sent, sent_again, set_dropped, mark_ack_scheduled};
+ghost use Rattle.notes.specs.Notes.{marked_row};
 ghost use Rattle.notes.specs.Notes.{marked_below, marked_to, AllMarked, ScheduledBelow, is_premature, rto_at_send};
 ghost use Rattle.notes.specs.Notes.{expiry, sample_exit, take_sample, Timely};
 ghost use Rattle.notes.specs.SegMeta.{note_row, seg_meta, with_sending, with_dropped, with_ack_scheduled};

@@ -1,7 +1,7 @@
 // Octets in lent memory: copies, zeros, sums, and big-endian numbers.
 #![tactic(auto)]
 
-ghost use Rattle.std.specs.Prelude.{◌≡◌, ◌+◌, ◌*◌, ◌≤◌, length, replicate};
+ghost use Rattle.std.specs.Prelude.{◌≡◌, ◌+◌, ◌*◌, length, replicate};
 ghost use Rattle.octets.specs.Fold.{fold_bytes};
 
 // Copies src over all of dst.

@@ -1,6 +1,7 @@
 -- Document 01, `app/transfer.rs` (`process`, `schedule_at`, `fold_bytes`, `pop_ready_at`, `next_deadline`) and "Turned
 -- away", the ends of a run: what each call on one direction of the line answers and leaves behind.
-use Rattle.std.specs.Prelude.{ℕ, ◌+◌, ◌≤◌, ◌<◌, ◌≡◌, Bool, true, false, cond, not, List, [], length, take, replicate, ltb, eqb, Float, Err, None, Ok, Option, Result, Some}
+use Rattle.std.specs.Prelude.{ℕ, ◌+◌, ◌≤◌, ◌<◌, ◌≡◌, Bool, true, false, cond, not, List, [], length, take, replicate}
+use Rattle.std.specs.Prelude.{ltb, eqb, Float, Err, None, Ok, Option, Result, Some}
 use Rattle.bounds.specs.Bounds.{max_datagram, max_duration}
 use Rattle.octets.specs.Fold.{fold_bytes}
 use Rattle.schedule.specs.State.{Schedule, state_broken, copies, lacks_room, Cleared}

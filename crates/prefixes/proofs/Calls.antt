@@ -1,7 +1,7 @@
 -- The sender's calls of a run are not refused: a chunk that can be sent, a timeout, a valid ACK.
 use Rattle.std.specs.Prelude.{Ok}
-use Prim.Native.Nat.{ℕ, zero, suc, ◌+◌, ◌*◌, ◌≤◌, ◌<◌, min}
-use mathlib.Core.Path.{◌≡◌, refl, sym, ap, subst, ◌∙◌}
+use Prim.Native.Nat.{ℕ, zero, suc, ◌*◌, ◌≤◌, min}
+use mathlib.Core.Path.{◌≡◌, refl, sym, ap, ◌∙◌}
 use mathlib.Core.Bool.{Bool, true, false, cond}
 use mathlib.Core.List.{List}
 use native.Mathlib.Omega.{arith}
@@ -13,7 +13,6 @@ use Rattle.packet.specs.declared.PacketType.TheVariants as packetType
 use Rattle.packet.specs.declared.DatagramReading.TheVariants as reading
 use Rattle.window.specs.State.{state_broken, counts_broken, outstanding}
 use Rattle.window.specs.Slots as slots
-use Rattle.window.specs.Sending as window
 use Rattle.window.specs.Sending.{SendExit}
 use Rattle.window.specs.Acknowledgement.{is_in_window, AckExit}
 use Rattle.window.specs.Resending.{TimeoutExit, resend}
@@ -28,7 +27,7 @@ use Rattle.session.specs.declared.SenderState.TheVariants as senderState
 use Rattle.session.specs.declared.Timeout.{Timeout}
 use Rattle.session.specs.declared.Timeout.TheVariants as timeout
 use Rattle.session.specs.Sending.{SenderEnd, sender_in, window_of, window_end, send_chunk_in, send_chunk, handle_ack, handle_ack_unchecked, ack_answer_of, handle_timeout_in, handle_timeout, timeout_number, ample_buffer}
-use Rattle.session.specs.GoodSender.{is_selective, SenderUnbroken, CanSendChunk, Within}
+use Rattle.session.specs.GoodSender.{SenderUnbroken, CanSendChunk, Within}
 use Rattle.session.proofs.Laws.{send_unchecked, ack_of_number}
 
 -- ---- a chunk

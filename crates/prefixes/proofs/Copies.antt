@@ -1,6 +1,6 @@
 -- Copies of a datagram of a chunk, whole or with one bit flipped anywhere: what reads as valid Data has the chunk's number and a prefix of the chunk.
 use Rattle.std.specs.Prelude.{Err, Ok, Result}
-use Prim.Native.Nat.{ℕ, ◌+◌, ◌≤◌, ◌<◌}
+use Prim.Native.Nat.{ℕ, ◌≤◌, ◌<◌}
 use mathlib.Core.Path.{◌≡◌, refl, sym, ap, subst, ◌∙◌}
 use mathlib.Core.Logic.{◌⊎◌, inl, inr, ⊎_elim}
 use mathlib.Core.Bool.{Bool, true, false, cond}
@@ -20,9 +20,8 @@ use Rattle.packet.specs.declared.DatagramReading.{DatagramReading}
 use Rattle.packet.specs.declared.DatagramReading.TheVariants as datagram
 use Rattle.packet.proofs.Laws.{Prefix, made_flip_length, given_refused, given_packet}
 use Rattle.receiver.specs.Reading.{by_type, reading_of, read_packet}
-use Rattle.receiver.specs.declared.PacketReading.{PacketReading}
 use Rattle.receiver.specs.declared.PacketReading.TheVariants as reading
-use Rattle.refinement.specs.Copies.{DataOf, Flipped, NotValid}
+use Rattle.refinement.specs.Copies.{DataOf, NotValid}
 use Rattle.refinement.proofs.Laws.{data_number, data_payload, data_flipped}
 use Rattle.channel.specs.Faults.{is_corrupted, byte_at, bit_at}
 use Rattle.channel.proofs.Laws.{uncorrupted_is, corrupted_is, corrupted_some, byte_below, bit_below}

@@ -1,14 +1,14 @@
 -- On any rolls no Data that a run hands over is refused: its number is a chunk's, and the output has room for what is delivered, which is no longer than the file.
 use Rattle.std.specs.Prelude.{Err, None, Ok, Option, Result, Some}
 use Prim.Native.Nat.{ℕ, ◌+◌, ◌-◌, ◌≤◌, ◌<◌}
-use mathlib.Core.Path.{◌≡◌, refl, sym, ap, subst, ◌∙◌}
+use mathlib.Core.Path.{◌≡◌, refl, sym, ap, ◌∙◌}
 use mathlib.Core.Bool.{Bool, true, false, cond, ◌&&◌}
-use mathlib.Core.List.{List, [], ◌∷◌, ◌++◌, flatten}
+use mathlib.Core.List.{List, [], ◌++◌, flatten}
 use native.Mathlib.Omega.{arith}
 use borrow.Author.Tests.{lt-leb, le-ltb}
 use lib.Ieee.{Float}
 use lib.Dec.{ltb, leb}
-use lib.ListN.{length, get_or, take, drop, length-append, length-drop}
+use lib.ListN.{length, get_or, take, length-append, length-drop}
 use lib.Seq.{length-take-le}
 use Rattle.bounds.specs.Bounds.{header_size, seq_num_limit, count_limit}
 use Rattle.refusal.proofs.Laws.{any_of_none}
@@ -31,8 +31,6 @@ use Rattle.receiver.specs.Receive.{ReceiveExit, Reception, received_exit, receiv
 use Rattle.receiver.specs.declared.PacketReading.TheVariants as reading
 use Rattle.receiver.specs.declared.Decision.{Decision}
 use Rattle.receiver.proofs.Laws.{receive_unchecked_lem, state_low}
-use Rattle.stop_and_wait.specs.Receiver as stop_and_wait
-use Rattle.go_back_n.specs.Receiver as go_back_n
 use Rattle.selective_repeat.specs.Receiver as selective_repeat
 use Rattle.selective_repeat.specs.declared.SelectiveRepeatReceiver.{SelectiveRepeatReceiver}
 use Rattle.selective_repeat.proofs.Laws.{receiving_sound}
@@ -46,13 +44,13 @@ use Rattle.session.specs.Sending.{SenderEnd}
 use Rattle.session.specs.Receiving.{ReceiverEnd, receiver_in, handle_packet_in, handle_packet, filled}
 use Rattle.session.specs.GoodReceiver.{ReceiverUnbroken}
 use Rattle.session.proofs.Laws.{receiver_unbroken}
-use Rattle.receiving.specs.Receiving.{Inbound, ack_buffer, is_data_type, is_data, handled}
+use Rattle.receiving.specs.Receiving.{Inbound, ack_buffer, is_data, handled}
 use Rattle.receiving.specs.Good.{GoodInbound, CanServeForward}
 use Rattle.receiving.proofs.Laws.{next_taken, can_hand_over}
 use Rattle.completion.proofs.Laws.{Start, chunks_in, end_of}
 use Rattle.prefixes.proofs.Joined.{joined_short}
-use Rattle.prefixes.proofs.Parts.{HonestStep, honest}
-use Rattle.prefixes.proofs.Receiver.{Honest, Parts, by_place, Written, WrittenIn, EndWritten, end_parts}
+use Rattle.prefixes.proofs.Parts.{honest}
+use Rattle.prefixes.proofs.Receiver.{Honest, by_place, Written, WrittenIn, EndWritten, end_parts}
 use Rattle.prefixes.proofs.Copies.{PrefixAt}
 use Rattle.prefixes.proofs.Prefixed.{Prefixed, parts_known, prefixed_fill}
 use Rattle.refusal.specs.declared.Refusal.{Refusal}

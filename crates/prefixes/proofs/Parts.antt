@@ -6,7 +6,7 @@ use mathlib.Core.List.{List, [], ◌∷◌, ◌++◌}
 use Prim.Native.Nat.{ℕ, zero, suc, ◌+◌, ◌-◌, ◌≤◌, ◌<◌}
 use native.Mathlib.Omega.{arith}
 use native.Mathlib.Decide.{ℕ_discrete, dec_lt}
-use lib.ListN.{length, get_or, drop, set, replicate, length-drop, get_or-replicate, get_or-append, get_or-eq_default}
+use lib.ListN.{length, get_or, drop, set, replicate, get_or-append}
 use lib.Seq.{get_or-drop, get_or-set_same, get_or-set_other, get_or-append-add}
 use lib.Dec.{ltb, leb, eqb}
 use borrow.Author.Tests.{leb-true, eqb-true}

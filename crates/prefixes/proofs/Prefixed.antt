@@ -1,14 +1,14 @@
 -- What holds of a run's ends and its forward line on any rolls; each part of a step keeps it, and at the end it says what was written.
 use Rattle.std.specs.Prelude.{Ok, Some, Option, None}
-use Prim.Native.Nat.{ℕ, zero, suc, ◌+◌, ◌≤◌, ◌<◌}
+use Prim.Native.Nat.{ℕ, zero, suc, ◌≤◌, ◌<◌}
 use mathlib.Core.Path.{◌≡◌, refl, sym, ap, ◌∙◌, subst}
 use mathlib.Core.Bool.{Bool, true, false, not, true≢false}
-use mathlib.Core.List.{List, [], ◌∷◌, flatten}
+use mathlib.Core.List.{List, [], flatten}
 use native.Mathlib.Omega.{arith}
 use borrow.Author.Tests.{ltb-false}
 use lib.Dec.{ltb}
 use lib.Ieee.{Float}
-use lib.ListN.{length, get_or, take, replicate}
+use lib.ListN.{length, get_or, replicate}
 use lib.Seq.{length-take-le}
 use Rattle.refusal.proofs.Laws.{none_of}
 use Rattle.protocol.specs.declared.ProtocolType.{ProtocolType}
@@ -16,7 +16,7 @@ use Rattle.protocol.specs.declared.ProtocolType.TheVariants.{StopAndWait, GoBack
 use Rattle.protocol.specs.Machine.{Chunk, ReceiverState}
 use Rattle.chunks.proofs.Laws.{chunks_joined}
 use Rattle.window.specs.State.{window_broken}
-use Rattle.refinement.proofs.Laws.{selective_view, fresh_receiver_follows}
+use Rattle.refinement.proofs.Laws.{fresh_receiver_follows}
 use Rattle.channel.specs.declared.ChannelConfig.{ChannelConfig}
 use Rattle.path.specs.Direction.{Direction}
 use Rattle.path.specs.Path.{new_path, is_going, left_by_take}
@@ -34,7 +34,6 @@ use Rattle.receiving.specs.Good.{CanServeForward}
 use Rattle.receiving.proofs.Laws.{CompletedIs, next_taken, next_exit}
 use Rattle.acks.specs.Acks.{AckState}
 use Rattle.acks.specs.Reverse.{serve_reverse}
-use Rattle.submission.specs.Submission.{Outgoing}
 use Rattle.sending.specs.Sending.{PumpState, pump_sends}
 use Rattle.sending.specs.Good.{CanPump}
 use Rattle.sending.specs.Retransmit.{ceiling_met}

@@ -1,14 +1,14 @@
 -- A session's receiver, handed any datagrams each of which, if it reads as valid Data n, has a payload with P n: the output up to the fill mark is the join of as many parts as its base says, part i with P i.
-use Prim.Native.Nat.{ℕ, zero, suc, ◌+◌, ◌-◌, ◌≤◌, ◌<◌}
-use mathlib.Core.Path.{◌≡◌, refl, sym, ap, subst, ◌∙◌}
-use mathlib.Core.List.{List, [], ◌∷◌, ◌++◌, flatten}
+use Prim.Native.Nat.{ℕ, ◌+◌, ◌-◌, ◌≤◌, ◌<◌}
+use mathlib.Core.Path.{◌≡◌, sym, ap, subst, ◌∙◌}
+use mathlib.Core.List.{List, [], ◌++◌, flatten}
 use native.Mathlib.Omega.{arith}
 use native.Mathlib.Decide.{dec_lt}
-use lib.ListN.{length, get_or, take, drop, replicate, length-append, get_or-append}
+use lib.ListN.{length, get_or, take, drop, length-append, get_or-append}
 use lib.Seq.{get_or-append-add, drop-drop}
 use Rattle.protocol.specs.declared.ProtocolType.{ProtocolType}
 use Rattle.protocol.specs.declared.ProtocolType.TheVariants.{StopAndWait, GoBackN, SelectiveRepeat}
-use Rattle.protocol.specs.Machine.{Chunk, Segment, ReceiverState, Received, receive}
+use Rattle.protocol.specs.Machine.{Chunk, Segment, ReceiverState, receive}
 use Rattle.packet.specs.Reading.{payload_of}
 use Rattle.receiver.specs.Reading.{read_packet}
 use Rattle.receiver.specs.Receive.{ReceiveExit}

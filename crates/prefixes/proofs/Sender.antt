@@ -1,24 +1,23 @@
 -- A session's sender holds the file's chunks of its outstanding numbers, whatever bytes it is handed as ACKs; every datagram that it makes is Data of the chunk of its number.
-use Prim.Native.Nat.{ℕ, zero, suc, ◌+◌, ◌-◌, ◌≤◌, ◌<◌}
+use Prim.Native.Nat.{ℕ, ◌+◌, ◌-◌, ◌≤◌, ◌<◌}
 use mathlib.Core.Path.{◌≡◌, refl, sym, ap, subst, ◌∙◌}
 use mathlib.Core.Bool.{Bool, true, false, cond}
 use mathlib.Core.List.{List, [], ◌∷◌, ◌++◌}
 use native.Mathlib.Omega.{arith}
 use native.Mathlib.Decide.{dec_lt}
-use lib.ListN.{length, get_or, drop, length-append, length-drop, get_or-append}
+use lib.ListN.{length, get_or, length-append, length-drop, get_or-append}
 use lib.Seq.{get_or-drop, get_or-append_seam}
 use Rattle.octets.specs.Octets.{Octets}
 use Rattle.protocol.specs.declared.ProtocolType.{ProtocolType}
 use Rattle.protocol.specs.declared.ProtocolType.TheVariants.{StopAndWait, GoBackN, SelectiveRepeat}
-use Rattle.protocol.specs.Machine.{Chunk, Segment, SenderState, next_number, send, segment_at, move_base, mark_acknowledged, is_in_window, accept, acknowledge}
+use Rattle.protocol.specs.Machine.{Chunk, SenderState, next_number, send, move_base, mark_acknowledged, is_in_window, accept, acknowledge}
 use Rattle.packet.specs.Format.{new_packet}
 use Rattle.packet.specs.declared.PacketType.TheVariants.{Data}
 use Rattle.window.specs.Slots as slots
 use Rattle.window.specs.Slots.{first_datagram, datagram_for}
 use Rattle.window.specs.Sending as window
-use Rattle.window.specs.Sending.{SendExit}
 use Rattle.window.specs.Acknowledgement.{AckExit}
-use Rattle.window.specs.Resending.{TimeoutExit, resend_outstanding}
+use Rattle.window.specs.Resending.{TimeoutExit}
 use Rattle.stop_and_wait.specs.Sender as stop_and_wait
 use Rattle.refinement.specs.Follows.{sender_of}
 use Rattle.refinement.specs.Good.{Good}
@@ -29,7 +28,7 @@ use Rattle.session.specs.declared.SenderState.TheVariants as senderState
 use Rattle.session.specs.declared.Timeout.{Timeout}
 use Rattle.session.specs.declared.Timeout.TheVariants as timeout
 use Rattle.session.specs.Sending.{SenderEnd, sender_in, window_of, window_end, new_sender, send_chunk_in, send_chunk, handle_ack_in, handle_ack, timeout_number, handle_timeout_in, handle_timeout, ample_buffer, resent}
-use Rattle.session.specs.GoodSender.{is_selective, sender_broken, CanSendChunk, Within}
+use Rattle.session.specs.GoodSender.{is_selective, sender_broken, CanSendChunk}
 use Rattle.session.proofs.Laws.{ack_keeps_sender, SameWindow}
 use Rattle.completion.specs.Delivered.{sent_to}
 use Rattle.prefixes.proofs.Copies.{ChunkData}

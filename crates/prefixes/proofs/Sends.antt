@@ -1,7 +1,7 @@
 -- The sending side: every datagram that is submitted is Data of the chunk of its number, so what waits on the forward line are copies of such.
 use Rattle.std.specs.Prelude.{Option, None}
-use Prim.Native.Nat.{ℕ, zero, suc, ◌+◌, ◌-◌, ◌≤◌, ◌<◌}
-use mathlib.Core.Path.{◌≡◌, refl, sym, ap, ◌∙◌, subst}
+use Prim.Native.Nat.{ℕ, zero, suc, ◌+◌, ◌-◌, ◌<◌}
+use mathlib.Core.Path.{◌≡◌, refl, sym, ◌∙◌, subst}
 use mathlib.Core.Bool.{Bool, true, false, cond}
 use mathlib.Core.List.{List, [], ◌∷◌}
 use native.Mathlib.Omega.{arith}
@@ -13,7 +13,6 @@ use Rattle.chunks.specs.Chunks.{chunks_of}
 use Rattle.chunks.proofs.Laws.{chunk_octets}
 use Rattle.path.specs.Direction.{Direction}
 use Rattle.path.specs.Path.{is_going}
-use Rattle.path.specs.declared.Stop.TheVariants as stop
 use Rattle.path.proofs.Laws.{EachWaiting}
 use Rattle.rto.specs.Rto.{on_timeout_unchecked}
 use Rattle.clock.specs.Clock.{Submission, due, cancel_number}
@@ -21,11 +20,11 @@ use Rattle.clock.specs.declared.Timing.{Timing}
 use Rattle.clock.specs.declared.Timing.TheVariants.{PerNumber}
 use Rattle.clock.specs.declared.Due.{Due}
 use Rattle.clock.specs.declared.Due.TheVariants as ran
-use Rattle.window.specs.Slots.{first_datagram, datagram_for}
-use Rattle.session.specs.Sending.{SenderEnd, window_of, window_end, send_chunk, has_outstanding, oldest_outstanding, resent}
+use Rattle.window.specs.Slots.{datagram_for}
+use Rattle.session.specs.Sending.{SenderEnd, window_end, has_outstanding, oldest_outstanding, resent}
 use Rattle.session.specs.declared.Timeout.{Timeout}
 use Rattle.session.specs.declared.Timeout.TheVariants as timeout
-use Rattle.session.proofs.Laws.{datagram_short, ResentAs}
+use Rattle.session.proofs.Laws.{datagram_short}
 use Rattle.submission.specs.Submission.{Outgoing, entry_free, submit, CanSubmit}
 use Rattle.submission.proofs.Laws.{can_carry, submit_forward}
 use Rattle.sending.specs.Sending.{PumpState, PumpExit, can_pump, next_number, send_one, pump_sends}
@@ -37,7 +36,7 @@ use Rattle.timeouts.specs.Timeouts.{FireState, fire_state, fire_exit, with_resen
 use Rattle.completion.specs.Delivered.{sent_to}
 use Rattle.completion.proofs.Laws.{CanTimeOut}
 use Rattle.prefixes.proofs.Receiver.{Honest}
-use Rattle.prefixes.proofs.Copies.{AllHonest, carry_honest, PrefixAt, ChunkData, chunk_honest}
+use Rattle.prefixes.proofs.Copies.{carry_honest, PrefixAt, ChunkData, chunk_honest}
 use Rattle.prefixes.proofs.Sender.{SenderHolds, chunk_held, timeout_held, first_data, outstanding_data}
 
 -- each copy that waits and reads as valid Data has a prefix of the chunk of its number

@@ -1,7 +1,8 @@
 -- J. Kurose, K. Ross, Computer Networking, section 3.4: events and actions of rdt3.0, Go-Back-N and Selective Repeat,
 -- in the book's names. start_timer and stop_timer are left out: the host keeps the timers, and a timeout is an event
 -- like the others.
-use Rattle.std.specs.Prelude.{◌≡◌, ℕ, zero, suc, ◌+◌, ◌-◌, ◌%◌, ◌≤◌, ◌<◌, Bool, true, false, cond, ◌&&◌, List, [], ◌∷◌, map, length, get_or, ltb, leb, eqb, Option, None, Some}
+use Rattle.std.specs.Prelude.{◌≡◌, ℕ, zero, suc, ◌+◌, ◌-◌, ◌%◌, ◌≤◌, ◌<◌, Bool, true, false, cond, ◌&&◌, List, [], ◌∷◌}
+use Rattle.std.specs.Prelude.{map, length, get_or, ltb, leb, eqb, Option, None, Some}
 use Rattle.protocol.specs.Runs.{lead, up_from}
 use Rattle.protocol.specs.Machine.{Chunk, Segment, SenderState, ReceiverState, Received, next_number}
 

@@ -1,6 +1,7 @@
 -- The ends of the three protocols over numbers, marks and chunks: what arq/sw.rs, gbn.rs and sr.rs do on a call that
 -- isn't refused.
-use Rattle.std.specs.Prelude.{ℕ, suc, ◌+◌, ◌-◌, List, [], ◌∷◌, ◌++◌, map, Bool, true, false, cond, ◌&&◌, length, get_or, drop, set, replicate, ltb, leb, eqb, Option, None, Some}
+use Rattle.std.specs.Prelude.{ℕ, suc, ◌+◌, ◌-◌, List, [], ◌∷◌, ◌++◌, map, Bool, true, false, cond, ◌&&◌, length, get_or}
+use Rattle.std.specs.Prelude.{drop, set, replicate, ltb, leb, eqb, Option, None, Some}
 use Rattle.protocol.specs.Runs.{lead, up_from}
 use Rattle.protocol.specs.declared.ProtocolType.{ProtocolType}
 use Rattle.protocol.specs.declared.ProtocolType.TheVariants.{StopAndWait, GoBackN, SelectiveRepeat}

@@ -23,7 +23,6 @@ use Rattle.path.specs.Direction.{Direction, direction}
 use Rattle.path.specs.Path.{CarryExit, carry_exit, left_by_carry, carry, stop_of, CanCarry}
 use Rattle.path.specs.declared.CarryResult.{CarryResult}
 use Rattle.path.specs.declared.Stop.{Stop}
-use Rattle.path.specs.declared.Stop.TheVariants as stop
 use Rattle.session.specs.Receiving.{ReceiverEnd, receiver_end, handle_packet_unchecked, base, is_cumulative, gbn_already_delivered}
 use Rattle.session.specs.GoodReceiver.{ReceiverUnbroken, CanHandlePacket}
 use Rattle.session.specs.declared.Receiver.{Receiver}

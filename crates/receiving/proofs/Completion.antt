@@ -9,7 +9,7 @@ use lib.Ieee.{Float}
 use borrow.Author.Tests.{ltb-true, ltb-false, lt-ltb}
 use Rattle.session.specs.Receiving.{base}
 use Rattle.session.specs.declared.Receiver.{Receiver}
-use Rattle.receiving.specs.Receiving.{Inbound, ForwardExit, new_side, ack_counted, delivered, completed_at, absorb, submit_ack, handled, received, on_forward}
+use Rattle.receiving.specs.Receiving.{Inbound, ForwardExit, new_side, ack_counted, completed_at, absorb, submit_ack, handled, received, on_forward}
 use Rattle.receiving.specs.declared.ReceivingSide.{ReceivingSide}
 use Rattle.receiving.proofs.Kept.{counted, rises, data_received, forward_either}
 

@@ -7,7 +7,6 @@ use mathlib.Core.List.{List}
 use lib.Ieee.{Float}
 use Rattle.path.specs.Direction.{Direction}
 use Rattle.path.specs.Path.{packet_buffer, is_due}
-use Rattle.path.specs.declared.Stop.TheVariants as stop
 use Rattle.path.proofs.NotDue.{not_due_idle}
 use Rattle.receiving.specs.Receiving.{Inbound, serve_forward_exit, serve_forward}
 use Rattle.receiving.proofs.Serving.{serve_idle}

@@ -1,7 +1,5 @@
 -- What a run needs besides of the forward line's loop: on the reverse line the copies that wait and the orders given out rise together, and the times of the notes stay.
-use Prim.Native.Nat.{ℕ, ◌+◌, ◌≤◌}
-use native.Mathlib.Omega.{arith}
-use mathlib.Core.Path.{◌≡◌, refl}
+use Prim.Native.Nat.{ℕ}
 use mathlib.Core.Bool.{true}
 use mathlib.Core.List.{List, []}
 use lib.ListN.{take}

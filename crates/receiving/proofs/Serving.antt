@@ -13,7 +13,6 @@ use Rattle.path.specs.Direction.{Direction, direction}
 use Rattle.path.specs.Path.{is_going, TakeExit, left_by_take, take_ready, remove_first, packet_buffer}
 use Rattle.path.specs.declared.Path.{Path}
 use Rattle.path.specs.declared.Stop.{Stop}
-use Rattle.path.specs.declared.Stop.TheVariants as stop
 use Rattle.path.proofs.Laws.{TakesPlace, take_count, take_leaves, take_cleared, take_not_due, take_place}
 use Rattle.receiving.specs.Receiving.{Inbound, ForwardExit, forward_exit, on_forward, ServeForwardExit, serve_forward_exit, progressed, serve_at_most, serve_forward}
 use Rattle.receiving.specs.Good.{CanOnForward, CanServeForward}

@@ -14,7 +14,6 @@ use Rattle.schedule.specs.State.{state_broken}
 use Rattle.schedule.specs.Waiting.{WaitingCopy, waiting, All, of_none, of_more}
 use Rattle.path.specs.Direction.{Direction, schedule_of, Good}
 use Rattle.path.specs.Path.{is_going, left_by_take, take_ready, packet_buffer, is_taken}
-use Rattle.path.specs.declared.Stop.TheVariants as stop
 use Rattle.path.proofs.Laws.{copy_bytes, EachWaiting, TakesCopy, TakeKeeps, take_keeps_same, take_keeps_then, take_count, by_takes, taken_keeps, take_good, take_each, take_copy}
 use Rattle.receiving.specs.Receiving.{Inbound, ServeForwardExit, serve_forward_exit, progressed, serve_forward}
 use Rattle.receiving.specs.Good.{GoodInbound, CanServeForward}

@@ -1,6 +1,7 @@
 -- app/transfer.rs, the receiving side of a run: `on_forward` with `deliver_data` and `absorb`, and `submit_ack`; the
 -- loop over what is due on the forward line.
-use Rattle.std.specs.Prelude.{ℕ, zero, suc, ◌+◌, ◌-◌, Bool, true, false, cond, ◌||◌, List, replicate, ltb, Float, Err, None, Ok, Option, Result, Some}
+use Rattle.std.specs.Prelude.{ℕ, zero, suc, ◌+◌, ◌-◌, Bool, true, false, cond, ◌||◌, List, replicate, ltb, Float, Err}
+use Rattle.std.specs.Prelude.{None, Ok, Option, Result, Some}
 use Rattle.bounds.specs.Bounds.{header_size}
 use Rattle.packet.specs.Reading.{read_datagram}
 use Rattle.packet.specs.declared.PacketType.{PacketType}

@@ -1,11 +1,10 @@
 -- Document 01, "Turned away": the number, the word and the named values of each refusal.
-use Rattle.std.specs.Prelude.{ℕ, List, [], ◌∷◌, ◌++◌, length, drop, replicate}
+use Rattle.std.specs.Prelude.{ℕ, List, [], ◌∷◌}
 use Prim.Native.Char.{code}
 use Prim.Native.String as text
 use Rattle.refusal.specs.declared.Refusal.{Refusal}
 use Rattle.refusal.specs.declared.Refusal.TheVariants.{Short, Kind, Cut, Setup, Full, Long, Numbers, Counts}
 use Rattle.refusal.specs.declared.Refusal.TheVariants.{State, Time, Roll}
-use Rattle.refusal.specs.declared.Word.{Word}
 use Rattle.refusal.specs.declared.Values.{Values}
 
 -- the codes of a text's characters
@@ -41,10 +40,6 @@ entry_of Counts = entry 8 "counts" []
 entry_of State = entry 9 "state" []
 entry_of Time = entry 10 "time" []
 entry_of Roll = entry 11 "roll" []
-
--- a word with zeros after it
-abbrev pub word_of : List ℕ → Word
-word_of letters = record { len = length letters; bytes = letters ++ drop (length letters) (replicate 16 0) }
 
 -- at most two values, 0 past their count
 abbrev pub values_of : List Value → Values

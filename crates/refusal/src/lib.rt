@@ -1,14 +1,17 @@
-// Why a call is turned away, for every layer: document 01, "Turned away". A new refusal has six places: its case in
-// `Refusal`, its arms in `number`, `word` and, where it has values, `values`; its line of `entry_of` in
-// specs/Refusal.antt; its place in `order` in specs/Order.antt; its line of `in_order_lem` in proofs/Laws.antt.
+// Why a call is turned away, for every layer. A new refusal has six places: its case in `Refusal`, its arms in
+// `number`, `word` and, where it has values, `values`; its line of `entry_of` in specs/Refusal.antt; its place in
+// `order` in specs/Order.antt; its line of `in_order_lem` in proofs/Laws.antt.
 #![tactic(auto)]
 
-ghost use Rattle.std.specs.Prelude.{◌≡◌, ◌≤◌, length};
-ghost use Rattle.refusal.specs.Refusal.{entry_of, word_of, values_of};
+ghost use Rattle.std.specs.Prelude.{◌≡◌};
+ghost use Rattle.refusal.specs.Refusal.{entry_of, values_of};
 ghost use Rattle.refusal.specs.Order.{held_checks, verdict};
 
+use std::error::Error;
+use std::fmt;
+
 // A case for each line of the table, with the values that its line names.
-#[derive(Clone, Copy)]
+#[derive(Clone, Copy, Debug, PartialEq, Eq)]
 pub enum Refusal {
     // The datagram's length.
     Short(usize),
@@ -24,13 +27,6 @@ pub enum Refusal {
     State,
     Time,
     Roll,
-}
-
-// A word of at most 16 letters in ASCII, with zeros after it.
-#[derive(Clone, Copy)]
-pub struct Word {
-    pub len: usize,
-    pub bytes: [u8; 16],
 }
 
 // The values that a line names, in its order; 0 past their count.
@@ -49,10 +45,7 @@ impl Refusal {
         match self {
             Refusal::Short(_) => 1,
             Refusal::Kind(_) => 2,
-            Refusal::Cut {
-                declared: _,
-                present: _,
-            } => 3,
+            Refusal::Cut { .. } => 3,
             Refusal::Setup => 4,
             Refusal::Full => 5,
             Refusal::Long => 6,
@@ -64,24 +57,22 @@ impl Refusal {
         }
     }
 
-    pub fn word(self) -> Word
-        ensures { result ≡ word_of (entry_of self).word }
+    // The word, in letters of ASCII.
+    pub fn word(self) -> &'static str
+        ensures { result.now ≡ (entry_of self).word }
     {
         match self {
-            Refusal::Short(_) => padded(b"short"),
-            Refusal::Kind(_) => padded(b"kind"),
-            Refusal::Cut {
-                declared: _,
-                present: _,
-            } => padded(b"cut"),
-            Refusal::Setup => padded(b"setup"),
-            Refusal::Full => padded(b"full"),
-            Refusal::Long => padded(b"long"),
-            Refusal::Numbers => padded(b"numbers"),
-            Refusal::Counts => padded(b"counts"),
-            Refusal::State => padded(b"state"),
-            Refusal::Time => padded(b"time"),
-            Refusal::Roll => padded(b"roll"),
+            Refusal::Short(_) => "short",
+            Refusal::Kind(_) => "kind",
+            Refusal::Cut { .. } => "cut",
+            Refusal::Setup => "setup",
+            Refusal::Full => "full",
+            Refusal::Long => "long",
+            Refusal::Numbers => "numbers",
+            Refusal::Counts => "counts",
+            Refusal::State => "state",
+            Refusal::Time => "time",
+            Refusal::Roll => "roll",
         }
     }
 
@@ -113,6 +104,14 @@ impl Refusal {
     }
 }
 
+impl fmt::Display for Refusal {
+    fn fmt<W: fmt::Write>(&self, f: &mut fmt::Formatter<W>) -> fmt::Result {
+        f.write_str(self.word())
+    }
+}
+
+impl Error for Refusal {}
+
 // Checks 9 and 8 of what a call holds.
 pub fn held_verdict(state_broken: bool, counts_broken: bool) -> Result<(), Refusal>
     ensures { result ≡ verdict (held_checks state_broken counts_broken) }
@@ -124,16 +123,4 @@ pub fn held_verdict(state_broken: bool, counts_broken: bool) -> Result<(), Refus
         return Err(Refusal::Counts);
     }
     Ok(())
-}
-
-fn padded(letters: &[u8]) -> Word
-    requires { length letters.now ≤ 16 }
-    ensures { result ≡ word_of letters.now }
-{
-    let mut bytes = [0u8; 16];
-    bytes[..letters.len()].copy_from_slice(letters);
-    Word {
-        len: letters.len(),
-        bytes,
-    }
 }

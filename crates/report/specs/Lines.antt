@@ -1,6 +1,7 @@
 -- A text in lines of one width: what fits in columns, the events that have room in the page's, and what is left of a
 -- buffer where the page is written.
-use Rattle.std.specs.Prelude.{ℕ, suc, ◌+◌, ◌*◌, ◌≤◌, ◌≡◌, Bool, false, List, [], ◌∷◌, ◌++◌, map, eqb, length, take, drop, Err, Ok, Result}
+use Rattle.std.specs.Prelude.{ℕ, suc, ◌+◌, ◌*◌, ◌≤◌, ◌≡◌, Bool, false, List, [], ◌∷◌, ◌++◌, map, eqb, length, take}
+use Rattle.std.specs.Prelude.{drop, Err, Ok, Result}
 use Rattle.bounds.specs.Bounds.{max_delivery_delay}
 use Rattle.refusal.specs.Clauses.{any_of}
 use Rattle.events.specs.Events.{ForwardEvent}

@@ -1,6 +1,7 @@
 -- Document 01, "Links that would ruin a book": what any list of calls says of the estimator, each of its fields, from
 -- the accepted calls alone. The oldest call stands first.
-use Rattle.std.specs.Prelude.{ℕ, zero, suc, ◌*◌, ◌^◌, min, max, Bool, true, false, cond, ◌||◌, List, [], ◌∷◌, ◌++◌, length, nat_lt, Float, Err, None, Ok, Option, Result, Some}
+use Rattle.std.specs.Prelude.{ℕ, zero, suc, ◌*◌, ◌^◌, min, max, Bool, true, false, cond, ◌||◌, List, [], ◌∷◌, ◌++◌}
+use Rattle.std.specs.Prelude.{length, nat_lt, Float, Err, None, Ok, Option, Result, Some}
 use mathlib.Core.List.{foldr, foldl}
 use Rattle.std.specs.Float.{binary64}
 use Rattle.std.specs.Float.Ieee.{add}

@@ -1,11 +1,13 @@
 -- RFC 6298 and document 01, `timing/rto.rs`, "Bounds of a setup" and "Turned away", checks 9, 8, 10 and 4: the
 -- reference's RtoEstimator.
-use Rattle.std.specs.Prelude.{ℕ, ◌+◌, ◌*◌, min, max, Bool, true, false, cond, not, ◌&&◌, ◌||◌, [], ◌∷◌, pos, ◌==◌, nat_le, nat_lt, Float, Err, None, Ok, Option, Result, Some}
+use Rattle.std.specs.Prelude.{ℕ, ◌+◌, ◌*◌, min, max, Bool, true, false, cond, not, ◌&&◌, ◌||◌, [], ◌∷◌, pos, ◌==◌}
+use Rattle.std.specs.Prelude.{nat_le, nat_lt, Float, Err, None, Ok, Option, Result, Some}
 use Rattle.std.specs.Float.{binary64}
 use Rattle.std.specs.Float.Ieee.{add, div, of_int}
 use Rattle.bounds.specs.Bounds.{max_duration, max_estimate, max_granularity}
 use Rattle.float.specs.Roll.{chance_in_bounds}
-use Rattle.rtt.specs.Rtt.{zero64, one64, eighth64, quarter64, four64, factor_in_bounds, to_ms, first_estimate, next_estimate}
+use Rattle.rtt.specs.Rtt.{zero64, one64, eighth64, quarter64, four64, factor_in_bounds, to_ms, first_estimate}
+use Rattle.rtt.specs.Rtt.{next_estimate}
 use Rattle.rtt.specs.declared.Estimate.{Estimate}
 use Rattle.refusal.specs.Counts.{count_full}
 use Rattle.refusal.specs.Order.{check, verdict, decide}

@@ -12,7 +12,6 @@ use borrow.Author.Tests.{leb-true, leb-false, ltb-true, ltb-false, eqb-true}
 use Rattle.path.specs.Path.{is_going, take_ready, packet_buffer}
 use Rattle.path.specs.Rolls.{Doubles}
 use Rattle.path.specs.declared.Stop.{Stop}
-use Rattle.path.specs.declared.Stop.TheVariants as stop
 use Rattle.rto.specs.Rto.{on_timeout_unchecked}
 use Rattle.clock.specs.Clock.{cancel_number, due}
 use Rattle.clock.specs.Estimator.{Factors}

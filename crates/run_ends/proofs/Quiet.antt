@@ -20,7 +20,6 @@ use Rattle.window.specs.State.{outstanding}
 use Rattle.path.specs.Direction.{Direction, schedule_of}
 use Rattle.path.specs.Path.{is_going, take_ready, packet_buffer}
 use Rattle.path.specs.Path as path
-use Rattle.path.specs.declared.Stop.TheVariants as stop
 use Rattle.clock.specs.Clock.{ClockState, timer_of, single_due, due, as_deadline}
 use Rattle.clock.specs.Clock as clock
 use Rattle.clock.specs.declared.Timing.{Timing}

@@ -14,7 +14,6 @@ use Rattle.channel.specs.declared.ChannelConfig.{ChannelConfig}
 use Rattle.path.specs.Direction.{Direction}
 use Rattle.path.specs.Path.{packet_buffer}
 use Rattle.path.specs.declared.Stop.{Stop}
-use Rattle.path.specs.declared.Stop.TheVariants as stop
 use Rattle.clock.specs.declared.Timing.{Timing}
 use Rattle.acks.specs.Acks.{AckState}
 use Rattle.acks.proofs.Laws.{serve_reverse_invariant}

@@ -15,7 +15,6 @@ use Rattle.multi_timer.specs.Map.{entries_of, keys_of, keep, deadlines_of, earli
 use Rattle.multi_timer.specs.MultiTimer.{new_unchecked}
 use Rattle.path.specs.Direction.{Direction}
 use Rattle.path.specs.Path.{new_path, is_going, deadline_of}
-use Rattle.path.specs.declared.Stop.TheVariants as stop
 use Rattle.clock.specs.Clock.{new_clock, due}
 use Rattle.clock.specs.Clock as clock
 use Rattle.clock.specs.declared.Timing.{Timing}

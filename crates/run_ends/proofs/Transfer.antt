@@ -18,7 +18,6 @@ use Rattle.path.specs.Direction.{Direction, schedule_of}
 use Rattle.path.specs.Path.{new_path}
 use Rattle.path.specs.Path as path
 use Rattle.path.specs.declared.Stop.{Stop}
-use Rattle.path.specs.declared.Stop.TheVariants as stop
 use Rattle.path.proofs.Laws.{granted}
 use Rattle.clock.specs.Estimator.{Factors}
 use Rattle.sending.proofs.Laws.{unused}

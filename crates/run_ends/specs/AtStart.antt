@@ -1,5 +1,5 @@
 -- app/transfer.rs, `run_transfer`: a run that ends before its first packet.
-use Rattle.std.specs.Prelude.{ℕ, ◌≡◌, false}
+use Rattle.std.specs.Prelude.{◌≡◌, false}
 use Rattle.session.specs.Sending.{window_of}
 use Rattle.session.specs.Receiving.{filled}
 use Rattle.setup.specs.declared.TransferConfig.{TransferConfig}

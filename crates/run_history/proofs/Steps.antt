@@ -11,7 +11,6 @@ use Rattle.bounds.specs.Bounds.{seq_num_limit}
 use Rattle.chunks.specs.Chunks.{chunks_of}
 use Rattle.path.specs.Path.{is_going}
 use Rattle.path.specs.declared.Stop.{Stop}
-use Rattle.path.specs.declared.Stop.TheVariants as stop
 use Rattle.protocol.specs.declared.ProtocolType.{ProtocolType}
 use Rattle.path.specs.Direction.{Direction}
 use Rattle.clock.specs.Clock.{due}

@@ -1,6 +1,7 @@
 -- Document 01, "Links that would ruin a book" (tallies from the history of calls): the calls of a run, oldest first,
 -- and what they make of both ends and hand to the lines. Nothing here looks at a run's state.
-use Rattle.std.specs.Prelude.{ℕ, ◌+◌, Bool, true, false, cond, not, ◌&&◌, List, [], ◌∷◌, ◌++◌, Err, None, Ok, Option, Result, Some}
+use Rattle.std.specs.Prelude.{ℕ, ◌+◌, Bool, true, false, cond, not, ◌&&◌, List, [], ◌∷◌, ◌++◌, Err, None, Ok, Option}
+use Rattle.std.specs.Prelude.{Result, Some}
 use Rattle.packet.specs.Format.{new_packet, made}
 use Rattle.packet.specs.Reading.{read_datagram}
 use Rattle.packet.specs.declared.PacketType.TheVariants as packetType

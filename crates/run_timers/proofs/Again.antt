@@ -8,7 +8,6 @@ use mathlib.Core.List.{List, [], ◌∷◌}
 use lib.Dec.{eqb}
 use Rattle.timer.specs.Timer.{expired_at}
 use Rattle.path.specs.declared.Stop.{Stop}
-use Rattle.path.specs.declared.Stop.TheVariants as stop
 use Rattle.clock.specs.Clock.{ClockState, timer_of, numbers_due, single_due, due}
 use Rattle.clock.specs.declared.Due.{Due}
 use Rattle.clock.specs.declared.Due.TheVariants as ran
@@ -22,7 +21,7 @@ use Rattle.timeouts.proofs.Laws.{numbers_timing, single_timing, timers_met, time
 use Rattle.departures.specs.Departures.{pump_of, pumped, is_going_on, send_due}
 use Rattle.step.specs.State.{Given, chunks_for, RunState, fire_of, with_arrivals}
 use Rattle.step.specs.Settle.{StepExit, unless_stopped}
-use Rattle.step.specs.Step.{round_less, step}
+use Rattle.step.specs.Step.{round_less}
 use Rattle.step.specs.declared.Plan.{Plan}
 use Rattle.step.proofs.Laws.{arrives, step_is, settle_cases, after_both, both_exit}
 use Rattle.run_timers.specs.Again.{RanOut, arrived, AgainOnlyDue}

@@ -33,7 +33,7 @@ use Rattle.arrivals.specs.Arrivals.{serve_arrivals}
 use Rattle.departures.specs.Departures.{pump_of, pumped, is_going_on, send_due}
 use Rattle.step.specs.State.{Given, chunks_for, RunState, fire_of, with_arrivals}
 use Rattle.step.specs.Settle.{StepExit}
-use Rattle.step.specs.Step.{round_less, step}
+use Rattle.step.specs.Step.{round_less}
 use Rattle.step.specs.Good.{GoodRun}
 use Rattle.step.specs.declared.Plan.{Plan}
 use Rattle.step.proofs.Laws.{arrives, can_arrive, arrived_good, good_fire, settle_cases, after_both, going_cases}

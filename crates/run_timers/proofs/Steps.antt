@@ -10,7 +10,6 @@ use lib.Ieee.{Float}
 use Rattle.chunks.specs.Chunks.{chunks_of}
 use Rattle.path.specs.Path.{is_going}
 use Rattle.path.specs.declared.Stop.{Stop}
-use Rattle.path.specs.declared.Stop.TheVariants as stop
 use Rattle.clock.specs.declared.Timing.{Timing}
 use Rattle.session.specs.GoodSender.{sender_broken}
 use Rattle.sending.specs.Sending.{pump_sends}
@@ -27,7 +26,6 @@ use Rattle.step.specs.Step.{round_less, step}
 use Rattle.step.specs.Good.{GoodPlan, GoodRun}
 use Rattle.step.specs.declared.Plan.{Plan}
 use Rattle.step.specs.declared.End.TheVariants as end
-use Rattle.step.specs.declared.Course.TheVariants.{Going}
 use Rattle.step.proofs.Laws.{arrives, step_is, settle_cases, after_both, both_exit, arrived_good, good_fire, can_send_due, step_good}
 use Rattle.transfer.specs.Run.{is_over, run}
 use Rattle.transfer.specs.Transfer.{end_of}

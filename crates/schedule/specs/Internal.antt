@@ -1,5 +1,6 @@
 -- What the functions below the entry points compute on the way: scans over waiting records, and blocks of their places.
-use Rattle.std.specs.Prelude.{ℕ, zero, suc, ◌+◌, Bool, false, cond, ◌&&◌, ◌||◌, List, [], ◌∷◌, ◌++◌, take, drop, ltb, leb, None, Option, Some}
+use Rattle.std.specs.Prelude.{ℕ, zero, suc, ◌+◌, Bool, false, cond, ◌&&◌, ◌||◌, List, [], ◌∷◌, ◌++◌, take, drop, ltb}
+use Rattle.std.specs.Prelude.{leb, None, Option, Some}
 use Rattle.bounds.specs.Bounds.{max_datagram}
 use Rattle.schedule.specs.Record.{order_of, record_length, place_of, place_in}
 use Rattle.schedule.specs.State.{record_broken}

@@ -1,6 +1,7 @@
 -- Document 01, "What the Rust forms turn into" (BinaryHeap), `channel/scheduler.rs` and "Turned away": what each call
 -- on a schedule answers and leaves behind.
-use Rattle.std.specs.Prelude.{ℕ, ◌+◌, ◌-◌, ◌*◌, min, ◌/◌, ◌≡◌, Bool, false, cond, ◌&&◌, ◌||◌, List, [], ◌∷◌, ◌++◌, length, take, drop, get_or, replicate, ltb, leb, eqb, Err, None, Ok, Option, Result, Some}
+use Rattle.std.specs.Prelude.{ℕ, ◌+◌, ◌-◌, ◌*◌, min, ◌/◌, ◌≡◌, Bool, false, cond, ◌&&◌, ◌||◌, List, [], ◌∷◌, ◌++◌}
+use Rattle.std.specs.Prelude.{length, take, drop, get_or, replicate, ltb, leb, eqb, Err, None, Ok, Option, Result, Some}
 use Rattle.bounds.specs.Bounds.{max_datagram, place_size}
 use Rattle.refusal.specs.Order.{Check, check, verdict, decide}
 use Rattle.refusal.specs.declared.Refusal.TheVariants.{State, Counts, Time, Long, Full}

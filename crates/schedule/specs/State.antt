@@ -1,5 +1,6 @@
 -- Document 01, "Bounds of a setup" and "Turned away", checks 5, 8, 9 and 10 of a schedule.
-use Rattle.std.specs.Prelude.{ℕ, ◌+◌, ◌-◌, ◌*◌, ◌/◌, ◌≤◌, ◌<◌, ◌≡◌, Bool, false, cond, ◌||◌, List, [], ◌∷◌, length, take, drop, replicate, ltb, leb, eqb}
+use Rattle.std.specs.Prelude.{ℕ, ◌+◌, ◌-◌, ◌*◌, ◌/◌, ◌≤◌, ◌<◌, ◌≡◌, Bool, false, cond, ◌||◌, List, [], ◌∷◌, length}
+use Rattle.std.specs.Prelude.{take, drop, replicate, ltb, leb, eqb}
 use Rattle.bounds.specs.Bounds.{count_limit, max_datagram, max_delivery_delay, max_time, place_size}
 use Rattle.refusal.specs.Counts.{count_full}
 use Rattle.schedule.specs.Record.{time_of, order_of, record_length, place_of, vacant, after}
@@ -34,7 +35,8 @@ record_broken next n front r =
 -- one of these records is such a record, or a place is doubled; `front` stands in front of them
 unfoldable pub broken_from : ℕ → ℕ → List ℕ → List (List ℕ) → Bool
 broken_from next n front [] = false
-broken_from next n front (r ∷ rs) = record_broken next n front r || (place_in (place_of r) rs || broken_from next n r rs)
+broken_from next n front (r ∷ rs) = record_broken next n front r
+    || (place_in (place_of r) rs || broken_from next n r rs)
 
 -- check 9: a count above its slice, or such records
 unfoldable pub state_broken : Schedule → Bool

@@ -29,7 +29,8 @@ waiting m = map (waiting_copy m.places) (waiting_records m)
 unfoldable pub new_copies : ℕ → ℕ → List ℕ → Deliveries → List WaitingCopy
 new_copies next now packet Lost = []
 new_copies next now packet (One d) = copy (leaves_at now d) next packet ∷ []
-new_copies next now packet (Two d e) = copy (leaves_at now d) next packet ∷ copy (leaves_at now e) (next + 1) packet ∷ []
+new_copies next now packet (Two d e) = copy (leaves_at now d) next packet
+    ∷ copy (leaves_at now e) (next + 1) packet ∷ []
 
 -- copies put, one after the other, among those that wait
 unfoldable pub inserted_all : List WaitingCopy → List WaitingCopy → List WaitingCopy

@@ -1,7 +1,7 @@
 // The places of waiting records: which are doubled, which is the lowest free one, what a place holds.
-ghost use Rattle.std.specs.Prelude.{◌≡◌, true, false, [], ◌++◌, ◌+◌, ◌*◌, ◌≤◌, ◌<◌, length, get_or, take, drop, replicate};
+ghost use Rattle.std.specs.Prelude.{◌≡◌, true, false, ◌++◌, ◌+◌, ◌*◌, ◌≤◌, ◌<◌, length, take, drop, replicate};
 ghost use Rattle.bounds.specs.Bounds.{max_datagram, place_size};
-ghost use Rattle.schedule.specs.Record.{place_of, free_places, lowest_free};
+ghost use Rattle.schedule.specs.Record.{free_places, lowest_free};
 ghost use Rattle.schedule.specs.State.{ZerosFrom};
 ghost use Rattle.schedule.specs.Internal.{block_size, block_at, doubled, outside, first_unset, sum_from, sum_limit};
 ghost use Rattle.schedule.specs.Schedule.{placed, place_bytes};
@@ -45,7 +45,8 @@ pub(super) fn lowest_free(s: &[ScheduledRow], count: usize, places: usize) -> us
 
 // Fills a place: the packet, and zeros after it, which are there if the place is `cleared`.
 pub(super) fn fill_place(places: &mut [u8], place: usize, packet: &[u8], cleared: bool)
-    requires place_size_in_bounds { (place * place_size + place_size ≤ length places.old) × (length packet.now ≤ max_datagram) }
+    requires place_size_in_bounds { (place * place_size + place_size ≤ length places.old)
+        × (length packet.now ≤ max_datagram) }
     requires zeros_from { cleared ≡ true → ZerosFrom 0 places.old place }
     ensures { places.new ≡ placed places.old place (place_bytes packet.now) }
 {

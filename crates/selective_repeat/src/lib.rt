@@ -2,7 +2,7 @@
 #![tactic(auto)]
 
 ghost use Rattle.std.specs.Prelude.{◌≡◌, ◌+◌, ◌-◌, ◌*◌, ◌≤◌, ◌<◌, true, false, length};
-ghost use Rattle.bounds.specs.Bounds.{count_limit, max_payload, max_window, slot_size};
+ghost use Rattle.bounds.specs.Bounds.{count_limit, max_payload, slot_size};
 ghost use Rattle.window.specs.State as windowState;
 ghost use Rattle.window.specs.Slots.{sender, Clean};
 ghost use Rattle.window.specs.Sending.{make_exit, make_window, send_exit, send_chunk};

@@ -24,7 +24,7 @@ use Rattle.clock.specs.declared.Timing.{Timing}
 use Rattle.clock.proofs.Laws.{running}
 use Rattle.session.specs.Sending.{SenderEnd, window_of, window_end, oldest_outstanding}
 use Rattle.session.specs.GoodSender as session
-use Rattle.session.specs.GoodSender.{is_selective, sender_broken}
+use Rattle.session.specs.GoodSender.{is_selective}
 use Rattle.session.proofs.Laws.{datagram_number, datagram_short}
 use Rattle.submission.specs.Submission.{Outgoing, GoodOutgoing}
 use Rattle.submission.proofs.Laws.{SubmitKeeps, submit_within, submit_written, submit_used, going_used}

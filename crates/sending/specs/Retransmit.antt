@@ -1,5 +1,6 @@
 -- app/transfer.rs, `retransmit`: packets that were sent before, again.
-use Rattle.std.specs.Prelude.{ℕ, ◌+◌, ◌*◌, ◌≤◌, ◌<◌, ◌≡◌, Bool, true, false, cond, List, [], ◌∷◌, leb, Float, length, Option, None}
+use Rattle.std.specs.Prelude.{ℕ, ◌+◌, ◌*◌, ◌≤◌, ◌<◌, ◌≡◌, Bool, true, false, cond, List, [], ◌∷◌, leb, Float, length}
+use Rattle.std.specs.Prelude.{Option, None}
 use Rattle.bounds.specs.Bounds.{count_limit, max_duration}
 use Rattle.rows.specs.Rows.{as_number}
 use Rattle.delivery.specs.Calls.{number_of}

@@ -1,6 +1,7 @@
 -- app/transfer.rs, `pump_sends`: the chunks of the file that the window has space for, each written by the sender and
 -- submitted.
-use Rattle.std.specs.Prelude.{ℕ, zero, suc, ◌-◌, Bool, true, false, cond, ◌&&◌, List, [], length, get_or, replicate, ltb, Float, None, Option}
+use Rattle.std.specs.Prelude.{ℕ, zero, suc, ◌-◌, Bool, true, false, cond, ◌&&◌, List, [], length, get_or, replicate}
+use Rattle.std.specs.Prelude.{ltb, Float, None, Option}
 use Rattle.bounds.specs.Bounds.{max_datagram}
 use Rattle.window.specs.Sending.{SendExit}
 use Rattle.delivery.specs.Ends.{bytes_sent}

@@ -50,7 +50,8 @@ new_receiver protocol.StopAndWait w store = stop_and_wait_receiver_end store sto
 new_receiver protocol.GoBackN w store = go_back_nReceiver_end store go_back_n.new_receiver
 new_receiver protocol.SelectiveRepeat w store =
     selective_repeat_receiver_end
-    (selective_repeat.receiver (selective_repeat.new_receiver w) (replicate (w * slot_size) 0 ++ drop (w * slot_size) store))
+    (selective_repeat.receiver (selective_repeat.new_receiver w)
+    (replicate (w * slot_size) 0 ++ drop (w * slot_size) store))
 
 -- the number of the next chunk to be delivered; how much of the output is filled
 abbrev pub base_in : ReceiverState → ℕ
@@ -108,7 +109,8 @@ unfoldable pub handle_packet : ReceiverEnd → List ℕ → List ℕ → List �
 handle_packet v raw output ack = handle_packet_in v.receiver.state v.store raw output ack
 
 -- the same of a packet that was read, with its payload
-abbrev pub handle_reading_in : ReceiverState → List ℕ → PacketReading → List ℕ → List ℕ → List ℕ → ReceiveExit ReceiverEnd
+abbrev pub handle_reading_in : ReceiverState → List ℕ → PacketReading → List ℕ → List ℕ → List ℕ
+    → ReceiveExit ReceiverEnd
 handle_reading_in (receiverState.StopAndWait r) store h payload output ack =
     received_as (stop_and_wait_receiver_end store) (stop_and_wait.handle_packet_unchecked r h payload output ack)
 handle_reading_in (receiverState.GoBackN r) store h payload output ack =
@@ -124,7 +126,8 @@ handle_reading v h payload output ack = handle_reading_in v.receiver.state v.sto
 abbrev pub is_high : Packet → Bool → Bool
 is_high p valid = valid && is_number_high p
 
-unfoldable pub handle_packet_unchecked : ReceiverEnd → Packet → Bool → List ℕ → List ℕ → List ℕ → ReceiveExit ReceiverEnd
+unfoldable pub handle_packet_unchecked : ReceiverEnd → Packet → Bool → List ℕ → List ℕ → List ℕ
+    → ReceiveExit ReceiverEnd
 handle_packet_unchecked v p valid payload output ack =
     cond (is_high p valid) (receive_exit (Err Numbers) v output ack)
     (handle_reading v (packet_reading p valid) payload output ack)

@@ -1,5 +1,6 @@
 -- app/transfer.rs, `Session`: a sender of any of the three protocols with its store. Each call is the protocol's own.
-use Rattle.std.specs.Prelude.{ℕ, ◌*◌, List, map, Bool, true, false, cond, replicate, ltb, None, Ok, Option, Result, Some}
+use Rattle.std.specs.Prelude.{ℕ, ◌*◌, List, map, Bool, true, false, cond, replicate, ltb, None, Ok, Option, Result}
+use Rattle.std.specs.Prelude.{Some}
 use Rattle.bounds.specs.Bounds.{max_datagram}
 use Rattle.protocol.specs.Runs.{up_from}
 use Rattle.protocol.specs.declared.ProtocolType.{ProtocolType}

@@ -1,6 +1,7 @@
 -- Document 01, "Bounds of a setup", "The edition clock" and "Turned away": what a run refuses at its start, by checks
 -- 9, 11, 4 and 5.
-use Rattle.std.specs.Prelude.{ℕ, ◌*◌, ◌≤◌, ◌≡◌, Bool, true, false, not, ◌||◌, ◌&&◌, List, [], ◌∷◌, ltb, eqb, length, Float}
+use Rattle.std.specs.Prelude.{ℕ, ◌*◌, ◌≤◌, ◌≡◌, Bool, true, false, not, ◌||◌, ◌&&◌, List, [], ◌∷◌, ltb, eqb, length}
+use Rattle.std.specs.Prelude.{Float}
 use Rattle.std.specs.Float.Ieee.{eq}
 use Rattle.bounds.specs.Bounds.{max_payload, max_chunks, max_duration, max_window, slot_size}
 use Rattle.refusal.specs.Order.{Check, check}
@@ -117,7 +118,8 @@ start_room s = room_missing s.config s.file s.output s.notes s.keys
 
 abbrev pub start_checks : Start → List Check
 start_checks s =
-    check (start_state s) State ∷ check (start_rolls s) Roll ∷ check (start_setup s) Setup ∷ check (start_room s) Full ∷ []
+    check (start_state s) State ∷ check (start_rolls s) Roll ∷ check (start_setup s) Setup
+    ∷ check (start_room s) Full ∷ []
 
 -- ---- what a start asks
 abbrev pub sender_slots : ProtocolType → ℕ → ℕ

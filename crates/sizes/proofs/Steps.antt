@@ -7,7 +7,6 @@ use mathlib.Core.Bool.{Bool, true, false, cond, ◌||◌}
 use lib.Dec.{eqb}
 use Rattle.path.specs.Rolls.{packet_rolls}
 use Rattle.path.specs.declared.Stop.{Stop}
-use Rattle.path.specs.declared.Stop.TheVariants as stop
 use Rattle.session.specs.Sending.{window_of}
 use Rattle.arrivals.proofs.Laws.{arrivals_keep}
 use Rattle.step.specs.State.{Given, RunState, fire_of, with_arrivals, exhausted, at}

@@ -4,7 +4,6 @@ use mathlib.Core.Path.{◌≡◌, refl, sym, ap, ◌∙◌, subst}
 use mathlib.Core.Bool.{Bool, true, false, cond, not, ◌&&◌, ◌||◌}
 use Rattle.path.specs.Path.{is_going}
 use Rattle.path.specs.declared.Stop.{Stop}
-use Rattle.path.specs.declared.Stop.TheVariants as stop
 use Rattle.sending.specs.Sending.{PumpExit, pump_exit, can_pump, pump_sends}
 use Rattle.sending.specs.Good.{CanPump}
 use Rattle.sending.proofs.Laws.{pump_nothing}

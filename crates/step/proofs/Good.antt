@@ -1,12 +1,10 @@
 -- What a step asks is met, and kept while the run goes on.
-use Prim.Native.Nat.{ℕ, ◌+◌, ◌*◌, ◌≤◌, ◌<◌}
+use Prim.Native.Nat.{◌+◌, ◌≤◌, ◌<◌}
 use native.Mathlib.Omega.{arith}
-use mathlib.Core.Path.{◌≡◌, refl, sym, ap, ◌∙◌, subst}
-use mathlib.Core.Bool.{Bool, true, false}
-use mathlib.Core.List.{List}
-use lib.Ieee.{Float}
+use mathlib.Core.Path.{◌≡◌, ◌∙◌}
+use mathlib.Core.Bool.{true, false}
 use lib.ListN.{length}
-use Rattle.bounds.specs.Bounds.{count_limit, max_duration}
+use Rattle.bounds.specs.Bounds.{count_limit}
 use Rattle.window.specs.State.{numbers_broken}
 use Rattle.path.specs.Path.{is_going}
 use Rattle.path.proofs.Laws.{orders_low, records_within}
@@ -14,18 +12,17 @@ use Rattle.clock.specs.Clock.{Held}
 use Rattle.clock.proofs.Laws.{timers_within}
 use Rattle.session.specs.Sending.{window_of}
 use Rattle.session.proofs.Laws.{unbroken_numbers}
-use Rattle.receiving.specs.Good.{GoodInbound}
 use Rattle.receiving.proofs.Laws.{good_can_serve}
 use Rattle.timeouts.specs.Good.{GoodFire}
 use Rattle.timeouts.proofs.Laws.{sender_unbroken}
 use Rattle.timeouts.specs.Timeouts.{FireExit}
-use Rattle.arrivals.specs.Arrivals.{ArrivalExit, acks_of, serve_arrivals, CanServeArrivals}
-use Rattle.arrivals.proofs.Laws.{ArrivalKeeps, arrivals_keep, arrivals_timers}
+use Rattle.arrivals.specs.Arrivals.{serve_arrivals, CanServeArrivals}
+use Rattle.arrivals.proofs.Laws.{arrivals_keep, arrivals_timers}
 use Rattle.departures.specs.Departures.{send_due, CanSendDue}
-use Rattle.departures.proofs.Laws.{Departs, send_due_departs}
-use Rattle.step.specs.State.{Given, chunks_for, RunState, outgoing_of, fire_of, with_arrivals, with_fired}
+use Rattle.departures.proofs.Laws.{send_due_departs}
+use Rattle.step.specs.State.{Given, chunks_for, RunState, fire_of, with_arrivals, with_fired}
 use Rattle.step.specs.Step.{round_less}
-use Rattle.step.specs.Good.{GoodPlan, Arrived, GoodRun}
+use Rattle.step.specs.Good.{GoodPlan, GoodRun}
 use Rattle.step.specs.declared.Plan.{Plan}
 
 module _ {p : Plan} {g : Given} {s : RunState} (good : GoodRun p g s) where

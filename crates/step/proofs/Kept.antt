@@ -1,6 +1,6 @@
 -- A step that goes on keeps what steps ask.
 use Rattle.std.specs.Prelude.{None, Option, Some}
-use Prim.Native.Nat.{ℕ, ◌≤◌, ◌<◌}
+use Prim.Native.Nat.{ℕ, ◌≤◌}
 use native.Mathlib.Omega.{arith}
 use mathlib.Core.Path.{◌≡◌, refl, sym, ap, ◌∙◌, subst}
 use mathlib.Core.Bool.{Bool, true, false, cond, ◌||◌}
@@ -9,9 +9,7 @@ use Rattle.bounds.specs.Bounds.{max_duration}
 use Rattle.notes.proofs.Laws.{timely_later}
 use Rattle.path.specs.Path.{is_going}
 use Rattle.path.specs.declared.Stop.{Stop}
-use Rattle.path.specs.declared.Stop.TheVariants as stop
 use Rattle.timeouts.specs.Timeouts.{FireExit}
-use Rattle.arrivals.specs.Arrivals.{ArrivalExit}
 use Rattle.step.specs.State.{Given, RunState, with_arrivals, with_fired, exhausted, at}
 use Rattle.step.specs.Settle.{StepExit, step_exit, over, unless_stopped, settle}
 use Rattle.step.specs.Step.{round_less, step}
@@ -19,11 +17,10 @@ use Rattle.step.specs.Good.{GoodPlan, GoodRun}
 use Rattle.step.specs.declared.Plan.{Plan}
 use Rattle.step.specs.declared.End.{End}
 use Rattle.step.specs.declared.End.TheVariants as end
-use Rattle.step.specs.declared.Course.{Course}
 use Rattle.step.specs.declared.Course.TheVariants.{Going, Over}
-use Rattle.step.proofs.Rounds.{arrives, sends, after_sending, after_arriving, step_is}
+use Rattle.step.proofs.Rounds.{arrives, sends, after_arriving, step_is}
 use Rattle.step.proofs.Good.{arrived_good, sent_good}
-use Rattle.step.proofs.Moves.{SettleGoing, settle_going}
+use Rattle.step.proofs.Moves.{settle_going}
 
 not_over : {e : End} {time : ℕ} → Over e time ≡ Going → ⊥
 not_over e = let z : ◌≡◌ {A = ℕ} 0 1 = cc in omega arith

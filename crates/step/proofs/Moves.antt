@@ -1,6 +1,6 @@
 -- The next deadline, and what a moment in which nothing is left to do makes of the run.
 use Rattle.std.specs.Prelude.{None, Option, Some}
-use Prim.Native.Nat.{ℕ, ◌+◌, ◌-◌, ◌≤◌, ◌<◌, min}
+use Prim.Native.Nat.{ℕ, ◌+◌, ◌-◌, ◌≤◌, ◌<◌}
 use native.Mathlib.Nat.{le_trans}
 use native.Mathlib.Omega.{arith}
 use mathlib.Core.Path.{◌≡◌, refl, sym, ap, ◌∙◌, subst}
@@ -14,13 +14,13 @@ use Rattle.clock.specs.Clock.{ClockState}
 use Rattle.clock.specs.Clock as clock
 use Rattle.clock.specs.declared.Timing.{Timing}
 use Rattle.step.specs.State.{RunState, exhausted, at}
-use Rattle.step.specs.Settle.{StepExit, step_exit, over, finishing_time, sender_idle, of_path, earlier, next_deadline, moved, move_to, settle}
+use Rattle.step.specs.Settle.{StepExit, step_exit, over, sender_idle, of_path, earlier, next_deadline, moved, move_to, settle}
 use Rattle.step.specs.declared.Plan.{Plan}
 use Rattle.step.specs.declared.End.{End}
 use Rattle.step.specs.declared.End.TheVariants as end
 use Rattle.step.specs.declared.Course.{Course}
 use Rattle.step.specs.declared.Course.TheVariants.{Going, Over}
-use Rattle.step.proofs.Settling.{settle_done, settle_next, move_none, move_past, move_beyond, move_within, moved_last, moved_on}
+use Rattle.step.proofs.Settling.{settle_done, settle_next, move_past, move_beyond, move_within, moved_last, moved_on}
 
 -- ---- the earlier of two deadlines
 same_time : {t u : ℕ} → Some t ≡ Some u → t ≡ u

@@ -5,7 +5,6 @@ use mathlib.Core.Bool.{Bool, true, false, cond, not, ◌||◌}
 use lib.Dec.{eqb}
 use Rattle.path.specs.Path.{is_going, is_due}
 use Rattle.path.specs.declared.Stop.{Stop}
-use Rattle.path.specs.declared.Stop.TheVariants as stop
 use Rattle.receiving.specs.Receiving.{ServeForwardExit, serve_forward_exit}
 use Rattle.receiving.proofs.Laws.{serve_not_due}
 use Rattle.acks.specs.Reverse.{ServeExit, serve_reverse, CanServeReverse}

@@ -5,7 +5,6 @@ use mathlib.Core.Bool.{Bool, true, false, cond, not, ◌||◌, true≢false}
 use lib.Dec.{eqb}
 use Rattle.path.specs.Path.{is_going}
 use Rattle.path.specs.declared.Stop.{Stop}
-use Rattle.path.specs.declared.Stop.TheVariants as stop
 use Rattle.timeouts.specs.Timeouts.{FireExit}
 use Rattle.arrivals.specs.Arrivals.{ArrivalExit, serve_arrivals}
 use Rattle.departures.specs.Departures.{send_due}

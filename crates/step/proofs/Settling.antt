@@ -1,16 +1,15 @@
 -- One law a return, over plain values: what the calls give is what the definition says.
 use Rattle.std.specs.Prelude.{None, Option, Some}
 use Prim.Native.Nat.{ℕ, ◌-◌, ◌≤◌, ◌<◌, min}
-use mathlib.Core.Path.{◌≡◌, refl, sym, ap, ◌∙◌}
+use mathlib.Core.Path.{◌≡◌, sym, ap, ◌∙◌}
 use mathlib.Core.Bool.{Bool, true, false, cond, not, ◌&&◌, true≢false}
-use lib.Dec.{ltb, leb, eqb}
+use lib.Dec.{ltb, eqb}
 use borrow.Author.Tests.{not-true, not-false, lt-ltb, le-ltb, le-leb, lt-leb, eq-eqb, ne_eqb}
 use Rattle.path.specs.Path.{is_empty, is_going}
 use Rattle.path.specs.Path as path
 use Rattle.path.specs.Direction.{Direction}
 use Rattle.path.specs.declared.Path.{Path}
 use Rattle.path.specs.declared.Stop.{Stop}
-use Rattle.path.specs.declared.Stop.TheVariants as stop
 use Rattle.clock.specs.Clock.{ClockState}
 use Rattle.clock.specs.Clock as clock
 use Rattle.clock.specs.declared.Clock.{Clock}

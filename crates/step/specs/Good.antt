@@ -1,5 +1,5 @@
 -- What every step of a run keeps while the run goes on.
-use Rattle.std.specs.Prelude.{ℕ, ◌+◌, ◌≤◌, ◌<◌, ◌≡◌, true, length}
+use Rattle.std.specs.Prelude.{◌+◌, ◌≤◌, ◌<◌, ◌≡◌, true, length}
 use Rattle.bounds.specs.Bounds.{max_chunks, max_payload, max_duration}
 use Rattle.clock.specs.Estimator.{GoodEstimator}
 use Rattle.clock.specs.Timers.{GoodTimers}

@@ -1,5 +1,6 @@
 -- Document 01, "Number n has slot n mod window": the slots of numbers that follow one another.
-use Rattle.std.specs.Prelude.{ℕ, zero, suc, ◌+◌, ◌*◌, ◌%◌, ◌≤◌, ◌<◌, List, [], ◌++◌, Bool, cond, length, take, drop, eqb}
+use Rattle.std.specs.Prelude.{ℕ, zero, suc, ◌+◌, ◌*◌, ◌%◌, ◌≤◌, ◌<◌, List, [], ◌++◌, Bool, cond, length, take, drop}
+use Rattle.std.specs.Prelude.{eqb}
 use Rattle.bounds.specs.Bounds.{max_payload, slot_size}
 use Rattle.store.specs.Slot.{slot_at, slot_length, slot_mark, slot_payload}
 

@@ -1,7 +1,8 @@
 -- Document 01, "What the Rust forms turn into": slots of 1,404 bytes: length (2 bytes, big-endian), mark (0 empty, 1
 -- held, 2 acknowledged), flags, 1,400 payload bytes. Filling writes the whole slot, bytes past the length 0; emptying
 -- clears it to 0.
-use Rattle.std.specs.Prelude.{ℕ, ◌+◌, ◌-◌, ◌*◌, ◌/◌, ◌%◌, ◌≤◌, List, [], ◌∷◌, ◌++◌, length, get_or, take, drop, set, replicate}
+use Rattle.std.specs.Prelude.{ℕ, ◌+◌, ◌-◌, ◌*◌, ◌/◌, ◌%◌, ◌≤◌, List, [], ◌∷◌, ◌++◌, length, get_or, take, drop, set}
+use Rattle.std.specs.Prelude.{replicate}
 use Rattle.bounds.specs.Bounds.{max_payload, slot_size}
 
 -- slot j lies in the store

@@ -28,7 +28,7 @@ use Rattle.clock.proofs.Laws as clock-laws
 use Rattle.submission.specs.Submission.{Outgoing, outgoing, entry_free, submit, GoodOutgoing, CanSubmit}
 use Rattle.submission.proofs.Metas.{before_length, before_timely, before_scheduled, before_first_count, before_again_notes, after_notes, after_length, after_timely, after_scheduled}
 use Rattle.submission.proofs.Calls.{can_carry, can_arm}
-use Rattle.submission.proofs.Answers.{noted, metas_of, event_made, submitted, FitsLine, by_outgoing, submit_fits, submit_going, submit_stopped, submit_forward}
+use Rattle.submission.proofs.Answers.{noted, metas_of, event_made, FitsLine, by_outgoing, submit_fits, submit_going, submit_stopped, submit_forward}
 
 -- the setup, and the lengths of the slices
 pub record SubmitKeeps (o o' : Outgoing) : Type 0 where

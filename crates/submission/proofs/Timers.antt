@@ -27,7 +27,7 @@ use Rattle.session.specs.Sending.{SenderEnd, is_due}
 use Rattle.submission.specs.Submission.{Outgoing, note_before, note_after, submit, GoodOutgoing, CanSubmit}
 use Rattle.submission.proofs.Metas.{before_first, before_again, after_first, after_again}
 use Rattle.submission.proofs.Keeps.{armed}
-use Rattle.submission.proofs.Answers.{noted, metas_of, by_outgoing, submit_going}
+use Rattle.submission.proofs.Answers.{metas_of, by_outgoing, submit_going}
 
 -- ---- the RTO noted of the number is the current one
 module _ (m : SegMetas) (seq now rto : ℕ) (ds : Deliveries) (fits : m.notes.count ≤ length m.rows) where

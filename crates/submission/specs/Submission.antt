@@ -1,10 +1,11 @@
 -- The reference's `submit` (`app/transfer.rs`): a datagram to the forward line, with the note on its segment, its event
 -- and its timer. Its count `retx_submitted` is its callers'.
-use Rattle.std.specs.Prelude.{ℕ, ◌+◌, ◌≤◌, ◌<◌, ◌≡◌, Bool, false, cond, List, ltb, eqb, Float, length, set, Err, Ok, Option, Result}
+use Rattle.std.specs.Prelude.{ℕ, ◌+◌, ◌≤◌, ◌<◌, ◌≡◌, Bool, false, cond, List, ltb, eqb, Float, length, set, Err, Ok}
+use Rattle.std.specs.Prelude.{Option, Result}
 use Rattle.bounds.specs.Bounds.{max_datagram, max_duration}
 use Rattle.schedule.specs.State.{copies}
 use Rattle.schedule.specs.declared.Deliveries.{Deliveries}
-use Rattle.path.specs.Direction.{Direction, direction, Good}
+use Rattle.path.specs.Direction.{Direction, Good}
 use Rattle.path.specs.Path.{left_by_carry, carry, stop_of}
 use Rattle.path.specs.declared.Stop.{Stop}
 use Rattle.notes.specs.Notes.{SegMetas, sent, sent_again, set_dropped, Timely, ScheduledBelow}

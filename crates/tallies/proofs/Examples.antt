@@ -22,7 +22,6 @@ use Rattle.receiver.specs.declared.PacketReading.{PacketReading}
 use Rattle.receiver.specs.declared.PacketReading.TheVariants.{Data, Fin, Corrupted}
 use Rattle.stop_and_wait.specs.Receiver as stop_and_wait
 use Rattle.go_back_n.specs.Receiver as go_back_n
-use Rattle.selective_repeat.specs.Receiver as selective_repeat
 use Rattle.delivery.specs.Calls.{Call, datagrams, run}
 use Rattle.delivery.specs.Demand3.{plain_after, resend_start}
 use Rattle.protocol.specs.PlainMachine.{WindowFits}

@@ -10,7 +10,6 @@ use lib.ListN.{length}
 use lib.Dec.{ltb, eqb}
 use Rattle.packet.specs.Reading.{payload_of}
 use Rattle.receiver.specs.Reading.{read_packet}
-use Rattle.receiver.specs.State as receiverState
 use Rattle.receiver.specs.declared.PacketReading.{PacketReading}
 use Rattle.receiver.specs.declared.PacketReading.TheVariants as reading
 use Rattle.stop_and_wait.specs.Receiver as stop_and_wait

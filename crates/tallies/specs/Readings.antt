@@ -1,6 +1,7 @@
 -- Document 01, `arq/sw.rs`, `arq/gbn.rs`, `arq/sr.rs`: what the datagrams handed to a receiver, each as what it reads
 -- as, say of its counters. The latest stands first; nothing here looks at a receiver's state.
-use Rattle.std.specs.Prelude.{ℕ, suc, ◌+◌, ◌-◌, List, [], ◌∷◌, Bool, true, false, cond, not, ◌||◌, ◌&&◌, get_or, ltb, leb, eqb}
+use Rattle.std.specs.Prelude.{ℕ, suc, ◌+◌, ◌-◌, List, [], ◌∷◌, Bool, true, false, cond, not, ◌||◌, ◌&&◌, get_or, ltb}
+use Rattle.std.specs.Prelude.{leb, eqb}
 use Rattle.protocol.specs.Runs.{lead}
 use Rattle.protocol.specs.PlainMachine.{note}
 use Rattle.receiver.specs.declared.PacketReading.{PacketReading}

@@ -125,4 +125,5 @@ selective_repeat_sender = record {
 
 -- a Stop-and-Wait sender just made, with its retry limit; the other senders start as `fresh`
 abbrev pub new_stop_and_wait : ℕ → List ℕ → stop_and_wait.End
-new_stop_and_wait limit store = stop_and_wait.end_of (stop_and_wait.state 0 false limit 0 0 0) (slots.fresh 1 store).store
+new_stop_and_wait limit store = stop_and_wait.end_of (stop_and_wait.state 0 false limit 0 0 0)
+    (slots.fresh 1 store).store

@@ -1,5 +1,6 @@
 -- Plain decimal numbers: letters 0 to 9, the most significant first, no leading zero ("0" alone is zero).
-use Rattle.std.specs.Prelude.{ℕ, zero, suc, ◌+◌, ◌-◌, ◌*◌, ◌/◌, ◌%◌, ◌^◌, ◌≡◌, Bool, true, false, not, cond, List, [], ◌∷◌, ◌++◌, length, replicate, ltb, leb, eqb}
+use Rattle.std.specs.Prelude.{ℕ, zero, suc, ◌+◌, ◌-◌, ◌*◌, ◌/◌, ◌%◌, ◌^◌, ◌≡◌, Bool, true, false, not, cond, List, []}
+use Rattle.std.specs.Prelude.{◌∷◌, ◌++◌, length, replicate, ltb, leb, eqb}
 use Rattle.text.specs.Letters.{digit_zero, digit_nine, blank}
 
 -- one of the letters 0 to 9

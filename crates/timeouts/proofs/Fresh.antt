@@ -7,7 +7,7 @@ use mathlib.Core.List.{List}
 use lib.Dec.{lit<}
 use lib.Ieee.{Float}
 use lib.ListN.{length}
-use Rattle.bounds.specs.Bounds.{count_limit, max_duration}
+use Rattle.bounds.specs.Bounds.{max_duration}
 use Rattle.channel.specs.Bounds.{config_broken}
 use Rattle.channel.specs.declared.ChannelConfig.{ChannelConfig}
 use Rattle.protocol.specs.declared.ProtocolType.{ProtocolType}
@@ -30,9 +30,9 @@ use Rattle.session.proofs.Laws.{new_sender_good}
 use Rattle.submission.specs.Submission.{outgoing}
 use Rattle.submission.proofs.Laws as submission
 use Rattle.sending.specs.declared.Resends.{Resends}
-use Rattle.sending.proofs.Laws.{Unused, unused}
+use Rattle.sending.proofs.Laws.{unused}
 use Rattle.timeouts.specs.Timeouts.{fire_state}
-use Rattle.timeouts.specs.Good.{GoodFire, CanFire}
+use Rattle.timeouts.specs.Good.{CanFire}
 
 -- nothing was sent again
 abbrev pub no_resends : Resends

@@ -13,7 +13,7 @@ use Rattle.session.specs.Sending.{has_outstanding}
 use Rattle.session.specs.declared.Sender.{Sender}
 use Rattle.sending.specs.Retransmit.{ceiling_met}
 use Rattle.sending.specs.declared.Resends.{Resends}
-use Rattle.timeouts.specs.Timeouts.{FireState, FireExit, fire_exit, by_due, fire_timers, has_run, timers_due}
+use Rattle.timeouts.specs.Timeouts.{FireState, fire_exit, fire_timers, has_run, timers_due}
 use Rattle.timeouts.proofs.SingleTimers.{timers_due_lem}
 
 -- ---- the test

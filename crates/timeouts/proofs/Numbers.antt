@@ -1,6 +1,6 @@
 -- One number's timer: what `fire_number` leaves, and what it keeps.
 use Rattle.std.specs.Prelude.{Option, None, Some}
-use Prim.Native.Nat.{ℕ, suc, ◌+◌, ◌*◌, ◌≤◌, ◌<◌}
+use Prim.Native.Nat.{ℕ, suc, ◌+◌, ◌*◌, ◌≤◌}
 use native.Mathlib.Omega.{arith}
 use native.Mathlib.Nat.{le_refl}
 use mathlib.Core.Path.{◌≡◌, refl, sym, ap, ◌∙◌, subst}
@@ -16,7 +16,6 @@ use Rattle.window.specs.Slots.{mark_retransmitted, datagram_for}
 use Rattle.window.specs.Resending.{mark_from}
 use Rattle.path.specs.Rolls.{packet_rolls}
 use Rattle.path.specs.Path.{is_going}
-use Rattle.path.specs.declared.Stop.TheVariants as stop
 use Rattle.path.proofs.Laws.{going_is}
 use Rattle.delivery.specs.Calls.{number_of}
 use Rattle.multi_timer.specs.Map.{Entry, lookup, is_some, put, remove, due_keys_from}

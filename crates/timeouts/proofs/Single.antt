@@ -3,7 +3,7 @@ use Rattle.std.specs.Prelude.{None}
 use Prim.Native.Nat.{ℕ, zero, suc, ◌+◌, ◌*◌, ◌^◌, ◌≤◌, ◌<◌, max}
 use native.Mathlib.Omega.{arith}
 use mathlib.Core.Path.{◌≡◌, refl, sym, ap, ◌∙◌, subst}
-use mathlib.Core.Bool.{Bool, true, false}
+use mathlib.Core.Bool.{true, false}
 use mathlib.Core.List.{List, [], ◌∷◌, Memᴰ}
 use lib.Ieee.{Float}
 use lib.ListN.{length}
@@ -33,8 +33,8 @@ use Rattle.sending.specs.Good.{TimersWithin}
 use Rattle.sending.specs.Retransmit.{RetransmitExit, retransmit, exhausted, retransmit_all, CanRetransmitAll}
 use Rattle.sending.specs.declared.Resends.{Resends}
 use Rattle.sending.proofs.Laws.{packets_from, resend_turns, keeps_same, ResendKeeps, resend_keeps, AllSubmitted, all_submitted}
-use Rattle.timeouts.specs.Timeouts.{FireState, fire_state, FireExit, fire_exit, with_resends, with_clock, after_resending, resending, timed_out, timeout_of, stopped, fire_single}
-use Rattle.timeouts.specs.Good.{Counted, GoodFire, CanFire}
+use Rattle.timeouts.specs.Timeouts.{FireState, fire_state, FireExit, fire_exit, with_clock, after_resending, resending, timed_out, timeout_of, stopped, fire_single}
+use Rattle.timeouts.specs.Good.{GoodFire, CanFire}
 
 -- ---- by whether there is something to send
 module _ (limit : ℕ) (t : Timing) (rolls : List Float) (now : ℕ) where

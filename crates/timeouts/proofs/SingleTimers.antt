@@ -9,7 +9,7 @@ use mathlib.Core.List.{List, [], ◌∷◌}
 use lib.Ieee.{Float}
 use lib.ListN.{length}
 use lib.Dec.{lit≤}
-use Rattle.bounds.specs.Bounds.{max_duration, max_time}
+use Rattle.bounds.specs.Bounds.{max_time}
 use Rattle.window.specs.State.{numbers_broken}
 use Rattle.path.specs.Path.{is_going}
 use Rattle.timer.specs.Timer.{expired_at}
@@ -26,13 +26,13 @@ use Rattle.clock.specs.declared.Due.TheVariants as ran
 use Rattle.clock.proofs.Laws.{running}
 use Rattle.session.specs.Sending.{window_of, has_outstanding}
 use Rattle.session.specs.declared.Timeout.TheVariants as timeout
-use Rattle.session.proofs.Laws.{SameWindow, unbroken_numbers}
+use Rattle.session.proofs.Laws.{unbroken_numbers}
 use Rattle.submission.specs.Submission.{Outgoing}
-use Rattle.submission.proofs.Laws.{SubmitKeeps, single_running, edition_running}
+use Rattle.submission.proofs.Laws.{single_running, edition_running}
 use Rattle.sending.specs.Retransmit.{retransmit, ceiling_met, exhausted}
 use Rattle.sending.specs.declared.Resends.{Resends}
 use Rattle.sending.proofs.Laws.{keeps_again, keeps_same}
-use Rattle.timeouts.specs.Timeouts.{FireState, fire_state, FireExit, fire_exit, with_resends, with_clock, stopped, timeout_of, fire_single, fire_number, fire_numbers, expired, by_due, fire_timers}
+use Rattle.timeouts.specs.Timeouts.{FireState, FireExit, fire_exit, with_resends, with_clock, stopped, timeout_of, fire_single, fire_number, fire_numbers, expired, by_due, fire_timers}
 use Rattle.timeouts.specs.Good.{GoodFire, CanFire}
 use Rattle.timeouts.proofs.Single.{timed_out_turns, timed_out_progress, FireKeeps, stopped_good, fire_single_good, fire_single_keeps}
 use Rattle.timeouts.proofs.Numbers.{cancelled, fire_number_keeps}

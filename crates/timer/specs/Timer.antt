@@ -1,5 +1,6 @@
 -- Document 01, `timing/timer.rs` and "Turned away", check 10; the reference's RetransmissionTimer.
-use Rattle.std.specs.Prelude.{ℕ, ◌+◌, ◌-◌, ◌%◌, ◌^◌, Bool, true, false, ◌&&◌, ◌||◌, [], ◌∷◌, ◌==◌, nat_le, nat_lt, Err, None, Ok, Option, Result, Some}
+use Rattle.std.specs.Prelude.{ℕ, ◌+◌, ◌-◌, ◌%◌, ◌^◌, Bool, true, false, ◌&&◌, ◌||◌, [], ◌∷◌, ◌==◌, nat_le, nat_lt, Err}
+use Rattle.std.specs.Prelude.{None, Ok, Option, Result, Some}
 use Rattle.bounds.specs.Bounds.{max_time}
 use Rattle.duration.specs.Bounds.{start_late}
 use Rattle.refusal.specs.Order.{check, verdict, decide}

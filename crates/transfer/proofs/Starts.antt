@@ -1,9 +1,9 @@
 -- What every step asks holds of a run that is just made and not refused.
 use Rattle.std.specs.Prelude.{Err, Ok, Result}
-use Prim.Native.Nat.{ℕ, ◌+◌, ◌*◌, ◌≤◌, ◌<◌}
+use Prim.Native.Nat.{ℕ, ◌*◌, ◌≤◌, ◌<◌}
 use native.Mathlib.Omega.{arith}
 use mathlib.Core.Path.{◌≡◌, refl, sym, ap, ◌∙◌, subst}
-use mathlib.Core.Bool.{true, false}
+use mathlib.Core.Bool.{false}
 use mathlib.Core.List.{List}
 use lib.Dec.{lit<}
 use lib.Ieee.{le}
@@ -26,7 +26,7 @@ use Rattle.path.proofs.Laws as path
 use Rattle.notes.specs.Notes.{new_notes}
 use Rattle.notes.proofs.Laws.{new_length, scheduled_new}
 use Rattle.clock.specs.Estimator.{Factors}
-use Rattle.clock.specs.declared.Timing.TheVariants.{Single, PerNumber, Edition}
+use Rattle.clock.specs.declared.Timing.TheVariants.{PerNumber, Edition}
 use Rattle.clock.proofs.Laws.{fresh_estimator, new_sender_timers}
 use Rattle.session.specs.Sending.{slot_count}
 use Rattle.session.specs.Receiving.{base, new_receiver, receiver_slot_count}
@@ -46,7 +46,7 @@ use Rattle.setup.proofs.Laws.{start_accepted, window_fine, sender_window_fine, s
 use Rattle.setup.specs.declared.ClockChoice.{ClockChoice}
 use Rattle.setup.specs.declared.ClockChoice.TheVariants as choice
 use Rattle.setup.specs.declared.TransferConfig.{TransferConfig}
-use Rattle.transfer.specs.Start.{single_timing, timing_of, plan_of, plan_for, reverse_config, new_run, CanMake, start_of}
+use Rattle.transfer.specs.Start.{timing_of, plan_of, plan_for, reverse_config, new_run, CanMake, start_of}
 use Rattle.transfer.specs.Run.{run}
 use Rattle.transfer.specs.Transfer.{default_ceilings, outcome_of, lent_of, run_exit, ended, run_transfer}
 use Rattle.transfer.specs.declared.Outcome.{Outcome}

@@ -1,13 +1,12 @@
 -- What holds of a run at every moment, and each part of a step keeps: it follows a list of calls, its parts are prefixes, and it is completed exactly where all chunks are delivered.
-use Prim.Native.Nat.{ℕ, ◌≤◌, ◌<◌}
-use mathlib.Core.Path.{◌≡◌, refl, sym, ap, ◌∙◌, subst}
+use Prim.Native.Nat.{ℕ}
+use mathlib.Core.Path.{◌≡◌, refl, sym, subst}
 use mathlib.Core.Bool.{Bool, true, false, cond}
 use mathlib.Core.List.{List}
 use lib.Ieee.{Float}
 use lib.ListN.{length}
 use Rattle.protocol.specs.declared.ProtocolType.{ProtocolType}
 use Rattle.channel.specs.declared.ChannelConfig.{ChannelConfig}
-use Rattle.path.specs.Path.{is_going}
 use Rattle.events.specs.Events.{events_of}
 use Rattle.clock.specs.Clock.{due}
 use Rattle.clock.specs.declared.Timing.{Timing}
@@ -17,7 +16,7 @@ use Rattle.session.specs.Sending.{has_outstanding}
 use Rattle.session.specs.declared.Timeout.TheVariants as timeout
 use Rattle.receiving.proofs.Laws.{CompletedIs, serve_completed_is}
 use Rattle.sending.specs.Sending.{pump_sends}
-use Rattle.timeouts.specs.Timeouts.{FireState, FireExit, timeout_of, fire_timers}
+use Rattle.timeouts.specs.Timeouts.{FireState, timeout_of}
 use Rattle.timeouts.specs.Good.{GoodFire}
 use Rattle.timeouts.proofs.Laws.{stopped_good, cancelled_good, fire_number_good, numbers_timing}
 use Rattle.arrivals.specs.Arrivals.{ArrivalState, ArrivalExit, acks_of, serve_arrivals, CanServeArrivals}
@@ -26,12 +25,12 @@ use Rattle.departures.specs.Departures.{pump_of, pumped, is_going_on, send_due, 
 use Rattle.departures.proofs.Laws.{fired, can_pump_lem}
 use Rattle.completion.proofs.Laws.{Start, chunks_in, end_of, Runs, runs_served, runs_acked, runs_pumped, good_can_time_out, RunsFire, runs_fired}
 use Rattle.prefixes.proofs.Laws.{Prefixed, prefixed_served, prefixed_acked, prefixed_pumped, PrefixedFire, prefixed_fired}
-use Rattle.step.specs.State.{Given, RunState, fire_of, with_arrivals, with_fired}
-use Rattle.step.specs.Step.{round_less, step}
+use Rattle.step.specs.State.{Given, RunState}
+use Rattle.step.specs.Step.{step}
 use Rattle.step.specs.Good.{GoodPlan, GoodRun}
 use Rattle.step.specs.declared.Plan.{Plan}
-use Rattle.step.proofs.Laws.{arrives, can_arrive, arrived_good, good_fire, can_send_due, after_both, both_exit}
-use Rattle.transfer_delivery.proofs.Steps.{Kept, At, step_keeps}
+use Rattle.step.proofs.Laws.{arrives, can_arrive, arrived_good, good_fire, can_send_due, after_both}
+use Rattle.transfer_delivery.proofs.Steps.{At, step_keeps}
 
 -- the ends as made, for a file
 abbrev pub begins : ProtocolType → ℕ → ℕ → List ℕ → List ℕ → List ℕ → ℕ → List ℕ → Start

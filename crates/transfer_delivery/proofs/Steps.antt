@@ -1,13 +1,12 @@
 -- What every step of a run keeps of both lines, both ends and the events, also the last.
 use Rattle.std.specs.Prelude.{None, Option, Some}
 use Prim.Native.Nat.{ℕ, zero, suc}
-use mathlib.Core.Path.{◌≡◌, refl, sym, ap, ◌∙◌, subst}
+use mathlib.Core.Path.{◌≡◌, refl, sym, subst}
 use mathlib.Core.Bool.{Bool, true, false, cond, ◌||◌}
 use mathlib.Core.List.{List}
 use lib.Dec.{eqb}
 use Rattle.path.specs.Path.{is_going}
 use Rattle.path.specs.declared.Stop.{Stop}
-use Rattle.path.specs.declared.Stop.TheVariants as stop
 use Rattle.arrivals.specs.Arrivals.{ArrivalState}
 use Rattle.step.specs.State.{Given, RunState, with_arrivals, exhausted}
 use Rattle.step.specs.Settle.{StepExit, step_exit, over, unless_stopped, settle}

@@ -276,10 +276,8 @@ fn print_validity(writer: &mut impl Write, raw: &[u8]) -> io::Result<()> {
 // The number, the word and the values.
 fn print_refusal(writer: &mut impl Write, r: Refusal) -> io::Result<()> {
     print_number(writer, r.number() as u64)?;
-    let word = r.word();
-    let bytes = word.bytes;
     print(writer, b"\t")?;
-    print_first(writer, &bytes, word.len)?;
+    print(writer, r.word().as_bytes())?;
     let values = r.values();
     if 0 < values.count {
         print_number(writer, values.first)?;
@@ -297,13 +295,6 @@ fn print_bytes(writer: &mut impl Write, bytes: &[u8]) -> io::Result<()> {
     }
     for byte in bytes {
         write!(writer, "{:02x}", *byte)?;
-    }
-    Ok(())
-}
-
-fn print_first(writer: &mut impl Write, text: &[u8], n: usize) -> io::Result<()> {
-    if n <= text.len() {
-        print(writer, &text[..n])?;
     }
     Ok(())
 }

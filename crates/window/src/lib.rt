@@ -3,11 +3,11 @@
 #![tactic(auto)]
 
 ghost use Rattle.std.specs.Prelude.{◌≡◌, ◌+◌, ◌-◌, ◌*◌, ◌≤◌, ◌<◌, true, false, length, drop, ◌++◌};
-ghost use Rattle.bounds.specs.Bounds.{count_limit, header_size, max_payload, seq_num_limit, slot_size};
+ghost use Rattle.bounds.specs.Bounds.{count_limit, header_size, max_payload, slot_size};
 ghost use Rattle.window.specs.Acknowledgement.{is_in_window, by_packet, by_reading, ack_decision};
 ghost use Rattle.window.specs.Sending.{make_exit, make_window, send_exit, send_chunk, send_chunk_unchecked};
 ghost use Rattle.window.specs.Sending.{CanSendChunk};
-ghost use Rattle.window.specs.Slots.{sender, fresh, slot_for, hold, first_datagram, mark_retransmitted, datagram_for};
+ghost use Rattle.window.specs.Slots.{sender, fresh, slot_for, mark_retransmitted, datagram_for};
 ghost use Rattle.window.specs.Slots.{empty_from, release, Clean};
 ghost use Rattle.window.specs.Resending.{datagrams_from, mark_from, timeout_exit, resend, resend_outstanding};
 ghost use Rattle.window.specs.Resending.{outstanding_decision, Resendable};

@@ -1,5 +1,5 @@
 -- The text that was written lies within the buffer.
-use Rattle.std.proofs.Common.{◌≡◌, ◌≤◌, length, arith, sym}
+use Rattle.std.proofs.Common.{arith, sym}
 use Rattle.std.proofs.lemmas.List.{length-take-le}
 use Rattle.text.proofs.Laws.{place_within}
 use Rattle.linkrun.proofs.main.Goals as goal

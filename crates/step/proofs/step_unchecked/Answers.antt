@@ -1,8 +1,8 @@
 use mathlib.Core.Bool.{not}
-use mathlib.Core.Path.{◌≡◌, refl, sym, ap, ◌∙◌}
+use mathlib.Core.Path.{refl, sym, ap, ◌∙◌}
 use borrow.Author.Tests.{ne_eqb}
 use Rattle.path.proofs.Laws.{records_within}
-use Rattle.step.specs.State.{Given, given, RunState, lent, run_of, forward_state}
+use Rattle.step.specs.State.{given, lent, run_of, forward_state}
 use Rattle.step.specs.declared.State.{State}
 use Rattle.step.proofs.Good.{can_arrive, can_settle}
 use Rattle.step.proofs.RoundParts.{AfterForward, forward_due, forward_not_due, AfterReverse, reverse_due, reverse_not_due, can_reverse, good_arrived, same_forward, same_reverse, forward_stops, finishes}

@@ -1,8 +1,8 @@
 use mathlib.Core.Bool.{not}
-use mathlib.Core.Path.{◌≡◌, refl, sym, ap, ◌∙◌}
+use mathlib.Core.Path.{refl, sym, ap, ◌∙◌}
 use Rattle.session.proofs.Laws.{unbroken_numbers}
 use Rattle.timeouts.proofs.SingleTimers.{fire_due_asks, fire_numbers_sound}
-use Rattle.step.specs.State.{Given, given, RunState, lent, run_of}
+use Rattle.step.specs.State.{given, lent, run_of}
 use Rattle.step.proofs.Good.{can_settle}
 use Rattle.step.proofs.FinishParts.{AfterTimers, fired_due, fired_not_due, can_fire, AfterBoth, can_pump_then, chunks_due, chunks_not_due, good_both, same_timers, same_both, timers_stop, exhausted_end, chunks_stop, goes_on, settles}
 use Rattle.step.proofs.Returns.{stops_at, same_run}
