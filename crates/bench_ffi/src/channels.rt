@@ -134,13 +134,9 @@ fn put_deadline(answer: &mut [u64], d: Result<Option<u64>, Refusal>) {
 
 fn put_emptiness(answer: &mut [u64], e: Result<bool, Refusal>) {
     match e {
-        Ok(b) => put(answer, 6, flag(b)),
+        Ok(b) => put(answer, 6, b as u64),
         Err(r) => put(answer, 6, code(r)),
     }
-}
-
-fn flag(b: bool) -> u64 {
-    if b { 1 } else { 0 }
 }
 
 fn put_stats(answer: &mut [u64], s: ChannelStats) {
@@ -176,11 +172,8 @@ pub extern "C" fn channel_process(
     answer: &mut [u64],
 ) {
     let done = channel_of(reals, numbers).process(packet, rolls_of(reals), out);
-    let outcome = done.answer;
-    put_outcome(answer, outcome);
-    let after = done.channel;
-    let stats = after.stats;
-    put_stats(answer, stats);
+    put_outcome(answer, done.answer);
+    put_stats(answer, done.channel.stats);
 }
 
 // answer: unused, unused, count, next order.
@@ -204,7 +197,7 @@ pub extern "C" fn schedule_at(
     answer: &mut [u64],
 ) {
     let s = ChannelScheduler {
-        count: count,
+        count,
         next_order: next,
     };
     let done = s.schedule_at(
@@ -214,10 +207,8 @@ pub extern "C" fn schedule_at(
         packet,
         deliveries_of(copies, first, second),
     );
-    let queued = done.answer;
-    put_queued(answer, queued);
-    let after = done.scheduler;
-    put_scheduler(answer, after);
+    put_queued(answer, done.answer);
+    put_scheduler(answer, done.scheduler);
 }
 
 // answer: 0 nothing, 1 a packet, or a refusal; the packet's length; count, next order.
@@ -232,14 +223,12 @@ pub extern "C" fn pop_ready_at(
     answer: &mut [u64],
 ) {
     let s = ChannelScheduler {
-        count: count,
+        count,
         next_order: next,
     };
     let done = s.pop_ready_at(records, places, now, out);
-    let ready = done.answer;
-    put_ready(answer, ready);
-    let after = done.scheduler;
-    put_scheduler(answer, after);
+    put_ready(answer, done.answer);
+    put_scheduler(answer, done.scheduler);
 }
 
 // answer: 0 nothing, 1 a deadline, or a refusal, and the deadline; 1 or a refusal and the number, for `len` and for
@@ -253,7 +242,7 @@ pub extern "C" fn schedule_read(
     answer: &mut [u64],
 ) {
     let s = ChannelScheduler {
-        count: count,
+        count,
         next_order: next,
     };
     put_deadline(answer, s.next_deadline(records, places));
@@ -289,7 +278,7 @@ pub extern "C" fn schedule_at_unchecked(
         (One delay) }
 {
     let s = ChannelScheduler {
-        count: count,
+        count,
         next_order: next,
     };
     s.schedule_at_unchecked(records, places, now, packet, Deliveries::One(delay), false);
@@ -307,12 +296,11 @@ pub extern "C" fn pop_ready_at_unchecked(
     requires { CanPop (schedule records.old places.old (scheduler count next)) now out.old }
 {
     let s = ChannelScheduler {
-        count: count,
+        count,
         next_order: next,
     };
     let done = s.pop_ready_at_unchecked(records, places, now, out);
-    let ready = done.answer;
-    match ready {
+    match done.answer {
         Ok(Some(n)) => n,
         Ok(None) => 4096,
         Err(_) => 8192,

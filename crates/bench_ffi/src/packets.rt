@@ -22,10 +22,7 @@ pub extern "C" fn packet_flag_retransmitted() -> u8 {
 // The kind's byte, through the type and back.
 #[unsafe(no_mangle)]
 pub extern "C" fn packet_try_from(byte: u8) -> u64 {
-    match PacketType::try_from(byte) {
-        Ok(t) => done(t.to_byte() as u64),
-        Err(r) => host_answer::refusal_answer(r),
-    }
+    answered(PacketType::try_from(byte).map(|t| t.to_byte() as u64))
 }
 
 #[unsafe(no_mangle)]
@@ -45,10 +42,7 @@ pub extern "C" fn packet_new_fin(seq_num: u32, answer: &mut [u64]) -> u64 {
 
 #[unsafe(no_mangle)]
 pub extern "C" fn packet_is_retransmitted(seq_num: u32, kind: u8, flags: u8, checksum: u16) -> u64 {
-    match packet_of(seq_num, kind, flags, checksum) {
-        Ok(p) => done(p.is_retransmitted() as u64),
-        Err(r) => host_answer::refusal_answer(r),
-    }
+    answered(packet_of(seq_num, kind, flags, checksum).map(|p| p.is_retransmitted() as u64))
 }
 
 #[unsafe(no_mangle)]
@@ -59,10 +53,10 @@ pub extern "C" fn packet_set_retransmitted(
     checksum: u16,
     answer: &mut [u64],
 ) -> u64 {
-    match packet_of(seq_num, kind, flags, checksum) {
-        Ok(p) => put_packet(answer, p.set_retransmitted()),
-        Err(r) => host_answer::refusal_answer(r),
-    }
+    put_packet_answer(
+        answer,
+        packet_of(seq_num, kind, flags, checksum).map(|p| p.set_retransmitted()),
+    )
 }
 
 #[unsafe(no_mangle)]
@@ -73,13 +67,11 @@ pub extern "C" fn packet_compute_checksum(
     checksum: u16,
     payload: &[u8],
 ) -> u64 {
-    match packet_of(seq_num, kind, flags, checksum) {
-        Ok(p) => match p.compute_checksum(payload) {
-            Ok(k) => done(k as u64),
-            Err(r) => host_answer::refusal_answer(r),
-        },
-        Err(r) => host_answer::refusal_answer(r),
-    }
+    answered(
+        packet_of(seq_num, kind, flags, checksum)
+            .and_then(|p| p.compute_checksum(payload))
+            .map(|k| k as u64),
+    )
 }
 
 #[unsafe(no_mangle)]
@@ -91,10 +83,10 @@ pub extern "C" fn packet_compute_and_set_checksum(
     payload: &[u8],
     answer: &mut [u64],
 ) -> u64 {
-    match packet_of(seq_num, kind, flags, checksum) {
-        Ok(p) => put_packet_answer(answer, p.compute_and_set_checksum(payload)),
-        Err(r) => host_answer::refusal_answer(r),
-    }
+    put_packet_answer(
+        answer,
+        packet_of(seq_num, kind, flags, checksum).and_then(|p| p.compute_and_set_checksum(payload)),
+    )
 }
 
 #[unsafe(no_mangle)]
@@ -107,10 +99,7 @@ pub extern "C" fn packet_to_bytes(
     out: &mut [u8],
 ) -> u64 {
     match packet_of(seq_num, kind, flags, checksum) {
-        Ok(p) => match p.to_bytes(payload, out) {
-            Ok(n) => done(n as u64),
-            Err(r) => host_answer::refusal_answer(r),
-        },
+        Ok(p) => host_answer::count_answer(p.to_bytes(payload, out)),
         Err(r) => host_answer::refusal_answer(r),
     }
 }
@@ -141,17 +130,15 @@ pub extern "C" fn packet_from_bytes_each(wire: &[u8]) -> u64 {
 fn fields(a: Result<Packet, Refusal>) -> u64 {
     match a {
         Ok(p) => {
-            let pkt_type = p.pkt_type;
-            p.seq_num as u64 ^ pkt_type.to_byte() as u64 ^ p.flags as u64 ^ p.checksum as u64
+            p.seq_num as u64 ^ p.pkt_type.to_byte() as u64 ^ p.flags as u64 ^ p.checksum as u64
         }
         Err(_) => 0,
     }
 }
 
 fn put_packet(answer: &mut [u64], p: Packet) -> u64 {
-    let pkt_type = p.pkt_type;
     put(answer, 0, p.seq_num as u64);
-    put(answer, 1, pkt_type.to_byte() as u64);
+    put(answer, 1, p.pkt_type.to_byte() as u64);
     put(answer, 2, p.flags as u64);
     put(answer, 3, p.checksum as u64);
     done(0)
@@ -166,14 +153,19 @@ fn put_packet_answer(answer: &mut [u64], a: Result<Packet, Refusal>) -> u64 {
 
 // The packet of these fields, or a refusal of the kind.
 fn packet_of(seq_num: u32, kind: u8, flags: u8, checksum: u16) -> Result<Packet, Refusal> {
-    match PacketType::try_from(kind) {
-        Ok(pkt_type) => Ok(Packet {
-            seq_num,
-            pkt_type,
-            flags,
-            checksum,
-        }),
-        Err(r) => Err(r),
+    Ok(Packet {
+        seq_num,
+        pkt_type: PacketType::try_from(kind)?,
+        flags,
+        checksum,
+    })
+}
+
+// A value or a refusal, as a host's answer.
+fn answered(a: Result<u64, Refusal>) -> u64 {
+    match a {
+        Ok(n) => done(n),
+        Err(r) => host_answer::refusal_answer(r),
     }
 }
 

@@ -103,7 +103,7 @@ pub extern "C" fn timing_multi_start_unchecked(
         × (start_full (timers count generation) keys.old deadlines.old key ≡ false) }
 {
     let t = MultiTimer {
-        count: count,
+        count,
         global_generation: generation,
     };
     let next = t.start_timer_at_unchecked(keys, deadlines, key, deadline);
@@ -121,7 +121,7 @@ pub extern "C" fn timing_multi_cancel_unchecked(
     requires { broken count keys.old deadlines.old ≡ false }
 {
     let t = MultiTimer {
-        count: count,
+        count,
         global_generation: generation,
     };
     let next = t.cancel_timer_unchecked(keys, deadlines, key);
@@ -141,7 +141,7 @@ pub extern "C" fn timing_multi_pop_unchecked(
         × (length (due_keys time (used (timers count generation) keys.old deadlines.old)) ≤ length out.old) }
 {
     let t = MultiTimer {
-        count: count,
+        count,
         global_generation: generation,
     };
     let next = t.pop_expired_at_unchecked(keys, deadlines, time, out);

@@ -23,8 +23,8 @@ pub struct Fields {
     pub letter: u8,
     pub values: [u64; 12],
     pub count: usize,
-    pub bytes_at: usize,
-    pub good: bool,
+    bytes_at: usize,
+    good: bool,
 }
 
 // A number, where the digits make one, and where the next one starts.
@@ -295,14 +295,6 @@ pub fn read_full(input: &mut impl Read, text: &mut [u8]) -> io::Result<usize>
     Ok(done)
 }
 
-// For an input of n bytes read into `text`: whether there may be more of it.
-pub fn print_if_full(writer: &mut impl Write, text: &[u8], n: usize) -> io::Result<()> {
-    if text.len() <= n {
-        print(writer, b"input too long\n")?;
-    }
-    Ok(())
-}
-
 // A program that answers lines; it keeps what lasts from one to the next.
 pub trait Replay {
     // Prints what stands after the letter of a good line with these bytes.
@@ -351,35 +343,17 @@ pub trait Answer: Drop {
     fn print(self, writer: &mut impl Write) -> io::Result<()>;
 }
 
-impl Answer for u64 {
-    fn print(self, writer: &mut impl Write) -> io::Result<()> {
-        write!(writer, " {self}")
-    }
+macro_rules! answer_as_text {
+    ($($t:ty),*) => {$(
+        impl Answer for $t {
+            fn print(self, writer: &mut impl Write) -> io::Result<()> {
+                write!(writer, " {}", self)
+            }
+        }
+    )*};
 }
 
-impl Answer for u32 {
-    fn print(self, writer: &mut impl Write) -> io::Result<()> {
-        write!(writer, " {self}")
-    }
-}
-
-impl Answer for u16 {
-    fn print(self, writer: &mut impl Write) -> io::Result<()> {
-        write!(writer, " {self}")
-    }
-}
-
-impl Answer for u8 {
-    fn print(self, writer: &mut impl Write) -> io::Result<()> {
-        write!(writer, " {self}")
-    }
-}
-
-impl Answer for usize {
-    fn print(self, writer: &mut impl Write) -> io::Result<()> {
-        write!(writer, " {self}")
-    }
-}
+answer_as_text!(u8, u16, u32, u64, usize, &str);
 
 // 1 or 0.
 impl Answer for bool {
@@ -391,18 +365,8 @@ impl Answer for bool {
 // The bits of a number from 0 on.
 impl Answer for f64 {
     fn print(self, writer: &mut impl Write) -> io::Result<()> {
-        (if self >= 0.0 {
-            Some(self.to_bits())
-        } else {
-            None
-        })
-        .print(writer)
-    }
-}
-
-impl Answer for &str {
-    fn print(self, writer: &mut impl Write) -> io::Result<()> {
-        write!(writer, " {self}")
+        let bits = if self >= 0.0 { Some(self.to_bits()) } else { None };
+        bits.print(writer)
     }
 }
 

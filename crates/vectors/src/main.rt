@@ -1,4 +1,4 @@
-// Prints what the library answers for RFC 1071's numerical example and the rows of document 01's proof sheet. Times are
+// Prints what the library answers for RFC 1071's numerical example and the rows of the proof sheet. Times are
 // in ms; of a receiver the answer and the buffer for the ACK are printed.
 #![tactic(auto)]
 
@@ -19,15 +19,14 @@ fn main(rt: HostRuntime) -> io::Result<()> {
     checksums(&mut writer)?;
     readings(&mut writer)?;
     jitter(&mut writer)?;
-    first_sample(&mut writer, 1000000)?;
-    first_sample(&mut writer, 1000000000)?;
-    timeout(&mut writer)?;
+    print_millis(&mut writer, b"R1", rto_after_sample(1000000))?;
+    print_millis(&mut writer, b"R1", rto_after_sample(1000000000))?;
+    print_millis(&mut writer, b"R2", rto_after_timeout())?;
     selective_repeat(&mut writer, b"S1", 0, 3)?;
     selective_repeat(&mut writer, b"S1", 0, 4)?;
     selective_repeat(&mut writer, b"S2", 6, 2)?;
     selective_repeat(&mut writer, b"S2", 6, 1)?;
-    go_back_n(&mut writer)?;
-    stop_and_wait(&mut writer)
+    one_for_zero(&mut writer)
 }
 
 fn checksums(writer: &mut impl Write) -> io::Result<()> {
@@ -84,9 +83,8 @@ fn jitter(writer: &mut impl Write) -> io::Result<()> {
         dup_jitter_roll: 0.0,
     };
     let done = channel.process(b"A", rolls, &mut out);
-    let answer = done.answer;
     print(writer, b"J1")?;
-    match answer {
+    match done.answer {
         Ok(d) => print_deliveries(writer, d)?,
         Err(r) => print_refusal(writer, r)?,
     }
@@ -118,37 +116,29 @@ fn estimator(initial: u64, min: u64, max: u64) -> Result<RtoEstimator, Refusal> 
     })
 }
 
-fn first_sample(writer: &mut impl Write, min: u64) -> io::Result<()> {
-    print(writer, b"R1")?;
-    match estimator(1000000000, min, 60000000000) {
-        Ok(e) => {
-            let done = e.update_rtt(100000000, false);
-            let after = done.estimator;
-            print_number(writer, after.current_rto / 1000000)?;
-        }
+// The RTO after a first sample of 100 ms.
+fn rto_after_sample(min: u64) -> Result<u64, Refusal> {
+    let e = estimator(1000000000, min, 60000000000)?;
+    Ok(e.update_rtt(100000000, false).estimator.current_rto)
+}
+
+fn rto_after_timeout() -> Result<u64, Refusal> {
+    estimator(300000000, 1000000, 500000000)?
+        .on_timeout()
+        .answer
+}
+
+fn print_millis(
+    writer: &mut impl Write,
+    name: &[u8],
+    nanos: Result<u64, Refusal>,
+) -> io::Result<()> {
+    print(writer, name)?;
+    match nanos {
+        Ok(n) => print_number(writer, n / 1000000)?,
         Err(r) => print_refusal(writer, r)?,
     }
     print_line_end(writer)
-}
-
-fn timeout(writer: &mut impl Write) -> io::Result<()> {
-    print(writer, b"R2")?;
-    match estimator(300000000, 1000000, 500000000) {
-        Ok(e) => {
-            let done = e.on_timeout();
-            let answer = done.answer;
-            print_rto(writer, answer)?;
-        }
-        Err(r) => print_refusal(writer, r)?,
-    }
-    print_line_end(writer)
-}
-
-fn print_rto(writer: &mut impl Write, a: Result<u64, Refusal>) -> io::Result<()> {
-    match a {
-        Ok(rto) => print_number(writer, rto / 1000000),
-        Err(r) => print_refusal(writer, r),
-    }
 }
 
 fn selective_repeat(
@@ -171,34 +161,26 @@ fn selective_repeat(
         duplicates_count: 0,
     };
     let done = receiver.handle_packet(&mut store, &raw, &mut output, &mut ack);
-    let answer = done.answer;
-    print_received(writer, name, answer, &ack)
+    print_received(writer, name, done.answer, &ack)
 }
 
-fn go_back_n(writer: &mut impl Write) -> io::Result<()> {
+// Go-Back-N and Stop-and-Wait are handed number 1 where they expect 0.
+fn one_for_zero(writer: &mut impl Write) -> io::Result<()> {
     let mut raw = [0u8; 11];
     let mut output = [0u8; 1];
-    let mut ack = [0u8; 10];
     write_data(1, &mut raw);
+    let mut ack = [0u8; 10];
     let done = GoBackNReceiver::new().handle_packet(&raw, &mut output, &mut ack);
-    let answer = done.answer;
-    print_received(writer, b"S3", answer, &ack)
-}
-
-fn stop_and_wait(writer: &mut impl Write) -> io::Result<()> {
-    let mut raw = [0u8; 11];
-    let mut output = [0u8; 1];
-    let mut ack = [0u8; 10];
-    write_data(1, &mut raw);
+    print_received(writer, b"S3", done.answer, &ack)?;
+    ack.fill(0);
     let done = StopAndWaitReceiver::new().handle_packet(&raw, &mut output, &mut ack);
-    let answer = done.answer;
-    print_received(writer, b"S3", answer, &ack)
+    print_received(writer, b"S3", done.answer, &ack)
 }
 
 // Data with one byte.
 fn write_data(seq_num: u32, out: &mut [u8]) {
     if let Ok(p) = Packet::new_data(seq_num).compute_and_set_checksum(b"A") {
-        p.to_bytes(b"A", out);
+        let _ = p.to_bytes(b"A", out);
     }
 }
 
@@ -275,9 +257,7 @@ fn print_validity(writer: &mut impl Write, raw: &[u8]) -> io::Result<()> {
 
 // The number, the word and the values.
 fn print_refusal(writer: &mut impl Write, r: Refusal) -> io::Result<()> {
-    print_number(writer, r.number() as u64)?;
-    print(writer, b"\t")?;
-    print(writer, r.word().as_bytes())?;
+    write!(writer, "\t{}\t{r}", r.number())?;
     let values = r.values();
     if 0 < values.count {
         print_number(writer, values.first)?;
@@ -290,7 +270,7 @@ fn print_refusal(writer: &mut impl Write, r: Refusal) -> io::Result<()> {
 
 fn print_bytes(writer: &mut impl Write, bytes: &[u8]) -> io::Result<()> {
     print(writer, b"\t")?;
-    if bytes.len() == 0 {
+    if bytes.is_empty() {
         print(writer, b"-")?;
     }
     for byte in bytes {
