@@ -343,17 +343,41 @@ pub trait Answer: Drop {
     fn print(self, writer: &mut impl Write) -> io::Result<()>;
 }
 
-macro_rules! answer_as_text {
-    ($($t:ty),*) => {$(
-        impl Answer for $t {
-            fn print(self, writer: &mut impl Write) -> io::Result<()> {
-                write!(writer, " {}", self)
-            }
-        }
-    )*};
+impl Answer for u8 {
+    fn print(self, writer: &mut impl Write) -> io::Result<()> {
+        write!(writer, " {}", self)
+    }
 }
 
-answer_as_text!(u8, u16, u32, u64, usize, &str);
+impl Answer for u16 {
+    fn print(self, writer: &mut impl Write) -> io::Result<()> {
+        write!(writer, " {}", self)
+    }
+}
+
+impl Answer for u32 {
+    fn print(self, writer: &mut impl Write) -> io::Result<()> {
+        write!(writer, " {}", self)
+    }
+}
+
+impl Answer for u64 {
+    fn print(self, writer: &mut impl Write) -> io::Result<()> {
+        write!(writer, " {}", self)
+    }
+}
+
+impl Answer for usize {
+    fn print(self, writer: &mut impl Write) -> io::Result<()> {
+        write!(writer, " {}", self)
+    }
+}
+
+impl Answer for &str {
+    fn print(self, writer: &mut impl Write) -> io::Result<()> {
+        write!(writer, " {}", self)
+    }
+}
 
 // 1 or 0.
 impl Answer for bool {
@@ -365,7 +389,11 @@ impl Answer for bool {
 // The bits of a number from 0 on.
 impl Answer for f64 {
     fn print(self, writer: &mut impl Write) -> io::Result<()> {
-        let bits = if self >= 0.0 { Some(self.to_bits()) } else { None };
+        let bits = if self >= 0.0 {
+            Some(self.to_bits())
+        } else {
+            None
+        };
         bits.print(writer)
     }
 }
