@@ -31,7 +31,7 @@ mod making;
 mod printing;
 
 pub use making::{Draws, fill_rolls};
-pub use printing::{print_answer, print_lent};
+pub use printing::{print_answer, print_end, print_lent};
 
 // The most of what a run is given and lent: bytes of the file, rolls of each direction, bytes of each store and of the
 // output, rows, records and bytes of places of each direction, timer entries.
@@ -54,10 +54,6 @@ pub const PLACES: usize = 451204;
 pub const TIMERS: usize = 64;
 
 // The long ones among them, as functions for the reason of `replay_io::buffer`.
-pub fn no_file() -> [u8; FILE] {
-    [0u8; FILE]
-}
-
 pub fn no_rolls() -> [f64; ROLLS] {
     [0.0f64; ROLLS]
 }
@@ -74,209 +70,76 @@ pub fn marked_places() -> [u8; PLACES] {
     [0xA5u8; PLACES]
 }
 
-// The numbers of the lines p, c, t and m, the file's length, and the rolls.
-#[derive(Clone, Copy)]
+// The numbers of the lines p, c, t and m, the file's bytes and how many they are, and the rolls.
+#[derive(Drop)]
 pub struct Setup {
     pub run: [u64; 12],
     pub channel: [u64; 12],
     pub rto: [u64; 12],
     pub sizes: [u64; 12],
-    pub file: usize,
+    pub file: [u8; FILE],
+    pub file_len: usize,
     pub forward: Draws,
     pub reverse: Draws,
 }
 
-pub fn start() -> Setup {
-    Setup {
-        run: [0; 12],
-        channel: [0; 12],
-        rto: [0; 12],
-        sizes: [0; 12],
-        file: 0,
-        forward: making::no_draws(),
-        reverse: making::no_draws(),
-    }
-}
-
-// A line that sets a part of the setup.
-pub fn setup_case(
-    writer: &mut impl Write,
-    f: Fields,
-    line: &[u8],
-    setup: Setup,
-    file: &mut [u8],
-) -> io::Result<Setup> {
-    if f.letter == b'f' {
-        return Ok(with_file(setup, file_case(writer, f, line, setup.file, file)?));
-    }
-    if is_rolls(f.letter) {
-        return rolls_case(writer, f, setup);
-    }
-    numbers_case(writer, f, setup)
-}
-
-fn numbers_case(writer: &mut impl Write, f: Fields, setup: Setup) -> io::Result<Setup> {
-    let v = f.values;
-    let mut next = setup;
-    if is_run(f) {
-        next.run = v;
-        return Ok(next);
-    }
-    if replay_io::is(f, b'c', 7) {
-        next.channel = v;
-        return Ok(next);
-    }
-    if replay_io::is(f, b't', 8) {
-        next.rto = v;
-        return Ok(next);
-    }
-    if is_sizes(f) {
-        next.sizes = v;
-        return Ok(next);
-    }
-    replay_io::print_bad_line(writer)?;
-    Ok(next)
-}
-
-fn is_run(f: Fields) -> bool {
-    let v = f.values;
-    if replay_io::is(f, b'p', 6) {
-        if v[0] < 3 {
-            return v[1] < 2;
+impl Setup {
+    pub fn new() -> Setup {
+        Setup {
+            run: [0; 12],
+            channel: [0; 12],
+            rto: [0; 12],
+            sizes: [0; 12],
+            file: [0; FILE],
+            file_len: 0,
+            forward: Draws::new(0, 0, 0),
+            reverse: Draws::new(0, 0, 0),
         }
     }
-    false
-}
 
-fn is_sizes(f: Fields) -> bool {
-    let v = f.values;
-    if replay_io::is(f, b'm', 11) {
-        return making::sizes_fit(v);
-    }
-    false
-}
-
-fn with_file(setup: Setup, n: usize) -> Setup {
-    let mut next = setup;
-    next.file = n;
-    next
-}
-
-// The file's new length; the one before where the line is bad.
-fn file_case(
-    writer: &mut impl Write,
-    f: Fields,
-    line: &[u8],
-    before: usize,
-    file: &mut [u8],
-) -> io::Result<usize> {
-    if replay_io::is(f, b'f', 0) {
-        return Ok(replay_io::read_bytes(line, f.bytes_at, file));
-    }
-    if replay_io::is(f, b'f', 2) {
-        return file_made(
-            writer,
-            replay_io::value(f, 0) as usize,
-            replay_io::value(f, 1),
-            before,
-            file,
-        );
-    }
-    replay_io::print_bad_line(writer)?;
-    Ok(before)
-}
-
-fn file_made(
-    writer: &mut impl Write,
-    n: usize,
-    seed: u64,
-    before: usize,
-    file: &mut [u8],
-) -> io::Result<usize> {
-    if file.len() < n {
-        replay_io::print_bad_line(writer)?;
-        return Ok(before);
-    }
-    making::fill_bytes(&mut file[0..n], seed);
-    Ok(n)
-}
-
-fn is_rolls(letter: u8) -> bool {
-    if letter < b'g' {
-        return false;
-    }
-    letter < b'k'
-}
-
-fn rolls_case(writer: &mut impl Write, f: Fields, setup: Setup) -> io::Result<Setup> {
-    let forward = setup.forward;
-    let reverse = setup.reverse;
-    let letter = f.letter;
-    let mut next = setup;
-    match letter {
-        b'g' => {
-            let d = new_draws(writer, f, forward)?;
-            next.forward = d;
-            Ok(next)
-        }
-        b'h' => {
-            let d = new_draws(writer, f, reverse)?;
-            next.reverse = d;
-            Ok(next)
-        }
-        b'i' => {
-            let d = with_literals(writer, f, forward)?;
-            next.forward = d;
-            Ok(next)
-        }
-        _ => {
-            let d = with_literals(writer, f, reverse)?;
-            next.reverse = d;
-            Ok(next)
-        }
-    }
-}
-
-fn new_draws(writer: &mut impl Write, f: Fields, before: Draws) -> io::Result<Draws> {
-    let v = f.values;
-    if f.good {
-        if f.count == 3 {
-            if v[0] <= ROLLS as u64 {
-                return Ok(making::draws_of(v[0] as usize, v[1], v[2]));
+    // A line that sets a part of the setup.
+    pub fn set(&mut self, writer: &mut impl Write, f: Fields, bytes: &[u8]) -> io::Result<()> {
+        let v = f.values;
+        match (f.letter, f.count) {
+            (b'p', 6) if v[0] < 3 && v[1] < 2 => self.run = v,
+            (b'c', 7) => self.channel = v,
+            (b't', 8) => self.rto = v,
+            (b'm', 11) if making::sizes_fit(v) => self.sizes = v,
+            (b'f', 0) => {
+                let n = bytes.len().min(FILE);
+                self.file[..n].copy_from_slice(&bytes[..n]);
+                self.file_len = n;
             }
+            (b'f', 2) if v[0] <= FILE as u64 => {
+                let n = v[0] as usize;
+                making::fill_bytes(&mut self.file[..n], v[1]);
+                self.file_len = n;
+            }
+            (b'g', 3) if v[0] <= ROLLS as u64 => {
+                self.forward = Draws::new(v[0] as usize, v[1], v[2]);
+            }
+            (b'h', 3) if v[0] <= ROLLS as u64 => {
+                self.reverse = Draws::new(v[0] as usize, v[1], v[2]);
+            }
+            (b'i', 2..=12) => self.forward = self.forward.with(v, f.count),
+            (b'j', 2..=12) => self.reverse = self.reverse.with(v, f.count),
+            _ => return replay_io::print_bad_line(writer),
         }
+        Ok(())
     }
-    replay_io::print_bad_line(writer)?;
-    Ok(before)
-}
 
-fn with_literals(writer: &mut impl Write, f: Fields, before: Draws) -> io::Result<Draws> {
-    let v = f.values;
-    if f.good {
-        if 1 < f.count {
-            let mut d = before;
-            d.literal = v;
-            d.literals = f.count;
-            return Ok(d);
+    pub fn config(&self) -> TransferConfig {
+        let run = self.run;
+        TransferConfig {
+            protocol: protocol_of(run[0]),
+            clock: clock_of(run[1]),
+            window_size: run[2] as usize,
+            chunk_size: run[3] as usize,
+            channel: channel_of(self.channel),
+            rto: rto_of(self.rto),
+            max_virtual_time: run[4],
+            max_retransmissions: run[5],
         }
-    }
-    replay_io::print_bad_line(writer)?;
-    Ok(before)
-}
-
-pub fn config_of(setup: Setup) -> TransferConfig {
-    let run = setup.run;
-    let channel = setup.channel;
-    let rto = setup.rto;
-    TransferConfig {
-        protocol: protocol_of(run[0]),
-        clock: clock_of(run[1]),
-        window_size: run[2] as usize,
-        chunk_size: run[3] as usize,
-        channel: channel_of(channel),
-        rto: rto_of(rto),
-        max_virtual_time: run[4],
-        max_retransmissions: run[5],
     }
 }
 

@@ -11,18 +11,25 @@ pub struct Draws {
     pub literals: usize,
 }
 
-pub fn draws_of(count: usize, kind: u64, seed: u64) -> Draws {
-    Draws {
-        count,
-        kind,
-        seed,
-        literal: [0; 12],
-        literals: 0,
+impl Draws {
+    pub fn new(count: usize, kind: u64, seed: u64) -> Draws {
+        Draws {
+            count,
+            kind,
+            seed,
+            literal: [0; 12],
+            literals: 0,
+        }
     }
-}
 
-pub fn no_draws() -> Draws {
-    draws_of(0, 0, 0)
+    // With these literals.
+    pub fn with(self, literal: [u64; 12], literals: usize) -> Draws {
+        Draws {
+            literal,
+            literals,
+            ..self
+        }
+    }
 }
 
 // How much a line m may lend at most, in its order.
@@ -87,9 +94,8 @@ fn edge_roll(x: u64) -> f64 {
 }
 
 pub fn fill_rolls(rolls: &mut [f64], d: Draws) {
-    let literal = d.literal;
     make_rolls(rolls, d.kind, d.seed);
-    put_literals(rolls, literal, d.literals);
+    put_literals(rolls, d.literal, d.literals);
 }
 
 fn make_rolls(rolls: &mut [f64], kind: u64, seed: u64) {
@@ -104,10 +110,7 @@ fn make_rolls(rolls: &mut [f64], kind: u64, seed: u64) {
 fn put_literals(rolls: &mut [f64], literal: [u64; 12], literals: usize) {
     let mut at = literal[0] as usize;
     for i in 1..12 {
-        if literals <= i {
-            return;
-        }
-        if rolls.len() <= at {
+        if literals <= i || rolls.len() <= at {
             return;
         }
         rolls[at] = replay_io::real(literal[i]);

@@ -2,6 +2,7 @@
 use channel::ChannelStats;
 use go_back_n::GoBackNReceiver;
 use refusal::Refusal;
+use replay_io::Answer;
 use rto::{RtoConfig, RtoEstimator, RtoStats};
 use selective_repeat::SelectiveRepeatReceiver;
 use session::{Receiver, ReceiverState, Sender, SenderState};
@@ -15,79 +16,60 @@ use window::SendWindow;
 pub fn print_answer(writer: &mut impl Write, a: Result<Outcome, Refusal>) -> io::Result<()> {
     match a {
         Ok(o) => print_outcome(writer, o),
-        Err(r) => replay_io::print_refusal(writer, r),
+        Err(r) => r.print(writer),
     }
 }
 
 fn print_outcome(writer: &mut impl Write, o: Outcome) -> io::Result<()> {
-    let end = o.end;
-    let sender = o.sender;
-    let receiver = o.receiver;
-    let driver = o.driver;
-    let estimator = o.estimator;
-    let forward = o.forward;
-    let reverse = o.reverse;
-    print_end(writer, end)?;
-    replay_io::print_test(writer, o.completed)?;
-    replay_io::print_number(writer, o.finished_at)?;
-    print_sender(writer, sender)?;
-    print_receiver(writer, receiver)?;
-    print_driver(writer, driver)?;
-    print_estimator(writer, estimator)?;
-    print_channel(writer, forward)?;
-    print_channel(writer, reverse)
+    print_end(writer, o.end)?;
+    o.completed.print(writer)?;
+    o.finished_at.print(writer)?;
+    print_sender(writer, o.sender)?;
+    print_receiver(writer, o.receiver)?;
+    print_driver(writer, o.driver)?;
+    print_estimator(writer, o.estimator)?;
+    print_channel(writer, o.forward)?;
+    print_channel(writer, o.reverse)
 }
 
-fn print_end(writer: &mut impl Write, end: End) -> io::Result<()> {
+pub fn print_end(writer: &mut impl Write, end: End) -> io::Result<()> {
     match end {
-        End::Ended => replay_io::print(writer, b" ended"),
-        End::RollsSpent => replay_io::print(writer, b" rolls spent"),
-        End::EventsFull => replay_io::print(writer, b" events full"),
-        End::ScheduleFull => replay_io::print(writer, b" schedule full"),
+        End::Ended => "ended".print(writer),
+        End::RollsSpent => "rolls spent".print(writer),
+        End::EventsFull => "events full".print(writer),
+        End::ScheduleFull => "schedule full".print(writer),
     }
 }
 
-fn wide(n: u32) -> u64 {
-    n as u64
-}
-
 fn print_sender(writer: &mut impl Write, sender: Sender) -> io::Result<()> {
-    let state = sender.state;
     replay_io::print(writer, b"\ns")?;
-    match state {
+    match sender.state {
         SenderState::StopAndWait(s) => print_stop_and_wait_sender(writer, s),
-        SenderState::GoBackN(s) => {
-            let window = s.window;
-            print_window(writer, window)
-        }
-        SenderState::SelectiveRepeat(s) => {
-            let window = s.window;
-            print_window(writer, window)
-        }
+        SenderState::GoBackN(s) => print_window(writer, s.window),
+        SenderState::SelectiveRepeat(s) => print_window(writer, s.window),
     }
 }
 
 fn print_stop_and_wait_sender(writer: &mut impl Write, s: StopAndWaitSender) -> io::Result<()> {
-    replay_io::print_number(writer, wide(s.current_seq))?;
-    replay_io::print_test(writer, s.in_flight)?;
-    replay_io::print_number(writer, wide(s.max_retries))?;
-    replay_io::print_number(writer, wide(s.current_retries))?;
-    replay_io::print_number(writer, s.total_sent)?;
-    replay_io::print_number(writer, s.retransmissions)
+    s.current_seq.print(writer)?;
+    s.in_flight.print(writer)?;
+    s.max_retries.print(writer)?;
+    s.current_retries.print(writer)?;
+    s.total_sent.print(writer)?;
+    s.retransmissions.print(writer)
 }
 
 fn print_window(writer: &mut impl Write, w: SendWindow) -> io::Result<()> {
-    replay_io::print_number(writer, w.window_size as u64)?;
-    replay_io::print_number(writer, wide(w.send_base))?;
-    replay_io::print_number(writer, wide(w.next_seq_num))?;
-    replay_io::print_number(writer, w.total_sent)?;
-    replay_io::print_number(writer, w.retransmissions)
+    w.window_size.print(writer)?;
+    w.send_base.print(writer)?;
+    w.next_seq_num.print(writer)?;
+    w.total_sent.print(writer)?;
+    w.retransmissions.print(writer)
 }
 
 fn print_receiver(writer: &mut impl Write, receiver: Receiver) -> io::Result<()> {
-    let state = receiver.state;
     replay_io::print(writer, b"\nv")?;
-    match state {
+    match receiver.state {
         ReceiverState::StopAndWait(r) => print_stop_and_wait_receiver(writer, r),
         ReceiverState::GoBackN(r) => print_go_back_n_receiver(writer, r),
         ReceiverState::SelectiveRepeat(r) => print_selective_repeat_receiver(writer, r),
@@ -95,111 +77,88 @@ fn print_receiver(writer: &mut impl Write, receiver: Receiver) -> io::Result<()>
 }
 
 fn print_stop_and_wait_receiver(writer: &mut impl Write, r: StopAndWaitReceiver) -> io::Result<()> {
-    replay_io::print_number(writer, wide(r.expected_seq))?;
-    replay_io::print_number(writer, r.filled as u64)?;
-    replay_io::print_number(writer, r.total_received)?;
-    replay_io::print_number(writer, r.duplicates_count)?;
-    replay_io::print_number(writer, r.corrupted_count)
+    r.expected_seq.print(writer)?;
+    r.filled.print(writer)?;
+    r.total_received.print(writer)?;
+    r.duplicates_count.print(writer)?;
+    r.corrupted_count.print(writer)
 }
 
 fn print_go_back_n_receiver(writer: &mut impl Write, r: GoBackNReceiver) -> io::Result<()> {
-    replay_io::print_number(writer, wide(r.expected_seq))?;
-    replay_io::print_number(writer, r.filled as u64)?;
-    replay_io::print_number(writer, r.total_received)?;
-    replay_io::print_number(writer, r.discarded_out_of_order)?;
-    replay_io::print_number(writer, r.duplicate_acks_sent)
+    r.expected_seq.print(writer)?;
+    r.filled.print(writer)?;
+    r.total_received.print(writer)?;
+    r.discarded_out_of_order.print(writer)?;
+    r.duplicate_acks_sent.print(writer)
 }
 
 fn print_selective_repeat_receiver(
     writer: &mut impl Write,
     r: SelectiveRepeatReceiver,
 ) -> io::Result<()> {
-    replay_io::print_number(writer, r.window_size as u64)?;
-    replay_io::print_number(writer, wide(r.recv_base))?;
-    replay_io::print_number(writer, r.filled as u64)?;
-    replay_io::print_number(writer, r.total_received)?;
-    replay_io::print_number(writer, r.buffered_out_of_order)?;
-    replay_io::print_number(writer, r.duplicates_count)
+    r.window_size.print(writer)?;
+    r.recv_base.print(writer)?;
+    r.filled.print(writer)?;
+    r.total_received.print(writer)?;
+    r.buffered_out_of_order.print(writer)?;
+    r.duplicates_count.print(writer)
 }
 
 fn print_driver(writer: &mut impl Write, d: DriverCounts) -> io::Result<()> {
     replay_io::print(writer, b"\nd")?;
-    replay_io::print_number(writer, d.retx_submitted)?;
-    replay_io::print_number(writer, d.premature)?;
-    replay_io::print_number(writer, d.data_received)?;
-    replay_io::print_number(writer, d.ack_sent)?;
-    replay_io::print_number(writer, d.ack_received)?;
-    replay_io::print_number(writer, d.duplicate_data)?;
-    replay_io::print_number(writer, d.duplicate_acks)?;
-    replay_io::print_number(writer, d.events as u64)
+    d.retx_submitted.print(writer)?;
+    d.premature.print(writer)?;
+    d.data_received.print(writer)?;
+    d.ack_sent.print(writer)?;
+    d.ack_received.print(writer)?;
+    d.duplicate_data.print(writer)?;
+    d.duplicate_acks.print(writer)?;
+    d.events.print(writer)
 }
 
 fn print_estimator(writer: &mut impl Write, e: RtoEstimator) -> io::Result<()> {
-    let config = e.config;
-    let srtt = e.srtt;
-    let rttvar = e.rttvar;
-    let stats = e.stats;
     replay_io::print(writer, b"\nt")?;
-    print_config(writer, config)?;
-    print_duration(writer, srtt)?;
-    print_duration(writer, rttvar)?;
-    replay_io::print_number(writer, e.current_rto)?;
-    replay_io::print_number(writer, e.base_rto)?;
-    replay_io::print_test(writer, e.in_backoff)?;
-    replay_io::print_number(writer, wide(e.consecutive_timeouts))?;
-    print_stats(writer, stats)
+    print_config(writer, e.config)?;
+    e.srtt.print(writer)?;
+    e.rttvar.print(writer)?;
+    e.current_rto.print(writer)?;
+    e.base_rto.print(writer)?;
+    e.in_backoff.print(writer)?;
+    e.consecutive_timeouts.print(writer)?;
+    print_stats(writer, e.stats)
 }
 
 fn print_config(writer: &mut impl Write, c: RtoConfig) -> io::Result<()> {
-    replay_io::print_number(writer, c.initial_rto)?;
-    replay_io::print_number(writer, c.min_rto)?;
-    replay_io::print_number(writer, c.max_rto)?;
-    replay_io::print_number(writer, c.granularity)?;
-    print_real(writer, c.alpha)?;
-    print_real(writer, c.beta)?;
-    print_real(writer, c.k)?;
-    print_real(writer, c.rto_multiplier)
+    c.initial_rto.print(writer)?;
+    c.min_rto.print(writer)?;
+    c.max_rto.print(writer)?;
+    c.granularity.print(writer)?;
+    c.alpha.print(writer)?;
+    c.beta.print(writer)?;
+    c.k.print(writer)?;
+    c.rto_multiplier.print(writer)
 }
 
 fn print_stats(writer: &mut impl Write, s: RtoStats) -> io::Result<()> {
-    let min_rtt = s.min_rtt;
-    let max_rtt = s.max_rtt;
-    let latest_rtt = s.latest_rtt;
-    replay_io::print_number(writer, s.sample_count)?;
-    replay_io::print_number(writer, s.karn_rejected_count)?;
-    replay_io::print_number(writer, s.timeout_count)?;
-    replay_io::print_number(writer, s.backoff_count)?;
-    print_duration(writer, min_rtt)?;
-    print_duration(writer, max_rtt)?;
-    print_real(writer, s.sum_rtt_millis)?;
-    print_duration(writer, latest_rtt)?;
-    replay_io::print_number(writer, wide(s.max_consecutive_timeouts))
-}
-
-fn print_duration(writer: &mut impl Write, d: Option<u64>) -> io::Result<()> {
-    match d {
-        None => replay_io::print(writer, b" none"),
-        Some(x) => replay_io::print_number(writer, x),
-    }
-}
-
-// The bits of a number from 0 on.
-fn print_real(writer: &mut impl Write, x: f64) -> io::Result<()> {
-    if x >= 0.0 {
-        replay_io::print_number(writer, f64::to_bits(x))
-    } else {
-        replay_io::print(writer, b" none")
-    }
+    s.sample_count.print(writer)?;
+    s.karn_rejected_count.print(writer)?;
+    s.timeout_count.print(writer)?;
+    s.backoff_count.print(writer)?;
+    s.min_rtt.print(writer)?;
+    s.max_rtt.print(writer)?;
+    s.sum_rtt_millis.print(writer)?;
+    s.latest_rtt.print(writer)?;
+    s.max_consecutive_timeouts.print(writer)
 }
 
 fn print_channel(writer: &mut impl Write, s: ChannelStats) -> io::Result<()> {
     replay_io::print(writer, b"\nc")?;
-    replay_io::print_number(writer, s.packets_seen)?;
-    replay_io::print_number(writer, s.lost)?;
-    replay_io::print_number(writer, s.corrupted)?;
-    replay_io::print_number(writer, s.duplicated)?;
-    replay_io::print_number(writer, s.reordered)?;
-    replay_io::print_number(writer, s.copies_delivered)
+    s.packets_seen.print(writer)?;
+    s.lost.print(writer)?;
+    s.corrupted.print(writer)?;
+    s.duplicated.print(writer)?;
+    s.reordered.print(writer)?;
+    s.copies_delivered.print(writer)
 }
 
 // What stands in a row: a number, how often so far, and whether it is an octet.
@@ -246,8 +205,7 @@ fn print_repeat(writer: &mut impl Write, r: Repeat) -> io::Result<()> {
     replay_io::print(writer, b" ")?;
     print_value(writer, r.value, r.octet)?;
     if 1 < r.count {
-        let count = r.count;
-        write!(writer, "*{count}")?;
+        write!(writer, "*{}", r.count)?;
     }
     Ok(())
 }
@@ -261,51 +219,29 @@ fn print_value(writer: &mut impl Write, value: u64, octet: bool) -> io::Result<(
 }
 
 fn print_octets(writer: &mut impl Write, octets: &[u8]) -> io::Result<()> {
-    let mut r = begun(writer, true)?;
-    for octet in octets {
-        r = followed(writer, r, *octet as u64)?;
+    print_list(writer, octets, true)
+}
+
+fn print_list<T: Copy + Into<u64>>(
+    writer: &mut impl Write,
+    list: &[T],
+    octet: bool,
+) -> io::Result<()> {
+    let mut r = begun(writer, octet)?;
+    for x in list {
+        r = followed(writer, r, (*x).into())?;
     }
     print_repeat(writer, r)
 }
 
-fn print_numbers(writer: &mut impl Write, numbers: &[u64]) -> io::Result<()> {
-    let mut r = begun(writer, false)?;
-    for number in numbers {
-        r = followed(writer, r, *number)?;
-    }
-    print_repeat(writer, r)
-}
-
-fn print_keys(writer: &mut impl Write, keys: &[u32]) -> io::Result<()> {
-    let mut r = begun(writer, false)?;
-    for key in keys {
-        r = followed(writer, r, wide(*key))?;
-    }
-    print_repeat(writer, r)
-}
-
-fn print_sevens(writer: &mut impl Write, rows: &[[u64; 7]]) -> io::Result<()> {
+fn print_rows<const N: usize>(writer: &mut impl Write, rows: &[[u64; N]]) -> io::Result<()> {
     let mut r = begun(writer, false)?;
     for row in rows {
-        r = followed_by_all(writer, r, row)?;
+        for x in row {
+            r = followed(writer, r, *x)?;
+        }
     }
     print_repeat(writer, r)
-}
-
-fn print_fours(writer: &mut impl Write, rows: &[[u64; 4]]) -> io::Result<()> {
-    let mut r = begun(writer, false)?;
-    for row in rows {
-        r = followed_by_all(writer, r, row)?;
-    }
-    print_repeat(writer, r)
-}
-
-fn followed_by_all(writer: &mut impl Write, r: Repeat, row: &[u64]) -> io::Result<Repeat> {
-    let mut next = r;
-    for number in row {
-        next = followed(writer, next, *number)?;
-    }
-    Ok(next)
 }
 
 // The lent slices, a line each: octets in hexadecimal, numbers in decimal, *N after one that stands N times in a row.
@@ -326,12 +262,12 @@ pub fn print_lent(
     print_octets(writer, sender_store)?;
     print_octets(writer, receiver_store)?;
     print_octets(writer, output)?;
-    print_sevens(writer, notes)?;
-    print_sevens(writer, events)?;
-    print_fours(writer, forward_records)?;
+    print_rows(writer, notes)?;
+    print_rows(writer, events)?;
+    print_rows(writer, forward_records)?;
     print_octets(writer, forward_places)?;
-    print_fours(writer, reverse_records)?;
+    print_rows(writer, reverse_records)?;
     print_octets(writer, reverse_places)?;
-    print_keys(writer, keys)?;
-    print_numbers(writer, deadlines)
+    print_list(writer, keys, false)?;
+    print_list(writer, deadlines, false)
 }
