@@ -1,5 +1,6 @@
 use Rattle.std.proofs.Common.{◌≡◌, ◌+◌, ◌%◌, ◌<◌, drop}
 use Rattle.octets.specs.Fold.{fold_bytes}
+use Rattle.octets.specs.Fold.{sum as sum_of}
 use Rattle.octets.proofs.fold_bytes.Given as goal
 
 abbrev pub invariant-loop-b : goal.invariant-loop-b
