@@ -12,6 +12,7 @@ use Rattle.setup.specs.declared.TransferConfig.{TransferConfig}
 use Rattle.step.specs.State.{given, Lent, lent}
 use Rattle.step.specs.declared.End.TheVariants.{Ended}
 use Rattle.transfer.specs.Transfer.{default_ceilings, RunExit, run_transfer}
+use Rattle.transfer.specs.declared.Outcome.{Outcome as RunOutcome}
 use Rattle.trace.specs.Text.{events_text}
 use Rattle.transfer.specs.declared.Outcome.{Outcome}
 use Rattle.refusal.specs.declared.Refusal.{Refusal}
