@@ -53,41 +53,37 @@ impl Channel {
 
 impl ChannelConfig {
     // A bound of a setup is broken.
+    #[tactic(auto, unfolding(crate::specs::Bounds::config_broken))]
     pub fn config_broken(self) -> bool
         ensures { result ≡ config_broken self }
     {
-        if chances_broken(self.loss, self.duplicate, self.reorder, self.corrupt) {
-            return true;
-        }
-        delays_broken(self.reorder_extra_ms, self.base_delay_ms, self.jitter_ms)
+        chances_broken(self.loss, self.duplicate, self.reorder, self.corrupt)
+            || delays_broken(self.reorder_extra_ms, self.base_delay_ms, self.jitter_ms)
     }
 }
 
 impl ChannelStats {
     // A counter is too high to be raised.
+    #[tactic(auto, unfolding(crate::specs::Bounds::stats_full))]
     fn stats_full(self) -> bool
         ensures { result ≡ stats_full self }
     {
-        if any_count_full(self.packets_seen, self.lost, self.corrupted) {
-            return true;
-        }
-        any_count_full(self.duplicated, self.reordered, self.copies_delivered)
+        any_count_full(self.packets_seen, self.lost, self.corrupted)
+            || any_count_full(self.duplicated, self.reordered, self.copies_delivered)
     }
 }
 
 impl Rolls {
+    #[tactic(auto, unfolding(crate::specs::Bounds::rolls_broken))]
     fn rolls_broken(self) -> bool
         ensures { result ≡ rolls_broken self }
     {
-        if any_roll_broken(
+        any_roll_broken(
             self.loss_roll,
             self.dup_roll,
             self.reorder_roll,
             self.corrupt_roll,
-        ) {
-            return true;
-        }
-        any_roll_broken(
+        ) || any_roll_broken(
             self.byte_roll,
             self.bit_roll,
             self.jitter_roll,
@@ -99,16 +95,7 @@ impl Rolls {
 fn any_false(a: bool, b: bool, c: bool, d: bool) -> bool
     ensures { result ≡ (not a || (not b || (not c || not d))) }
 {
-    if !a {
-        return true;
-    }
-    if !b {
-        return true;
-    }
-    if !c {
-        return true;
-    }
-    !d
+    !a || !b || !c || !d
 }
 
 fn chances_broken(a: f64, b: f64, c: f64, d: f64) -> bool
@@ -125,25 +112,13 @@ fn chances_broken(a: f64, b: f64, c: f64, d: f64) -> bool
 fn delays_broken(a: u64, b: u64, c: u64) -> bool
     ensures { result ≡ delays_broken a b c }
 {
-    if bounds::MAX_SETUP_DELAY < a {
-        return true;
-    }
-    if bounds::MAX_SETUP_DELAY < b {
-        return true;
-    }
-    bounds::MAX_SETUP_DELAY < c
+    bounds::MAX_SETUP_DELAY < a || bounds::MAX_SETUP_DELAY < b || bounds::MAX_SETUP_DELAY < c
 }
 
 fn any_count_full(a: u64, b: u64, c: u64) -> bool
     ensures { result ≡ any_count_full a b c }
 {
-    if COUNT_LIMIT <= a {
-        return true;
-    }
-    if COUNT_LIMIT <= b {
-        return true;
-    }
-    COUNT_LIMIT <= c
+    COUNT_LIMIT <= a || COUNT_LIMIT <= b || COUNT_LIMIT <= c
 }
 
 fn any_roll_broken(a: f64, b: f64, c: f64, d: f64) -> bool

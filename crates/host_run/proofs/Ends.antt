@@ -2,12 +2,13 @@
 use Rattle.std.specs.Prelude.{Err, Ok, Result}
 use Prim.Native.Nat.{ℕ, ◌≤◌}
 use mathlib.Core.Path.{◌≡◌, refl, ap, ◌∙◌}
-use mathlib.Core.Bool.{true, false, cond}
+use mathlib.Core.Bool.{Bool, true, false, cond}
 use mathlib.Core.List.{List}
 use borrow.Author.Tests.{ltb-false}
 use lib.ListN.{length}
 use lib.Ieee.{Float}
 use lib.Seq.{sets, sets-eq}
+use Rattle.std.specs.Int.{from_bool}
 use Rattle.refusal.proofs.Laws.{none_of}
 use Rattle.refusal.specs.declared.Refusal.{Refusal}
 use Rattle.refusal.specs.declared.Refusal.TheVariants.{Full}
@@ -31,6 +32,11 @@ unfolding setup_short
 long s d e =
     let none = none_of _ e in
     record { numbers = ltb-false (length s) setup_numbers none.0; doubles = ltb-false (length d) setup_doubles none.1.0 }
+
+-- a bool's number
+pub from_is : (b : Bool) {n : ℕ} → n ≡ from_bool b → n ≡ cond b 1 0
+from_is true e = e
+from_is false e = e
 
 -- words enough for the outcome and the estimator
 pub record Enough (x : Results) : Type 0 where

@@ -1,5 +1,5 @@
 // What a run ends with, put into words.
-ghost use Rattle.std.specs.Prelude.{◌≡◌, cond, false, [], ◌∷◌, ◌≤◌, length};
+ghost use Rattle.std.specs.Prelude.{◌≡◌, false, [], ◌∷◌, ◌+◌, ◌≤◌, length};
 ghost use Rattle.std.proofs.lemmas.List.Edits.{sets};
 ghost use Rattle.session.specs.Sending.{window_in};
 ghost use Rattle.host_words.specs.Words.{receiver_fields};
@@ -29,9 +29,8 @@ pub fn put_answer(
     match answer {
         Ok(o) => {
             put_outcome(words, o);
-            let e = o.estimator;
-            host_estimator::put_estimator_unchecked(estimator, doubles, e);
-            host_answer::pack_unchecked(host_answer::DONE, flag(o.completed))
+            host_estimator::put_estimator_unchecked(estimator, doubles, o.estimator);
+            host_answer::pack_unchecked(host_answer::DONE, u64::from(o.completed))
         }
         Err(r) => host_answer::refusal_answer(r),
     }
@@ -41,31 +40,21 @@ fn put_outcome(words: &mut [u64], o: Outcome)
     requires { outcome_words ≤ length words.old }
     ensures { words.new ≡ with_outcome words.old o }
 {
-    let end = o.end;
-    let driver = o.driver;
-    let sender = o.sender;
-    let receiver = o.receiver;
-    let forward = o.forward;
-    let reverse = o.reverse;
-    let sender_state = sender.state;
-    let receiver_state = receiver.state;
-    put_course(words, o.completed, o.finished_at, end);
-    put_driver(words, driver);
-    put_sender(words, sender_state);
-    put_receiver(words, receiver_state);
-    put_forward(words, forward);
-    put_reverse(words, reverse);
+    put_course(words, o.completed, o.finished_at, o.end);
+    put_driver(words, o.driver);
+    put_sender(words, o.sender.state);
+    put_receiver(words, o.receiver.state);
+    put_channel(words, 19, o.forward);
+    put_channel(words, 25, o.reverse);
 }
 
 fn put_course(words: &mut [u64], completed: bool, at: u64, end: End)
     requires { outcome_words ≤ length words.old }
     ensures { words.new ≡ sets words.old 0 (course_words completed at end) }
 {
-    let done = flag(completed);
-    let end = end_word(end);
-    words[0] = done;
+    words[0] = u64::from(completed);
     words[1] = at;
-    words[2] = end;
+    words[2] = end_word(end);
 }
 
 fn put_driver(words: &mut [u64], d: DriverCounts)
@@ -122,28 +111,16 @@ fn put_receiver(words: &mut [u64], state: ReceiverState)
     words[18] = f.third;
 }
 
-fn put_forward(words: &mut [u64], s: ChannelStats)
-    requires { outcome_words ≤ length words.old }
-    ensures { words.new ≡ sets words.old 19 (channel_words s) }
+fn put_channel(words: &mut [u64], at: usize, s: ChannelStats)
+    requires { at + 6 ≤ length words.old }
+    ensures { words.new ≡ sets words.old at (channel_words s) }
 {
-    words[19] = s.packets_seen;
-    words[20] = s.lost;
-    words[21] = s.corrupted;
-    words[22] = s.duplicated;
-    words[23] = s.reordered;
-    words[24] = s.copies_delivered;
-}
-
-fn put_reverse(words: &mut [u64], s: ChannelStats)
-    requires { outcome_words ≤ length words.old }
-    ensures { words.new ≡ sets words.old 25 (channel_words s) }
-{
-    words[25] = s.packets_seen;
-    words[26] = s.lost;
-    words[27] = s.corrupted;
-    words[28] = s.duplicated;
-    words[29] = s.reordered;
-    words[30] = s.copies_delivered;
+    words[at] = s.packets_seen;
+    words[at + 1] = s.lost;
+    words[at + 2] = s.corrupted;
+    words[at + 3] = s.duplicated;
+    words[at + 4] = s.reordered;
+    words[at + 5] = s.copies_delivered;
 }
 
 fn end_word(end: End) -> u64
@@ -155,10 +132,4 @@ fn end_word(end: End) -> u64
         End::EventsFull => 2,
         End::ScheduleFull => 3,
     }
-}
-
-fn flag(b: bool) -> u64
-    ensures { result ≡ cond b 1 0 }
-{
-    if b { 1 } else { 0 }
 }

@@ -159,6 +159,7 @@ pub fn put_receiver_unchecked(state: &mut [u64], receiver: Receiver)
     put_fields(state, receiver_fields(held));
 }
 
+// A sender has kinds of its own, and a receiver others: two tables of the layout, each with its definition.
 pub fn sender_word(protocol: ProtocolType) -> u64
     ensures { result ≡ sender_word protocol }
 {
@@ -179,41 +180,22 @@ pub fn receiver_word(protocol: ProtocolType) -> u64
     }
 }
 
+#[tactic(auto, unfolding(crate::specs::Words::sender_unreadable, refusal::specs::Clauses::any_of))]
 fn sender_unreadable(state: &[u64]) -> bool
     ensures { result ≡ sender_unreadable state.now }
 {
-    if state.len() < STATE_WORDS {
-        return true;
-    }
-    if MAX_U32 < state[2] {
-        return true;
-    }
-    if MAX_U32 < state[3] {
-        return true;
-    }
-    false
+    state.len() < STATE_WORDS || MAX_U32 < state[2] || MAX_U32 < state[3]
 }
 
+#[tactic(auto, unfolding(crate::specs::Words::not_single, refusal::specs::Clauses::any_of))]
 fn not_single(state: &[u64]) -> bool
     requires { SenderReadable state.now }
     ensures { result ≡ not_single state.now }
 {
-    if state[1] != 1 {
-        return true;
-    }
-    if MAX_U32 < state[6] {
-        return true;
-    }
-    if MAX_U32 < state[7] {
-        return true;
-    }
-    if state[2] == state[3] {
-        return false;
-    }
-    if state[2] + 1 == state[3] {
-        return false;
-    }
-    true
+    state[1] != 1
+        || MAX_U32 < state[6]
+        || MAX_U32 < state[7]
+        || (state[2] != state[3] && state[2] + 1 != state[3])
 }
 
 pub fn window_in_unchecked(state: &[u64]) -> SendWindow
@@ -290,16 +272,11 @@ fn next_number(in_flight: bool, base: u64) -> u64
     base
 }
 
+#[tactic(auto, unfolding(crate::specs::Words::receiver_unreadable, refusal::specs::Clauses::any_of))]
 fn receiver_unreadable(state: &[u64]) -> bool
     ensures { result ≡ receiver_unreadable state.now }
 {
-    if state.len() < STATE_WORDS {
-        return true;
-    }
-    if MAX_U32 < state[2] {
-        return true;
-    }
-    false
+    state.len() < STATE_WORDS || MAX_U32 < state[2]
 }
 
 fn selective_repeat_receiver_in(state: &[u64]) -> SelectiveRepeatReceiver

@@ -59,19 +59,14 @@ fn check_rows(rows: &[Event]) -> Result<(), Refusal>
     Ok(())
 }
 
+#[tactic(auto, unfolding(crate::specs::Checks::is_no_event, refusal::specs::Clauses::any_of))]
 fn is_no_event(row: Event) -> bool
     ensures { result ≡ is_no_event row }
 {
-    if MAX_SEQ_NUM < row[SEQ] {
-        return true;
-    }
-    if 1 < row[AGAIN] {
-        return true;
-    }
-    if MAX_COPIES < row[COPIES] {
-        return true;
-    }
-    any_above(MAX_FOLD, row[COPIES], row[FIRST_FOLD], row[SECOND_FOLD])
+    MAX_SEQ_NUM < row[SEQ]
+        || 1 < row[AGAIN]
+        || MAX_COPIES < row[COPIES]
+        || any_above(MAX_FOLD, row[COPIES], row[FIRST_FOLD], row[SECOND_FOLD])
 }
 
 fn is_late(row: Event) -> bool

@@ -43,8 +43,7 @@ pub(crate) fn position_index(position: Result<usize, usize>) -> usize
     ensures { result ≡ index_of position }
 {
     match position {
-        Ok(i) => i,
-        Err(i) => i,
+        Ok(i) | Err(i) => i,
     }
 }
 

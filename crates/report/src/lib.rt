@@ -54,6 +54,7 @@ fn place_page(rows: &[Event], out: &mut [u8]) -> Result<usize, Refusal>
     Ok(next)
 }
 
+// trace has this loop too, over lines of its own: shared, it would take the line's definition and writer as parameters.
 fn write_lines(rows: &[Event], out: &mut [u8], at: usize) -> usize
     requires { at + length (event_lines (map event_of rows.now)) ≤ length out.old }
     ensures { (result ≡ at + length (event_lines (map event_of rows.now)))

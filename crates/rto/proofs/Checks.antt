@@ -1,9 +1,8 @@
 -- The checks of the entry points: their order, and what they let pass.
 use Rattle.std.specs.Prelude.{Err, Result, Some}
-use Rattle.std.proofs.Common.{◌≡◌, ℕ, ◌<◌, ◌≤◌, Bool, true, false, cond, not, ◌&&◌, ◌||◌, T, ltb, leb, [], ◌∷◌, refl, ◌∙◌, true≢false, ltb-false, le-leb, leb-false, leb-true}
+use Rattle.std.proofs.Common.{◌≡◌, ℕ, ◌<◌, ◌≤◌, Bool, true, false, cond, not, ◌&&◌, ◌||◌, T, ltb, leb, [], ◌∷◌, refl, ◌∙◌, true≢false, ltb-false, leb-false, leb-true}
 use mathlib.Core.Bool.{and-eq-true_iff}
 use denote.Floats.{passes}
-use borrow.Author.Tests.{lt-leb}
 use Rattle.bounds.specs.Bounds.{count_limit, max_duration, max_estimate, max_granularity}
 use Rattle.refusal.proofs.Laws.{or_false, accepted_none_true}
 use Rattle.refusal.specs.Counts.{count_full}
@@ -108,56 +107,6 @@ count_below s e =
 -- ---- held estimates
 pub estimates_fit : (s v : ℕ) → estimate_broken (Some s) (Some v) ≡ false → (s ≤ max_estimate) × (v ≤ max_estimate)
 estimates_fit s v e = let h = or_false (ltb max_estimate s) (ltb max_estimate v) e in (ltb-false _ _ h.0, ltb-false _ _ h.1)
-
--- ---- the tests, one after the other
-module _ (c : RtoConfig) where
-  pub durations_1 : max_duration < c.initial_rto → false ≡ durations_in_bounds c
-  durations_1 a = simp (lt-leb _ _ a)
-
-  pub durations_2 : c.initial_rto ≤ max_duration → max_duration < c.min_rto → false ≡ durations_in_bounds c
-  durations_2 a b = simp (le-leb _ _ a, lt-leb _ _ b)
-
-  pub durations_3 : c.initial_rto ≤ max_duration → c.min_rto ≤ max_duration → max_duration < c.max_rto → false ≡ durations_in_bounds c
-  durations_3 a b d = simp (le-leb _ _ a, le-leb _ _ b, lt-leb _ _ d)
-
-  pub durations_4 : c.initial_rto ≤ max_duration → c.min_rto ≤ max_duration → c.max_rto ≤ max_duration → max_granularity < c.granularity → false ≡ durations_in_bounds c
-  durations_4 a b d e = simp (le-leb _ _ a, le-leb _ _ b, le-leb _ _ d, lt-leb _ _ e)
-
-  pub durations_5 : c.initial_rto ≤ max_duration → c.min_rto ≤ max_duration → c.max_rto ≤ max_duration → c.granularity ≤ max_granularity → leb c.min_rto c.max_rto ≡ durations_in_bounds c
-  durations_5 a b d e = simp (le-leb _ _ a, le-leb _ _ b, le-leb _ _ d, le-leb _ _ e)
-
--- a conjunction of four, test by test
-module _ (a b d e : Bool) where
-  pub four_1 : a ≡ false → false ≡ (a && (b && (d && e)))
-  four_1 p = simp p
-
-  pub four_2 : a ≡ true → b ≡ false → false ≡ (a && (b && (d && e)))
-  four_2 p q = simp (p, q)
-
-  pub four_3 : a ≡ true → b ≡ true → d ≡ false → false ≡ (a && (b && (d && e)))
-  four_3 p q r = simp (p, q, r)
-
-  pub four_4 : (x : Bool) → a ≡ true → b ≡ true → d ≡ true → x ≡ e → x ≡ (a && (b && (d && e)))
-  four_4 x p q r s = simp (p, q, r, s)
-
-  -- and a disjunction
-  pub or_1 : a ≡ true → true ≡ (a || (b || (d || e)))
-  or_1 p = simp p
-
-  pub or_2 : a ≡ false → b ≡ true → true ≡ (a || (b || (d || e)))
-  or_2 p q = simp (p, q)
-
-  pub or_3 : a ≡ false → b ≡ false → d ≡ true → true ≡ (a || (b || (d || e)))
-  or_3 p q r = simp (p, q, r)
-
-  pub or_4 : a ≡ false → b ≡ false → d ≡ false → e ≡ (a || (b || (d || e)))
-  or_4 p q r = simp (p, q, r)
-
-pub and_stops : (a b : Bool) → a ≡ false → false ≡ (a && b)
-and_stops a b p = simp p
-
-pub and_goes : (a b x : Bool) → a ≡ true → x ≡ b → x ≡ (a && b)
-and_goes a b x p q = simp (p, q)
 
 -- ---- a good state's parts
 pub broken_config : (e : RtoEstimator) → state_broken e ≡ false → config_in_bounds e.config ≡ true

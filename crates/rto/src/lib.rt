@@ -73,13 +73,11 @@ pub struct ResetResult {
     pub answer: Result<(), Refusal>,
 }
 
+#[tactic(auto, unfolding(crate::specs::Rto::config_in_bounds))]
 pub fn config_in_bounds(c: RtoConfig) -> bool
     ensures { result ≡ config_in_bounds c }
 {
-    if !durations_in_bounds(c) {
-        return false;
-    }
-    factors_in_bounds(c)
+    durations_in_bounds(c) && factors_in_bounds(c)
 }
 
 impl RtoConfig {
@@ -277,46 +275,27 @@ fn call_verdict(broken: bool, full: bool, late: bool) -> Result<(), Refusal>
 fn durations_in_bounds(c: RtoConfig) -> bool
     ensures { result ≡ durations_in_bounds c }
 {
-    if c.initial_rto > MAX_DURATION {
-        return false;
-    }
-    if c.min_rto > MAX_DURATION {
-        return false;
-    }
-    if c.max_rto > MAX_DURATION {
-        return false;
-    }
-    if c.granularity > MAX_GRANULARITY {
-        return false;
-    }
-    c.min_rto <= c.max_rto
+    c.initial_rto <= MAX_DURATION
+        && c.min_rto <= MAX_DURATION
+        && c.max_rto <= MAX_DURATION
+        && c.granularity <= MAX_GRANULARITY
+        && c.min_rto <= c.max_rto
 }
 
 fn factors_in_bounds(c: RtoConfig) -> bool
     ensures { result ≡ factors_in_bounds c }
 {
-    if !float::chance_in_bounds(c.alpha) {
-        return false;
-    }
-    if !float::chance_in_bounds(c.beta) {
-        return false;
-    }
-    if !rtt::factor_in_bounds(c.k) {
-        return false;
-    }
-    rtt::factor_in_bounds(c.rto_multiplier)
+    float::chance_in_bounds(c.alpha)
+        && float::chance_in_bounds(c.beta)
+        && rtt::factor_in_bounds(c.k)
+        && rtt::factor_in_bounds(c.rto_multiplier)
 }
 
+#[tactic(auto, unfolding(crate::specs::Rto::state_broken))]
 fn state_broken(e: RtoEstimator) -> bool
     ensures { result ≡ state_broken e }
 {
-    let config = e.config;
-    let srtt = e.srtt;
-    let rttvar = e.rttvar;
-    if !config_in_bounds(config) {
-        return true;
-    }
-    estimate_broken(srtt, rttvar)
+    !config_in_bounds(e.config) || estimate_broken(e.srtt, e.rttvar)
 }
 
 fn estimate_broken(srtt: Option<u64>, rttvar: Option<u64>) -> bool
@@ -337,56 +316,34 @@ fn estimate_broken(srtt: Option<u64>, rttvar: Option<u64>) -> bool
 fn too_large(srtt: u64, rttvar: u64) -> bool
     ensures { result ≡ nat_lt max_estimate srtt || nat_lt max_estimate rttvar }
 {
-    if srtt > MAX_ESTIMATE {
-        return true;
-    }
-    rttvar > MAX_ESTIMATE
+    srtt > MAX_ESTIMATE || rttvar > MAX_ESTIMATE
 }
 
+#[tactic(auto, unfolding(crate::specs::Rto::counts_full))]
 fn counts_full(s: RtoStats) -> bool
     ensures { result ≡ counts_full s }
 {
-    if s.sample_count >= COUNT_LIMIT {
-        return true;
-    }
-    if s.karn_rejected_count >= COUNT_LIMIT {
-        return true;
-    }
-    if s.timeout_count >= COUNT_LIMIT {
-        return true;
-    }
-    s.backoff_count >= COUNT_LIMIT
+    s.sample_count >= COUNT_LIMIT
+        || s.karn_rejected_count >= COUNT_LIMIT
+        || s.timeout_count >= COUNT_LIMIT
+        || s.backoff_count >= COUNT_LIMIT
 }
 
+#[tactic(auto, unfolding(crate::specs::Rto::held_too_long))]
 fn held_too_long(e: RtoEstimator) -> bool
     ensures { result ≡ held_too_long e }
 {
-    let stats = e.stats;
-    let min_rtt = stats.min_rtt;
-    let max_rtt = stats.max_rtt;
-    let latest_rtt = stats.latest_rtt;
-    if e.current_rto > MAX_DURATION {
-        return true;
-    }
-    if e.base_rto > MAX_DURATION {
-        return true;
-    }
-    if rtt_too_long(min_rtt) {
-        return true;
-    }
-    if rtt_too_long(max_rtt) {
-        return true;
-    }
-    rtt_too_long(latest_rtt)
+    e.current_rto > MAX_DURATION
+        || e.base_rto > MAX_DURATION
+        || rtt_too_long(e.stats.min_rtt)
+        || rtt_too_long(e.stats.max_rtt)
+        || rtt_too_long(e.stats.latest_rtt)
 }
 
 fn sample_too_long(e: RtoEstimator, sample: u64) -> bool
     ensures { result ≡ sample_too_long e sample }
 {
-    if held_too_long(e) {
-        return true;
-    }
-    sample > MAX_DURATION
+    held_too_long(e) || sample > MAX_DURATION
 }
 
 fn rtt_too_long(r: Option<u64>) -> bool

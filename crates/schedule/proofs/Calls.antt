@@ -13,7 +13,7 @@ use borrow.Author.Tests.{ltb-false, leb-false, lt-ltb, le-ltb, le-leb, lt-leb, n
 use Rattle.bounds.specs.Bounds.{count_limit, max_time}
 use Rattle.refusal.proofs.Laws.{or_false, on_accepted, on_refused, accepted_none_true}
 use Rattle.schedule.specs.Record.{record4, time_of, record_length, place_of, vacant, after, inserted, lowest_free}
-use Rattle.schedule.specs.State.{Schedule, schedule, waiting_records, broken_from, state_broken, late, held_late, leaves_at, delay_late, deliveries_late, copies, delay_at, unused_places, unused_records, lacks_room, CanPut, CanSchedule}
+use Rattle.schedule.specs.State.{Schedule, schedule, waiting_records, state_broken, late, held_late, leaves_at, delay_late, deliveries_late, copies, delay_at, unused_places, unused_records, lacks_room, CanPut, CanSchedule}
 use Rattle.schedule.specs.Schedule.{scheduler, new_schedule, placed, place_bytes, put_copy, schedule_at_unchecked, schedule_checks, room_of, first_record, bytes_of, without_first, pop_exit, on_pop, pop_unchecked, pop_checks, CanPop, read_checks}
 use Rattle.refusal.specs.Order.{verdict, decide}
 use Rattle.refusal.specs.declared.Refusal.{Refusal}
@@ -28,15 +28,6 @@ new_law rs ps p q = rw (p, q, length-take-le (length ps / 1410 * 1410) ps (whole
   where
     whole : (n : ℕ) → n / 1410 * 1410 ≤ n
     whole n = omega arith
-
--- ---- check 9
-pub broken_by_count : (m : Schedule) → length m.records < m.scheduler.count → true ≡ state_broken m
-unfolding state_broken
-broken_by_count m h = sym (ap (λ (b : Bool). b || broken_from m.scheduler.next_order (length m.places / 1410) vacant (waiting_records m)) (lt-ltb (length m.records) m.scheduler.count h))
-
-pub broken_by_records : (m : Schedule) {b : Bool} → m.scheduler.count ≤ length m.records → b ≡ broken_from m.scheduler.next_order (length m.places / 1410) vacant (waiting_records m) → b ≡ state_broken m
-unfolding state_broken
-broken_by_records m h e = e ∙ sym (ap (λ (b : Bool). b || broken_from m.scheduler.next_order (length m.places / 1410) vacant (waiting_records m)) (le-ltb (length m.records) m.scheduler.count h))
 
 -- ---- scheduling
 pub put_law : (rs : List (List ℕ)) (ps : List ℕ) (s : ChannelScheduler) (time : ℕ) (packet : List ℕ) {rs' : List (List ℕ)} {ps' : List ℕ} {place : ℕ}

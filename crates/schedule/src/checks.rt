@@ -86,14 +86,13 @@ impl ChannelScheduler {
     }
 
     // Check 9.
+    #[tactic(auto, unfolding(crate::specs::State::state_broken))]
     fn state_broken(self, records: &[ScheduledRow], places: &[u8]) -> bool
         ensures { result ≡ state_broken (schedule records.now places.now self) }
     {
         let count = self.count;
-        if records.len() < count {
-            return true;
-        }
-        records_broken(records, count, self.next_order, places.len() / PLACE_SIZE)
+        records.len() < count
+            || records_broken(records, count, self.next_order, places.len() / PLACE_SIZE)
     }
 
     // Check 10, of the times given and held.
@@ -102,13 +101,7 @@ impl ChannelScheduler {
         ensures { result ≡ (late now || (held_late (take self.count records.now) || deliveries_late now
             deliveries)) }
     {
-        if MAX_TIME < now {
-            return true;
-        }
-        if held_late(records, self.count) {
-            return true;
-        }
-        deliveries_late(now, deliveries)
+        MAX_TIME < now || held_late(records, self.count) || deliveries_late(now, deliveries)
     }
 
     // Check 5 of `pop_ready_at`.
@@ -132,15 +125,7 @@ impl ChannelScheduler {
 fn bounds_broken(r: ScheduledRow, next: u64, places: u64) -> bool
     ensures { result ≡ bounds_broken next places r }
 {
-    let len = r[2] as usize;
-    if MAX_DATAGRAM_SIZE < len {
-        return true;
-    }
-    let order = r[1];
-    if next <= order {
-        return true;
-    }
-    places <= r[3]
+    MAX_DATAGRAM_SIZE < r[2] as usize || next <= r[1] || places <= r[3]
 }
 
 // Check 9 of a record and the one in front of it. Mostly the time alone tells the order.
@@ -178,10 +163,7 @@ fn records_broken(s: &[ScheduledRow], count: usize, next: u64, places: usize) ->
     requires { count ≤ length s.now }
     ensures { result ≡ broken_from next places vacant (take count s.now) }
 {
-    if any_record_broken(s, count, next, places) {
-        return true;
-    }
-    place_doubled(s, count, places)
+    any_record_broken(s, count, next, places) || place_doubled(s, count, places)
 }
 
 // Whether one of the first `count` records, which are in leaving order, has a time above its bound: the last one's is
@@ -202,10 +184,7 @@ fn delay_late(now: u64, delay: u64) -> bool
     requires { now ≤ max_time }
     ensures { result ≡ delay_late now delay }
 {
-    if bounds::MAX_DELIVERY_DELAY < delay {
-        return true;
-    }
-    MAX_TIME < now + delay * 1000000
+    bounds::MAX_DELIVERY_DELAY < delay || MAX_TIME < now + delay * 1000000
 }
 
 fn deliveries_late(now: u64, deliveries: Deliveries) -> bool
@@ -215,11 +194,6 @@ fn deliveries_late(now: u64, deliveries: Deliveries) -> bool
     match deliveries {
         Deliveries::Lost => false,
         Deliveries::One(d) => delay_late(now, d),
-        Deliveries::Two(d, e) => {
-            if delay_late(now, d) {
-                return true;
-            }
-            delay_late(now, e)
-        }
+        Deliveries::Two(d, e) => { delay_late(now, d) || delay_late(now, e) }
     }
 }

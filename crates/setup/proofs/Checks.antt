@@ -1,29 +1,20 @@
 -- The tests of a start, one after the other.
 use Rattle.std.specs.Prelude.{Err, Ok, Result}
 use mathlib.Core.Path.{◌≡◌, refl, subst}
-use mathlib.Core.Bool.{Bool, true, false, not, cond, ◌||◌, ◌&&◌}
+use mathlib.Core.Bool.{Bool, true, false, cond}
 use mathlib.Core.List.{List, [], ◌∷◌}
 use Prim.Native.Nat.{ℕ, ◌≤◌, ◌<◌}
 use native.Mathlib.Omega.{arith}
-use lib.Dec.{ltb, eqb}
-use borrow.Author.Tests.{lt-ltb, le-ltb, ltb-false, not-true, not-false, eq-eqb}
+use lib.Dec.{ltb}
+use borrow.Author.Tests.{ltb-false}
 use Rattle.refusal.proofs.Laws.{or_false}
 use Rattle.refusal.specs.Order.{Check, check, verdict, first_of, numbered, or_else, order}
 use Rattle.refusal.specs.declared.Refusal.TheVariants.{Short, Kind, Cut, Setup, Full, Long, Numbers, Counts, State, Time, Roll}
 use Rattle.window.specs.State.{window_broken}
-use Rattle.rto.specs.declared.RtoConfig.{RtoConfig}
-use Rattle.setup.specs.Setup.{edition_times, chunks_broken, setup_broken}
+use Rattle.setup.specs.Setup.{chunks_broken, setup_broken}
 use Rattle.setup.specs.declared.TransferConfig.{TransferConfig}
 use Rattle.refusal.specs.declared.Refusal.{Refusal}
 use Rattle.refusal.specs.Order.{passed}
-
--- ---- 5: a count that is read, against its definition
-module _ {a b k m n : ℕ} (t : Bool) where
-  pub room_2 : b ≤ a → m ≡ n → k < m → true ≡ (ltb a b || (ltb k n || t))
-  room_2 p e q = let l : k < n = rw (← e) q in simp (le-ltb _ _ p, lt-ltb _ _ l)
-
-  pub room_3 : b ≤ a → m ≡ n → m ≤ k → {r : Bool} → r ≡ t → r ≡ (ltb a b || (ltb k n || t))
-  room_3 p e q h = let l : n ≤ k = rw (← e) q in simp (le-ltb _ _ p, le-ltb _ _ l) h
 
 -- ---- 4: its first two tests were false, so a chunk has a byte
 pub chunk_some : (c : TransferConfig) (file : List ℕ) → setup_broken c file ≡ false → 0 < c.chunk_size
@@ -33,24 +24,6 @@ chunk_some c file e =
     let b = (or_false (chunks_broken c.chunk_size file) _ a).0 in
     let p : 1 ≤ c.chunk_size = ltb-false c.chunk_size 1 (or_false (ltb c.chunk_size 1) _ b).0 in
     omega arith
-
--- ---- a conjunction of four, test by test
-module _ (a b d e : Bool) where
-  pub four_1 : not a ≡ true → false ≡ (a && (b && (d && e)))
-  four_1 p = simp (not-true a p)
-
-  pub four_2 : not a ≡ false → not b ≡ true → false ≡ (a && (b && (d && e)))
-  four_2 p q = simp (not-false a p, not-true b q)
-
-  pub four_3 : not a ≡ false → not b ≡ false → not d ≡ true → false ≡ (a && (b && (d && e)))
-  four_3 p q r = simp (not-false a p, not-false b q, not-true d r)
-
-  pub four_4 : not a ≡ false → not b ≡ false → not d ≡ false → e ≡ (a && (b && (d && e)))
-  four_4 p q r = simp (not-false a p, not-false b q, not-false d r)
-
--- the edition clock's numbers
-pub times_4 : (c : RtoConfig) → c.initial_rto ≡ 1000000000 → c.min_rto ≡ 1000000000 → c.max_rto ≡ 60000000000 → eqb c.granularity 1000000 ≡ edition_times c
-times_4 c p q r = simp (eq-eqb _ _ p, eq-eqb _ _ q, eq-eqb _ _ r)
 
 -- ---- the order of 9, 11, 4 and 5
 abbrev pub four_checks : Bool → Bool → Bool → Bool → List Check

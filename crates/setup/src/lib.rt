@@ -70,6 +70,7 @@ pub fn start_verdict(
 }
 
 // Check 9: timer slices of unequal length, stores shorter than their slots.
+#[tactic(auto, unfolding(crate::specs::Setup::state_broken))]
 fn state_broken(
     config: TransferConfig,
     sender_store: &[u8],
@@ -80,11 +81,13 @@ fn state_broken(
     ensures { result ≡ state_broken config sender_store.now receiver_store.now
         keys.now deadlines.now }
 {
-    if keys.len() != deadlines.len() {
-        return true;
-    }
-    let protocol = config.protocol;
-    stores_short(protocol, config.window_size, sender_store, receiver_store)
+    keys.len() != deadlines.len()
+        || stores_short(
+            config.protocol,
+            config.window_size,
+            sender_store,
+            receiver_store,
+        )
 }
 
 fn stores_short(
@@ -107,10 +110,8 @@ fn both_short(sender_store: &[u8], receiver_store: &[u8], window_size: usize) ->
     ensures { result ≡ (store_short sender_store.now window_size
         || store_short receiver_store.now window_size) }
 {
-    if window::store_short(sender_store, window_size) {
-        return true;
-    }
-    window::store_short(receiver_store, window_size)
+    window::store_short(sender_store, window_size)
+        || window::store_short(receiver_store, window_size)
 }
 
 // Check 11, of all rolls, used or not.
@@ -120,48 +121,28 @@ fn any_rolls_broken(forward_rolls: &[f64], reverse_rolls: &[f64]) -> bool
 {
     let forward = path::rolls_broken(forward_rolls);
     let reverse = path::rolls_broken(reverse_rolls);
-    if forward {
-        return true;
-    }
-    reverse
+    forward || reverse
 }
 
 // Check 4.
+#[tactic(auto, unfolding(crate::specs::Setup::setup_broken))]
 fn setup_broken(config: TransferConfig, file: &[u8]) -> bool
     ensures { result ≡ setup_broken config file.now }
 {
-    let channel = config.channel;
-    let rto = config.rto;
-    let clock = config.clock;
-    let protocol = config.protocol;
-    if window::window_broken(config.window_size) {
-        return true;
-    }
-    if chunks_broken(file, config.chunk_size) {
-        return true;
-    }
-    if channel.config_broken() {
-        return true;
-    }
-    if !rto::config_in_bounds(rto) {
-        return true;
-    }
-    if bounds::MAX_DURATION < config.max_virtual_time {
-        return true;
-    }
-    clock_broken(clock, protocol, rto)
+    window::window_broken(config.window_size)
+        || chunks_broken(file, config.chunk_size)
+        || config.channel.config_broken()
+        || !rto::config_in_bounds(config.rto)
+        || bounds::MAX_DURATION < config.max_virtual_time
+        || clock_broken(config.clock, config.protocol, config.rto)
 }
 
 fn chunks_broken(file: &[u8], chunk_size: usize) -> bool
     ensures { result ≡ chunks_broken chunk_size file.now }
 {
-    if chunk_size < 1 {
-        return true;
-    }
-    if bounds::MAX_PAYLOAD_SIZE < chunk_size {
-        return true;
-    }
-    bounds::MAX_CHUNKS < chunks::chunk_count_unchecked(file, chunk_size)
+    chunk_size < 1
+        || bounds::MAX_PAYLOAD_SIZE < chunk_size
+        || bounds::MAX_CHUNKS < chunks::chunk_count_unchecked(file, chunk_size)
 }
 
 fn clock_broken(clock: ClockChoice, protocol: ProtocolType, rto: RtoConfig) -> bool
@@ -181,43 +162,26 @@ fn clock_broken(clock: ClockChoice, protocol: ProtocolType, rto: RtoConfig) -> b
 fn is_edition(c: RtoConfig) -> bool
     ensures { result ≡ is_edition c }
 {
-    if edition_times(c) {
-        return edition_factors(c);
-    }
-    false
+    edition_times(c) && edition_factors(c)
 }
 
 fn edition_times(c: RtoConfig) -> bool
     ensures { result ≡ edition_times c }
 {
-    if c.initial_rto != 1_000_000_000 {
-        return false;
-    }
-    if c.min_rto != 1_000_000_000 {
-        return false;
-    }
-    if c.max_rto != 60_000_000_000 {
-        return false;
-    }
-    c.granularity == 1_000_000
+    c.initial_rto == 1_000_000_000
+        && c.min_rto == 1_000_000_000
+        && c.max_rto == 60_000_000_000
+        && c.granularity == 1_000_000
 }
 
 fn edition_factors(c: RtoConfig) -> bool
     ensures { result ≡ edition_factors c }
 {
-    if c.alpha != 0.125 {
-        return false;
-    }
-    if c.beta != 0.25 {
-        return false;
-    }
-    if c.k != 4.0 {
-        return false;
-    }
-    c.rto_multiplier == 1.0
+    c.alpha == 0.125 && c.beta == 0.25 && c.k == 4.0 && c.rto_multiplier == 1.0
 }
 
 // Check 5.
+#[tactic(auto, unfolding(crate::specs::Setup::room_missing))]
 fn room_missing(
     config: TransferConfig,
     file: &[u8],
@@ -229,14 +193,9 @@ fn room_missing(
     ensures { result ≡ room_missing config file.now output.now notes.now
         keys.now }
 {
-    if output.len() < file.len() {
-        return true;
-    }
-    if notes.len() < chunks::chunk_count_unchecked(file, config.chunk_size) {
-        return true;
-    }
-    let protocol = config.protocol;
-    timers_short(protocol, config.window_size, keys)
+    output.len() < file.len()
+        || notes.len() < chunks::chunk_count_unchecked(file, config.chunk_size)
+        || timers_short(config.protocol, config.window_size, keys)
 }
 
 fn timers_short(protocol: ProtocolType, window_size: usize, keys: &[u32]) -> bool

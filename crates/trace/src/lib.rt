@@ -72,6 +72,7 @@ fn lines_fit(rows: &[Event], room: usize) -> bool
     true
 }
 
+// report has this loop too, over lines of its own: shared, it would take the line's definition and writer as parameters.
 fn write_lines(rows: &[Event], out: &mut [u8], at: usize) -> usize
     requires { at + length (event_lines (map event_of rows.now)) ≤ length out.old }
     ensures { (result ≡ at + length (event_lines (map event_of rows.now)))

@@ -1,5 +1,6 @@
 use native.Mathlib.Omega.{arith}
 use lib.ListN.{length-set}
+use Rattle.host_run.proofs.Ends.{from_is}
 use Rattle.host_run.proofs.outcome.put_course.Goals as goal
 
 pub bounds-words-1 : goal.bounds-words-1
@@ -9,4 +10,4 @@ pub bounds-words-2 : goal.bounds-words-2
 bounds-words-2 c = simp length-set (omega arith)
 
 pub returns : goal.returns
-returns c = rw (c.flag-done.ensures, c.end_word-end.ensures)
+returns c = rw (from_is c.args.completed c.from.ensures, c.end_word.ensures)
