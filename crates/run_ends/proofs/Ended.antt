@@ -54,6 +54,7 @@ use Rattle.edition_clock.proofs.Run.{run_last}
 use Rattle.run_ends.specs.Ended.{is_idle, next_time, NothingToSend, TimerPast, EndedWhy, EndedSo}
 use Rattle.run_ends.specs.Ended.EndedWhy.{finished, resends_used, nothing_due, past_limit, rounds_used, timer_past, moments_used}
 use Rattle.run_ends.proofs.Quiet.{or_right, none_sent, sent_left, Drained, arrivals_drained, line_later, SinglePast, timers_later}
+use Rattle.path.specs.declared.Stop.TheVariants as stop
 
 -- ---- exhausted only where the ceiling is met
 module _ (limit : ℕ) where
@@ -161,7 +162,9 @@ module _ (p : Plan) (g : Given) (plan : GoodPlan p g) where
 
     unless : (st : Option Stop) (u : RunState) (rest : StepExit) → (is_going st ≡ true → Why s rest) → Why s (unless_stopped st u rest)
     unless (None) u rest h = h refl
-    unless (Some why) u rest h = record { goes = λ e. absurd (still_going e); ends = λ o e. let z : ◌≡◌ {A = ℕ} 0 1 = cc in absurd (omega arith) }
+    unless (Some stop.RollsSpent) u rest h = record { goes = λ e. absurd (still_going e); ends = λ o e. let z : ◌≡◌ {A = ℕ} 0 1 = cc in absurd (omega arith) }
+    unless (Some stop.EventsFull) u rest h = record { goes = λ e. absurd (still_going e); ends = λ o e. let z : ◌≡◌ {A = ℕ} 0 1 = cc in absurd (omega arith) }
+    unless (Some stop.ScheduleFull) u rest h = record { goes = λ e. absurd (still_going e); ends = λ o e. let z : ◌≡◌ {A = ℕ} 0 1 = cc in absurd (omega arith) }
 
     either : (b : Bool) (x y : StepExit) → (b ≡ true → Why s x) → (b ≡ false → Why s y) → Why s (cond b x y)
     either true x y h k = h refl

@@ -60,7 +60,9 @@ module _ (c d : ChannelConfig) (p : Plan) (g : Given) where
 
   unless : (st : Option Stop) (u : RunState) (rest : StepExit) → LinesAt st (None) u ⊎ LinesAt (None) st u → (st ≡ None → Ends rest) → Ends (unless_stopped st u rest)
   unless (None) u rest h k = k refl
-  unless (Some why) u rest h k = record { is = h }
+  unless (Some stop.RollsSpent) u rest h k = record { is = h }
+  unless (Some stop.EventsFull) u rest h k = record { is = h }
+  unless (Some stop.ScheduleFull) u rest h k = record { is = h }
 
   either : (b : Bool) {x y : StepExit} → Ends x → Ends y → Ends (cond b x y)
   either true h k = h
