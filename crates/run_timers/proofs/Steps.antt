@@ -32,6 +32,7 @@ use Rattle.transfer.specs.Transfer.{end_of}
 use Rattle.transfer.proofs.Laws.{run_over}
 use Rattle.edition_clock.specs.AlongARun.{Reached, start, next}
 use Rattle.edition_clock.proofs.Run.{run_last}
+use Rattle.path.specs.declared.Stop.TheVariants as stop
 
 -- ---- check 9 of the sender is false after the departures too
 sent_unbroken : {t : Timing} {rolls : List Float} {size : ℕ} {file : List ℕ} {total samples now : ℕ} (top : ℕ) (s : FireState) → CanSendDue t rolls size file total now s → GoodFire t rolls samples now s
@@ -61,7 +62,9 @@ module _ (Q : Kept) (lasting : Lasting Q) (p : Plan) (g : Given) where
 
   unless : (st : Option Stop) (u : RunState) (rest : StepExit) → (is_going st ≡ true → AtEnd rest) → AtEnd (unless_stopped st u rest)
   unless (None) u rest h = h refl
-  unless (Some why) u rest h = λ e. let z : ◌≡◌ {A = ℕ} 0 1 = cc in absurd (omega arith)
+  unless (Some stop.RollsSpent) u rest h = λ e. let z : ◌≡◌ {A = ℕ} 0 1 = cc in absurd (omega arith)
+  unless (Some stop.EventsFull) u rest h = λ e. let z : ◌≡◌ {A = ℕ} 0 1 = cc in absurd (omega arith)
+  unless (Some stop.ScheduleFull) u rest h = λ e. let z : ◌≡◌ {A = ℕ} 0 1 = cc in absurd (omega arith)
 
   either : (b : Bool) (x y : StepExit) → AtEnd x → AtEnd y → AtEnd (cond b x y)
   either true x y h k = h
