@@ -39,12 +39,12 @@ single_due_lem timing.Single c now some e = both_true (expired_at (timer_of c).d
 single_due_lem timing.PerNumber c now some e = absurd (single_timing timing.PerNumber c now some e refl)
 single_due_lem timing.Edition c now some e = both_true (expired_at (timer_of c).deadline now) some ran.Idle (λ (f : ran.Idle ≡ ran.Single). let z : ◌≡◌ {A = ℕ} 0 1 = cc in omega arith) e
 
-record Some (ns : List ℕ) : Type 0 where
+record NonEmpty (ns : List ℕ) : Type 0 where
   first : ℕ
   more : List ℕ
   are : ns ≡ first ∷ more
 
-numbers_due_lem : (t : Timing) (c : ClockState) (now : ℕ) (some : Bool) → due t c now some ≡ ran.Numbers → Some (expired c now)
+numbers_due_lem : (t : Timing) (c : ClockState) (now : ℕ) (some : Bool) → due t c now some ≡ ran.Numbers → NonEmpty (expired c now)
 unfolding due
 numbers_due_lem timing.Single c now some e = absurd (not_alike (numbers_timing timing.Single c now some e))
   where
@@ -52,7 +52,7 @@ numbers_due_lem timing.Single c now some e = absurd (not_alike (numbers_timing t
     not_alike f = let z : ◌≡◌ {A = ℕ} 0 1 = cc in omega arith
 numbers_due_lem timing.PerNumber c now some e = by_list (expired c now) e
   where
-    by_list : (ns : List ℕ) → numbers_due ns ≡ ran.Numbers → Some ns
+    by_list : (ns : List ℕ) → numbers_due ns ≡ ran.Numbers → NonEmpty ns
     by_list [] f = let z : ◌≡◌ {A = ℕ} 0 1 = cc in absurd (omega arith)
     by_list (n ∷ ns) f = record { first = n; more = ns; are = refl }
 numbers_due_lem timing.Edition c now some e = absurd (not_alike (numbers_timing timing.Edition c now some e))
