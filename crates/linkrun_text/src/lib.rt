@@ -13,6 +13,7 @@ use protocol::ProtocolType;
 use refusal::Refusal;
 use rto::RtoConfig;
 use setup::{ClockChoice, TransferConfig};
+use transfer::Outcome;
 
 // The longest file that is run.
 pub const MAX_FILE: usize = 256;
