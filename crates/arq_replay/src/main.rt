@@ -55,7 +55,12 @@ struct Ends {
 }
 
 fn main(rt: HostRuntime) -> io::Result<()> {
-    replay_io::answer_lines(&mut Ends::new(), &mut rt.stdin(), &mut rt.stdout())
+    replay_io::answer_lines(
+        &mut Ends::new(),
+        &mut replay_io::buffer(),
+        &mut rt.stdin(),
+        &mut rt.stdout(),
+    )
 }
 
 impl Replay for Ends {
@@ -149,7 +154,8 @@ impl Ends {
     ) -> io::Result<()> {
         let mut out = [0xa5u8; 2048];
         if out.len() < room {
-            return replay_io::print_bad_line(writer);
+            replay_io::print_bad_line(writer)?;
+            return print_sender(writer, self.sender);
         }
         let n = self.sent_len;
         let store = replay_io::prefix_mut(&mut self.sent, n);
@@ -184,7 +190,8 @@ impl Ends {
     ) -> io::Result<()> {
         let mut out = marked();
         if out.len() < room {
-            return replay_io::print_bad_line(writer);
+            replay_io::print_bad_line(writer)?;
+            return print_sender(writer, self.sender);
         }
         let n = self.sent_len;
         let store = replay_io::prefix_mut(&mut self.sent, n);

@@ -32,7 +32,12 @@ struct State {
 }
 
 fn main(rt: HostRuntime) -> io::Result<()> {
-    replay_io::answer_lines(&mut State::new(), &mut rt.stdin(), &mut rt.stdout())
+    replay_io::answer_lines(
+        &mut State::new(),
+        &mut replay_io::buffer(),
+        &mut rt.stdin(),
+        &mut rt.stdout(),
+    )
 }
 
 impl Replay for State {

@@ -14,7 +14,12 @@ use std::io::Write;
 struct Files;
 
 fn main(rt: HostRuntime) -> io::Result<()> {
-    replay_io::answer_lines(&mut Files, &mut rt.stdin(), &mut rt.stdout())
+    replay_io::answer_lines(
+        &mut Files,
+        &mut replay_io::buffer(),
+        &mut rt.stdin(),
+        &mut rt.stdout(),
+    )
 }
 
 impl Replay for Files {

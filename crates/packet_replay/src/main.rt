@@ -18,7 +18,12 @@ use std::io::Write;
 struct Packets;
 
 fn main(rt: HostRuntime) -> io::Result<()> {
-    replay_io::answer_lines(&mut Packets, &mut rt.stdin(), &mut rt.stdout())
+    replay_io::answer_lines(
+        &mut Packets,
+        &mut replay_io::buffer(),
+        &mut rt.stdin(),
+        &mut rt.stdout(),
+    )
 }
 
 impl Replay for Packets {

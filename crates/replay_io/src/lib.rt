@@ -301,14 +301,14 @@ pub trait Replay {
     fn answer(&mut self, writer: &mut impl Write, f: Fields, bytes: &[u8]) -> io::Result<()>;
 }
 
-// Answers the input's lines, one after the other.
+// Answers the input's lines, one after the other, from the lent buffer: of more than it holds it reads no more.
 pub fn answer_lines(
     program: &mut impl Replay,
+    text: &mut [u8],
     input: &mut impl Read,
     writer: &mut impl Write,
 ) -> io::Result<()> {
-    let mut text = buffer();
-    let n = read_full(input, &mut text)?;
+    let n = read_full(input, text)?;
     if n == text.len() {
         print(writer, b"input too long\n")?;
     }

@@ -21,7 +21,12 @@ fn main(rt: HostRuntime) -> io::Result<()> {
         rows: [[0; 7]; 64],
         count: 0,
     };
-    replay_io::answer_lines(&mut rows, &mut rt.stdin(), &mut rt.stdout())
+    replay_io::answer_lines(
+        &mut rows,
+        &mut [0u8; 131072],
+        &mut rt.stdin(),
+        &mut rt.stdout(),
+    )
 }
 
 impl Replay for Rows {

@@ -45,7 +45,12 @@ struct Timing {
 }
 
 fn main(rt: HostRuntime) -> io::Result<()> {
-    replay_io::answer_lines(&mut Timing::new(), &mut rt.stdin(), &mut rt.stdout())
+    replay_io::answer_lines(
+        &mut Timing::new(),
+        &mut replay_io::buffer(),
+        &mut rt.stdin(),
+        &mut rt.stdout(),
+    )
 }
 
 impl Replay for Timing {

@@ -16,7 +16,12 @@ fn main(rt: HostRuntime) -> io::Result<()> {
     let mut transfers = Transfers {
         setup: Setup::new(),
     };
-    replay_io::answer_lines(&mut transfers, &mut rt.stdin(), &mut rt.stdout())
+    replay_io::answer_lines(
+        &mut transfers,
+        &mut replay_io::buffer(),
+        &mut rt.stdin(),
+        &mut rt.stdout(),
+    )
 }
 
 impl Replay for Transfers {
