@@ -1,8 +1,9 @@
 -- Document 01, "Proof sheet": its rows in its order, each a call of an entry point's definition with all that it
 -- answers and leaves behind.
-use Rattle.std.specs.Prelude.{ℕ, ◌*◌, ◌≡◌, true, false, List, [], ◌∷◌, ◌++◌, replicate, pos, negsuc, Float, Err, None, Ok, Option, Some}
+use Rattle.std.specs.Prelude.{ℕ, ◌*◌, ◌≡◌, true, false, List, [], ◌∷◌, ◌++◌, replicate, pos, negsuc, Float, Err, None}
+use Rattle.std.specs.Prelude.{Ok, Option, Some}
 use Rattle.std.specs.Float.{fin}
-use Rattle.bounds.specs.Bounds.{header_size, max_payload, slot_size}
+use Rattle.bounds.specs.Bounds.{header_size, slot_size}
 use Rattle.refusal.specs.declared.Refusal.TheVariants.{Short, Kind, Cut}
 use Rattle.packet.specs.Format.{new_packet, made}
 use Rattle.packet.specs.Reading.{from_bytes, payload_of, validity}

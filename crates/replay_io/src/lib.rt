@@ -8,7 +8,7 @@
 // Any other line is answered by `bad line`, and an input that fills its buffer by `input too long`.
 #![tactic(auto)]
 
-ghost use Rattle.std.specs.Prelude.{◌≡◌, ◌≤◌, ◌<◌, length};
+ghost use Rattle.std.specs.Prelude.{◌≤◌, ◌<◌, length};
 ghost use Rattle.std.specs.Io.{ReadsAtMost};
 ghost use Rattle.std.specs.Iterator.{at_most};
 ghost use Rattle.replay_io.specs.Counts.{IsPrefixLen};
