@@ -39,5 +39,5 @@ pub record Departures : Type 0 where
   pub stop_and_wait_corrupt : (stop_and_wait.handle_packet stop_and_wait.new_receiver flipped_zero [] no_ack).answer
       ≡ Ok None
   -- and a timeout after an empty chunk sends it again; here a retry limit of 0 sends nothing
-  pub retry_limit : (stop_and_wait_sender.handle_timeout (stop_and_wait_sender.send_chunk limit_zero [] no_ack).after no_ack
-      ).answer ≡ Ok None
+  pub retry_limit : (stop_and_wait_sender.handle_timeout
+      (stop_and_wait_sender.send_chunk limit_zero [] no_ack).after no_ack).answer ≡ Ok None

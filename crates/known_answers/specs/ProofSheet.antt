@@ -154,7 +154,8 @@ window_four base received buffered duplicates =
 
 abbrev pub handed : ℕ → ℕ → ReceiveExit selective_repeat.Receiver
 handed base n =
-    selective_repeat.handle_packet (selective_repeat.receiver (window_four base 0 0 0) empty_store) (data_of n) [] no_ack
+    selective_repeat.handle_packet (selective_repeat.receiver (window_four base 0 0 0) empty_store)
+    (data_of n) [] no_ack
 
 -- the table. K5 and K6 hold whatever the other bytes are
 pub record ProofSheet : Type 0 where
