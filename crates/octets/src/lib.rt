@@ -9,7 +9,10 @@ pub fn copy_unchecked(src: &[u8], dst: &mut [u8])
     requires { length src.now ≡ length dst.old }
     ensures { dst.new ≡ src.now }
 {
-    dst.copy_from_slice(src);
+    // Of no octets `copy_from_slice` is a call too.
+    if !src.is_empty() {
+        dst.copy_from_slice(src);
+    }
 }
 
 pub fn clear(dst: &mut [u8])

@@ -3,7 +3,7 @@
 // `order` in specs/Order.antt; its line of `in_order_lem` in proofs/Laws.antt.
 #![tactic(auto)]
 
-ghost use Rattle.std.specs.Prelude.{◌≡◌};
+ghost use Rattle.std.specs.Prelude.{◌≡◌, Some};
 ghost use Rattle.refusal.specs.Refusal.{entry_of, values_of};
 ghost use Rattle.refusal.specs.Order.{held_checks, verdict};
 
@@ -105,6 +105,8 @@ impl Refusal {
 }
 
 impl fmt::Display for Refusal {
+    ghost output = { λ r. Some (entry_of r).word };
+
     fn fmt<W: fmt::Write>(&self, f: &mut fmt::Formatter<W>) -> fmt::Result {
         f.write_str(self.word())
     }

@@ -71,7 +71,7 @@ pub fn marked_places() -> [u8; PLACES] {
 }
 
 // The numbers of the lines p, c, t and m, the file's bytes and how many they are, and the rolls.
-#[derive(Drop)]
+#[derive(Clone, Copy)]
 pub struct Setup {
     pub run: [u64; 12],
     pub channel: [u64; 12],
