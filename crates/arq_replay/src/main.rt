@@ -20,6 +20,7 @@
 #![tactic(auto)]
 
 use go_back_n::{GoBackNReceiver, GoBackNSender};
+use refusal::Refusal;
 use replay_io::{Answer, Fields, Replay};
 use selective_repeat::{SelectiveRepeatReceiver, SelectiveRepeatSender};
 use std::io;
@@ -239,7 +240,6 @@ impl Ends {
         print_sender(writer, sender)
     }
 
-    // On a copy of the output, since only one field of a struct behind a reference can be lent as `&mut`.
     fn handle_packet(
         &mut self,
         writer: &mut impl Write,
@@ -251,26 +251,18 @@ impl Ends {
             return replay_io::print_bad_line(writer);
         }
         let before = self.receiver;
-        let mut all_output = self.output;
-        let output = replay_io::prefix_mut(&mut all_output, self.output_len);
-        let n = self.held_len;
-        let store = replay_io::prefix_mut(&mut self.held, n);
-        let (receiver, answer) = match before {
-            Receiver::StopAndWait(r) => {
-                let done = r.handle_packet(raw, output, &mut ack[..room]);
-                (Receiver::StopAndWait(done.receiver), done.answer)
-            }
-            Receiver::GoBackN(r) => {
-                let done = r.handle_packet(raw, output, &mut ack[..room]);
-                (Receiver::GoBackN(done.receiver), done.answer)
-            }
-            Receiver::SelectiveRepeat(r) => {
-                let done = r.handle_packet(store, raw, output, &mut ack[..room]);
-                (Receiver::SelectiveRepeat(done.receiver), done.answer)
-            }
-        };
+        let (held_len, output_len) = (self.held_len, self.output_len);
+        let Ends { held, output, .. } = self;
+        let (receiver, answer) = receive(
+            before,
+            held,
+            held_len,
+            output,
+            output_len,
+            raw,
+            &mut ack[..room],
+        );
         self.receiver = receiver;
-        self.output = all_output;
         answer.print(writer)?;
         replay_io::print_bytes(writer, &ack[..room])?;
         print_receiver(
@@ -303,6 +295,34 @@ impl Ends {
                 .buffered_count(replay_io::prefix(&self.held, self.held_len))
                 .print(writer),
             _ => Ok(()),
+        }
+    }
+}
+
+// Of the arrays the receiver has as much as the lengths say: two fields of a struct can be lent whole alone.
+fn receive(
+    receiver: Receiver,
+    held: &mut [u8; 46332],
+    held_len: usize,
+    output: &mut [u8; 65536],
+    output_len: usize,
+    raw: &[u8],
+    ack: &mut [u8],
+) -> (Receiver, Result<Option<u32>, Refusal>) {
+    let output = replay_io::prefix_mut(output, output_len);
+    match receiver {
+        Receiver::StopAndWait(r) => {
+            let done = r.handle_packet(raw, output, ack);
+            (Receiver::StopAndWait(done.receiver), done.answer)
+        }
+        Receiver::GoBackN(r) => {
+            let done = r.handle_packet(raw, output, ack);
+            (Receiver::GoBackN(done.receiver), done.answer)
+        }
+        Receiver::SelectiveRepeat(r) => {
+            let store = replay_io::prefix_mut(held, held_len);
+            let done = r.handle_packet(store, raw, output, ack);
+            (Receiver::SelectiveRepeat(done.receiver), done.answer)
         }
     }
 }

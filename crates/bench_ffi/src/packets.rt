@@ -171,5 +171,5 @@ fn answered(a: Result<u64, Refusal>) -> u64 {
 
 fn copy(src: &[u8], dst: &mut [u8]) {
     let n = src.len().min(dst.len());
-    dst[..n].copy_from_slice(&src[..n]);
+    octets::copy_unchecked(&src[..n], &mut dst[..n]);
 }

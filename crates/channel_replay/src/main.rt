@@ -84,10 +84,14 @@ impl State {
         self.places[..bytes].fill(5);
         self.records_len = n;
         self.places_len = bytes;
-        let mut records = self.records;
-        records[..n].fill([5; 4]);
-        self.scheduler = ChannelScheduler::new(&mut records[..n], &mut self.places[..bytes]);
-        self.records = records;
+        self.records[..n].fill([5; 4]);
+        let State {
+            records,
+            places,
+            ..
+        } = self;
+        let scheduler = new_scheduler(records, n, places, bytes);
+        self.scheduler = scheduler;
         let made = Channel::new(config_of(v));
         self.channel = made.unwrap_or(self.channel);
         made.map(|_| "made").print(writer)
@@ -112,7 +116,6 @@ impl State {
         self.schedule(writer, v[0], carried, deliveries)
     }
 
-    // On a copy of the records, since only one field of a struct behind a reference can be lent as `&mut`.
     fn schedule(
         &mut self,
         writer: &mut impl Write,
@@ -120,29 +123,30 @@ impl State {
         packet: &[u8],
         deliveries: Deliveries,
     ) -> io::Result<()> {
-        let mut all_records = self.records;
-        let records = replay_io::prefix_mut(&mut all_records, self.records_len);
-        let n = self.places_len;
-        let places = replay_io::prefix_mut(&mut self.places, n);
-        let done = schedule_at(self.scheduler, records, places, now, packet, deliveries);
-        self.records = all_records;
+        let (s, lens) = (self.scheduler, (self.records_len, self.places_len));
+        let State {
+            records,
+            places,
+            ..
+        } = self;
+        let done = schedule_at(s, records, places, lens, now, packet, deliveries);
         self.scheduler = done.scheduler;
         done.answer.print(writer)?;
         done.scheduler.count.print(writer)
     }
 
-    // So too.
     fn pop(&mut self, writer: &mut impl Write, now: u64, room: usize) -> io::Result<()> {
         let mut out = [0xa5u8; 2048];
         if out.len() < room {
             return replay_io::print_bad_line(writer);
         }
-        let mut all_records = self.records;
-        let records = replay_io::prefix_mut(&mut all_records, self.records_len);
-        let n = self.places_len;
-        let places = replay_io::prefix_mut(&mut self.places, n);
-        let done = pop_ready_at(self.scheduler, records, places, now, &mut out[..room]);
-        self.records = all_records;
+        let (s, lens) = (self.scheduler, (self.records_len, self.places_len));
+        let State {
+            records,
+            places,
+            ..
+        } = self;
+        let done = pop_ready_at(s, records, places, lens, now, &mut out[..room]);
         self.scheduler = done.scheduler;
         done.answer.print(writer)?;
         replay_io::print_bytes(writer, &out[..room])?;
@@ -207,14 +211,30 @@ fn rolls_of(v: [u64; 12]) -> Rolls {
     }
 }
 
+// A schedule has as much of the two arrays as the lengths say: two fields of a struct can be lent whole alone.
+fn new_scheduler(
+    records: &mut [[u64; 4]; 320],
+    records_len: usize,
+    places: &mut [u8; 423000],
+    places_len: usize,
+) -> ChannelScheduler {
+    ChannelScheduler::new(
+        replay_io::prefix_mut(records, records_len),
+        replay_io::prefix_mut(places, places_len),
+    )
+}
+
 fn schedule_at(
     s: ChannelScheduler,
-    records: &mut [[u64; 4]],
-    places: &mut [u8],
+    records: &mut [[u64; 4]; 320],
+    places: &mut [u8; 423000],
+    lens: (usize, usize),
     now: u64,
     packet: &[u8],
     deliveries: Deliveries,
 ) -> ScheduleResult {
+    let records = replay_io::prefix_mut(records, lens.0);
+    let places = replay_io::prefix_mut(places, lens.1);
     if records.len() == 8 {
         let done = unpacked(s, records).schedule_at(places, now, packet, deliveries);
         let next = done.schedule;
@@ -231,11 +251,14 @@ fn schedule_at(
 
 fn pop_ready_at(
     s: ChannelScheduler,
-    records: &mut [[u64; 4]],
-    places: &mut [u8],
+    records: &mut [[u64; 4]; 320],
+    places: &mut [u8; 423000],
+    lens: (usize, usize),
     now: u64,
     out: &mut [u8],
 ) -> PopResult {
+    let records = replay_io::prefix_mut(records, lens.0);
+    let places = replay_io::prefix_mut(places, lens.1);
     if records.len() == 8 {
         let done = unpacked(s, records).pop_ready_at(places, now, out);
         let next = done.schedule;

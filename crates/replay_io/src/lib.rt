@@ -313,16 +313,15 @@ pub fn answer_lines(
         print(writer, b"input too long\n")?;
     }
     for line in Lines::new(&text[..n]) {
-        answer_line(program, writer, line)?;
+        if byte(line, 0) != b'#' {
+            answer_line(program, writer, line)?;
+        }
     }
     Ok(())
 }
 
 fn answer_line(program: &mut impl Replay, writer: &mut impl Write, line: &[u8]) -> io::Result<()> {
     let f = read_fields(line);
-    if f.letter == b'#' {
-        return Ok(());
-    }
     print(writer, &[f.letter])?;
     if f.good {
         let mut bytes = [0u8; 2048];
@@ -373,9 +372,17 @@ impl Answer for usize {
     }
 }
 
+// A word, short as all are here, goes out by one write with its blank.
 impl Answer for &str {
     fn print(self, writer: &mut impl Write) -> io::Result<()> {
-        write!(writer, " {}", self)
+        let mut text = [b' '; 32];
+        let word = self.as_bytes();
+        if text.len() <= word.len() {
+            return write!(writer, " {}", self);
+        }
+        let end = 1 + word.len();
+        text[1..end].copy_from_slice(word);
+        print(writer, &text[..end])
     }
 }
 

@@ -27,6 +27,7 @@
 #![tactic(auto)]
 
 use multi_timer::MultiTimer;
+use refusal::Refusal;
 use replay_io::{Answer, Fields, Replay};
 use rto::{RtoConfig, RtoEstimator};
 use std::io;
@@ -141,66 +142,114 @@ impl Timing {
         self.keys[..room].fill(1);
         self.deadlines[..room].fill(1);
         self.room = room;
-        let (mut keys, mut deadlines) = (self.keys, self.deadlines);
-        let made = multi_timer::new_timers(&mut keys[..room], &mut deadlines[..room]);
-        self.keys = keys;
-        self.deadlines = deadlines;
+        let Timing {
+            keys,
+            deadlines,
+            ..
+        } = self;
+        let made = new_timers(keys, deadlines, room);
         self.timers = made.unwrap_or(no_timers());
         made.map(|_| "made").print(writer)
     }
 
-    // On copies of the entries, since only one field of a struct behind a reference can be lent as `&mut`.
     fn set_call(&mut self, writer: &mut impl Write, f: Fields) -> io::Result<()> {
-        let v = f.values;
-        let t = self.timers;
-        let (mut all_keys, mut all_deadlines) = (self.keys, self.deadlines);
-        let room = self.room.min(all_keys.len());
-        let keys = &mut all_keys[..room];
-        let deadlines = &mut all_deadlines[..room];
-        let printed = match (f.letter, f.count) {
-            (b'k', 3) => {
-                let done = t.start_timer_at(keys, deadlines, replay_io::low(v[0]), v[1], v[2]);
-                self.timers = done.timers;
-                done.answer.print(writer)
-            }
-            (b'c', 1) => {
-                let done = t.cancel_timer(keys, deadlines, replay_io::low(v[0]));
-                self.timers = done.timers;
-                done.answer.print(writer)
-            }
-            (b'x', 2) => t
-                .is_expired_at(keys, deadlines, replay_io::low(v[0]), v[1])
-                .print(writer),
-            (b'p', 2) => {
-                let mut out = [7u32; 40];
-                let n = v[1] as usize;
-                if out.len() < n {
-                    replay_io::print_bad_line(writer)
-                } else {
-                    let done = t.pop_expired_at(keys, deadlines, v[0], &mut out[..n]);
-                    self.timers = done.timers;
-                    done.answer.print(writer)?;
-                    replay_io::print_all(writer, &out[..n])
-                }
-            }
-            (b'q', 0) => t.earliest_deadline(keys, deadlines).print(writer),
-            (b'z', 0) => {
-                let done = t.clear(keys, deadlines);
-                self.timers = done.timers;
-                done.answer.print(writer)?;
-                done.timers.len().print(writer)
-            }
-            (b'd', 0) => {
-                t.len().print(writer)?;
-                replay_io::print_all(writer, keys)?;
-                replay_io::print_all(writer, deadlines)
-            }
-            _ => replay_io::print_bad_line(writer),
-        };
-        self.keys = all_keys;
-        self.deadlines = all_deadlines;
+        let (t, room) = (self.timers, self.room);
+        let Timing {
+            keys,
+            deadlines,
+            ..
+        } = self;
+        let (timers, printed) = call_set(t, keys, deadlines, room, writer, f);
+        self.timers = timers;
         printed
     }
+}
+
+// A set has so many of the entries: two fields of a struct can be lent whole alone.
+fn new_timers(
+    keys: &mut [u32; 40],
+    deadlines: &mut [u64; 40],
+    room: usize,
+) -> Result<MultiTimer, Refusal> {
+    multi_timer::new_timers(
+        replay_io::prefix_mut(keys, room),
+        replay_io::prefix_mut(deadlines, room),
+    )
+}
+
+fn call_set(
+    t: MultiTimer,
+    keys: &mut [u32; 40],
+    deadlines: &mut [u64; 40],
+    room: usize,
+    writer: &mut impl Write,
+    f: Fields,
+) -> (MultiTimer, io::Result<()>) {
+    let v = f.values;
+    let keys = replay_io::prefix_mut(keys, room);
+    let deadlines = replay_io::prefix_mut(deadlines, room);
+    match (f.letter, f.count) {
+        (b'k', 3) => {
+            let done = t.start_timer_at(keys, deadlines, replay_io::low(v[0]), v[1], v[2]);
+            (done.timers, done.answer.print(writer))
+        }
+        (b'c', 1) => {
+            let done = t.cancel_timer(keys, deadlines, replay_io::low(v[0]));
+            (done.timers, done.answer.print(writer))
+        }
+        (b'x', 2) => {
+            let expired = t.is_expired_at(keys, deadlines, replay_io::low(v[0]), v[1]);
+            (t, expired.print(writer))
+        }
+        (b'p', 2) => {
+            let mut out = [7u32; 40];
+            let n = v[1] as usize;
+            if out.len() < n {
+                return (t, replay_io::print_bad_line(writer));
+            }
+            let done = t.pop_expired_at(keys, deadlines, v[0], &mut out[..n]);
+            (done.timers, print_popped(writer, done.answer, &out[..n]))
+        }
+        (b'q', 0) => (t, t.earliest_deadline(keys, deadlines).print(writer)),
+        (b'z', 0) => {
+            let done = t.clear(keys, deadlines);
+            (
+                done.timers,
+                print_cleared(writer, done.answer, done.timers.len()),
+            )
+        }
+        (b'd', 0) => (t, print_entries(writer, t.len(), keys, deadlines)),
+        _ => (t, replay_io::print_bad_line(writer)),
+    }
+}
+
+fn print_popped(
+    writer: &mut impl Write,
+    answer: Result<usize, Refusal>,
+    keys: &[u32],
+) -> io::Result<()> {
+    answer.print(writer)?;
+    replay_io::print_all(writer, keys)
+}
+
+fn print_cleared(
+    writer: &mut impl Write,
+    answer: Result<(), Refusal>,
+    count: usize,
+) -> io::Result<()> {
+    answer.print(writer)?;
+    count.print(writer)
+}
+
+fn print_entries(
+    writer: &mut impl Write,
+    count: usize,
+    keys: &[u32],
+    deadlines: &[u64],
+) -> io::Result<()> {
+    count.print(writer)?;
+    replay_io::print_all(writer, keys)?;
+    replay_io::print_all(writer, deadlines)
 }
 
 fn no_timers() -> MultiTimer {
