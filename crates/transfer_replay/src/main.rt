@@ -33,8 +33,20 @@ impl Replay for Transfers {
     }
 }
 
-// A run on new memory: as much of each array as the setup lends.
+// A run on new memory: as much of each array as the setup lends. The places are made apart, since they are filled twice
+// where they stand beside the other arrays.
 fn run(writer: &mut impl Write, setup: &Setup) -> io::Result<()> {
+    let mut forward_places = transfer_cases::marked_places();
+    let mut reverse_places = transfer_cases::marked_places();
+    run_on_places(writer, setup, &mut forward_places, &mut reverse_places)
+}
+
+fn run_on_places(
+    writer: &mut impl Write,
+    setup: &Setup,
+    forward_places: &mut [u8],
+    reverse_places: &mut [u8],
+) -> io::Result<()> {
     let v = setup.sizes;
     let mut forward_rolls = transfer_cases::no_rolls();
     let mut reverse_rolls = transfer_cases::no_rolls();
@@ -44,9 +56,7 @@ fn run(writer: &mut impl Write, setup: &Setup) -> io::Result<()> {
     let mut notes = [[5u64; 7]; transfer_cases::NOTES];
     let mut events = [[5u64; 7]; transfer_cases::EVENTS];
     let mut forward_records = [[5u64; 4]; transfer_cases::RECORDS];
-    let mut forward_places = transfer_cases::marked_places();
     let mut reverse_records = [[5u64; 4]; transfer_cases::RECORDS];
-    let mut reverse_places = transfer_cases::marked_places();
     let mut keys = [5u32; transfer_cases::TIMERS];
     let mut deadlines = [5u64; transfer_cases::TIMERS];
     let forward_rolls = replay_io::prefix_mut(&mut forward_rolls, setup.forward.count);
@@ -57,9 +67,9 @@ fn run(writer: &mut impl Write, setup: &Setup) -> io::Result<()> {
     let notes = replay_io::prefix_mut(&mut notes, v[3] as usize);
     let events = replay_io::prefix_mut(&mut events, v[4] as usize);
     let forward_records = replay_io::prefix_mut(&mut forward_records, v[5] as usize);
-    let forward_places = replay_io::prefix_mut(&mut forward_places, v[6] as usize);
+    let forward_places = replay_io::prefix_mut(forward_places, v[6] as usize);
     let reverse_records = replay_io::prefix_mut(&mut reverse_records, v[7] as usize);
-    let reverse_places = replay_io::prefix_mut(&mut reverse_places, v[8] as usize);
+    let reverse_places = replay_io::prefix_mut(reverse_places, v[8] as usize);
     let keys = replay_io::prefix_mut(&mut keys, v[9] as usize);
     let deadlines = replay_io::prefix_mut(&mut deadlines, v[10] as usize);
     transfer_cases::fill_rolls(forward_rolls, setup.forward);
